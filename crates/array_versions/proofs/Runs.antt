@@ -3,26 +3,29 @@ use Rattle.std.proofs.Common.{◌≡◌, ℕ, zero, suc, ◌+◌, ◌-◌, ◌%�
 use Rattle.std.proofs.Common.{◌≢◌, if◌then◌else◌}
 use Rattle.machine_effects.specs.alp_words.Words.{AreWords}
 use Rattle.machine_effects.specs.fram_board.Effects.{Effect, Store, Take}
-use Rattle.machine_effects.specs.Inputs.{Inputs, TakesExactly}
+use Rattle.machine_effects.specs.event_places.Places.{count_place, sent_place, answer_place, head_place, slot_place}
+use Rattle.machine_effects.specs.Inputs.{Look, Inputs, TakesExactly}
 use Rattle.machine_effects.proofs.Interface.{taken_is_word}
 use Rattle.array_versions.specs.declared.operations.PlainOperation.{PlainOperation}
 use Rattle.array_versions.specs.Operations.{unary_word, plain_word, binary_word, shift_word, is_true, compare_words, long_pops, long_result}
 use Rattle.array_versions.specs.Program.{Step, Test, Program, number, load, keep, update, local, set_local, update_local, unary, binary, shift, long, element}
-use Rattle.array_versions.specs.Program.{emit_word, list_entry, versioned_read, versioned_write, versioned_update, sense, truth, choose, repeat, store_number}
+use Rattle.array_versions.specs.Program.{emit_word, list_entry, versioned_read, versioned_write, versioned_update, sense, next_event, freeze_events}
+use Rattle.array_versions.specs.Program.{truth, choose, repeat, store_number}
 use Rattle.array_versions.specs.Program.{move_word, jump, holds, compares, both, either, fails, nothing, step}
 use Rattle.array_versions.specs.Behaviour.{WordState, End, GoesOn, Jumps, Short, Strays, Broken, Behaviour, behaves, goes_on, strays, broken, then_on, is_place}
 use Rattle.array_versions.specs.Behaviour.{with_top, with_two, with_words, with_stack, pushed, stored, with_local, local_pushed, local_updated, reading_pushed}
+use Rattle.array_versions.specs.Behaviour.{event_index, none_answered, word_answered, event_answered, with_looks, event_pushed}
 use Rattle.array_versions.specs.Behaviour.{word_stored, element_pushed, word_emitted, versioned_pushed, versioned_stored, versioned_updated, number_pushed}
 use Rattle.array_versions.specs.Behaviour.{way_by_top, way_by_two, turns, step_behaviour, tested, behaviour}
 use Rattle.array_versions.specs.Form.{StepSpares, TestSpares, Spares, StepOfWords, TestOfWords, OfWords}
 use Rattle.array_versions.specs.Laws.{IsStateOfWords}
 use Rattle.array_versions.proofs.Words.{unary_small, plain_small, binary_small, shift_small, long_words, on_words, stack_words, stored_words, local_words}
-use Rattle.array_versions.proofs.Words.{input_words}
+use Rattle.array_versions.proofs.Words.{input_words, second_look_words}
 use Rattle.array_versions.proofs.Parts.{Writes, astray, done, writes, Pushes, off, on_top, Known, loads, element_pushes, versioned_pushes, word_writes}
 use Rattle.array_versions.proofs.Parts.{emitted_writes, entry_writes, versioned_writes, updated_writes}
 
--- A chain from a state to another by effects: other words on the stack, a local set, a word stored in FRAM, a reading taken. Where `W` is given, each
--- word in it is one; a local that is set is none that is spared
+-- A chain from a state to another by effects: other words on the stack, a local set, a word stored in FRAM, a reading taken, looks taken. Where `W` is
+-- given, each word in it is one; a local that is set is none that is spared
 pub data Run (W : Type 0) (spared : ℕ → Type 0) : WordState → List Effect → WordState → Type 0 where
   stays : {s : WordState} → Run W spared s [] s
   stacks : {s t : WordState} {es : List Effect} (vs : List ℕ) → (W → AreWords vs) → Run W spared (with_stack vs s) es t → Run W spared s es t
@@ -31,6 +34,8 @@ pub data Run (W : Type 0) (spared : ℕ → Type 0) : WordState → List Effect 
   stores : {s t : WordState} {es : List Effect} (a v : ℕ) → (W → v < 0x10000) → Run W spared (stored a v s) es t → Run W spared s (Store a v ∷ es) t
   takes : {s t : WordState} {es : List Effect} (r : ℕ) (left : Inputs) → TakesExactly (Take r ∷ []) s.inputs left
       → Run W spared (record s { inputs = left }) es t → Run W spared s (Take r ∷ es) t
+  sees : {s t : WordState} {es : List Effect} (left : Inputs) → TakesExactly [] s.inputs left → Run W spared (record s { inputs = left }) es t
+      → Run W spared s es t
 
 -- one chain behind another
 run_behind : {W : Type 0} {spared : ℕ → Type 0} {s t u : WordState} {es fs : List Effect} → Run W spared s es t → Run W spared t fs u
@@ -40,6 +45,7 @@ run_behind (stacks vs l q) r = stacks vs l (run_behind q r)
 run_behind (assigns n v d l q) r = assigns n v d l (run_behind q r)
 run_behind (stores a v l q) r = stores a v l (run_behind q r)
 run_behind (takes x left e q) r = takes x left e (run_behind q r)
+run_behind (sees left e q) r = sees left e (run_behind q r)
 
 -- from words it leads to words
 pub run_words : {W : Type 0} {spared : ℕ → Type 0} {s t : WordState} {es : List Effect} → Run W spared s es t → W → IsStateOfWords s → IsStateOfWords t
@@ -47,7 +53,8 @@ run_words stays x i = i
 run_words (stacks {s = s} vs l q) x i = run_words q x (stack_words s vs i (l x))
 run_words (assigns {s = s} n v d l q) x i = run_words q x (local_words s n v i (l x))
 run_words (stores {s = s} a v l q) x i = run_words q x (stored_words s a v i (l x))
-run_words (takes {s = s} r left e q) x i = run_words q x (input_words s r left e i)
+run_words (takes {s = s} r left e q) x i = run_words q x (input_words s (Take r ∷ []) left e i)
+run_words (sees {s = s} left e q) x i = run_words q x (input_words s [] left e i)
 
 module _ (W : Type 0) (spared : ℕ → Type 0) where
   -- how far a chain leads that ends so: where a reading is wanted, to a state with none left
@@ -135,8 +142,34 @@ module _ (W : Type 0) (spared : ℕ → Type 0) where
   reading_does [] s e i = (s, stays, e)
   reading_does (r ∷ rs) s e i =
       let left : Inputs = record s.inputs { readings = rs } in
-      let taken : TakesExactly (Take r ∷ []) s.inputs left = record { readings = sym e } in
+      let taken : TakesExactly (Take r ∷ []) s.inputs left = record { readings = sym e; seen = []; looks = refl } in
       takes r left taken (stacks (r ∷ s.stack) (λ x. (taken_is_word r s.inputs left taken (i x).inputs, (i x).stack)) stays)
+
+  -- an answer
+  none_does : (s : WordState) → Known W s → Does s (none_answered s)
+  none_does s i =
+      let small : W → 0 < 0x10000 = λ x. omega arith in
+      stores answer_place 0 small (stacks (0 ∷ s.stack) (λ x. (small x, (i x).stack)) stays)
+
+  word_does : (w : ℕ) (s : WordState) → Known W s → (W → w < 0x10000) → Does s (word_answered w s)
+  word_does w s i l =
+      let n = (s.fram count_place + 1) % 65536 in
+      stores answer_place w l (stacks (w ∷ s.stack) (λ x. (l x, (i x).stack)) (stores count_place n (λ x. omega arith) stays))
+
+  -- behind two looks
+  event_does : (looks : List Look) (s : WordState) → s.inputs.looks ≡ looks → Known W s → Does s (event_pushed looks s)
+  event_does [] s e i = (s, stays)
+  event_does (first ∷ []) s e i = (s, stays)
+  event_does (first ∷ (second ∷ more)) s e i =
+      let t = with_looks more s in
+      let taken : TakesExactly [] s.inputs t.inputs = record { readings = refl; seen = first ∷ (second ∷ []); looks = sym e } in
+      let b = event_answered first second t in
+      let at = event_index s.fram in
+      let v = second (slot_place at) in
+      let j : Known W t = λ x. input_words s [] t.inputs taken (i x) in
+      does_behind b.effects b.end (sees t.inputs taken stays)
+      (one_does (at == first head_place) t (none_answered t) (word_answered v t) (none_does t j)
+      (word_does v t j (λ x. second_look_words s first second more e (i x) (slot_place at))))
 
   turns_do : (m n k : ℕ) (body : WordState → Behaviour) (s : WordState) → ((x : ℕ) → spared x → n ≢ x) → (W → k + m < 0x10000) → Leads body → Known W s
       → Does s (turns m n k body s)
@@ -187,6 +220,8 @@ module _ (W : Type 0) (spared : ℕ → Type 0) where
     step_does (versioned_update op place list) s h d i =
         two_popped s (versioned_updated op place list) i (λ u v k l t j. part_writes (updated_writes W op place list u v t l j))
     step_does sense s h d i = reading_does s.inputs.readings s refl i
+    step_does next_event s h d i = event_does s.inputs.looks s refl i
+    step_does freeze_events s h d i = part_writes (writes sent_place (event_index s.fram) (λ x. omega arith) done)
     step_does (truth t) s h d i = test_does t s (number_pushed 1) (number_pushed 0) h d i (λ u j. push u 1 j (λ x. omega arith))
         (λ u j. push u 0 j (λ x. omega arith))
     step_does (choose t taken otherwise) s h d i =

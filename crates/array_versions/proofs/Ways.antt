@@ -3,7 +3,8 @@ use Rattle.std.proofs.Common.{◌≡◌, ℕ, zero, suc, ◌+◌, ◌-◌, ◌%�
 use Rattle.std.proofs.Common.{nat_eq, refl, sym, ap, ◌∙◌, subst, arith, eq-eqb, if◌then◌else◌}
 use Rattle.std.proofs.lemmas.List.{length-append}
 use Rattle.machine_effects.specs.fram_board.Effects.{Effect}
-use Rattle.machine_effects.specs.Inputs.{Inputs}
+use Rattle.machine_effects.specs.event_places.Places.{head_place, slot_place}
+use Rattle.machine_effects.specs.Inputs.{Look, Inputs}
 use Rattle.array_versions.specs.declared.operations.PlainOperation.{PlainOperation}
 use Rattle.array_versions.specs.declared.operations.LongOperation.{LongOperation}
 use Rattle.array_versions.specs.declared.operations.LongOperation.TheVariants.{ShiftLeft}
@@ -11,13 +12,15 @@ use Rattle.array_versions.specs.Operations.{plain_word, is_true, compare_words, 
 use Rattle.array_versions.specs.Program.{Step, Test, Program, number, load, keep, update, local, set_local, update_local, unary, binary, shift, long, element}
 use Rattle.array_versions.specs.Program.{emit_word}
 use Rattle.array_versions.specs.Program.{list_entry}
-use Rattle.array_versions.specs.Program.{versioned_read, versioned_write, versioned_update, sense, truth, choose, repeat, store_number, move_word, jump, holds}
+use Rattle.array_versions.specs.Program.{versioned_read, versioned_write, versioned_update, sense, next_event, freeze_events, truth, choose, repeat, store_number}
+use Rattle.array_versions.specs.Program.{move_word, jump, holds}
 use Rattle.array_versions.specs.Program.{compares}
 use Rattle.array_versions.specs.Program.{both, either, fails, nothing, step}
 use Rattle.array_versions.specs.Behaviour.{WordState, started, End, GoesOn, Jumps, Short, Strays, Broken, Behaviour, behaves}
 use Rattle.array_versions.specs.Behaviour.{strays, broken, on_end, then_on, is_place, with_top, with_two, with_words, with_stack, pushed}
 use Rattle.array_versions.specs.Behaviour.{with_local}
-use Rattle.array_versions.specs.Behaviour.{local_pushed, local_updated, reading_pushed}
+use Rattle.array_versions.specs.Behaviour.{local_pushed, local_updated, reading_pushed, event_index, none_answered, word_answered, with_looks}
+use Rattle.array_versions.specs.Behaviour.{event_pushed}
 use Rattle.array_versions.specs.Behaviour.{number_pushed, way_by_top, way_by_two, turns, step_behaviour, tested, behaviour}
 use Rattle.array_versions.specs.Form.{Place, start, assigning, Moves, EachTurn, EachStepWay, EachTestWay, EachWay}
 use Rattle.array_versions.specs.Laws.{IsSound, WholeEndsSoundly}
@@ -129,6 +132,21 @@ reading_well : (room : ℕ) (rs : List ℕ) (next : Place → Type 0) (q : Place
 reading_well room [] next q s h m = tt
 reading_well room (r ∷ rs) next q s h m = moved_well room 0 1 next q s _ h m (omega arith) refl
 
+-- one of two ways
+either_well : (c : Bool) (next : Place → Type 0) (a b : Behaviour) → GoesWell next a.end → GoesWell next b.end → GoesWell next (if c then a else b).end
+either_well true next a b h k = h
+either_well false next a b h k = k
+
+event_well : (room : ℕ) (looks : List Look) (next : Place → Type 0) (q : Place) (s : WordState) → Moves room 0 1 next q → Matches q s
+    → GoesWell next (event_pushed looks s).end
+event_well room [] next q s h m = tt
+event_well room (first ∷ []) next q s h m = tt
+event_well room (first ∷ (second ∷ more)) next q s h m =
+    let t = with_looks more s in
+    let at = event_index s.fram in
+    either_well (at == first head_place) next (none_answered t) (word_answered (second (slot_place at)) t)
+    (moved_well room 0 1 next q s _ h m (omega arith) refl) (moved_well room 0 1 next q s _ h m (omega arith) refl)
+
 -- words that are written leave the stack and the locals
 written_well : (next : Place → Type 0) {s : WordState} {es : List Effect} {e : End} → Writes ⊥ s es e
     → ((f : ℕ → ℕ) → GoesWell next (GoesOn (record s { fram = f }))) → GoesWell next e
@@ -145,11 +163,6 @@ pushed_well next (on_top v l) h = h v
 -- what is known of words here: nothing
 unknown : (s : WordState) → Known ⊥ s
 unknown s x = absurd x
-
--- one of two ways
-either_well : (c : Bool) (next : Place → Type 0) (a b : Behaviour) → GoesWell next a.end → GoesWell next b.end → GoesWell next (if c then a else b).end
-either_well true next a b h k = h
-either_well false next a b h k = k
 
 -- what is fit and what follows it goes well
 abbrev Leads : (Place → Type 0) → (Place → Type 0) → (WordState → Behaviour) → Type 0
@@ -245,6 +258,8 @@ mutual
       let t = with_stack vs s in
       written_well next (updated_writes ⊥ op place list i v t (λ x. absurd x) (unknown t)) (λ f. moved_well room 2 0 next q s _ h m (omega arith) refl))
   step_well room sense next q s h m = reading_well room s.inputs.readings next q s h m
+  step_well room next_event next q s h m = event_well room s.inputs.looks next q s h m
+  step_well room freeze_events next q s h m = same_well next q s _ h m refl refl
   step_well room (truth t) next q s h m =
       let pushes : ℕ → Answer next = λ n. record { fit = Moves room 0 1 next; go = number_pushed n; leads = number_leads room n next } in
       test_well room t next (pushes 1) (pushes 0) q s h m

@@ -1,15 +1,15 @@
 -- From words an operation makes words, and states of words stay so.
 use Rattle.std.proofs.Common.{◌≡◌, ℕ, zero, suc, ◌+◌, ◌-◌, ◌*◌, ◌/◌, ◌%◌, ◌^◌, ◌==◌, ◌<◌, List, [], ◌∷◌, Option, Some, Bool, true, false}
-use Rattle.std.proofs.Common.{nat_eq, nat_lt, nat_le, subst, arith, if◌then◌else◌, ◌++◌, ◌≤◌}
+use Rattle.std.proofs.Common.{nat_eq, nat_lt, nat_le, subst, arith, if◌then◌else◌, ◌++◌, ◌≤◌, All}
 use Rattle.std.specs.Prelude.{slice_index}
 use Rattle.std.proofs.lemmas.Bool.Decides.{nat_tests}
 use Rattle.std.proofs.lemmas.Nat.{and_le_l, or_lt, xor_lt}
 use Rattle.std.proofs.lemmas.Option.{same_Some}
 use Rattle.machine_effects.specs.alp_words.Words.{AreWords, is_negative}
 use Rattle.machine_effects.specs.alp_words.declared.Width.TheVariants.{Word}
-use Rattle.machine_effects.specs.fram_board.Effects.{Take}
+use Rattle.machine_effects.specs.fram_board.Effects.{Effect}
 use Rattle.machine_effects.specs.World.{put}
-use Rattle.machine_effects.specs.Inputs.{Inputs, TakesExactly}
+use Rattle.machine_effects.specs.Inputs.{Look, Inputs, TakesExactly}
 use Rattle.machine_effects.proofs.Interface.{left_are_words}
 use Rattle.array_versions.specs.declared.operations.UnaryOperation.{UnaryOperation}
 use Rattle.array_versions.specs.declared.operations.UnaryOperation.TheVariants.{Negate, Complement}
@@ -158,10 +158,16 @@ pub local_words : (s : WordState) (n v : ℕ) → IsStateOfWords s → v < 0x100
 local_words s n v w h =
     record { stack = w.stack; locals = λ m z q. assigned_by (nat_eq m n) (s.locals m) v z h (w.locals m) q; fram = w.fram; inputs = w.inputs }
 
--- a reading less
-pub input_words : (s : WordState) (r : ℕ) (left : Inputs) → TakesExactly (Take r ∷ []) s.inputs left → IsStateOfWords s
+-- what effects leave of the inputs
+pub input_words : (s : WordState) (es : List Effect) (left : Inputs) → TakesExactly es s.inputs left → IsStateOfWords s
     → IsStateOfWords (record s { inputs = left })
-input_words s r left e w = record { stack = w.stack; locals = w.locals; fram = w.fram; inputs = left_are_words (Take r ∷ []) s.inputs left e w.inputs }
+input_words s es left e w = record { stack = w.stack; locals = w.locals; fram = w.fram; inputs = left_are_words es s.inputs left e w.inputs }
+
+-- what is seen second
+pub second_look_words : (s : WordState) (first second : Look) (more : List Look) → s.inputs.looks ≡ first ∷ (second ∷ more) → IsStateOfWords s
+    → (a : ℕ) → second a < 0x10000
+second_look_words s first second more e w =
+    subst (λ (l : List Look). All (λ look. (a : ℕ) → look a < 0x10000) l) e w.inputs.looks 1 second (omega arith)
 
 -- a place is an address
 pub place_high : (a : ℕ) → is_place a ≡ true → a < 0x10000

@@ -7,7 +7,8 @@ use Rattle.array_versions.specs.declared.operations.LongOperation.TheVariants.{S
 use Rattle.array_versions.specs.Program.{Step, Test, number, load, keep, update, local, set_local, update_local, unary, binary, shift, long, element}
 use Rattle.array_versions.specs.Program.{emit_word}
 use Rattle.array_versions.specs.Program.{list_entry}
-use Rattle.array_versions.specs.Program.{versioned_read, versioned_write, versioned_update, sense, truth, choose, repeat, store_number, move_word, jump, holds}
+use Rattle.array_versions.specs.Program.{versioned_read, versioned_write, versioned_update, sense, next_event, freeze_events, truth, choose, repeat, store_number}
+use Rattle.array_versions.specs.Program.{move_word, jump, holds}
 use Rattle.array_versions.specs.Program.{compares}
 use Rattle.array_versions.specs.Program.{both, either, fails}
 use Rattle.array_versions.specs.Cost.{step_cycles, test_cycles, cycles_of, step_words, test_words, words_of}
@@ -26,7 +27,7 @@ long_allowance (ShiftRight k) = 400
 long_allowance _ = 80
 
 -- the cycles of a step: of what an expression or a statement is made of, those of its row in the table of the allowance. An entry
--- of the commit list has 40, and the stores and the jump of a transition have 100 together
+-- of the commit list has 40, and what a transition stores and its jump have 100 together
 abbrev pub allowed_cycles : Step → ℕ
 allowed_cycles (number w) = 40
 allowed_cycles (load a) = 40
@@ -46,18 +47,20 @@ allowed_cycles (versioned_read place list) = 60
 allowed_cycles (versioned_write place list) = 120
 allowed_cycles (versioned_update op place list) = 220
 allowed_cycles sense = 40
+allowed_cycles next_event = 80
+allowed_cycles freeze_events = 15
 allowed_cycles (truth t) = 40 + test_cycles t
 allowed_cycles (choose t taken otherwise) = 40 + test_cycles t + max (cycles_of taken) (cycles_of otherwise)
 allowed_cycles (repeat n from below body) = 40 + (below - from) * (40 + cycles_of body)
-allowed_cycles (store_number a w) = 30
-allowed_cycles (move_word from to) = 30
+allowed_cycles (store_number a w) = 25
+allowed_cycles (move_word from to) = 25
 allowed_cycles (jump to) = 10
 
 -- the words of an entry: those of one scalar, and of two or more where it has more words
 abbrev pub entry_allowance : ℕ → ℕ
 entry_allowance words = if words == 1 then 16 else 32
 
--- its words. The stores and the jump of a transition have 40 together
+-- its words. What a transition stores and its jump have 40 together
 abbrev pub allowed_words : Step → ℕ
 allowed_words (number w) = 16
 allowed_words (load a) = 16
@@ -77,12 +80,14 @@ allowed_words (versioned_read place list) = 24
 allowed_words (versioned_write place list) = 60
 allowed_words (versioned_update op place list) = 100
 allowed_words sense = 16
+allowed_words next_event = 40
+allowed_words freeze_events = 8
 allowed_words (truth t) = 16 + test_words t
 allowed_words (choose t taken otherwise) = 24 + test_words t + words_of taken + words_of otherwise
 allowed_words (repeat n from below body) = 24 + words_of body
-allowed_words (store_number a w) = 10
-allowed_words (move_word from to) = 10
-allowed_words (jump to) = 10
+allowed_words (store_number a w) = 8
+allowed_words (move_word from to) = 8
+allowed_words (jump to) = 8
 
 -- the cycles of a test: of a word or a comparison those of its row; `&&`, `||` and `!` have none beside their parts
 abbrev pub allowed_test_cycles : Test → ℕ

@@ -2,9 +2,11 @@
 use Rattle.std.specs.Prelude.{ℕ, zero, suc, ◌+◌, ◌-◌, ◌*◌, ◌%◌, ◌==◌, ◌&&◌, Bool, nat_eq, nat_le, nat_lt, if◌then◌else◌, List, [], ◌∷◌, ◌++◌, Option, Some}
 use Rattle.std.specs.Prelude.{None}
 use Rattle.machine_effects.specs.address_space.Limits.{fram_first, program_end}
+use Rattle.machine_effects.specs.alp_words.Words.{word_sum}
+use Rattle.machine_effects.specs.event_places.Places.{tail_place, count_place, sent_place, answer_place, head_place, slot_place}
 use Rattle.machine_effects.specs.fram_board.Effects.{Effect, Store, Take}
 use Rattle.machine_effects.specs.World.{put}
-use Rattle.machine_effects.specs.Inputs.{Inputs}
+use Rattle.machine_effects.specs.Inputs.{Look, Inputs}
 use Rattle.array_versions.specs.declared.program.ArrayPlace.{ArrayPlace}
 use Rattle.array_versions.specs.declared.program.ListPlace.{ListPlace}
 use Rattle.array_versions.specs.declared.operations.PlainOperation.{PlainOperation}
@@ -13,7 +15,8 @@ use Rattle.array_versions.specs.Operations.{unary_word, plain_word, binary_word,
 use Rattle.array_versions.specs.Program.{Step, Test, Program, number, load, keep, update, local, set_local, update_local, unary, binary, shift, long, element}
 use Rattle.array_versions.specs.Program.{emit_word}
 use Rattle.array_versions.specs.Program.{list_entry}
-use Rattle.array_versions.specs.Program.{versioned_read, versioned_write, versioned_update, sense, truth, choose, repeat, store_number, move_word, jump, holds}
+use Rattle.array_versions.specs.Program.{versioned_read, versioned_write, versioned_update, sense, next_event, freeze_events, truth, choose, repeat, store_number}
+use Rattle.array_versions.specs.Program.{move_word, jump, holds}
 use Rattle.array_versions.specs.Program.{compares}
 use Rattle.array_versions.specs.Program.{both, either, fails, nothing, step}
 
@@ -29,7 +32,7 @@ abbrev pub started : (ℕ → ℕ) → Inputs → WordState
 started fram inputs = record { stack = []; locals = λ n. None; fram = fram; inputs = inputs }
 
 -- how steps end: behind the last one; by a jump; where a reading is wanted and none is left; where an address isn't that of a
--- word of FRAM in front of a program's end; or where a word is taken from an empty stack, a local is read before it is assigned,
+-- word of FRAM in front of a program's end, or a look is wanted and none is left; or where a word is taken from an empty stack, a local is read before it is assigned,
 -- or a jump goes to an odd address
 pub data End : Type 0 where
   GoesOn : (state : WordState) → End
@@ -51,7 +54,7 @@ behaves es e = record { effects = es; end = e }
 abbrev pub goes_on : List Effect → WordState → Behaviour
 goes_on es s = behaves es (GoesOn s)
 
--- an address isn't a place
+-- an address isn't a place, or no look is left
 abbrev pub strays : Behaviour
 strays = behaves [] Strays
 
@@ -136,6 +139,41 @@ abbrev pub reading_pushed : List ℕ → WordState → Behaviour
 reading_pushed [] s = behaves [] Short
 reading_pushed (r ∷ rs) s = goes_on (Take r ∷ []) (pushed r (with_readings rs s))
 
+-- a word goes up by one, modulo 65536
+abbrev pub raised : ℕ → WordState → Behaviour
+raised a s = let v = (s.fram a + 1) % 65536 in goes_on (Store a v ∷ []) (stored a v s)
+
+-- the index of the next word of the ring for the attempt: TAIL, and how many words it has taken
+abbrev pub event_index : (ℕ → ℕ) → ℕ
+event_index fram = word_sum (fram tail_place) (fram count_place)
+
+-- the answer is 0
+abbrev pub none_answered : WordState → Behaviour
+none_answered s = goes_on (Store answer_place 0 ∷ []) (pushed 0 (stored answer_place 0 s))
+
+-- a word is the answer, and the attempt has taken one more
+abbrev pub word_answered : ℕ → WordState → Behaviour
+word_answered w s = behind_effects (Store answer_place w ∷ []) (raised count_place (pushed w (stored answer_place w s)))
+
+-- the answer, by what is seen at HEAD, and then at the slot of the attempt's index: 0 where HEAD is that index
+abbrev pub event_answered : Look → Look → WordState → Behaviour
+event_answered first second s =
+    let at = event_index s.fram in if at == first head_place then none_answered s else word_answered (second (slot_place at)) s
+
+-- the state with these looks left
+abbrev pub with_looks : List Look → WordState → WordState
+with_looks looks s = record s { inputs = record s.inputs { looks = looks } }
+
+-- takes two looks, and pushes the answer
+abbrev pub event_pushed : List Look → WordState → Behaviour
+event_pushed [] s = strays
+event_pushed (first ∷ []) s = strays
+event_pushed (first ∷ (second ∷ more)) s = event_answered first second (with_looks more s)
+
+-- TAIL as the transition leaves it: the index of the next word
+abbrev pub events_frozen : WordState → Behaviour
+events_frozen s = let v = event_index s.fram in goes_on (Store sent_place v ∷ []) (stored sent_place v s)
+
 -- stores a word
 abbrev pub word_stored : ℕ → ℕ → WordState → Behaviour
 word_stored a v s = at_place a (goes_on (Store a v ∷ []) (stored a v s))
@@ -152,10 +190,6 @@ word_emitted count buffer v s =
     let n = s.fram count in
     let a = 2 * n + buffer in
     at_place count (at_place a (goes_on (Store a v ∷ Store count (n + 1) ∷ []) (stored count (n + 1) (stored a v s))))
-
--- a word goes up by one, modulo 65536
-abbrev pub raised : ℕ → WordState → Behaviour
-raised a s = let v = (s.fram a + 1) % 65536 in goes_on (Store a v ∷ []) (stored a v s)
 
 -- stores an entry behind those that are counted, a run's first home, its first copy and its words, then raises the count
 abbrev pub entry_stored : ℕ → ℕ → ℕ → ℕ → ℕ → WordState → Behaviour
@@ -283,6 +317,8 @@ abbrev mutual
   step_behaviour (versioned_write place list) s = with_two s.stack (λ i v vs. versioned_stored place list i v (with_stack vs s))
   step_behaviour (versioned_update op place list) s = with_two s.stack (λ i v vs. versioned_updated op place list i v (with_stack vs s))
   step_behaviour sense s = reading_pushed s.inputs.readings s
+  step_behaviour next_event s = event_pushed s.inputs.looks s
+  step_behaviour freeze_events s = events_frozen s
   step_behaviour (truth t) s = tested t (number_pushed 1) (number_pushed 0) s
   step_behaviour (choose t taken otherwise) s = tested t (behaviour taken) (behaviour otherwise) s
   step_behaviour (repeat n from below body) s = turns (below - from) n from (behaviour body) s

@@ -13,7 +13,8 @@ use Rattle.array_versions.specs.Operations.{is_true, compare_words}
 use Rattle.array_versions.specs.Program.{Step, Test, Program, number, load, keep, update, local, set_local, update_local, unary, binary, shift, long, element}
 use Rattle.array_versions.specs.Program.{emit_word}
 use Rattle.array_versions.specs.Program.{list_entry}
-use Rattle.array_versions.specs.Program.{versioned_read, versioned_write, versioned_update, sense, truth, choose, repeat, store_number, move_word, jump, holds}
+use Rattle.array_versions.specs.Program.{versioned_read, versioned_write, versioned_update, sense, next_event, freeze_events, truth, choose, repeat, store_number}
+use Rattle.array_versions.specs.Program.{move_word, jump, holds}
 use Rattle.array_versions.specs.Program.{compares}
 use Rattle.array_versions.specs.Program.{both, either, fails, nothing, step}
 use Rattle.array_versions.specs.Behaviour.{WordState, End, GoesOn, Jumps, Short, Strays, Broken, Behaviour, with_stack, with_local, step_behaviour}
@@ -105,6 +106,8 @@ abbrev mutual
   step_cycles (versioned_write place list) = 79
   step_cycles (versioned_update op place list) = 86
   step_cycles sense = 6
+  step_cycles next_event = 31
+  step_cycles freeze_events = 10
   step_cycles (truth t) = test_cycles t + 5
   step_cycles (choose t taken otherwise) = test_cycles t + max (cycles_of taken + 3) (cycles_of otherwise)
   step_cycles (repeat n from below body) = 5 + (below - from) * (15 + cycles_of body)
@@ -146,6 +149,8 @@ abbrev mutual
   step_words (versioned_write place list) = 59
   step_words (versioned_update op place list) = 70
   step_words sense = 3
+  step_words next_event = 20
+  step_words freeze_events = 6
   step_words (truth t) = test_words t + 3
   step_words (choose t taken otherwise) = test_words t + 2 + words_of taken + words_of otherwise
   step_words (repeat n from below body) = 15 + words_of body
@@ -217,6 +222,8 @@ abbrev mutual
   step_spent (versioned_write place list) s = step_cycles (versioned_write place list)
   step_spent (versioned_update op place list) s = step_cycles (versioned_update op place list)
   step_spent sense s = step_cycles sense
+  step_spent next_event s = step_cycles next_event
+  step_spent freeze_events s = step_cycles freeze_events
   step_spent (store_number a w) s = step_cycles (store_number a w)
   step_spent (move_word from to) s = step_cycles (move_word from to)
   step_spent (jump to) s = step_cycles (jump to)

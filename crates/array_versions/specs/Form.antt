@@ -11,7 +11,8 @@ use Rattle.array_versions.specs.Operations.{long_pops, long_pushes}
 use Rattle.array_versions.specs.Program.{Step, Test, Program, number, load, keep, update, local, set_local, update_local, unary, binary, shift, long, element}
 use Rattle.array_versions.specs.Program.{emit_word}
 use Rattle.array_versions.specs.Program.{list_entry}
-use Rattle.array_versions.specs.Program.{versioned_read, versioned_write, versioned_update, sense, truth, choose, repeat, store_number, move_word, jump, holds}
+use Rattle.array_versions.specs.Program.{versioned_read, versioned_write, versioned_update, sense, next_event, freeze_events, truth, choose, repeat, store_number}
+use Rattle.array_versions.specs.Program.{move_word, jump, holds}
 use Rattle.array_versions.specs.Program.{compares}
 use Rattle.array_versions.specs.Program.{both, either, fails, nothing, step}
 
@@ -59,6 +60,8 @@ abbrev mutual
   EachStepWay room (versioned_write place list) next p = Moves room 2 0 next p
   EachStepWay room (versioned_update op place list) next p = Moves room 2 0 next p
   EachStepWay room sense next p = Moves room 0 1 next p
+  EachStepWay room next_event next p = Moves room 0 1 next p
+  EachStepWay room freeze_events next p = next p
   EachStepWay room (truth t) next p = EachTestWay room t (Moves room 0 1 next) (Moves room 0 1 next) p
   EachStepWay room (choose t taken otherwise) next p = EachTestWay room t (EachWay room taken next) (EachWay room otherwise next) p
   EachStepWay room (repeat n from below body) next p = EachTurn (below - from) n (EachWay room body) next p
@@ -206,6 +209,8 @@ abbrev mutual
   StepOfWords (versioned_write place list) = ArrayOfWords place × ListOfWords list
   StepOfWords (versioned_update op place list) = ArrayOfWords place × ListOfWords list
   StepOfWords sense = Unit {0}
+  StepOfWords next_event = Unit {0}
+  StepOfWords freeze_events = Unit {0}
   StepOfWords (truth t) = TestOfWords t
   StepOfWords (choose t taken otherwise) = TestOfWords t × OfWords taken × OfWords otherwise
   StepOfWords (repeat n from below body) = IsWord n × IsWord from × IsWord below × OfWords body

@@ -30,6 +30,8 @@ mutual
     versioned_write : (place : ArrayPlace) → (list : ListPlace) → Step
     versioned_update : (operation : PlainOperation) → (place : ArrayPlace) → (list : ListPlace) → Step
     sense : Step
+    next_event : Step
+    freeze_events : Step
     truth : (test : Test) → Step
     choose : (test : Test) → (taken otherwise : Program) → Step
     repeat : (n from below : ℕ) → (body : Program) → Step

@@ -85,6 +85,11 @@ pub enum WordStep {
     VersionedUpdate(PlainOperation, ArrayPlace, ListPlace),
     /// Takes the next reading and pushes it.
     Sense,
+    /// Takes the next word of the ring, stores it as the answer, raises the count of those that the attempt has taken, and pushes
+    /// it. Where none waits it stores 0 as the answer and pushes that.
+    NextEvent,
+    /// Stores the index of the next word of the ring as the one that the transition leaves.
+    FreezeEvents,
     /// Pushes 1 where a test holds, else 0.
     Truth(WordTest),
     /// Goes on with the first steps where a test holds, else with the second.
@@ -366,6 +371,22 @@ impl WordProgram {
         ensures err { OnErr result (program_of self.new ≡ program_of self.old) }
     {
         self.push(WordStep::Sense)
+    }
+
+    /// Takes the next word of the ring, as the answer, and pushes it; 0 where none waits.
+    pub fn next_event(&mut self) -> Result<(), AllocError>
+        ensures ok { OnOk result (program_of self.new ≡ behind (program_of self.old) value.next_event) }
+        ensures err { OnErr result (program_of self.new ≡ program_of self.old) }
+    {
+        self.push(WordStep::NextEvent)
+    }
+
+    /// Stores the index of the next word of the ring as the one that the transition leaves.
+    pub fn freeze_events(&mut self) -> Result<(), AllocError>
+        ensures ok { OnOk result (program_of self.new ≡ behind (program_of self.old) value.freeze_events) }
+        ensures err { OnErr result (program_of self.new ≡ program_of self.old) }
+    {
+        self.push(WordStep::FreezeEvents)
     }
 
     /// Pushes 1 where a test holds, else 0.

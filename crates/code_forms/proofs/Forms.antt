@@ -1,6 +1,6 @@
 -- Each form does what its instruction does.
 use Rattle.std.proofs.Common.{◌≡◌, ◌/◌, ◌==◌, if◌then◌else◌, ◌+◌, ◌-◌, ◌*◌, ◌%◌, ◌≤◌, ℕ, refl, sym, ◌∙◌, ap, Bool, true, false, arith, List, [], ◌∷◌, Option}
-use Rattle.std.proofs.Common.{Some, None, length, nat_le, nat_lt}
+use Rattle.std.proofs.Common.{Some, None, length, nat_le, nat_lt, ◌<◌}
 use Rattle.std.proofs.lemmas.Bool.Decides.{nat_tests}
 use Rattle.machine_effects.specs.alp_words.declared.Flags.{Flags}
 use Rattle.machine_effects.specs.alp_words.declared.Width.{Width}
@@ -26,25 +26,67 @@ use Rattle.machine_effects.specs.msp_step.Effect.{written_back, store, read_modi
 use Rattle.machine_effects.specs.msp_step.Effect.{push_effect, pushed, reads_destination, writes_destination, with_flags, Operated, finish, word_sum, source}
 use Rattle.machine_effects.specs.msp_step.Effect.{after_source, two_operand_effect, destination_location, Written, distance, is_met, operated}
 use Rattle.machine_effects.specs.msp_step.Step.{effect}
-use Rattle.machine_effects.specs.event_places.Places.{handler_place}
+use Rattle.machine_effects.specs.event_places.Places.{handler_place, head_place, ring_place, is_ring}
 use Rattle.machine_effects.specs.fram_board.Bus.{is_word, is_ram}
 use Rattle.machine_effects.specs.fram_board.Effects.{Store}
 use Rattle.machine_effects.specs.World.{put}
-use Rattle.machine_effects.specs.Going.{Goes}
+use Rattle.machine_effects.specs.Going.{Goes, Stops}
+use Rattle.machine_effects.specs.msp_step.declared.machine.Stop.TheVariants as stop
+use Rattle.machine_effects.specs.msp_isa.declared.instructions.Instr.{Instr}
+use Rattle.machine_effects.specs.Inputs.{Look, first_look, other_looks, HasLook}
 use Rattle.machine_effects.specs.Machine.{MachineOutcome, MachineBus, machine_bus, machine_outcome, step_with, word_address, is_readable, IsPlace, IsRam}
+use Rattle.machine_effects.specs.Machine.{looks_there, source_looks, machine_executed, executed_looking, code_executed}
 use Rattle.code_forms.specs.Forms.{WorkRegister, work_number, index_of, Core, register_file, board_of, outcome_of_core, Source, Register, Number, Constant}
-use Rattle.code_forms.specs.Forms.{Fram, Ram, Pointed, PointedNext, Indexed, Popped, source_operand, source_bytes, source_value, source_read, SourceNeeds}
+use Rattle.code_forms.specs.Forms.{Fram, Ram, Pointed, PointedNext, Indexed, Popped, Head, Slot}
+use Rattle.code_forms.specs.Forms.{source_operand, source_bytes, source_value, source_read, SourceNeeds}
 use Rattle.code_forms.specs.Forms.{Target, ToRegister, ToFram, ToRam, ToIndexed, ToPointed, ToOutnum, ToOutdata, target_operand, target_bytes, target_written}
 use Rattle.code_forms.specs.Forms.{TargetNeeds, Move, Calculate, Compare, Update, Push, Modify, SetStack, Sense, Jump, Skip, Branch, BranchIndexed}
-use Rattle.code_forms.specs.Forms.{SkipBy, instruction_of, flags_after, calculated, sensed, form_step, FormNeeds, IsNotMov, HasPushRoom, IsCodeAddress}
+use Rattle.code_forms.specs.Forms.{SkipBy, instruction_of, flags_after, calculated, sensed, form_step, FormNeeds, IsNotMov, HasPushRoom, IsCodeAddress, IsSlot}
 use Rattle.code_forms.specs.Forms.{Modification, modified}
 use Rattle.instruction_forms.specs.declared.kinds.Modification.TheVariants as change
 use Rattle.code_forms.specs.Laws.{FormsDoAsInstructions}
 use Rattle.code_forms.proofs.Registers.{set_pc, set_sp, set_work, get_work, high, number, set_flags, flags_back, is_on, no_port}
 
--- the bus of an instruction that began with SP here
-abbrev inside : ℕ → Core → MachineBus
-inside floor u = record { fram = u.fram; ram = u.ram; inputs = u.inputs; outnum = u.outnum; log = []; floor = floor; ring = None }
+-- the bus of an instruction that began with SP here, and sees this of the ring
+abbrev inside : ℕ → Option Look → Core → MachineBus
+inside floor ring u = record { fram = u.fram; ram = u.ram; inputs = u.inputs; outnum = u.outnum; log = []; floor = floor; ring = ring }
+
+-- the bus as an instruction begins that takes the first of these looks, if it looks
+abbrev seen_by : List Look → Core → MachineBus
+seen_by [] u = inside u.sp None u
+seen_by (look ∷ more) u = inside u.sp (Some look) (record u { inputs = record u.inputs { looks = more } })
+
+-- as one begins with this source
+abbrev begun : Source → Core → MachineBus
+begun Head u = seen_by u.inputs.looks u
+begun (Slot b) u = seen_by u.inputs.looks u
+begun (Register b) u = inside u.sp None u
+begun (Number n) u = inside u.sp None u
+begun (Constant k) u = inside u.sp None u
+begun (Fram a) u = inside u.sp None u
+begun (Ram a) u = inside u.sp None u
+begun (Pointed b) u = inside u.sp None u
+begun (PointedNext b) u = inside u.sp None u
+begun (Indexed b x) u = inside u.sp None u
+begun Popped u = inside u.sp None u
+
+-- what it sees of the ring
+abbrev ring_by : List Look → Option Look
+ring_by [] = None
+ring_by (look ∷ more) = Some look
+
+abbrev ring_of : Source → Core → Option Look
+ring_of Head u = ring_by u.inputs.looks
+ring_of (Slot b) u = ring_by u.inputs.looks
+ring_of (Register b) u = None
+ring_of (Number n) u = None
+ring_of (Constant k) u = None
+ring_of (Fram a) u = None
+ring_of (Ram a) u = None
+ring_of (Pointed b) u = None
+ring_of (PointedNext b) u = None
+ring_of (Indexed b x) u = None
+ring_of Popped u = None
 
 abbrev regs_in : Core → ℕ → Registers
 regs_in u p = register_file p u.sp u.flags u.work
@@ -101,6 +143,22 @@ read_ram s a h l =
     let g = even_ram a h in
     rw (w, r, e, f, g) refl
 
+-- a word of the ring is seen, and the bus stays
+slot_tests : (floor a : ℕ) → IsSlot a → (is_word a ≡ true) × ((is_readable floor a ≡ false) × ((is_ring a ≡ true) × ((a == 0x200) ≡ false)))
+slot_tests floor a h =
+    let e = h.even in let l = h.low in let k = h.high in
+    let no : is_ram a ≡ false = grind (arith, nat_tests) in
+    let far : nat_lt a handler_place ≡ false = grind (arith, nat_tests) in (
+      grind (arith, nat_tests),
+      (
+        ap (λ b. if b then nat_le floor (word_address a) else nat_lt a handler_place) no ∙ far,
+        (grind (arith, nat_tests), grind (arith, nat_tests)),
+      ),
+    )
+
+read_slot : (s : MachineBus) (look : Look) (a : ℕ) → s.ring ≡ Some look → IsSlot a → read_at machine_bus a Word s ≡ Completed (look a) s
+read_slot s look a e h = let t = slot_tests s.floor a h in rw (t.0, t.1.0, e, t.1.1.0, t.1.1.1) refl
+
 -- the source operand, with PC behind the operation word
 module _ (u : Core) (p : ℕ) where
   got : (b : WorkRegister) → regs_in u p (index_number (index_of b)) ≡ u.work (work_number b)
@@ -109,24 +167,41 @@ module _ (u : Core) (p : ℕ) where
   up : (b : WorkRegister) (v : ℕ) → with_register (regs_in u p) (index_number (index_of b)) v ≡ register_file p u.sp u.flags (put u.work (work_number b) v)
   up b v = ap (λ n. with_register (regs_in u p) n v) (number b) ∙ set_work p u.sp (work_number b) v u.flags u.work (high b)
 
+  -- a word of the ring
+  from_head : (looks : List Look) → HasLook looks
+      → source machine_bus (regs_in u p) Word (source_operand Head) (seen_by looks u) ≡ Completed (first_look looks head_place, regs_in u p) (seen_by looks u)
+  from_head [] h = absurd h
+  from_head (look ∷ more) h = refl
+
+  from_slot : (looks : List Look) (b : WorkRegister) → HasLook looks → IsSlot (u.work (work_number b) + ring_place)
+      → source machine_bus (regs_in u p) Word (source_operand (Slot b)) (seen_by looks u) ≡
+      Completed (first_look looks (u.work (work_number b) + ring_place), regs_in u p) (seen_by looks u)
+  from_slot [] b h at = absurd h
+  from_slot (look ∷ more) b h at =
+      let e : word_sum (u.work (work_number b)) ring_place ≡ u.work (work_number b) + ring_place = let hi = at.high in omega arith in
+      let s = seen_by (look ∷ more) u in
+      rw (got b, e, read_slot s look (u.work (work_number b) + ring_place) refl at) refl
+
   pub from_source : (x : Source) → SourceNeeds x u
-      → source machine_bus (regs_in u p) Word (source_operand x) (inside u.sp u) ≡ Completed (source_value x u, regs_in (source_read x u) p) (inside u.sp u)
+      → source machine_bus (regs_in u p) Word (source_operand x) (begun x u) ≡ Completed (source_value x u, regs_in (source_read x u) p) (begun x u)
   from_source (Register b) h = rw (got b) refl
   from_source (Number n) h = refl
   from_source (Constant k) h = refl
-  from_source (Fram a) h = rw (read_fram (inside u.sp u) a h) refl
-  from_source (Ram a) h = rw (read_ram (inside u.sp u) a h.0 h.1) refl
-  from_source (Pointed b) h = rw (got b, read_fram (inside u.sp u) (u.work (work_number b)) h) refl
+  from_source (Fram a) h = rw (read_fram (inside u.sp None u) a h) refl
+  from_source (Ram a) h = rw (read_ram (inside u.sp None u) a h.0 h.1) refl
+  from_source (Pointed b) h = rw (got b, read_fram (inside u.sp None u) (u.work (work_number b)) h) refl
   from_source (PointedNext b) h =
       let e : word_sum (u.work (work_number b)) 2 ≡ u.work (work_number b) + 2 = let hi = h.high in omega arith in
-      rw (up b (word_sum (regs_in u p (index_number (index_of b))) 2), got b, read_fram (inside u.sp u) (u.work (work_number b)) h, e) refl
+      rw (up b (word_sum (regs_in u p (index_number (index_of b))) 2), got b, read_fram (inside u.sp None u) (u.work (work_number b)) h, e) refl
   from_source (Indexed b x) h =
       let e : word_sum (u.work (work_number b)) x ≡ u.work (work_number b) + x = let hi = h.high in omega arith in
-      rw (got b, e, read_fram (inside u.sp u) (u.work (work_number b) + x) h) refl
+      rw (got b, e, read_fram (inside u.sp None u) (u.work (work_number b) + x) h) refl
   from_source Popped h =
       let v = h.even in let l = h.high in
       let e : word_sum u.sp 2 / 2 * 2 ≡ u.sp + 2 = omega arith in
-      rw (read_ram (inside u.sp u) u.sp h (omega arith), set_sp p u.sp (word_sum u.sp 2) (u.sp + 2) u.flags u.work e) refl
+      rw (read_ram (inside u.sp None u) u.sp h (omega arith), set_sp p u.sp (word_sum u.sp 2) (u.sp + 2) u.flags u.work e) refl
+  from_source Head h = from_head u.inputs.looks h
+  from_source (Slot b) h = from_slot u.inputs.looks b h.0 h.1
 
 pub from_length : (x : Source) → 2 * length (source_row (source_operand x)).extension ≡ source_bytes x
 from_length (Register b) = refl
@@ -143,6 +218,8 @@ from_length (Pointed b) = refl
 from_length (PointedNext b) = refl
 from_length (Indexed b x) = refl
 from_length Popped = refl
+from_length Head = refl
+from_length (Slot b) = refl
 
 pub from_small : (x : Source) → (source_bytes x ≤ 2) × (source_bytes x % 2 ≡ 0)
 from_small (Register b) = (omega arith, refl)
@@ -154,30 +231,75 @@ from_small (Pointed b) = (omega arith, refl)
 from_small (PointedNext b) = (omega arith, refl)
 from_small (Indexed b x) = (omega arith, refl)
 from_small Popped = (omega arith, refl)
+from_small Head = (omega arith, refl)
+from_small (Slot b) = (omega arith, refl)
 
 dest_small : (d : Dst) → length (destination_row d).extension ≤ 1
 dest_small d = grind arith
 
-read_same : (x : Source) (u : Core) → inside u.sp (source_read x u) ≡ inside u.sp u
-read_same (Register b) u = refl
-read_same (Number n) u = refl
-read_same (Constant k) u = refl
-read_same (Fram a) u = refl
-read_same (Ram a) u = refl
-read_same (Pointed b) u = refl
-read_same (PointedNext b) u = refl
-read_same (Indexed b x) u = refl
-read_same Popped u = refl
+behind_look : (looks : List Look) (u : Core) → HasLook looks
+    → inside u.sp (ring_by looks) (record u { inputs = record u.inputs { looks = other_looks looks } }) ≡ seen_by looks u
+behind_look [] u h = absurd h
+behind_look (look ∷ more) u h = refl
+
+read_same : (x : Source) (u : Core) → SourceNeeds x u → inside u.sp (ring_of x u) (source_read x u) ≡ begun x u
+read_same (Register b) u h = refl
+read_same (Number n) u h = refl
+read_same (Constant k) u h = refl
+read_same (Fram a) u h = refl
+read_same (Ram a) u h = refl
+read_same (Pointed b) u h = refl
+read_same (PointedNext b) u h = refl
+read_same (Indexed b x) u h = refl
+read_same Popped u h = refl
+read_same Head u h = behind_look u.inputs.looks u h
+read_same (Slot b) u h = behind_look u.inputs.looks u h.0
+
+-- a source that is no look, by its needs
+place_no_ring : (a : ℕ) → IsPlace a → is_ring a ≡ false
+place_no_ring a h = let l = h.high in grind (arith, nat_tests)
+
+ram_no_ring : (a : ℕ) → IsRam a → is_ring a ≡ false
+ram_no_ring a h = let l = h.high in grind (arith, nat_tests)
+
+below_no_ring : (a n : ℕ) → a + n < handler_place → is_ring n ≡ false
+below_no_ring a n l = grind (arith, nat_tests)
+
+-- an instruction that looks where its source does begins so
+looking_begun : (looks : List Look) (u : Core) (i : Instr)
+    → executed_looking looks (board_of u) i ≡ machine_outcome u.pc (cycles_of i) (effect machine_bus i (regs_in u u.pc) (seen_by looks u))
+looking_begun [] u i = refl
+looking_begun (look ∷ more) u i = refl
+
+by_test : (b : Bool) (o p : MachineOutcome) → b ≡ false → (if b then o else p) ≡ p
+by_test true o p e = absurd cc
+by_test false o p e = refl
+
+code_begun : (x : Source) (u : Core) (i : Instr) → SourceNeeds x u → looks_there i ≡ source_looks (source_operand x)
+    → code_executed (board_of u) i ≡ machine_outcome u.pc (cycles_of i) (effect machine_bus i (regs_in u u.pc) (begun x u))
+code_begun (Register b) u i h e = by_test (looks_there i) _ _ e
+code_begun (Number n) u i h e = by_test (looks_there i) _ _ e
+code_begun (Constant k) u i h e = by_test (looks_there i) _ _ e
+code_begun (Fram a) u i h e = by_test (looks_there i) _ _ (e ∙ place_no_ring a h)
+code_begun (Ram a) u i h e = by_test (looks_there i) _ _ (e ∙ ram_no_ring a h.0)
+code_begun (Pointed b) u i h e = by_test (looks_there i) _ _ e
+code_begun (PointedNext b) u i h e = by_test (looks_there i) _ _ e
+code_begun (Indexed b x) u i h e = by_test (looks_there i) _ _ (e ∙ below_no_ring (u.work (work_number b)) x h.high)
+code_begun Popped u i h e = by_test (looks_there i) _ _ e
+code_begun Head u i h e =
+    ap (λ c. if c then executed_looking u.inputs.looks (board_of u) i else machine_executed (board_of u) i) e ∙ looking_begun u.inputs.looks u i
+code_begun (Slot b) u i h e =
+    ap (λ c. if c then executed_looking u.inputs.looks (board_of u) i else machine_executed (board_of u) i) e ∙ looking_begun u.inputs.looks u i
 
 abbrev ext_of : Source → Core → ℕ
 ext_of x u = word_sum (word_sum u.pc 2) (2 * length (source_row (source_operand x)).extension)
 
 -- an instruction with two operands, up to its destination
 pub two : (op : TwoOp) (x : Source) (d : Dst) (u : Core) → IsCodeAddress u.pc → SourceNeeds x u →
-    two_operand_effect machine_bus op Word (source_operand x) d (regs_in u u.pc) (inside u.sp u) ≡
+    two_operand_effect machine_bus op Word (source_operand x) d (regs_in u u.pc) (begun x u) ≡
     after_source machine_bus op Word (destination_location (regs_in (source_read x u)
     (u.pc + (2 + source_bytes x + 2 * length (destination_row d).extension))) (ext_of x u) d) (source_value x u)
-    (regs_in (source_read x u) (u.pc + (2 + source_bytes x + 2 * length (destination_row d).extension))) (inside u.sp u)
+    (regs_in (source_read x u) (u.pc + (2 + source_bytes x + 2 * length (destination_row d).extension))) (begun x u)
 two op x d u c h =
     let even = c.even in let high = c.high in
     let s = from_small x in let l = from_length x in let m = dest_small d in
@@ -203,28 +325,28 @@ to_length ToOutnum = refl
 to_length ToOutdata = refl
 
 -- MOV's write
-written : (y : Target) (v ext pc c floor : ℕ) (t : Core) → TargetNeeds y t
+written : (y : Target) (v ext pc c floor : ℕ) (ring : Option Look) (t : Core) → TargetNeeds y t
     → machine_outcome pc c (after_source machine_bus Mov Word (destination_location (regs_in t t.pc) ext (target_operand y)) v (regs_in t t.pc)
-    (inside floor t)) ≡ outcome_of_core (target_written y c v t)
-written (ToRegister b) v ext pc c floor t h = rw (up t t.pc b v) refl
-written (ToFram a) v ext pc c floor t h =
+    (inside floor ring t)) ≡ outcome_of_core (target_written y c v t)
+written (ToRegister b) v ext pc c floor ring t h = rw (up t t.pc b v) refl
+written (ToFram a) v ext pc c floor ring t h =
     let w = is_word_fram a h in let l = low_fram a h in let f = no_ram_fram a h in let g = even_fram a h in rw (w, l, f, g) refl
-written (ToRam a) v ext pc c floor t h =
+written (ToRam a) v ext pc c floor ring t h =
     let w = is_word_ram a h in let l = low_ram a h in let f = is_ram_ram a h in let g = even_ram a h in rw (w, l, f, g) refl
-written (ToIndexed b x) v ext pc c floor t h =
+written (ToIndexed b x) v ext pc c floor ring t h =
     let hi = h.high in
     let e : word_sum (t.work (work_number b)) x ≡ t.work (work_number b) + x = omega arith in
     let a = t.work (work_number b) + x in
     let w = is_word_fram a h in let l = low_fram a h in let f = no_ram_fram a h in let g = even_fram a h in
     rw (got t t.pc b, e, w, l, f, g) refl
-written (ToPointed b) v ext pc c floor t h =
+written (ToPointed b) v ext pc c floor ring t h =
     let hi = h.high in
     let e : word_sum (t.work (work_number b)) 0 ≡ t.work (work_number b) = omega arith in
     let a = t.work (work_number b) in
     let w = is_word_fram a h in let l = low_fram a h in let f = no_ram_fram a h in let g = even_fram a h in
     rw (got t t.pc b, e, w, l, f, g) refl
-written ToOutnum v ext pc c floor t h = refl
-written ToOutdata v ext pc c floor t h = refl
+written ToOutnum v ext pc c floor ring t h = refl
+written ToOutdata v ext pc c floor ring t h = refl
 
 ok_pc : (y : Target) (t : Core) (p : ℕ) → TargetNeeds y t → TargetNeeds y (record t { pc = p })
 ok_pc (ToRegister b) t p h = h
@@ -240,18 +362,22 @@ on_two : (op : TwoOp) (x : Source) (d : Dst) (u : Core) → IsCodeAddress u.pc �
     step_with (Some (instr.Two op Word (source_operand x) d)) (board_of u) ≡
     machine_outcome u.pc (cycles_of (instr.Two op Word (source_operand x) d)) (after_source machine_bus op Word
     (destination_location (regs_in (source_read x u) (u.pc + (2 + source_bytes x + 2 * length (destination_row d).extension))) (ext_of x u) d)
-    (source_value x u) (regs_in (source_read x u) (u.pc + (2 + source_bytes x + 2 * length (destination_row d).extension))) (inside u.sp (source_read x u)))
+    (source_value x u) (regs_in (source_read x u) (u.pc + (2 + source_bytes x + 2 * length (destination_row d).extension)))
+    (inside u.sp (ring_of x u) (source_read x u)))
 unfolding effect
 on_two op x d u c h =
+    let i = instr.Two op Word (source_operand x) d in
     let e = is_on u.pc u.sp u.flags u.work in
-    rw (e, two op x d u c h, read_same x u) refl
+    ap (λ b. if b then Stops [] 0 stop.Off else code_executed (board_of u) i) e
+    ∙ code_begun x u i h refl
+    ∙ rw (two op x d u c h, read_same x u h) refl
 
 moves : (x : Source) (y : Target) (u : Core) → IsCodeAddress u.pc → SourceNeeds x u → TargetNeeds y (source_read x u)
     → step_with (Some (instruction_of (Move x y))) (board_of u) ≡ outcome_of_core (form_step (Move x y) u)
 moves x y u c h k =
     let n : Core = record (source_read x u) { pc = u.pc + (2 + source_bytes x + 2 * length (destination_row (target_operand y)).extension) } in
     on_two Mov x (target_operand y) u c h
-    ∙ written y (source_value x u) (ext_of x u) u.pc (cycles_of (instruction_of (Move x y))) u.sp n (ok_pc y (source_read x u) n.pc k)
+    ∙ written y (source_value x u) (ext_of x u) u.pc (cycles_of (instruction_of (Move x y))) u.sp (ring_of x u) n (ok_pc y (source_read x u) n.pc k)
     ∙ ap (λ m. outcome_of_core (target_written y (cycles_of (instruction_of (Move x y))) (source_value x u)
     (record (source_read x u) { pc = u.pc + (2 + source_bytes x + m) }))) (to_length y)
 
@@ -274,19 +400,19 @@ with_new : (o : Option Flags) (t : Core) (p : ℕ) → with_flags (regs_in t p) 
 with_new None t p = refl
 with_new (Some g) t p = set_flags p t.sp t.flags g t.work
 
-ends : (w : Bool) (b : WorkRegister) (o : Operated) (pc c floor : ℕ) (t : Core) →
+ends : (w : Bool) (b : WorkRegister) (o : Operated) (pc c floor : ℕ) (ring : Option Look) (t : Core) →
     machine_outcome pc c (finish w machine_bus (register_file t.pc t.sp (flags_after o.flags t.flags) t.work) Word
-    (destination_location (regs_in t t.pc) 0 (target_operand (ToRegister b))) o.value (inside floor t))
+    (destination_location (regs_in t t.pc) 0 (target_operand (ToRegister b))) o.value (inside floor ring t))
     ≡ Goes [] c (board_of (record t { flags = flags_after o.flags t.flags; work = if w then put t.work (work_number b) o.value else t.work }))
-ends true b o pc c floor t = rw (up (record t { flags = flags_after o.flags t.flags }) t.pc b o.value) refl
-ends false b o pc c floor t = refl
+ends true b o pc c floor ring t = rw (up (record t { flags = flags_after o.flags t.flags }) t.pc b o.value) refl
+ends false b o pc c floor ring t = refl
 
-calculated_half : (op : TwoOp) (v ext pc c floor : ℕ) (b : WorkRegister) (t : Core) → reads_destination op ≡ true
+calculated_half : (op : TwoOp) (v ext pc c floor : ℕ) (ring : Option Look) (b : WorkRegister) (t : Core) → reads_destination op ≡ true
     → machine_outcome pc c (after_source machine_bus op Word (destination_location (regs_in t t.pc) ext (target_operand (ToRegister b))) v
-    (regs_in t t.pc) (inside floor t)) ≡ outcome_of_core (Goes [] c (calculated op b (operated op Word (t.work (work_number b)) v t.flags) t))
-calculated_half op v ext pc c floor b t n =
+    (regs_in t t.pc) (inside floor ring t)) ≡ outcome_of_core (Goes [] c (calculated op b (operated op Word (t.work (work_number b)) v t.flags) t))
+calculated_half op v ext pc c floor ring b t n =
     let o = operated op Word (t.work (work_number b)) v t.flags in
-    rw (n, got t t.pc b, flags_back t.flags, with_new o.flags t t.pc) (ends (writes_destination op) b o pc c floor t)
+    rw (n, got t t.pc b, flags_back t.flags, with_new o.flags t t.pc) (ends (writes_destination op) b o pc c floor ring t)
 
 read_flags : (x : Source) (u : Core) → (source_read x u).flags ≡ u.flags
 read_flags (Register b) u = refl
@@ -298,6 +424,8 @@ read_flags (Pointed b) u = refl
 read_flags (PointedNext b) u = refl
 read_flags (Indexed b x) u = refl
 read_flags Popped u = refl
+read_flags Head u = refl
+read_flags (Slot b) u = refl
 
 calculates : (op : TwoOp) (x : Source) (b : WorkRegister) (u : Core) → IsCodeAddress u.pc → IsNotMov op → SourceNeeds x u
     → step_with (Some (instruction_of (Calculate op x b))) (board_of u) ≡ outcome_of_core (form_step (Calculate op x b) u)
@@ -306,37 +434,47 @@ calculates op x b u c n h =
     on_two op x (target_operand (ToRegister b)) u c h
     ∙ ap (λ p. machine_outcome u.pc (cycles_of (instruction_of (Calculate op x b)))
     (after_source machine_bus op Word (destination_location (regs_in (source_read x u) p) (ext_of x u) (target_operand (ToRegister b)))
-    (source_value x u) (regs_in (source_read x u) p) (inside u.sp (source_read x u))))
+    (source_value x u) (regs_in (source_read x u) p) (inside u.sp (ring_of x u) (source_read x u))))
     (let e : u.pc + (2 + source_bytes x + 2 * 0) ≡ u.pc + (2 + source_bytes x) = omega arith in e)
-    ∙ calculated_half op (source_value x u) (ext_of x u) u.pc (cycles_of (instruction_of (Calculate op x b))) u.sp b t (reads op n)
+    ∙ calculated_half op (source_value x u) (ext_of x u) u.pc (cycles_of (instruction_of (Calculate op x b))) u.sp (ring_of x u) b t (reads op n)
     ∙ ap (λ f. outcome_of_core (Goes [] (cycles_of (instruction_of (Calculate op x b)))
     (calculated op b (operated op Word (t.work (work_number b)) (source_value x u) f) t))) (read_flags x u)
 
-compared_half : (v a ext pc c floor : ℕ) (t : Core) → IsPlace a
+compared_half : (v a ext pc c floor : ℕ) (ring : Option Look) (t : Core) → IsPlace a
     → machine_outcome pc c (after_source machine_bus Cmp Word (destination_location (regs_in t t.pc) ext (dst.Absolute a)) v (regs_in t t.pc)
-    (inside floor t)) ≡ outcome_of_core (Goes [] c (record t { flags = flags_after (operated Cmp Word (t.fram a) v t.flags).flags t.flags }))
-compared_half v a ext pc c floor t h =
-    rw (read_fram (inside floor t) a h, set_flags t.pc t.sp t.flags (difference_of Word (t.fram a) v true).1 t.work) refl
+    (inside floor ring t)) ≡ outcome_of_core (Goes [] c (record t { flags = flags_after (operated Cmp Word (t.fram a) v t.flags).flags t.flags }))
+compared_half v a ext pc c floor ring t h =
+    rw (read_fram (inside floor ring t) a h, set_flags t.pc t.sp t.flags (difference_of Word (t.fram a) v true).1 t.work) refl
 
 read_memory : (x : Source) (u : Core) → (source_read x u).fram ≡ u.fram
-read_memory x u = ap (λ l. l.fram) (read_same x u)
+read_memory (Register b) u = refl
+read_memory (Number n) u = refl
+read_memory (Constant k) u = refl
+read_memory (Fram a) u = refl
+read_memory (Ram a) u = refl
+read_memory (Pointed b) u = refl
+read_memory (PointedNext b) u = refl
+read_memory (Indexed b x) u = refl
+read_memory Popped u = refl
+read_memory Head u = refl
+read_memory (Slot b) u = refl
 
 compares : (x : Source) (a : ℕ) (u : Core) → IsCodeAddress u.pc → SourceNeeds x u → IsPlace a
     → step_with (Some (instruction_of (Compare x a))) (board_of u) ≡ outcome_of_core (form_step (Compare x a) u)
 compares x a u c h k =
     let t : Core = record (source_read x u) { pc = u.pc + (2 + source_bytes x + 2) } in
     on_two Cmp x (dst.Absolute a) u c h
-    ∙ compared_half (source_value x u) a (ext_of x u) u.pc (cycles_of (instruction_of (Compare x a))) u.sp t k
+    ∙ compared_half (source_value x u) a (ext_of x u) u.pc (cycles_of (instruction_of (Compare x a))) u.sp (ring_of x u) t k
     ∙ ap (λ f. outcome_of_core (Goes [] (cycles_of (instruction_of (Compare x a))) (record t { flags = f }))) (rw (read_memory x u) refl)
 
-updated_half : (op : TwoOp) (v a ext pc c floor : ℕ) (t : Core) → reads_destination op ≡ true → writes_destination op ≡ true → IsPlace a
-    → machine_outcome pc c (after_source machine_bus op Word (destination_location (regs_in t t.pc) ext (dst.Absolute a)) v (regs_in t t.pc) (inside floor t)) ≡
-    outcome_of_core (let o = operated op Word (t.fram a) v t.flags in Goes (Store a o.value ∷ []) c
+updated_half : (op : TwoOp) (v a ext pc c floor : ℕ) (ring : Option Look) (t : Core) → reads_destination op ≡ true → writes_destination op ≡ true → IsPlace a
+    → machine_outcome pc c (after_source machine_bus op Word (destination_location (regs_in t t.pc) ext (dst.Absolute a)) v (regs_in t t.pc)
+    (inside floor ring t)) ≡ outcome_of_core (let o = operated op Word (t.fram a) v t.flags in Goes (Store a o.value ∷ []) c
     (record t { flags = flags_after o.flags t.flags; fram = put t.fram a o.value }))
-updated_half op v a ext pc c floor t n m h =
+updated_half op v a ext pc c floor ring t n m h =
     let w = is_word_fram a h in let l = low_fram a h in let f = no_ram_fram a h in let g = even_fram a h in
     let o = operated op Word (t.fram a) v t.flags in
-    rw (n, read_fram (inside floor t) a h, flags_back t.flags, with_new o.flags t t.pc, m, w, l, f, g) refl
+    rw (n, read_fram (inside floor ring t) a h, flags_back t.flags, with_new o.flags t t.pc, m, w, l, f, g) refl
 
 updates : (op : TwoOp) (x : Source) (a : ℕ) (u : Core) → IsCodeAddress u.pc → FormNeeds (Update op x a) u
     → step_with (Some (instruction_of (Update op x a))) (board_of u) ≡ outcome_of_core (form_step (Update op x a) u)
@@ -345,13 +483,13 @@ updates op x a u c h =
     let out : (ℕ → ℕ) → Flags → MachineOutcome = λ f g. outcome_of_core (let o = operated op Word (f a) (source_value x u) g in Goes
     (Store a o.value ∷ []) (cycles_of (instruction_of (Update op x a))) (record t { flags = flags_after o.flags g; fram = put f a o.value })) in
     on_two op x (dst.Absolute a) u c h.2
-    ∙ updated_half op (source_value x u) a (ext_of x u) u.pc (cycles_of (instruction_of (Update op x a))) u.sp t (reads op h.0) h.1 h.3
+    ∙ updated_half op (source_value x u) a (ext_of x u) u.pc (cycles_of (instruction_of (Update op x a))) u.sp (ring_of x u) t (reads op h.0) h.1 h.3
     ∙ ap (λ f. out f t.flags) (read_memory x u) ∙ ap (λ g. out u.fram g) (read_flags x u)
 
 -- no operand that is written
 push_half : (x : Source) (u : Core) → IsCodeAddress u.pc → SourceNeeds x u
-    → push_effect machine_bus Word (source_operand x) (regs_in u u.pc) (inside u.sp u) ≡ pushed machine_bus Word (source_value x u)
-    (regs_in (source_read x u) (u.pc + (2 + source_bytes x))) (inside u.sp (source_read x u))
+    → push_effect machine_bus Word (source_operand x) (regs_in u u.pc) (begun x u) ≡ pushed machine_bus Word (source_value x u)
+    (regs_in (source_read x u) (u.pc + (2 + source_bytes x))) (inside u.sp (ring_of x u) (source_read x u))
 push_half x u c h =
     let even = c.even in let high = c.high in
     let s = from_small x in let l = from_length x in
@@ -360,16 +498,16 @@ push_half x u c h =
     let t = source_read x u in
     let next : ℕ × Registers → MachineBus → Access MachineBus (Registers × Option Written) =
     λ y l. pushed machine_bus Word y.0 (with_register y.1 0 (ext_of x u)) l in
-    ap (λ q. then_do (source machine_bus q Word (source_operand x) (inside u.sp u)) next) (set_pc u.pc u.sp (word_sum u.pc 2) (u.pc + 2) u.flags u.work a)
+    ap (λ q. then_do (source machine_bus q Word (source_operand x) (begun x u)) next) (set_pc u.pc u.sp (word_sum u.pc 2) (u.pc + 2) u.flags u.work a)
     ∙ ap (λ y. then_do y next) (from_source u (u.pc + 2) x h)
-    ∙ ap (λ r. pushed machine_bus Word (source_value x u) r (inside u.sp u))
+    ∙ ap (λ r. pushed machine_bus Word (source_value x u) r (begun x u))
     (set_pc (u.pc + 2) t.sp (ext_of x u) (u.pc + (2 + source_bytes x)) t.flags t.work p)
-    ∙ ap (λ l. pushed machine_bus Word (source_value x u) (regs_in t (u.pc + (2 + source_bytes x))) l) (sym (read_same x u))
+    ∙ ap (λ l. pushed machine_bus Word (source_value x u) (regs_in t (u.pc + (2 + source_bytes x))) l) (sym (read_same x u h))
 
-pushed_at : (v pc c floor : ℕ) (t : Core) → HasPushRoom t.sp
-    → machine_outcome pc c (pushed machine_bus Word v (regs_in t t.pc) (inside floor t)) ≡ Goes [] c
+pushed_at : (v pc c floor : ℕ) (ring : Option Look) (t : Core) → HasPushRoom t.sp
+    → machine_outcome pc c (pushed machine_bus Word v (regs_in t t.pc) (inside floor ring t)) ≡ Goes [] c
     (board_of (record t { sp = t.sp - 2; ram = put t.ram (t.sp - 2) v }))
-pushed_at v pc c floor t h =
+pushed_at v pc c floor ring t h =
     let even = h.even in let room = h.room.fits in let high = h.high in
     let k : IsRam (t.sp - 2) = record { even = omega arith; low = omega arith; high = omega arith } in
     let word = is_word_ram (t.sp - 2) k in let below = low_ram (t.sp - 2) k in let ram = is_ram_ram (t.sp - 2) k in let g = even_ram (t.sp - 2) k in
@@ -383,7 +521,9 @@ unfolding effect
 pushes x u c h =
     let on = is_on u.pc u.sp u.flags u.work in
     let t : Core = record (source_read x u) { pc = u.pc + (2 + source_bytes x) } in
-    rw (on, push_half x u c h.0) (pushed_at (source_value x u) u.pc (cycles_of (instruction_of (Push x))) u.sp t h.1)
+    ap (λ b. if b then Stops [] 0 stop.Off else code_executed (board_of u) (instruction_of (Push x))) on
+    ∙ code_begun x u (instruction_of (Push x)) h.0 refl
+    ∙ rw (push_half x u c h.0) (pushed_at (source_value x u) u.pc (cycles_of (instruction_of (Push x))) u.sp (ring_of x u) t h.1)
 
 sets_stack : (n : ℕ) (u : Core) → IsCodeAddress u.pc → n % 2 ≡ 0
     → step_with (Some (instruction_of (SetStack n))) (board_of u) ≡ outcome_of_core (form_step (SetStack n) u)
@@ -476,12 +616,12 @@ skips_by b u c h =
 
 -- an operation on one register
 modified_half : (f : Width → ℕ → Flags → Operated) (b : WorkRegister) (u : Core) → IsCodeAddress u.pc
-    → read_modify_write machine_bus f Word (mode.Reg (source_register.Index (index_of b))) (regs_in u u.pc) (inside u.sp u) ≡
+    → read_modify_write machine_bus f Word (mode.Reg (source_register.Index (index_of b))) (regs_in u u.pc) (inside u.sp None u) ≡
     (let o = f Word (u.work (work_number b)) u.flags in Completed (
       register_file (u.pc + 2) u.sp (flags_after o.flags u.flags)
           (put u.work (work_number b) o.value),
       None,
-    ) (inside u.sp u))
+    ) (inside u.sp None u))
 modified_half f b u c =
     let even = c.even in let high = c.high in
     let a : word_sum u.pc 2 / 2 * 2 ≡ u.pc + 2 = omega arith in
@@ -489,21 +629,21 @@ modified_half f b u c =
     let o = f Word (u.work (work_number b)) u.flags in
     let l = location.Register (reg.Index (index_of b)) in
     let next : Registers → Access MachineBus (Registers × Option Written) =
-    λ r. written_back machine_bus f Word l (r (index_number (index_of b))) (with_register r 0 (word_sum (word_sum u.pc 2) 0)) (inside u.sp u) in
-    let last : Registers → ℕ → Access MachineBus (Registers × Option Written) = λ r v. written_back machine_bus f Word l v r (inside u.sp u) in
+    λ r. written_back machine_bus f Word l (r (index_number (index_of b))) (with_register r 0 (word_sum (word_sum u.pc 2) 0)) (inside u.sp None u) in
+    let last : Registers → ℕ → Access MachineBus (Registers × Option Written) = λ r v. written_back machine_bus f Word l v r (inside u.sp None u) in
     let ends : Flags → Access MachineBus (Registers × Option Written) = λ g. store machine_bus
-    (with_flags (regs_in u (u.pc + 2)) (f Word (u.work (work_number b)) g).flags) Word l (f Word (u.work (work_number b)) g).value (inside u.sp u) in
+    (with_flags (regs_in u (u.pc + 2)) (f Word (u.work (work_number b)) g).flags) Word l (f Word (u.work (work_number b)) g).value (inside u.sp None u) in
     ap next (set_pc u.pc u.sp (word_sum u.pc 2) (u.pc + 2) u.flags u.work a)
     ∙ ap (λ v. last (with_register (regs_in u (u.pc + 2)) 0 (word_sum (word_sum u.pc 2) 0)) v) (got u (u.pc + 2) b)
     ∙ ap (λ r. last r (u.work (work_number b))) (set_pc (u.pc + 2) u.sp (word_sum (word_sum u.pc 2) 0) (u.pc + 2) u.flags u.work d)
     ∙ ap ends (flags_back u.flags)
-    ∙ ap (λ r. store machine_bus r Word l o.value (inside u.sp u)) (with_new o.flags u (u.pc + 2))
-    ∙ ap (λ r. Completed (r, None) (inside u.sp u)) (up (record u { flags = flags_after o.flags u.flags }) (u.pc + 2) b o.value)
+    ∙ ap (λ r. store machine_bus r Word l o.value (inside u.sp None u)) (with_new o.flags u (u.pc + 2))
+    ∙ ap (λ r. Completed (r, None) (inside u.sp None u)) (up (record u { flags = flags_after o.flags u.flags }) (u.pc + 2) b o.value)
 
 modified_effect : (m : Modification) (b : WorkRegister) (u : Core) → IsCodeAddress u.pc
-    → effect machine_bus (instruction_of (Modify m b)) (regs_in u u.pc) (inside u.sp u) ≡
+    → effect machine_bus (instruction_of (Modify m b)) (regs_in u u.pc) (inside u.sp None u) ≡
     (let o = modified m (u.work (work_number b)) u.flags in Completed
-    (register_file (u.pc + 2) u.sp (flags_after o.flags u.flags) (put u.work (work_number b) o.value), None) (inside u.sp u))
+    (register_file (u.pc + 2) u.sp (flags_after o.flags u.flags) (put u.work (work_number b) o.value), None) (inside u.sp None u))
 unfolding effect
 modified_effect change.Rra b u c = modified_half shifted b u c
 modified_effect change.Rrc b u c = modified_half rotated b u c
@@ -516,11 +656,17 @@ modified_cycles change.Rrc b = refl
 modified_cycles change.Swpb b = refl
 modified_cycles change.Sxt b = refl
 
+modified_blind : (m : Modification) (b : WorkRegister) → looks_there (instruction_of (Modify m b)) ≡ false
+modified_blind change.Rra b = refl
+modified_blind change.Rrc b = refl
+modified_blind change.Swpb b = refl
+modified_blind change.Sxt b = refl
+
 modifies : (m : Modification) (b : WorkRegister) (u : Core) → IsCodeAddress u.pc
     → step_with (Some (instruction_of (Modify m b))) (board_of u) ≡ outcome_of_core (form_step (Modify m b) u)
 modifies m b u c =
     let on = is_on u.pc u.sp u.flags u.work in
-    rw (on, modified_effect m b u c, modified_cycles m b) refl
+    rw (on, modified_blind m b, modified_effect m b u c, modified_cycles m b) refl
 
 -- each form
 pub form_does : FormsDoAsInstructions

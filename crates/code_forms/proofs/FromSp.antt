@@ -4,7 +4,8 @@ use Rattle.std.proofs.lemmas.Option.{same_Some}
 use Rattle.machine_effects.specs.msp_step.declared.machine.Stop.{Stop}
 use Rattle.machine_effects.specs.Going.{Status, At, Halted}
 use Rattle.machine_effects.specs.Machine.{Code, MachineBoard}
-use Rattle.code_forms.specs.Forms.{Core, Source, Register, Number, Constant, Fram, Ram, Pointed, PointedNext, Indexed, Popped, SourceNeeds, source_ram}
+use Rattle.code_forms.specs.Forms.{Core, Source, Register, Number, Constant, Fram, Ram, Pointed, PointedNext, Indexed, Popped, Head, Slot, SourceNeeds}
+use Rattle.code_forms.specs.Forms.{source_ram}
 use Rattle.code_forms.specs.Forms.{Form, Move, Calculate, Compare, Update, Push, Modify, SetStack, Sense, Jump, Skip, Branch, BranchIndexed, SkipBy, FormNeeds}
 use Rattle.code_forms.specs.Forms.{ram_read}
 use Rattle.code_forms.specs.Code.{IsAtForm, OfState}
@@ -20,6 +21,8 @@ source_from_sp (Fram b) u a h e = absurd (cc)
 source_from_sp (Pointed b) u a h e = absurd (cc)
 source_from_sp (PointedNext b) u a h e = absurd (cc)
 source_from_sp (Indexed b x) u a h e = absurd (cc)
+source_from_sp Head u a h e = absurd (cc)
+source_from_sp (Slot b) u a h e = absurd (cc)
 
 form_from_sp : (m : Form) (u : Core) (a : ℕ) → FormNeeds m u → ram_read m u ≡ Some a → u.sp ≤ a
 form_from_sp (Move x y) u a h e = source_from_sp x u a h.0 e

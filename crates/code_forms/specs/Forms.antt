@@ -1,7 +1,8 @@
 -- The forms of instructions that the compiler and its runtime write, on a machine whose registers are told apart: what each is
 -- as an instruction, how long it is, what it needs and what it does (SLAU049 and SLAU144, CPU chapter).
 use Rattle.std.specs.Prelude.{ℕ, ◌+◌, ◌-◌, ◌%◌, ◌≡◌, ◌<◌, ◌≤◌, true, false, ◌==◌, if◌then◌else◌, List, [], ◌∷◌, Option, Some, None}
-use Rattle.machine_effects.specs.address_space.Limits.{fram_end, stack_top, HasStackRoom}
+use Rattle.machine_effects.specs.address_space.Limits.{fram_end, stack_top, event_vector, HasStackRoom}
+use Rattle.machine_effects.specs.event_places.Places.{head_place, ring_place}
 use Rattle.machine_effects.specs.alp_words.declared.Flags.{Flags}
 use Rattle.machine_effects.specs.alp_words.declared.Width.TheVariants.{Word}
 use Rattle.machine_effects.specs.msp_isa.declared.instructions.TwoOp.{TwoOp}
@@ -15,7 +16,7 @@ use Rattle.machine_effects.specs.msp_step.Effect.{status_with, operated, Operate
 use Rattle.machine_effects.specs.msp_step.Effect.{word_sum, distance, is_met}
 use Rattle.machine_effects.specs.fram_board.Effects.{Store, Take, Outside, Offered}
 use Rattle.machine_effects.specs.World.{put}
-use Rattle.machine_effects.specs.Inputs.{Inputs}
+use Rattle.machine_effects.specs.Inputs.{Inputs, first_look, other_looks, HasLook}
 use Rattle.machine_effects.specs.Going.{StepOutcome, Goes, Stops, Stretch}
 use Rattle.machine_effects.specs.Machine.{MachineBoard, MachineOutcome, IsPlace, IsRam}
 pub use Rattle.instruction_forms.specs.Encoding.{index_of, source_operand, source_bytes, target_operand, target_bytes, modification_operand}
@@ -24,6 +25,7 @@ pub use Rattle.instruction_forms.specs.declared.kinds.WorkRegister.{WorkRegister
 pub use Rattle.instruction_forms.specs.declared.kinds.WorkRegister.TheVariants.{R4, R5, R6, R7, R8, R9, R10, R11, R12, R13, R14, R15}
 pub use Rattle.instruction_forms.specs.declared.kinds.Source.{Source}
 pub use Rattle.instruction_forms.specs.declared.kinds.Source.TheVariants.{Register, Number, Constant, Fram, Ram, Pointed, PointedNext, Indexed, Popped}
+pub use Rattle.instruction_forms.specs.declared.kinds.Source.TheVariants.{Head, Slot}
 pub use Rattle.instruction_forms.specs.declared.kinds.Target.{Target}
 pub use Rattle.instruction_forms.specs.declared.kinds.Target.TheVariants.{ToRegister, ToFram, ToRam, ToIndexed, ToPointed, ToOutnum, ToOutdata}
 pub use Rattle.instruction_forms.specs.declared.kinds.Modification.{Modification}
@@ -107,6 +109,12 @@ source_value (Pointed b) u = u.fram (u.work (work_number b))
 source_value (PointedNext b) u = u.fram (u.work (work_number b))
 source_value (Indexed b x) u = u.fram (u.work (work_number b) + x)
 source_value Popped u = u.ram u.sp
+source_value Head u = first_look u.inputs.looks head_place
+source_value (Slot b) u = first_look u.inputs.looks (u.work (work_number b) + ring_place)
+
+-- the machine behind a look
+abbrev pub look_taken : Core → Core
+look_taken u = record u { inputs = record u.inputs { looks = other_looks u.inputs.looks } }
 
 -- the machine behind it
 abbrev pub source_read : Source → Core → Core
@@ -119,6 +127,14 @@ source_read (Fram a) u = u
 source_read (Ram a) u = u
 source_read (Pointed b) u = u
 source_read (Indexed b x) u = u
+source_read Head u = look_taken u
+source_read (Slot b) u = look_taken u
+
+-- the address of a slot of the ring
+pub record IsSlot (a : ℕ) : Type 0 where
+  pub even : a % 2 ≡ 0
+  pub low : ring_place ≤ a
+  pub high : a < event_vector
 
 -- what it needs
 abbrev pub SourceNeeds : Source → Core → Type 0
@@ -131,6 +147,8 @@ SourceNeeds (Pointed b) u = IsPlace (u.work (work_number b))
 SourceNeeds (PointedNext b) u = IsPlace (u.work (work_number b))
 SourceNeeds (Indexed b x) u = IsPlace (u.work (work_number b) + x)
 SourceNeeds Popped u = IsRam u.sp
+SourceNeeds Head u = HasLook u.inputs.looks
+SourceNeeds (Slot b) u = HasLook u.inputs.looks × IsSlot (u.work (work_number b) + ring_place)
 
 -- the address in RAM at which it reads, if it does
 abbrev pub source_ram : Source → Core → Option ℕ

@@ -1,5 +1,5 @@
 -- Laws of the forms and of code that stands in FRAM.
-use Rattle.std.specs.Prelude.{◌≡◌, ◌≢◌, false, ℕ, ◌+◌, ◌*◌, ◌%◌, ◌<◌, ◌≤◌, List, length, Some}
+use Rattle.std.specs.Prelude.{◌≡◌, ◌≢◌, false, ℕ, ◌+◌, ◌*◌, ◌%◌, ◌<◌, ◌≤◌, List, [], length, Some}
 use Rattle.machine_effects.specs.address_space.Limits.{fram_first, fram_end}
 use Rattle.machine_effects.specs.msp_isa.declared.instructions.Instr.{Instr}
 use Rattle.machine_effects.specs.msp_step.declared.machine.Stop.TheVariants as stop
@@ -52,11 +52,11 @@ PlacedIsTidy = (is : List Instr) (p : ℕ) → p % 2 ≡ 0 → p + 2 * length (w
 abbrev pub IsNoHole : MachineOutcome → Type 0
 IsNoHole o = (es : List Effect) (price pc word : ℕ) → o ≢ Stops es price (stop.Illegal pc word)
 
--- a machine whose FRAM holds instructions steps as the code that they are, where that doesn't go astray
+-- a machine whose FRAM holds instructions, and for which no look is ready, steps as the code that they are, where that doesn't go astray
 abbrev pub CodeInFramSteps : Type 0
 CodeInFramSteps = (p : ℕ) (is : List Instr) (s : MachineBoard) (o : MachineOutcome)
     → AreInstructions is → p % 2 ≡ 0 → fram_first ≤ p → p + 2 * length (words_of is) < fram_end
-    → IsMachineStep s o → Holds s.fram p (words_of is) → IsNoHole (exec (placed p is) s) → o ≡ exec (placed p is) s
+    → s.inputs.looks ≡ [] → IsMachineStep s o → Holds s.fram p (words_of is) → IsNoHole (exec (placed p is) s) → o ≡ exec (placed p is) s
 
 -- where code that stays goes on, the CPU accepts no interrupt
 abbrev pub CodeGoesUndisturbed : Type 0

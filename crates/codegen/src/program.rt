@@ -15,9 +15,9 @@ use crate::longs::emit_long;
 use crate::operations::{emit_binary, emit_unary};
 use crate::shifts::emit_shift;
 use crate::steps::{
-    emit_element, emit_emit, emit_entry, emit_jump, emit_keep, emit_local, emit_move_word,
-    emit_number, emit_sense, emit_set_local, emit_store, emit_turn_end, emit_update,
-    emit_update_local,
+    emit_element, emit_emit, emit_entry, emit_freeze_events, emit_jump, emit_keep, emit_local,
+    emit_move_word, emit_next_event, emit_number, emit_sense, emit_set_local, emit_store,
+    emit_turn_end, emit_update, emit_update_local,
 };
 use crate::versioned::{emit_versioned_read, emit_versioned_write};
 use crate::waiting::{emit_all, emit_flushed, wait};
@@ -183,6 +183,8 @@ fn emit_step(
             emit_versioned_update(alloc, bounds, *operation, *place, *list, waiting, code)
         }
         WordStep::Sense => emit_sense(waiting, code),
+        WordStep::NextEvent => emit_next_event(waiting, code),
+        WordStep::FreezeEvents => emit_freeze_events(waiting, code),
         WordStep::ListEntry {
             count,
             list,

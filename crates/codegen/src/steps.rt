@@ -5,7 +5,7 @@ ghost use Rattle.word_code.specs.code_forms.Forms as form;
 ghost use Rattle.word_code.specs.msp_isa.alp_words.declared.Width.TheVariants.{Word};
 ghost use Rattle.word_code.specs.array_versions.Program as value;
 ghost use Rattle.word_code.specs.Code.{known_element, fetch_code, element_code, emit_code, words_source, entry_code, number_code, plain_instruction};
-ghost use Rattle.word_code.specs.Code.{ram_update, update_code, turn_end, step_code, waiting_behind};
+ghost use Rattle.word_code.specs.Code.{ram_update, update_code, turn_end, step_code, waiting_behind, index_code, offset_code, look_code, answer_code};
 
 use crate::bounds::{emit_check, emit_zero, is_inside};
 use crate::forms::{local_address, local_register, local_target, number_source};
@@ -15,12 +15,13 @@ use crate::waiting::{
     source_from, take, top, top_number, wait,
 };
 use array_versions::PlainOperation;
+use event_places::{ANSWER, EVENT_COUNT, RING_SLOTS, SENT_TAIL, TAIL};
 use std::alloc::AllocError;
 use word_code::forms::Form::{Branch, Calculate, Move, Push, Sense, Update};
-use word_code::forms::Source::{Constant, Fram, Indexed, Number, Ram, Register};
+use word_code::forms::Source::{Constant, Fram, Head, Indexed, Number, Ram, Register, Slot};
 use word_code::forms::Target::{ToFram, ToIndexed, ToRam, ToRegister};
 use word_code::forms::WorkRegister::{R4, R5, R6};
-use word_code::forms::{Form, Konst, Source, TwoOp};
+use word_code::forms::{Condition, Form, Konst, Source, TwoOp, jump};
 use word_code::{Bound, Waiting};
 
 // The element at the index in R4, which is below the length.
@@ -335,6 +336,78 @@ pub fn emit_sense(waiting: &mut Vec<Waiting>, code: &mut Vec<Form>) -> Result<()
     emit_cleared(waiting, code)?;
     emit_one(Sense(R4), code)?;
     wait(Waiting::R4, waiting)
+}
+
+// The index of the next word of the ring, in R4: TAIL, and how many words the attempt has taken.
+fn emit_index(code: &mut Vec<Form>) -> Result<(), AllocError>
+    ensures { OnOk result (code.new.items ≡ code.old.items ++ index_code) }
+{
+    code.extend_from_slice(&[
+        Move(Fram(TAIL), ToRegister(R4)),
+        Calculate(TwoOp::Add, Fram(EVENT_COUNT), R4),
+    ])
+}
+
+// The offset of its slot, in R5.
+fn emit_offset(code: &mut Vec<Form>) -> Result<(), AllocError>
+    ensures { OnOk result (code.new.items ≡ code.old.items ++ offset_code) }
+{
+    code.extend_from_slice(&[
+        Move(Register(R4), ToRegister(R5)),
+        Calculate(TwoOp::And, Number(RING_SLOTS - 1), R5),
+        Calculate(TwoOp::Add, Register(R5), R5),
+    ])
+}
+
+// The word of the slot, in R4; 0 where the index is HEAD.
+fn emit_look(code: &mut Vec<Form>) -> Result<(), AllocError>
+    ensures { OnOk result (code.new.items ≡ code.old.items ++ look_code) }
+{
+    code.extend_from_slice(&[
+        Calculate(TwoOp::Cmp, Head, R4),
+        Move(Slot(R5), ToRegister(R4)),
+        jump(Condition::NotEqual, 1),
+        Move(Constant(Konst::Zero), ToRegister(R4)),
+    ])
+}
+
+// The answer, in R4, is stored, and a word counted that the attempt has taken.
+fn emit_answer(code: &mut Vec<Form>) -> Result<(), AllocError>
+    ensures { OnOk result (code.new.items ≡ code.old.items ++ answer_code) }
+{
+    code.extend_from_slice(&[
+        Move(Register(R4), ToFram(ANSWER)),
+        jump(Condition::Equal, 2),
+        Update(TwoOp::Add, Constant(Konst::One), EVENT_COUNT),
+    ])
+}
+
+/// Appends the code that takes the next word of the ring, or 0 where none waits.
+#[tactic(auto, using(std::proofs::Common::append_assoc))]
+pub fn emit_next_event(waiting: &mut Vec<Waiting>, code: &mut Vec<Form>) -> Result<(), AllocError>
+    ensures code { OnOk result (code.new.items ≡ code.old.items ++ step_code [] waiting.old.items value.next_event) }
+    ensures waiting { OnOk result (waiting.new.items ≡ waiting_behind waiting.old.items value.next_event) }
+{
+    emit_all(waiting, code)?;
+    emit_index(code)?;
+    emit_offset(code)?;
+    emit_look(code)?;
+    emit_answer(code)?;
+    wait(Waiting::R4, waiting)
+}
+
+/// Appends the code that stores the index of the next word of the ring as the one that the transition leaves.
+#[tactic(auto, using(std::proofs::Common::append_assoc))]
+pub fn emit_freeze_events(
+    waiting: &mut Vec<Waiting>,
+    code: &mut Vec<Form>,
+) -> Result<(), AllocError>
+    ensures code { OnOk result (code.new.items ≡ code.old.items ++ step_code [] waiting.old.items value.freeze_events) }
+    ensures waiting { OnOk result (waiting.new.items ≡ []) }
+{
+    emit_all(waiting, code)?;
+    emit_index(code)?;
+    emit_one(Move(Register(R4), ToFram(SENT_TAIL)), code)
 }
 
 /// Appends the code that stores a number.

@@ -1,7 +1,7 @@
 -- A compiled source as the crash theorem takes it: its tasks, its start, its tasks' programs, and the cycles that each is allowed.
 use Rattle.std.specs.Prelude.{ℕ, Bool, true, false, List, ◌++◌, length, Option, Some, None, get_or}
 use Rattle.fram_board.specs.Effects.{Effect}
-use Rattle.machine_effects.specs.Inputs.{Inputs}
+use Rattle.machine_effects.specs.Inputs.{Look, Inputs}
 use Rattle.machine_effects.specs.World.{World}
 use Rattle.cost_bound.specs.Allowance.{task_bound, uses_events, versions_of}
 use Rattle.source_values.specs.Runs.{CheckedProgram, State, Completion, completion_of, attempt_of, task_body}
@@ -23,14 +23,15 @@ use Rattle.stands_for.specs.StandsFor.{StartedAt}
 use Rattle.compiled_model.specs.Places.{program_places}
 use Rattle.compiled_model.specs.View.{state_view}
 
--- the state behind a whole task, with what is left over of the inputs
-abbrev pub outcome_of : State → Option Completion → Outcome State
-outcome_of s None = Short
-outcome_of s (Some c) = Ends (record { shared = c.shared; task = c.next; emitted = s.emitted ++ c.emitted }) (record { readings = c.left })
+-- the state behind a whole task, with what is left over of the inputs: the readings, and these looks
+abbrev pub outcome_of : List Look → State → Option Completion → Outcome State
+outcome_of looks s None = Short
+outcome_of looks s (Some c) =
+    Ends (record { shared = c.shared; task = c.next; emitted = s.emitted ++ c.emitted }) (record { readings = c.left; looks = looks })
 
--- a state's current task, run whole on inputs
+-- a state's current task, run whole on inputs; it leaves the looks as they are
 abbrev pub whole_task : CheckedProgram → State → Inputs → Outcome State
-whole_task p s inputs = outcome_of s (completion_of (attempt_of p s.task s.shared inputs.readings))
+whole_task p s inputs = outcome_of inputs.looks s (completion_of (attempt_of p s.task s.shared inputs.readings))
 
 -- whether a program came to its jump
 abbrev pub has_jumped : End → Bool

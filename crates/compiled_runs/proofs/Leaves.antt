@@ -66,7 +66,7 @@ runs_leave_the_code p l r laws below readings origin x s begins charges t k char
       run = record { world = x; start = s; begins = begins; charges = charges; leads = charged };
       powered = powered;
       fram = fram;
-      readings_left = left;
+      inputs_left = left;
     } in
     let m = compiled_model p l in
     let c = compiled_program p l in

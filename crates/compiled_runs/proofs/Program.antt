@@ -4,7 +4,7 @@ use Rattle.std.proofs.Common.{◌≡◌, ◌<◌, ◌≤◌, ◌+◌, ℕ, Bool,
 use Rattle.std.proofs.lemmas.List.Elements.{All-nil}
 use Rattle.fram_board.specs.Effects.{Effect, Store}
 use Rattle.machine_effects.specs.World.{World, put, fram_after, world_after, world_after_one}
-use Rattle.machine_effects.specs.Inputs.{Inputs, InputsAreWords, no_inputs}
+use Rattle.machine_effects.specs.Inputs.{Look, Inputs, InputsAreWords, no_inputs}
 use Rattle.machine_effects.specs.Going.{Stalls}
 use Rattle.machine_effects.specs.Machine.{Code, MachineBoard, exec}
 use Rattle.machine_effects.proofs.Interface.{join, join_stall, code_changes_by_effects, fram_after-append}
@@ -187,7 +187,10 @@ module _ (source : Source) where
       let fits = fits_commit s next x d in
       let list = fits.list in let words = fits.words in let emits = fits.emits in
       let most : whole_cycles p l s.task x.fram no_inputs ≤ cost s.task =
-      r.costs.within s.task x.fram no_inputs d.decided.sends.is_task d.decided.sends.words (record { readings = All-nil (λ w. w < 0x10000) }) in
+      r.costs.within s.task x.fram no_inputs d.decided.sends.is_task d.decided.sends.words (record {
+        readings = All-nil (λ w. w < 0x10000);
+        looks = All-nil (λ (look : Look). (n : ℕ) → look n < 0x10000);
+      }) in
       let n = x.fram (word_place l ListLength) in let ws = length (listed l x.fram) in let o = x.fram (word_place l EmitCount) in
       let entries = (program_places p l).list_capacity s.task in
       let dearest = commit_grows l.runtime.events n entries ws entries o ((program_places p l).emit_capacity s.task) list words emits in

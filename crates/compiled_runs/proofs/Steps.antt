@@ -5,7 +5,7 @@ use Rattle.msp_isa.specs.declared.operands.Src.TheVariants as src
 use Rattle.msp_isa.specs.declared.operands.Dst.TheVariants as dst
 use Rattle.msp_isa.specs.declared.instructions.Instr.TheVariants as instr
 use Rattle.msp_step.specs.declared.machine.Stop.TheVariants as stop
-use Rattle.std.proofs.Common.{◌<◌, ◌==◌, ℕ, Bool, true, false, if◌then◌else◌, Option, Some, None, [], arith}
+use Rattle.std.proofs.Common.{◌<◌, ◌==◌, ℕ, Bool, true, false, if◌then◌else◌, Option, Some, None, List, [], ◌∷◌, arith}
 use Rattle.msp_isa.specs.declared.operands.Operand.{Operand}
 use Rattle.msp_isa.specs.declared.operands.Src.{Src}
 use Rattle.msp_isa.specs.declared.operands.Dst.{Dst}
@@ -17,7 +17,9 @@ use Rattle.msp_step.specs.Access.{Access, Completed, Faulted}
 use Rattle.msp_step.specs.Effect.{Written}
 use Rattle.msp_step.specs.Step.{effect, is_interruptible, off_bit}
 use Rattle.machine_effects.specs.Going.{Goes, Stops}
-use Rattle.machine_effects.specs.Machine.{Code, MachineBus, MachineBoard, MachineOutcome, machine_bus, machine_opened, machine_outcome, standing, step_with}
+use Rattle.machine_effects.specs.Inputs.{Look}
+use Rattle.machine_effects.specs.Machine.{Code, MachineBus, MachineBoard, MachineOutcome, machine_bus, machine_opened_seeing, machine_outcome, standing}
+use Rattle.machine_effects.specs.Machine.{step_with, looks_there, machine_executed_seeing, executed_looking}
 use Rattle.machine_effects.specs.Machine.{astray, undisturbed, exec}
 use Rattle.crash_rules.specs.Runs.{TakesCycles}
 
@@ -76,13 +78,21 @@ outcome_takes : (pc c : ℕ) (x : Access MachineBus (Registers × Option Written
 outcome_takes pc c (Completed x t) h = h
 outcome_takes pc c (Faulted e a t) h = λ q. h
 
-standing_takes : (i : Option Instr) (s : MachineBoard) → TakesCycles (standing i s)
-standing_takes (Some i) s = outcome_takes (s.registers 0) (cycles_of i) (effect machine_bus i s.registers (machine_opened s)) (cycles_some i)
-standing_takes None s = λ q. absurd (cc (q))
-
 either_takes : (b : Bool) (x y : MachineOutcome) → TakesCycles x → TakesCycles y → TakesCycles (if b then x else y)
 either_takes true x y h k = h
 either_takes false x y h k = k
+
+executed_takes : (ring : Option Look) (s : MachineBoard) (i : Instr) → TakesCycles (machine_executed_seeing ring s i)
+executed_takes ring s i =
+    outcome_takes (s.registers 0) (cycles_of i) (effect machine_bus i s.registers (machine_opened_seeing ring s)) (cycles_some i)
+
+looking_takes : (looks : List Look) (s : MachineBoard) (i : Instr) → TakesCycles (executed_looking looks s i)
+looking_takes [] s i = executed_takes None s i
+looking_takes (look ∷ more) s i = executed_takes (Some look) (record s { inputs = record s.inputs { looks = more } }) i
+
+standing_takes : (i : Option Instr) (s : MachineBoard) → TakesCycles (standing i s)
+standing_takes (Some i) s = either_takes (looks_there i) _ _ (looking_takes s.inputs.looks s i) (executed_takes None s i)
+standing_takes None s = λ q. absurd (cc (q))
 
 undisturbed_takes : (s : MachineBoard) (o : MachineOutcome) → TakesCycles o → TakesCycles (undisturbed s o)
 undisturbed_takes s (Goes es c t) h =

@@ -321,7 +321,7 @@ module _ {St : Type 0} (given : Setting St) where
         ∙ ap (λ n. drop n readings) (sym pt.since) in
         let to : at_gate.taken ≡ h.since + length (readings_taken c.before) = taken_there ∙ ap (λ n. n + length (readings_taken c.before)) (sym pt.since) in
         let taken = range_of readings (readings_taken c.before) left.readings h.since at_gate.taken reads to in
-        let same : decided_inputs readings at_gate ≡ inputs_taken c.before = λ i. record { readings = taken i } in
+        let same : decided_inputs readings at_gate ≡ inputs_taken c.before = λ i. record { readings = taken i; looks = [] } in
         transits_task origin h.completed _ s next u.settled (ap (m.task s) same ∙ c.exact)
 
     gate_due : IsDue at_gate s next (m.Decided s next)
@@ -485,7 +485,7 @@ module _ {St : Type 0} (given : Setting St) where
   attempt_at h = attempt_from m h.booted h.world.fram (inputs_at h)
 
   pub words_left : (h : History) → InputsAreWords (inputs_at h)
-  words_left h = record { readings = All-drop IsWord h.taken readings words }
+  words_left h = record { readings = All-drop IsWord h.taken readings words; looks = λ k d low. absurd (omega (arith, low)) }
 
   -- behind a boot as behind a done an attempt keeps the contract
   pub owed_from : (booted : Bool) (s : St) (x : World) (inputs : Inputs) → InputsAreWords inputs → m.Undecided s x

@@ -14,12 +14,12 @@ module _ {St : Type 0} (m : Model St) where
   in_front s x inputs es (Ends next left) r k c =
       let none : readings_taken (es ++ c.before) ≡ readings_taken c.before = readings_taken-append es c.before
       ∙ ap (λ z. z ++ readings_taken c.before) k.takes_none in
-      let same : inputs_taken (es ++ c.before) ≡ inputs_taken c.before = λ i. record { readings = none i } in
+      let same : inputs_taken (es ++ c.before) ≡ inputs_taken c.before = λ i. record { readings = none i; looks = [] } in
       record {
         before = es ++ c.before;
         is = ap (behind_effects es) c.is ∙ ap (λ z. program_effects z true) (sym (append_assoc es c.before (Store m.marks.gate 1 ∷ [])));
         elsewhere = each_store-append (IsElsewhere m.marks.gate) es c.before k.elsewhere c.elsewhere;
-        reads = record { readings = ap (λ z. z ++ left.readings) none ∙ c.reads.readings };
+        reads = record { readings = ap (λ z. z ++ left.readings) none ∙ c.reads.readings; seen = c.reads.seen; looks = c.reads.looks };
         undecided = holds-append (m.Undecided s) es c.before x k.undecided c.undecided;
         decided = subst (λ z. m.Decided s next (world_after_one (Store m.marks.gate 1) z)) (sym (world_after-append es c.before x)) c.decided;
         exact = ap (m.task s) same ∙ c.exact;

@@ -9,7 +9,7 @@ use Rattle.machine_effects.specs.fram_board.Effects.{Effect, Store}
 use Rattle.machine_effects.specs.World.{World, world_after_one, world_after, fram_after, readings_taken, IsPrefix, EachStore}
 use Rattle.machine_effects.specs.Going.{At, Halted, stretch, after_effects, going, Leads, Stalls}
 use Rattle.machine_effects.specs.Machine.{MachineBoard}
-use Rattle.machine_effects.proofs.Interface.{world_after-append, each_store-append, behind_exactly}
+use Rattle.machine_effects.proofs.Interface.{world_after-append, each_store-append, readings_behind, no_looks_behind}
 use Rattle.crash_rules.specs.Model.{Outcome, Ends, Short, AttemptContract, ProgramEffects, program_effects, bound, greatest}
 use Rattle.crash_rules.specs.Model.{Inputs, InputsAreWords, inputs_behind, with_commit, attempt_from}
 use Rattle.crash_rules.specs.History.{History, Done, observe, inputs_from}
@@ -104,9 +104,6 @@ module _ {St : Type 0} (given : Setting St) (c : Program) (code : ProgramLaws gi
   abbrev inputs_there : History → Inputs
   inputs_there h = inputs_from readings h.taken
 
-  inputs_are : (b : MachineBoard) (h : History) → Matches readings b h → b.inputs ≡ inputs_there h
-  inputs_are b h k = let left = k.readings_left in λ i. record { readings = left i }
-
   -- an attempt from there on, behind a boot or a done, is made within the task's cost
   makes_attempt : (booted : Bool) (s : St) (x : World) (b : MachineBoard) → AtEntry c booted b → b.fram ≡ x.fram → InputsAreWords b.inputs
       → m.Undecided s x → (booted ≡ false → m.Settled s x)
@@ -135,7 +132,7 @@ module _ {St : Type 0} (given : Setting St) (c : Program) (code : ProgramLaws gi
   pub makes_script : (h : History) (b : MachineBoard) → IsThere b h → Makes c m.delay (due h) (script_there h) b
   makes_script h b t =
       let f : b.fram ≡ h.world.fram = t.matches.fram in
-      let i : b.inputs ≡ inputs_there h = inputs_are b h t.matches in
+      let i : b.inputs ≡ inputs_there h = t.matches.inputs_left in
       ⊎_elim
       (λ u.
       let ws : InputsAreWords b.inputs = subst InputsAreWords (sym i) (words_left given h) in
@@ -151,15 +148,21 @@ module _ {St : Type 0} (given : Setting St) (c : Program) (code : ProgramLaws gi
       subst (λ q. Makes c m.delay (due h) q b) same (makes_commit h.booted h d b t.entry f d.booted))
       (phase_of given h t.point)
 
+  same_inputs : (i : Inputs) (rs : List ℕ) → i.readings ≡ rs → i.looks ≡ [] → i ≡ record { readings = rs; looks = [] }
+  same_inputs i rs e none = λ n. record { readings = e n; looks = none n }
+
   -- a board behind effects holds what the history behind them says
   pub matches_more : (b t : MachineBoard) (h : History) (es : List Effect) → Matches readings b h → Changed b es t
       → Matches readings t (observe m.marks es h)
   matches_more b t h es k ch =
       record {
         fram = ch.fram ∙ ap (fram_after es) k.fram ∙ sym (world_fram es h.world) ∙ ap (λ x. x.fram) (sym (observed_world m.marks es h));
-        readings_left = ap (λ i. i.readings) (sym (behind_exactly es b.inputs t.inputs ch.inputs))
-            ∙ ap (drop (length (readings_taken es))) k.readings_left ∙ drop-drop (length (readings_taken es)) h.taken readings
-            ∙ ap (λ n. drop n readings) (sym (observed_taken m.marks es h));
+        inputs_left = same_inputs t.inputs _
+            (sym (readings_behind es b.inputs t.inputs ch.inputs)
+            ∙ ap (λ i. drop (length (readings_taken es)) i.readings) k.inputs_left
+            ∙ drop-drop (length (readings_taken es)) h.taken readings
+            ∙ ap (λ n. drop n readings) (sym (observed_taken m.marks es h)))
+            (no_looks_behind es b.inputs t.inputs ch.inputs (ap (λ i. i.looks) k.inputs_left));
       }
 
   -- the end of a whole script: an entry again, and a point

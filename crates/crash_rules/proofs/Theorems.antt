@@ -28,10 +28,10 @@ module _ {St : Type 0} (given : Setting St) (c : Program) (code : ProgramLaws gi
 
   -- a power-up behind a lawful history
   powered_there : (s p : MachineBoard) (h : History) → IsLawful m readings origin h → Matches readings s h → c.IsPoweredUp p → p.fram ≡ s.fram
-      → p.inputs.readings ≡ s.inputs.readings → IsAt p (behind_boot h)
+      → p.inputs ≡ s.inputs → IsAt p (behind_boot h)
   powered_there s p h k mt up f l = record {
     entry = up;
-    matches = record { fram = f ∙ mt.fram; readings_left = l ∙ mt.readings_left };
+    matches = record { fram = f ∙ mt.fram; inputs_left = l ∙ mt.inputs_left };
     point = booted given h k.stands;
   }
 
@@ -54,7 +54,7 @@ module _ {St : Type 0} (given : Setting St) (c : Program) (code : ProgramLaws gi
 
   begun : (x : World) (s : MachineBoard) → Begins m readings origin x s
       → IsLawful m readings origin (first_history m.marks x) × Matches readings s (first_history m.marks x)
-  begun x s b = (record { world = refl; stands = b.stands; follows = nothing_first _ }, record { fram = b.fram; readings_left = b.readings_left })
+  begun x s b = (record { world = refl; stands = b.stands; follows = nothing_first _ }, record { fram = b.fram; inputs_left = b.inputs_left })
 
   ran : (t : MachineBoard) (h : History) → HasRun m c readings origin t h → IsLawful m readings origin h × Matches readings t h
   ran t h run =
@@ -63,7 +63,7 @@ module _ {St : Type 0} (given : Setting St) (c : Program) (code : ProgramLaws gi
 
   -- a charge behind charges
   ready : (p : MachineBoard) (up : PowersUpBehind m c readings origin p) → IsAt p (behind_boot up.history)
-  ready p up = let k = ran up.board up.history up.run in powered_there up.board p up.history k.0 k.1 up.powered up.fram up.readings_left
+  ready p up = let k = ran up.board up.history up.run in powered_there up.board p up.history k.0 k.1 up.powered up.fram up.inputs_left
 
   -- a machine that halts, behind charges
   halts_short : (p : MachineBoard) (up : PowersUpBehind m c readings origin p) (n price : ℕ) (e : Stop) → (going c.step n p).status ≡ Halted price e

@@ -92,16 +92,16 @@ decided_readings readings h = slice_range readings h.span_from h.span_to
 abbrev pub done_readings : List ℕ → Done → List ℕ
 done_readings readings d = slice_range readings d.span_from d.span_to
 
--- what is left of a run's readings from a position on, as inputs
+-- what is left of a run's readings from a position on, as inputs: no look is ready
 abbrev pub inputs_from : List ℕ → ℕ → Inputs
-inputs_from readings from = record { readings = drop from readings }
+inputs_from readings from = record { readings = drop from readings; looks = [] }
 
 -- what the last decide took, and what a done committed
 abbrev pub decided_inputs : List ℕ → History → Inputs
-decided_inputs readings h = record { readings = decided_readings readings h }
+decided_inputs readings h = record { readings = decided_readings readings h; looks = [] }
 
 abbrev pub done_inputs : List ℕ → Done → Inputs
-done_inputs readings d = record { readings = done_readings readings d }
+done_inputs readings d = record { readings = done_readings readings d; looks = [] }
 
 -- the positions of a history: those at the last boot or done and of the last decide, and from where to where each done has its span
 pub record Positions : Type 0 where

@@ -78,12 +78,12 @@ pub record IsLawful {St : Type 0} (m : Model St) (readings : List ℕ) (origin :
 -- a machine that holds what a history says
 pub record Matches (readings : List ℕ) (s : MachineBoard) (h : History) : Type 0 where
   pub fram : s.fram ≡ h.world.fram
-  pub readings_left : s.inputs.readings ≡ drop h.taken readings
+  pub inputs_left : s.inputs ≡ inputs_from readings h.taken
 
 -- a run may begin like this
 pub record Begins {St : Type 0} (m : Model St) (readings : List ℕ) (origin : Origin St) (x : World) (s : MachineBoard) : Type 0 where
   pub fram : s.fram ≡ x.fram
-  pub readings_left : s.inputs.readings ≡ readings
+  pub inputs_left : s.inputs ≡ inputs_from readings 0
   pub words : All IsWord readings
   pub stands : StandsFor m readings origin (first_history m.marks x)
 
@@ -108,14 +108,14 @@ pub record HasRun {St : Type 0} (m : Model St) (c : Program) (readings : List �
   pub charges : List Charge
   pub leads : RunsTo m c world start charges t h
 
--- a board that a further power-up leaves behind a run: FRAM and the readings stay
+-- a board that a further power-up leaves behind a run: FRAM and the inputs stay
 pub record PowersUpBehind {St : Type 0} (m : Model St) (c : Program) (readings : List ℕ) (origin : Origin St) (p : MachineBoard) : Type 0 where
   pub board : MachineBoard
   pub history : History
   pub run : HasRun m c readings origin board history
   pub powered : c.IsPoweredUp p
   pub fram : p.fram ≡ board.fram
-  pub readings_left : p.inputs.readings ≡ board.inputs.readings
+  pub inputs_left : p.inputs ≡ board.inputs
 
 -- after any charges, each cut behind any number of steps: the board stands for a run of the source, and the effects since the
 -- last boot or done follow the script

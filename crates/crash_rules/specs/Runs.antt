@@ -65,10 +65,10 @@ pub record Charge : Type 0 where
   pub powered : MachineBoard
   pub steps : ℕ
 
--- charges that lead from a board to a board, and the histories before and behind them. A power-up keeps FRAM and the readings
+-- charges that lead from a board to a board, and the histories before and behind them. A power-up keeps FRAM and the inputs
 abbrev pub Charged : Program → Marks → MachineBoard → History → List Charge → MachineBoard → History → Type 0
 Charged c marks s h [] t k = (t ≡ s) × (k ≡ h)
-Charged c marks s h (e ∷ es) t k = c.IsPoweredUp e.powered × (e.powered.fram ≡ s.fram) × (e.powered.inputs.readings ≡ s.inputs.readings)
+Charged c marks s h (e ∷ es) t k = c.IsPoweredUp e.powered × (e.powered.fram ≡ s.fram) × (e.powered.inputs ≡ s.inputs)
     × ((q : MachineBoard) × ((going c.step e.steps e.powered).status ≡ At q)
     × Charged c marks q (observe marks (going c.step e.steps e.powered).effects (behind_boot h)) es t k)
 

@@ -56,7 +56,7 @@ module _ (at : Beginning) where
   stands_there = holds_as (fram_of fram) (fram_of image.words) (words_of (source_code p l)) l.boot.address (code_is_placed p l new.fits).even code.code new.code
 
   abbrev pub begins : Begins (compiled_model p l) readings origin first_world (outside_of first_board)
-  begins = record { fram = refl; readings_left = refl; words = inputs.readings_are_words; stands = begun }
+  begins = record { fram = refl; inputs_left = refl; words = inputs.readings_are_words; stands = begun }
 
   abbrev pub bears : BearsModel (compiled_model p l) (compiled_program p l) readings origin first_world first_board
   bears =

@@ -32,7 +32,7 @@ stops_next {S} {X} step (suc n) s t es price e h k =
 -- wherever charges lead, a further one stops for want of a reading alone
 abbrev pub StopsAtReadings : Program → Marks → MachineBoard → History → Type 0
 StopsAtReadings c marks s h = (es : List Charge) (t : MachineBoard) (k : History) → Charged c marks s h es t k → (p : MachineBoard) → c.IsPoweredUp p
-    → p.fram ≡ t.fram → p.inputs.readings ≡ t.inputs.readings → (n price : ℕ) (e : Stop) → (going c.step n p).status ≡ Halted price e → e ≡ stop.NoReading
+    → p.fram ≡ t.fram → p.inputs ≡ t.inputs → (n price : ℕ) (e : Stop) → (going c.step n p).status ≡ Halted price e → e ≡ stop.NoReading
 
 -- so the machine goes on where charges lead
 pub goes_on : (c : Program) (marks : Marks) (es : List Charge) (s t : MachineBoard) (h k : History) → StopsAtReadings c marks s h → GoesOn c s

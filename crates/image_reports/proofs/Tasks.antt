@@ -2,6 +2,7 @@
 use Rattle.image_reports.proofs.Names.{◌≡◌, ℕ, ◌<◌, refl, sym, ap, subst, List, [], ◌++◌, length, Option, Some, get_or, CheckedProgram, State, Transition}
 use Rattle.image_reports.proofs.Names.{Completion, TransitionComes, EndsWell, body_of, fresh_attempt, attempt_of, completion_of, exactly, transition_of}
 use Rattle.image_reports.proofs.Names.{state_after, IsRunnable, Inputs, no_inputs, Ends, Short, outcome_of, whole_task}
+use Rattle.machine_effects.specs.Inputs.{Look}
 use Rattle.std.proofs.lemmas.List.Elements.{All-get_or}
 use Rattle.std.proofs.lemmas.Option.{slice_get-get_or}
 use Rattle.std.specs.Prelude.{slice_get}
@@ -15,30 +16,31 @@ use Rattle.source_values.specs.Statements.{Outcome, goes_on, to_task, short, run
 abbrev pub IsTransitionTo : State → State → Option Transition → Type 0
 IsTransitionTo s u o = (t : Transition) × (o ≡ Some t) × (u ≡ state_after s t)
 
-completed : (s u : State) (c : Completion) → outcome_of s (Some c) ≡ Ends u no_inputs → IsTransitionTo s u (exactly s c)
-completed s u c e =
+completed : (looks : List Look) (s u : State) (c : Completion) → outcome_of looks s (Some c) ≡ Ends u no_inputs → IsTransitionTo s u (exactly s c)
+completed looks s u c e =
     let next : State = record { shared = c.shared; task = c.next; emitted = s.emitted ++ c.emitted } in
     let a : next ≡ u = cc e in
-    let rest : ◌≡◌ {A = Inputs} (record { readings = c.left }) no_inputs = cc e in
+    let rest : ◌≡◌ {A = Inputs} (record { readings = c.left; looks = looks }) no_inputs = cc e in
     let b : c.left ≡ [] = ap (λ i. i.readings) rest in
     let t : Transition = record { from = s.task; next = c.next; before = s.shared; after = c.shared; emitted = c.emitted } in
     let P : List ℕ → Type 0 = λ left. exactly s (record { next = c.next; shared = c.shared; emitted = c.emitted; left = left }) ≡ Some t in
     (t, subst P (sym b) refl, sym a)
 
-transits_by : (s u : State) (o : Outcome) → outcome_of s (completion_of o) ≡ Ends u no_inputs → IsTransitionTo s u (completion_of o >>? exactly s)
-transits_by s u (goes_on m) e = absurd (cc e)
-transits_by s u (to_task t m) e = completed s u (record { next = t; shared = m.variables.shared; emitted = m.emitted; left = m.left }) e
-transits_by s u short e = absurd (cc e)
+transits_by : (looks : List Look) (s u : State) (o : Outcome) → outcome_of looks s (completion_of o) ≡ Ends u no_inputs
+    → IsTransitionTo s u (completion_of o >>? exactly s)
+transits_by looks s u (goes_on m) e = absurd (cc e)
+transits_by looks s u (to_task t m) e = completed looks s u (record { next = t; shared = m.variables.shared; emitted = m.emitted; left = m.left }) e
+transits_by looks s u short e = absurd (cc e)
 
 -- a task that comes to a state with no readings left makes a transition to it
 pub transits : (p : CheckedProgram) (s u : State) (inputs : Inputs) → whole_task p s inputs ≡ Ends u no_inputs
     → IsTransitionTo s u (transition_of p s inputs.readings)
-transits p s u inputs e = transits_by s u (attempt_of p s.task s.shared inputs.readings) e
+transits p s u inputs e = transits_by inputs.looks s u (attempt_of p s.task s.shared inputs.readings) e
 
-short_by : (s : State) (tasks : ℕ) (o : Outcome) → EndsWell tasks o → outcome_of s (completion_of o) ≡ Short → o ≡ short
-short_by s tasks (goes_on m) w e = absurd w
-short_by s tasks (to_task t m) w e = absurd (cc e)
-short_by s tasks short w e = refl
+short_by : (looks : List Look) (s : State) (tasks : ℕ) (o : Outcome) → EndsWell tasks o → outcome_of looks s (completion_of o) ≡ Short → o ≡ short
+short_by looks s tasks (goes_on m) w e = absurd w
+short_by looks s tasks (to_task t m) w e = absurd (cc e)
+short_by looks s tasks short w e = refl
 
 -- an attempt of one of the tasks ends well
 comes : (p : CheckedProgram) → IsRunnable p → (s : State) (readings : List ℕ) → s.task < length p.tasks
@@ -58,4 +60,4 @@ comes p ok s readings below =
 pub is_short : (p : CheckedProgram) → IsRunnable p → (s : State) (inputs : Inputs) → s.task < length p.tasks → whole_task p s inputs ≡ Short
     → attempt_of p s.task s.shared inputs.readings ≡ short
 is_short p ok s inputs below e =
-    short_by s (length p.tasks) (attempt_of p s.task s.shared inputs.readings) (comes p ok s inputs.readings below) e
+    short_by inputs.looks s (length p.tasks) (attempt_of p s.task s.shared inputs.readings) (comes p ok s inputs.readings below) e

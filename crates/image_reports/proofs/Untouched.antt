@@ -7,7 +7,7 @@ module _ (a : ℕ) (c : Program) (changes : (s : MachineBoard) → ChangesByEffe
   -- wherever charges lead, a further one stores elsewhere
   abbrev pub NeverThere : MachineBoard → History → Type 0
   NeverThere s h = (es : List Charge) (t : MachineBoard) (k : History) → Charged c marks s h es t k → (p : MachineBoard) → c.IsPoweredUp p → p.fram ≡ t.fram
-      → p.inputs.readings ≡ t.inputs.readings → (n : ℕ) → EachStore (IsElsewhere a) (going c.step n p).effects
+      → p.inputs ≡ t.inputs → (n : ℕ) → EachStore (IsElsewhere a) (going c.step n p).effects
 
   pub untouched : (es : List Charge) (s t : MachineBoard) (h k : History) → NeverThere s h → Charged c marks s h es t k → t.fram a ≡ s.fram a
   untouched [] s t h k never run = ap (λ u. u.fram a) run.0

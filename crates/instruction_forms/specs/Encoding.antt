@@ -1,6 +1,7 @@
 -- The instructions of forms, and how long they are (SLAU049 and SLAU144, CPU chapter).
 use Rattle.std.specs.Prelude.{ℕ, ◌+◌}
 use Rattle.address_space.specs.Limits.{sensor_port, number_port, data_port}
+use Rattle.event_places.specs.Places.{head_place, ring_place}
 use Rattle.msp_isa.specs.alp_words.declared.Width.TheVariants.{Word}
 use Rattle.msp_isa.specs.declared.registers.IndexRegister.{IndexRegister}
 use Rattle.msp_isa.specs.declared.registers.IndexRegister.TheVariants as index
@@ -20,7 +21,7 @@ use Rattle.msp_isa.specs.declared.instructions.Instr.TheVariants as instr
 use Rattle.instruction_forms.specs.declared.kinds.WorkRegister.{WorkRegister}
 use Rattle.instruction_forms.specs.declared.kinds.WorkRegister.TheVariants.{R4, R5, R6, R7, R8, R9, R10, R11, R12, R13, R14, R15}
 use Rattle.instruction_forms.specs.declared.kinds.Source.{Source}
-use Rattle.instruction_forms.specs.declared.kinds.Source.TheVariants.{Register, Number, Constant, Fram, Ram, Pointed, PointedNext, Indexed, Popped}
+use Rattle.instruction_forms.specs.declared.kinds.Source.TheVariants.{Register, Number, Constant, Fram, Ram, Pointed, PointedNext, Indexed, Popped, Head, Slot}
 use Rattle.instruction_forms.specs.declared.kinds.Target.{Target}
 use Rattle.instruction_forms.specs.declared.kinds.Target.TheVariants.{ToRegister, ToFram, ToRam, ToIndexed, ToPointed, ToOutnum, ToOutdata}
 use Rattle.instruction_forms.specs.declared.kinds.Modification.{Modification}
@@ -55,6 +56,8 @@ source_operand (Pointed b) = src.Operand (mode.Indirect (pointer.Index (index_of
 source_operand (PointedNext b) = src.Operand (mode.Increment (index_of b))
 source_operand (Indexed b x) = src.Operand (mode.Indexed (index_of b) x)
 source_operand Popped = src.Operand (mode.Increment index.Sp)
+source_operand Head = src.Operand (mode.Absolute head_place)
+source_operand (Slot b) = src.Operand (mode.Indexed (index_of b) ring_place)
 
 -- the bytes of its extension word
 abbrev pub source_bytes : Source → ℕ
@@ -67,6 +70,8 @@ source_bytes (Pointed b) = 0
 source_bytes (PointedNext b) = 0
 source_bytes (Indexed b x) = 2
 source_bytes Popped = 0
+source_bytes Head = 2
+source_bytes (Slot b) = 2
 
 -- a target of MOV as an operand
 abbrev pub target_operand : Target → Dst

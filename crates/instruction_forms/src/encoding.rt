@@ -5,6 +5,7 @@ ghost use Rattle.instruction_forms.specs.Encoding.{index_of, source_operand, tar
 
 use crate::kinds::{Form, Modification, Source, Target, WorkRegister};
 use address_space::{OUTDATA, OUTNUM, SENSOR};
+use event_places::{HEAD, RING};
 use msp_isa::{
     Condition, Dst, IndexRegister, IndirectRegister, Instr, Offset, OneOp, Operand, Reg,
     SourceRegister, Src, TwoOp, Width,
@@ -46,6 +47,8 @@ fn source_operand(source: Source) -> Src
         Source::PointedNext(register) => Operand::Increment(index_of(register)),
         Source::Indexed(register, offset) => Operand::Indexed(index_of(register), offset),
         Source::Popped => Operand::Increment(IndexRegister::Sp),
+        Source::Head => Operand::Absolute(HEAD),
+        Source::Slot(register) => Operand::Indexed(index_of(register), RING),
     };
     Src::Operand(operand)
 }
@@ -143,6 +146,7 @@ fn source_words(source: Source) -> u16
 {
     match source {
         Source::Number(_) | Source::Fram(_) | Source::Ram(_) | Source::Indexed(_, _) => 1,
+        Source::Head | Source::Slot(_) => 1,
         Source::Register(_) | Source::Constant(_) | Source::Pointed(_) => 0,
         Source::PointedNext(_) | Source::Popped => 0,
     }

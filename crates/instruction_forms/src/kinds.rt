@@ -39,6 +39,10 @@ pub enum Source {
     Indexed(WorkRegister, u16),
     /// The word of RAM at SP, which goes up by 2.
     Popped,
+    /// HEAD: the index behind the newest word of the ring.
+    Head,
+    /// The word of the ring so far behind its first slot as the register says.
+    Slot(WorkRegister),
 }
 
 /// What MOV writes.

@@ -25,9 +25,9 @@ use Rattle.machine_effects.specs.Machine.{MachineBus, machine_bus, machine_word,
 use Rattle.machine_effects.specs.Machine.{is_readable, ring_read, word_read, word_written}
 use Rattle.machine_effects.specs.Machine.{reading_taken, machine_after_read, machine_stored, machine_port_written, machine_written}
 
--- what is ready on the board's bus
-abbrev ready_on : BusState → Inputs
-ready_on s = record { readings = drop s.taken s.readings }
+-- what is ready on the board's bus, with these looks
+abbrev ready_on : List Look → BusState → Inputs
+ready_on looks s = record { readings = drop s.taken s.readings; looks = looks }
 
 -- an access that the machine refuses
 abbrev pub IsRefused : Refused → ℕ → Type 0
@@ -38,12 +38,12 @@ abbrev pub SeesFram : Option Look → List ℕ → Type 0
 SeesFram None words = Unit {0}
 SeesFram (Some look) words = (a : ℕ) → is_ring a ≡ true → look a ≡ fram_of words a
 
--- the same memory, ports and inputs, with these readings in all, and the port EVENT as it was at first
-pub record SameBus (readings : List ℕ) (begun : EventLine) (s : BusState) (t : MachineBus) : Type 0 where
+-- the same memory, ports and inputs, with these readings in all and these looks, and the port EVENT as it was at first
+pub record SameBus (readings : List ℕ) (looks : List Look) (begun : EventLine) (s : BusState) (t : MachineBus) : Type 0 where
   pub whole : IsBusState s
   pub fram : t.fram ≡ fram_of s.fram
   pub ram : t.ram ≡ ram_of s.ram
-  pub left : t.inputs ≡ ready_on s
+  pub left : t.inputs ≡ ready_on looks s
   pub outnum : t.outnum ≡ s.outnum
   pub all : s.readings ≡ readings
   pub line : s.line ≡ begun
@@ -154,21 +154,21 @@ seen_stored None xs a v len h low sees = tt
 seen_stored (Some look) xs a v len h low sees =
     λ x r. sees x r ∙ sym (put_other (fram_of xs) (word_address a) v x (behind_handler a x low r)) ∙ ap (λ f. f x) (put_fram xs a v len h)
 
-module _ (readings : List ℕ) (begun : EventLine) where
+module _ (readings : List ℕ) (looks : List Look) (begun : EventLine) where
   word_on : (b : Bool) (s : BusState) (a : ℕ) → is_ram a ≡ b → is_memory a ≡ true
       → (if b then slice_index s.ram (ram_place a) else slice_index s.fram (place_of a)) ≡
       (if b then ram_of s.ram (word_address a) else fram_of s.fram (word_address a))
   word_on true s a e m = sym (ram_at s.ram a e)
   word_on false s a e m = sym (fram_at s.fram a (other_is_fram a e m))
 
-  pub word_same : (s : BusState) (t : MachineBus) (a : ℕ) → SameBus readings begun s t → is_memory a ≡ true → memory_word s a ≡ machine_word t a
+  pub word_same : (s : BusState) (t : MachineBus) (a : ℕ) → SameBus readings looks begun s t → is_memory a ≡ true → memory_word s a ≡ machine_word t a
   word_same s t a h m = word_on (is_ram a) s a refl m ∙ sym (ap₂ (λ f r. word_in f r a) h.fram h.ram)
 
   fetched_on : (b : Bool) (x y : ℕ) → (b ≡ true → x ≡ y) → ◌≡◌ {A = Option ℕ} (if b then Some x else None) (if b then Some y else None)
   fetched_on true x y e = ap Some (e refl)
   fetched_on false x y e = refl
 
-  pub fetches_same : (s : BusState) (t : MachineBus) (a : ℕ) → SameBus readings begun s t → board_bus.fetches s a ≡ machine_bus.fetches t a
+  pub fetches_same : (s : BusState) (t : MachineBus) (a : ℕ) → SameBus readings looks begun s t → board_bus.fetches s a ≡ machine_bus.fetches t a
   fetches_same s t a h = fetched_on (is_word a) (memory_word s a) (machine_word t a) (λ e. word_same s t a h (and_parts (a % 2 == 0) (is_memory a) e).1)
 
   -- a reading
@@ -180,7 +180,7 @@ module _ (readings : List ℕ) (begun : EventLine) where
       let e : nat_lt (suc n) (suc (length xs)) ≡ nat_lt n (length xs) = grind (arith, nat_tests) in
       ap (λ b. cond b (Ok (slice_index xs n)) (Err refused.NoReading)) e ∙ next_on xs n
 
-  next_same : (s : BusState) (t : MachineBus) → SameBus readings begun s t → next_reading s ≡ first_reading t.inputs.readings
+  next_same : (s : BusState) (t : MachineBus) → SameBus readings looks begun s t → next_reading s ≡ first_reading t.inputs.readings
   next_same s t h = next_on s.readings s.taken ∙ ap (λ i. first_reading i.readings) (sym h.left)
 
   -- a word of the ring, which the machine sees or refuses
@@ -204,7 +204,7 @@ module _ (readings : List ℕ) (begun : EventLine) where
   word_by true a x y m e h = inl (ap (λ v. Ok v) e)
   word_by false a x y m e h = h
 
-  words_same : (s : BusState) (t : MachineBus) (a : ℕ) → SameBus readings begun s t → is_word a ≡ true
+  words_same : (s : BusState) (t : MachineBus) (a : ℕ) → SameBus readings looks begun s t → is_word a ≡ true
       → ReadAlike IsRefused a (Ok (memory_word s a)) (word_read t a)
   words_same s t a h e =
       let at = and_parts (a % 2 == 0) (is_memory a) e in
@@ -223,7 +223,8 @@ module _ (readings : List ℕ) (begun : EventLine) where
   byte_on true false a x y h = inr (refused.Bus, refl, refl)
   byte_on false c a x y h = inl refl
 
-  reads_same : (s : BusState) (t : MachineBus) (a : ℕ) (w : Width) → SameBus readings begun s t → ReadAlike IsRefused a (read_of s a w) (machine_read t a w)
+  reads_same : (s : BusState) (t : MachineBus) (a : ℕ) (w : Width) → SameBus readings looks begun s t
+      → ReadAlike IsRefused a (read_of s a w) (machine_read t a w)
   reads_same s t a Word h =
       read_on (is_word a) (a == sensor_port) (a == event_port) a (memory_word s a) (port_word s.line.port) (word_read t a) (next_reading s)
       (first_reading t.inputs.readings) (λ e. words_same s t a h e) (next_same s t h)
@@ -240,8 +241,11 @@ module _ (readings : List ℕ) (begun : EventLine) where
       let m : suc n + 1 ≡ suc (n + 1) = omega arith in
       (ap (λ q. drop q (x ∷ xs)) m ∙ r.0, omega arith)
 
-  taken_same : (ws : List ℕ) (s : BusState) (t : MachineBus) (v : ℕ) → first_reading ws ≡ Ok v → t.inputs.readings ≡ ws → SameBus readings begun s t
-      → SameBus readings begun (record s { taken = s.taken + 1 }) (reading_taken ws t)
+  left_by : {l k : List Look} {xs ys : List ℕ} → l ≡ k → xs ≡ ys → ◌≡◌ {A = Inputs} (record { readings = ys; looks = l }) (record { readings = xs; looks = k })
+  left_by e d = ap₂ {C = Inputs} (λ y x. record { readings = y; looks = x }) (sym d) e
+
+  taken_same : (ws : List ℕ) (s : BusState) (t : MachineBus) (v : ℕ) → first_reading ws ≡ Ok v → t.inputs.readings ≡ ws → SameBus readings looks begun s t
+      → SameBus readings looks begun (record s { taken = s.taken + 1 }) (reading_taken ws t)
   taken_same [] s t v e q h = absurd cc
   taken_same (w ∷ ws) s t v e q h =
       let d = drop_next s.readings s.taken w ws (sym (ap (λ i. i.readings) h.left) ∙ q) in
@@ -250,7 +254,7 @@ module _ (readings : List ℕ) (begun : EventLine) where
         whole = record { fram = g.fram; ram = g.ram; taken = d.1; few = g.few };
         fram = h.fram;
         ram = h.ram;
-        left = ap {B = Inputs} (λ l. record { readings = l }) (sym d.0);
+        left = left_by (ap (λ i. i.looks) h.left) d.0;
         outnum = h.outnum;
         all = h.all;
         line = h.line;
@@ -265,22 +269,22 @@ module _ (readings : List ℕ) (begun : EventLine) where
   event_unread t v e = cc
 
   after_on : (b c : Bool) (s : BusState) (t : MachineBus) (a v : ℕ) → (a == sensor_port) ≡ b → (a == event_port) ≡ c → machine_read t a Word ≡ Ok v
-      → SameBus readings begun s t
-      → SameBus readings begun (record s { taken = if b then s.taken + 1 else s.taken; line = if c then port_read s.line else s.line })
+      → SameBus readings looks begun s t
+      → SameBus readings looks begun (record s { taken = if b then s.taken + 1 else s.taken; line = if c then port_read s.line else s.line })
       (if b then reading_taken t.inputs.readings t else t)
   after_on b true s t a v e k r h = absurd (event_unread t v (subst (λ x. machine_read t x Word ≡ Ok v) (eqb-true a event_port k) r))
   after_on true false s t a v e k r h = taken_same t.inputs.readings s t v (at_sensor t a v (eqb-true a sensor_port e) r) refl h
   after_on false false s t a v e k r h = h
 
-  after_same : (s : BusState) (t : MachineBus) (a : ℕ) (w : Width) (v : ℕ) → SameBus readings begun s t → machine_read t a w ≡ Ok v
-      → SameBus readings begun (after_read s a w) (machine_after_read t a w)
+  after_same : (s : BusState) (t : MachineBus) (a : ℕ) (w : Width) (v : ℕ) → SameBus readings looks begun s t → machine_read t a w ≡ Ok v
+      → SameBus readings looks begun (after_read s a w) (machine_after_read t a w)
   after_same s t a Word v h r = after_on (a == sensor_port) (a == event_port) s t a v refl refl r h
   after_same s t a Byte v h r = h
 
   -- writes
   stored_same : (b : Bool) (s : BusState) (t : MachineBus) (a v : ℕ) (log : List Effect) → is_ram a ≡ b → is_memory a ≡ true
-      → (b ≡ false → a < handler_place) → SameBus readings begun s t
-      → SameBus readings begun (if b then record s { ram = slice_set s.ram (ram_place a) v } else record s { fram = slice_set s.fram (place_of a) v })
+      → (b ≡ false → a < handler_place) → SameBus readings looks begun s t
+      → SameBus readings looks begun (if b then record s { ram = slice_set s.ram (ram_place a) v } else record s { fram = slice_set s.fram (place_of a) v })
       (if b then record t { ram = put t.ram (word_address a) v } else record t { fram = put t.fram (word_address a) v; log = log })
   stored_same true s t a v log e m low h =
       let g = h.whole in
@@ -307,14 +311,14 @@ module _ (readings : List ℕ) (begun : EventLine) where
         seen = seen_stored t.ring s.fram a v g.fram (other_is_fram a e m) (low refl) h.seen;
       }
 
-  word_stored : (s : BusState) (t : MachineBus) (a v : ℕ) → is_memory a ≡ true → (is_ram a ≡ false → a < handler_place) → SameBus readings begun s t
-      → SameBus readings begun (with_word s a v) (machine_stored t a v)
+  word_stored : (s : BusState) (t : MachineBus) (a v : ℕ) → is_memory a ≡ true → (is_ram a ≡ false → a < handler_place) → SameBus readings looks begun s t
+      → SameBus readings looks begun (with_word s a v) (machine_stored t a v)
   word_stored s t a v m low h = stored_same (is_ram a) s t a v (t.log ++ Store (word_address a) v ∷ []) refl m low h
 
   abbrev Alike : Option BusState → Option MachineBus → Type 0
-  Alike x y = WrittenAlike (refused.Bus ≡ refused.Bus) (SameBus readings begun) x y
+  Alike x y = WrittenAlike (refused.Bus ≡ refused.Bus) (SameBus readings looks begun) x y
 
-  port_same : (b c : Bool) (s : BusState) (t : MachineBus) (v : ℕ) (log : List Effect) → SameBus readings begun s t
+  port_same : (b c : Bool) (s : BusState) (t : MachineBus) (v : ℕ) (log : List Effect) → SameBus readings looks begun s t
       → Alike (if b then Some (record s { outnum = v }) else if c then Some (record s { offered = Some v }) else None)
       (if b then Some (record t { outnum = v }) else if c then Some (record t { log = log }) else None)
   port_same true c s t v log h =
@@ -349,11 +353,11 @@ module _ (readings : List ℕ) (begun : EventLine) where
   either false x y z u h k = k
 
   -- the machine serves a write only where this test holds, too
-  served_if : (b : Bool) (x : BusState) (z : MachineBus) → (b ≡ true → SameBus readings begun x z) → Alike (Some x) (if b then Some z else None)
+  served_if : (b : Bool) (x : BusState) (z : MachineBus) → (b ≡ true → SameBus readings looks begun x z) → Alike (Some x) (if b then Some z else None)
   served_if true x z h = h refl
   served_if false x z h = refl
 
-  either_if : (b c : Bool) (x : BusState) (z : MachineBus) → (b ≡ true → c ≡ true → SameBus readings begun x z)
+  either_if : (b c : Bool) (x : BusState) (z : MachineBus) → (b ≡ true → c ≡ true → SameBus readings looks begun x z)
       → Alike (if b then Some x else None) (if b && c then Some z else None)
   either_if true c x z h = served_if c x z (h refl)
   either_if false c x z h = tt
@@ -362,13 +366,13 @@ module _ (readings : List ℕ) (begun : EventLine) where
   readable_low : (floor a : ℕ) → is_readable floor a ≡ true → is_ram a ≡ false → a < handler_place
   readable_low floor a h e = ltb-true a handler_place (ap (λ b. cond b (nat_le floor (word_address a)) (nat_lt a handler_place)) (sym e) ∙ h)
 
-  byte_stored : (s : BusState) (t : MachineBus) (a v : ℕ) → is_memory a ≡ true → (is_ram a ≡ false → a < handler_place) → SameBus readings begun s t
-      → SameBus readings begun (with_word s a (with_byte (memory_word s a) a v)) (machine_stored t a (with_byte (machine_word t a) a v))
+  byte_stored : (s : BusState) (t : MachineBus) (a v : ℕ) → is_memory a ≡ true → (is_ram a ≡ false → a < handler_place) → SameBus readings looks begun s t
+      → SameBus readings looks begun (with_word s a (with_byte (memory_word s a) a v)) (machine_stored t a (with_byte (machine_word t a) a v))
   byte_stored s t a v m low h =
-      subst (λ x. SameBus readings begun (with_word s a (with_byte (memory_word s a) a v)) (machine_stored t a (with_byte x a v))) (word_same s t a h m)
+      subst (λ x. SameBus readings looks begun (with_word s a (with_byte (memory_word s a) a v)) (machine_stored t a (with_byte x a v))) (word_same s t a h m)
       (word_stored s t a (with_byte (memory_word s a) a v) m low h)
 
-  writes_same : (s : BusState) (t : MachineBus) (a : ℕ) (w : Width) (v : ℕ) → SameBus readings begun s t
+  writes_same : (s : BusState) (t : MachineBus) (a : ℕ) (w : Width) (v : ℕ) → SameBus readings looks begun s t
       → Alike (written s a w v) (machine_written t a w v)
   writes_same s t a Word v h =
       either (is_word a) (Some (with_word s a v)) (port_written s a v) (word_written t a v) (machine_port_written t a v)
@@ -379,7 +383,7 @@ module _ (readings : List ℕ) (begun : EventLine) where
       either_if (is_memory a) (is_readable t.floor a) (with_word s a (with_byte (memory_word s a) a v))
       (machine_stored t a (with_byte (machine_word t a) a v)) (λ e r. byte_stored s t a v e (readable_low t.floor a r) h)
 
-  pub buses_alike : AnswerAlikeUnless IsRefused board_bus machine_bus (SameBus readings begun)
+  pub buses_alike : AnswerAlikeUnless IsRefused board_bus machine_bus (SameBus readings looks begun)
   buses_alike = record {
     reads = λ s t a w h. reads_same s t a w h;
     after = λ s t a w v h e. after_same s t a w v h e;

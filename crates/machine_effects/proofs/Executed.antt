@@ -1,5 +1,5 @@
 -- What an instruction of a board leaves, made or refused.
-use Rattle.std.proofs.Common.{◌≡◌, refl, sym, ◌∙◌, ap, ℕ, List, ◌++◌, drop, slice_range, append-nil, Option, None, Ok, Err}
+use Rattle.std.proofs.Common.{◌≡◌, refl, sym, ◌∙◌, ap, ℕ, List, [], ◌++◌, drop, slice_range, append-nil, Option, None, Ok, Err}
 use Rattle.std.proofs.lemmas.List.Folds.{drop_split}
 use Rattle.fram_board.specs.msp_isa.declared.instructions.Instr.{Instr}
 use Rattle.fram_board.specs.msp_cycles.Cycles.{cycles_of}
@@ -54,6 +54,8 @@ stopped_left b i (Faulted f c s) e h a =
         readings = ap (λ l. l ++ drop s.taken s.readings) (taking_takes ws)
             ∙ ap (λ l. ws ++ drop s.taken l) all
             ∙ sym (drop_split b.readings b.taken s.taken g.takes.from);
+        seen = [];
+        looks = refl;
       };
       fram = ap (λ y. y.fram) g.same;
     }

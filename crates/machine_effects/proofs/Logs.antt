@@ -24,8 +24,9 @@ use Rattle.fram_board.proofs.Interface.{data_not_fram, other_is_fram, ram_not_fr
 use Rattle.machine_effects.specs.World.{put, fram_after, readings_taken}
 use Rattle.machine_effects.specs.Going.{Goes, Stops}
 use Rattle.machine_effects.specs.Machine.{MachineBus, machine_bus, machine_word, word_address, reading_taken, machine_after_read, machine_stored}
-use Rattle.machine_effects.specs.Machine.{is_readable, word_written}
-use Rattle.machine_effects.specs.Machine.{machine_port_written, machine_written, MachineBoard, machine_opened, MachineOutcome, machine_outcome}
+use Rattle.machine_effects.specs.Inputs.{Look}
+use Rattle.machine_effects.specs.Machine.{is_readable, word_written, looks_there, machine_executed_seeing, executed_looking, code_executed}
+use Rattle.machine_effects.specs.Machine.{machine_port_written, machine_written, MachineBoard, machine_opened_seeing, MachineOutcome, machine_outcome}
 use Rattle.machine_effects.specs.Machine.{machine_executed, NoInstruction, Executes, standing, step_with, astray, undisturbed}
 use Rattle.machine_effects.specs.Laws.{ChangesByEffects, CodeChangesByEffects, MachineChangesByEffects}
 use Rattle.machine_effects.proofs.Worlds.{fram_after-append, readings_taken-append, taking_keeps_fram, taking_takes}
@@ -40,13 +41,14 @@ pub record Took (s t : MachineBus) : Type 0 where
   pub words : List ℕ
   pub same : t ≡ record s { inputs = t.inputs; log = s.log ++ takes words }
   pub left : words ++ t.inputs.readings ≡ s.inputs.readings
+  pub looks : t.inputs.looks ≡ s.inputs.looks
 
 took_none : (s : MachineBus) → Took s s
-took_none s = record { words = []; same = ap {A = List Effect} (λ l. record s { log = l }) (sym (append-nil s.log)); left = refl }
+took_none s = record { words = []; same = ap {A = List Effect} (λ l. record s { log = l }) (sym (append-nil s.log)); left = refl; looks = refl }
 
 took_first : (ws : List ℕ) (s : MachineBus) → s.inputs.readings ≡ ws → Took s (reading_taken ws s)
 took_first [] s e = took_none s
-took_first (w ∷ ws) s e = record { words = w ∷ []; same = refl; left = sym e }
+took_first (w ∷ ws) s e = record { words = w ∷ []; same = refl; left = sym e; looks = refl }
 
 took_if : (b : Bool) (s : MachineBus) → Took s (if b then reading_taken s.inputs.readings s else s)
 took_if true s = took_first s.inputs.readings s refl
@@ -64,6 +66,7 @@ took_join s t u g h = record {
       ∙ ap {A = List Effect} (λ l. record s { inputs = u.inputs; log = l })
       (append_assoc s.log (takes g.words) (takes h.words) ∙ ap (λ l. s.log ++ l) (sym (map-append (λ w. Take w) g.words h.words)));
   left = append_assoc g.words h.words u.inputs.readings ∙ ap (λ l. g.words ++ l) h.left ∙ g.left;
+  looks = h.looks ∙ g.looks;
 }
 
 took_reads : (s t : MachineBus) (n : ℕ) → HasRead machine_bus s n t → Took s t
@@ -158,6 +161,7 @@ written_effects (Some w) f number = write_effects w.0 w.1 f number
 pub record Logged (s : MachineBus) (w : Option Written) (t : MachineBus) : Type 0 where
   pub words : List ℕ
   pub left : words ++ t.inputs.readings ≡ s.inputs.readings
+  pub looks : t.inputs.looks ≡ s.inputs.looks
   pub log : t.log ≡ (s.log ++ takes words) ++ written_effects w t.fram s.outnum
   pub fram : t.fram ≡ fram_after (written_effects w t.fram s.outnum) s.fram
 
@@ -165,6 +169,7 @@ logged_write : (s u t : MachineBus) (w : Option Written) → Took s u → AfterW
 logged_write s u t None g h = record {
   words = g.words;
   left = ap (λ x. g.words ++ x.inputs.readings) h ∙ g.left;
+  looks = ap (λ x. x.inputs.looks) h ∙ g.looks;
   log = ap (λ x. x.log) h ∙ ap (λ x. x.log) g.same ∙ sym (append-nil (s.log ++ takes g.words));
   fram = ap (λ x. x.fram) h ∙ ap (λ x. x.fram) g.same;
 }
@@ -175,6 +180,7 @@ logged_write s u t (Some w) g h =
     record {
       words = g.words;
       left = ap (λ x. g.words ++ x.readings) k.inputs ∙ g.left;
+      looks = ap (λ x. x.looks) k.inputs ∙ g.looks;
       log =
           k.log ∙ ap (λ x. x ++ write_effects w.0 w.1 t.fram u.outnum) (ap (λ x. x.log) g.same)
           ∙ ap (λ n. (s.log ++ takes g.words) ++ write_effects w.0 w.1 t.fram n) number;
@@ -210,30 +216,60 @@ written_takes_none (Some w) f n = no_reading (is_fram w.0) (offered_by w.0 w.1) 
 taken_all : (ws : List ℕ) (es : List Effect) → readings_taken es ≡ [] → readings_taken (takes ws ++ es) ≡ ws
 taken_all ws es e = readings_taken-append (takes ws) es ∙ ap (λ l. l ++ readings_taken es) (taking_takes ws) ∙ ap (λ l. ws ++ l) e ∙ append-nil ws
 
-outcome_changes : (s : MachineBoard) (pc c : ℕ) (m : Access MachineBus (Registers × Option Written)) → LoggedBy (machine_opened s) m
-    → ChangesByEffects s (machine_outcome pc c m)
-outcome_changes s pc c (Completed x t) h =
+outcome_changes : (ring : Option Look) (s : MachineBoard) (pc c : ℕ) (m : Access MachineBus (Registers × Option Written))
+    → LoggedBy (machine_opened_seeing ring s) m → ChangesByEffects s (machine_outcome pc c m)
+outcome_changes ring s pc c (Completed x t) h =
     let new = written_effects x.1 t.fram s.outnum in (
       h.fram ∙ sym (ap (λ es. fram_after es s.fram) h.log ∙ fram_after-append (takes h.words) new s.fram ∙ ap (λ f. fram_after new f)
           (taking_keeps_fram h.words s.fram)),
       record {
         readings =
             ap (λ l. l ++ t.inputs.readings) (ap readings_taken h.log ∙ taken_all h.words new (written_takes_none x.1 t.fram s.outnum)) ∙ h.left;
+        seen = [];
+        looks = h.looks;
       },
     )
-outcome_changes s pc c (Faulted e a t) h =
+outcome_changes ring s pc c (Faulted e a t) h =
     let log : t.log ≡ takes h.words = ap (λ x. x.log) h.same in (
       ap (λ es. fram_after es s.fram) log ∙ taking_keeps_fram h.words s.fram,
-      (t.inputs, record { readings = ap (λ l. l ++ t.inputs.readings) (ap readings_taken log ∙ taking_takes h.words) ∙ h.left }),
+      (
+        t.inputs,
+        record {
+          readings = ap (λ l. l ++ t.inputs.readings) (ap readings_taken log ∙ taking_takes h.words) ∙ h.left;
+          seen = [];
+          looks = h.looks;
+        },
+      ),
     )
 
-pub executed_changes : (s : MachineBoard) (i : Instr) → ChangesByEffects s (machine_executed s i)
-executed_changes s i =
-    outcome_changes s (s.registers 0) (cycles_of i) (effect machine_bus i s.registers (machine_opened s)) (effect_logged i s.registers (machine_opened s))
+pub executed_changes : (ring : Option Look) (s : MachineBoard) (i : Instr) → ChangesByEffects s (machine_executed_seeing ring s i)
+executed_changes ring s i =
+    let t = machine_opened_seeing ring s in
+    outcome_changes ring s (s.registers 0) (cycles_of i) (effect machine_bus i s.registers t) (effect_logged i s.registers t)
+
+-- with a look taken before
+changes_behind_look : (look : Look) (more : List Look) (s : MachineBoard) (o : MachineOutcome) → s.inputs.looks ≡ look ∷ more
+    → ChangesByEffects (record s { inputs = record s.inputs { looks = more } }) o → ChangesByEffects s o
+changes_behind_look look more s (Goes es c t) e h =
+    let k = h.1 in (h.0, record { readings = k.readings; seen = look ∷ k.seen; looks = ap (λ l. look ∷ l) k.looks ∙ sym e })
+changes_behind_look look more s (Stops es price x) e h =
+    let k = h.1.1 in (h.0, (h.1.0, record { readings = k.readings; seen = look ∷ k.seen; looks = ap (λ l. look ∷ l) k.looks ∙ sym e }))
+
+looking_changes : (looks : List Look) (s : MachineBoard) (i : Instr) → s.inputs.looks ≡ looks → ChangesByEffects s (executed_looking looks s i)
+looking_changes [] s i e = executed_changes None s i
+looking_changes (look ∷ more) s i e =
+    changes_behind_look look more s _ e (executed_changes (Some look) (record s { inputs = record s.inputs { looks = more } }) i)
+
+either_changes : (b : Bool) (s : MachineBoard) (o p : MachineOutcome) → ChangesByEffects s o → ChangesByEffects s p → ChangesByEffects s (if b then o else p)
+either_changes true s o p h k = h
+either_changes false s o p h k = k
+
+code_changes : (s : MachineBoard) (i : Instr) → ChangesByEffects s (code_executed s i)
+code_changes s i = either_changes (looks_there i) s _ _ (looking_changes s.inputs.looks s i refl) (executed_changes None s i)
 
 standing_changes : (o : Option Instr) (s : MachineBoard) → ChangesByEffects s (standing o s)
 standing_changes None s = (refl, (s.inputs, takes_nothing s.inputs))
-standing_changes (Some i) s = executed_changes s i
+standing_changes (Some i) s = code_changes s i
 
 if_off : (b : Bool) (s : MachineBoard) (o : MachineOutcome) → ChangesByEffects s o → ChangesByEffects s (if b then Stops [] 0 stop.Off else o)
 if_off true s o h = (refl, (s.inputs, takes_nothing s.inputs))
@@ -258,4 +294,4 @@ code_changes_by_effects code s = undisturbed_changes s (step_with (code (s.regis
 -- a machine changes as its effects say
 pub machine_changes_by_effects : MachineChangesByEffects
 machine_changes_by_effects s o (NoInstruction e h) = (refl, (s.inputs, takes_nothing s.inputs))
-machine_changes_by_effects s o (Executes i h) = executed_changes s i
+machine_changes_by_effects s o (Executes i h) = executed_changes None s i

@@ -39,8 +39,10 @@ use Rattle.fram_board.proofs.Interface.{only_takes, execution_takes}
 use Rattle.machine_effects.specs.Going.{Goes, Stops}
 use Rattle.machine_effects.specs.Inputs.{Look}
 use Rattle.machine_effects.specs.Machine.{MachineBus, MachineOutcome, machine_bus, machine_opened_seeing, machine_opened, machine_closed}
+use Rattle.machine_effects.specs.Machine.{looks_there, executed_looking}
 use Rattle.machine_effects.specs.Machine.{machine_outcome, machine_executed_seeing, machine_executed, IsMachineStep, NoInstruction, Executes}
 use Rattle.machine_effects.specs.Machine.{word_address, fram_of}
+use Rattle.machine_effects.specs.View.{machine_with, machine_outcome_with}
 use Rattle.machine_effects.specs.View.{machine_of, IsWhole, IsNextPrice, machine_outcome_of, IsFault, IsBusFault, IsMachines}
 use Rattle.machine_effects.specs.Laws.{BoardStepsAsMachine, MachineStepsAsBoard, LooksAsTheBoard, MachineStepsInOneWay, StepsAsMachine, StepsToFault}
 use Rattle.machine_effects.proofs.Alike.{IsRefused, SeesFram, SameBus, buses_alike, fetches_same, fram_at}
@@ -69,9 +71,9 @@ module _ {S T : Type 0} (b : BusModel S) (c : BusModel T) (s : S) (t : T) (same 
   current_alike r i h = record { on = h.on; is = h.is; fetched = fetched_alike (encoding i) (r 0) h.fetched }
 
 -- the board's bus and the machine's as an instruction begins that sees this of the ring
-begins_seeing : (ring : Option Look) (b : BoardValue) → SeesFram ring b.fram → IsWhole b
-    → SameBus b.readings b.line (opened b) (machine_opened_seeing ring (machine_of b))
-begins_seeing ring b sees h =
+begins_seeing : (ring : Option Look) (looks : List Look) (b : BoardValue) → SeesFram ring b.fram → IsWhole b
+    → SameBus b.readings looks b.line (opened b) (machine_opened_seeing ring (machine_with looks b))
+begins_seeing ring looks b sees h =
     let g = h.board in
     record {
       whole = record { fram = g.fram; ram = g.ram; taken = g.taken; few = g.few };
@@ -85,11 +87,11 @@ begins_seeing ring b sees h =
     }
 
 -- that may not look there
-pub begins : (b : BoardValue) → IsWhole b → SameBus b.readings b.line (opened b) (machine_opened (machine_of b))
-begins b h = begins_seeing None b tt h
+pub begins : (b : BoardValue) → IsWhole b → SameBus b.readings [] b.line (opened b) (machine_opened (machine_of b))
+begins b h = begins_seeing None [] b tt h
 
 fetches : (b : BoardValue) → IsWhole b → (a : ℕ) → board_bus.fetches (opened b) a ≡ machine_bus.fetches (machine_opened (machine_of b)) a
-fetches b h a = fetches_same b.readings b.line (opened b) (machine_opened (machine_of b)) a (begins b h)
+fetches b h a = fetches_same b.readings [] b.line (opened b) (machine_opened (machine_of b)) a (begins b h)
 
 -- there are no registers behind the sixteen
 abbrev IsFile : Registers → Type 0
@@ -234,9 +236,9 @@ same_written None words number = refl
 same_written (Some w) words number = ap (λ l. l ++ sends_of number (offered_by w.0 w.1)) (store_on (is_fram w.0) w.0 words refl)
 
 -- the same machine
-same_machine : (r q : Registers) (t : MachineBus) (s : BusState) (b : BoardValue) → r ≡ q → IsFile r → SameBus b.readings b.line s t
-    → machine_closed q t ≡ machine_of (closed b r s)
-same_machine r q t s b e f h =
+same_machine : (looks : List Look) (r q : Registers) (t : MachineBus) (s : BusState) (b : BoardValue) → r ≡ q → IsFile r
+    → SameBus b.readings looks b.line s t → machine_closed q t ≡ machine_with looks (closed b r s)
+same_machine looks r q t s b e f h =
     let same : q ≡ registers_of (register_list r) = sym e ∙ fun_ext (λ n. listed r f n) in
     λ i. record { registers = same i; fram = h.fram i; ram = h.ram i; inputs = h.left i; outnum = h.outnum i }
 
@@ -244,24 +246,25 @@ nothing_behind : (es fs : List Effect) → fs ≡ [] → es ≡ es ++ fs
 nothing_behind es fs e = sym (append-nil es) ∙ ap (λ l. es ++ l) (sym e)
 
 -- the readings that are left on both
-left_same : (b : BoardValue) (t : MachineBus) (s : BusState) → SameBus b.readings b.line s t → t.inputs.readings ≡ drop s.taken b.readings
-left_same b t s h = ap (λ i. i.readings) h.left ∙ ap (λ l. drop s.taken l) h.all
+left_same : (looks : List Look) (b : BoardValue) (t : MachineBus) (s : BusState) → SameBus b.readings looks b.line s t
+    → t.inputs.readings ≡ drop s.taken b.readings
+left_same looks b t s h = ap (λ i. i.readings) h.left ∙ ap (λ l. drop s.taken l) h.all
 
 -- of the two accesses of an instruction
-module _ (b : BoardValue) (i : Instr) (ring : Option Look) where
+module _ (b : BoardValue) (i : Instr) (ring : Option Look) (looks : List Look) where
   abbrev outcome : Access BusState (Registers × Option Written) → BoardOutcome
   outcome m = board_outcome b (outcome_of i (registers_of b.cpu) m)
 
   -- what the machine made of the instruction, of the board's outcome
   abbrev SameOutcome : BoardOutcome → MachineOutcome → Type 0
-  SameOutcome x o = IsBusFault o ⊎ ((o ≡ machine_outcome_of b x (cycles_of i)) × (x.board.line ≡ b.line))
+  SameOutcome x o = IsBusFault o ⊎ ((o ≡ machine_outcome_with looks b x (cycles_of i)) × (x.board.line ≡ b.line))
 
-  refused_same : (e f : Refused) (a c : ℕ) (s : BusState) (t : MachineBus) → (e ≡ f) × (a ≡ c) × SameBus b.readings b.line s t → s.offered ≡ None
-      → Took (machine_opened_seeing ring (machine_of b)) t → b.taken ≤ s.taken
-      → machine_outcome (registers_of b.cpu 0) (cycles_of i) (Faulted f c t) ≡ machine_outcome_of b (outcome (Faulted e a s)) (cycles_of i)
+  refused_same : (e f : Refused) (a c : ℕ) (s : BusState) (t : MachineBus) → (e ≡ f) × (a ≡ c) × SameBus b.readings looks b.line s t → s.offered ≡ None
+      → Took (machine_opened_seeing ring (machine_with looks b)) t → b.taken ≤ s.taken
+      → machine_outcome (registers_of b.cpu 0) (cycles_of i) (Faulted f c t) ≡ machine_outcome_with looks b (outcome (Faulted e a s)) (cycles_of i)
   refused_same e f a c s t same off log le =
       let h = same.2 in
-      let words = same_words b.readings t.inputs.readings log.words b.taken s.taken le log.left (left_same b t s h) in
+      let words = same_words b.readings t.inputs.readings log.words b.taken s.taken le log.left (left_same looks b t s h) in
       let none : sends_of b.outnum s.offered ≡ [] = ap (λ o. sends_of b.outnum o) off in
       let effects : t.log ≡ effects_of b (outcome (Faulted e a s)) =
       ap (λ x. x.log) log.same ∙ ap takes words ∙ nothing_behind (takes (slice_range b.readings b.taken s.taken)) (sends_of b.outnum s.offered) none in
@@ -273,19 +276,19 @@ module _ (b : BoardValue) (i : Instr) (ring : Option Look) where
   refused_stop pc a f at = subst (λ r. IsFault (stop_of pc r a)) (sym at) tt
 
   same_outcome : (m : Access BusState (Registers × Option Written)) (n : Access MachineBus (Registers × Option Written))
-      → AlikeUnless IsRefused (SameBus b.readings b.line) m n → OfferedBy m → LoggedBy (machine_opened_seeing ring (machine_of b)) n
+      → AlikeUnless IsRefused (SameBus b.readings looks b.line) m n → OfferedBy m → LoggedBy (machine_opened_seeing ring (machine_with looks b)) n
       → Gives (λ s. Unit {0}) (λ y. IsFile y.0) m → b.taken ≤ (outcome m).board.taken
       → SameOutcome (outcome m) (machine_outcome (registers_of b.cpu 0) (cycles_of i) n)
   same_outcome (Completed x s) (Completed y t) same off log file le =
       let h = same.1 in
-      let words = same_words b.readings t.inputs.readings log.words b.taken s.taken le log.left (left_same b t s h) in
+      let words = same_words b.readings t.inputs.readings log.words b.taken s.taken le log.left (left_same looks b t s h) in
       let wrote : written_effects y.1 t.fram b.outnum ≡ store_at (option_map (λ p. p.0) x.1) s.fram ++ sends_of b.outnum s.offered =
       ap (λ f. written_effects y.1 f b.outnum) h.fram
       ∙ ap (λ z. written_effects z.1 (fram_of s.fram) b.outnum) (sym same.0)
       ∙ same_written x.1 s.fram b.outnum
       ∙ ap (λ o. store_at (option_map (λ p. p.0) x.1) s.fram ++ sends_of b.outnum o) (sym off) in
       let effects : t.log ≡ effects_of b (outcome (Completed x s)) = log.log ∙ ap₂ (λ k l. takes k ++ l) words wrote in
-      let next = same_machine x.0 y.0 t s b (ap (λ z. z.0) same.0) file.0 h in
+      let next = same_machine looks x.0 y.0 t s b (ap (λ z. z.0) same.0) file.0 h in
       inr (ap₂ (λ es u. Goes es (cycles_of i) u) effects next, h.line)
   same_outcome (Faulted e a s) (Faulted f c t) (inl at) off log file le = inl (refused_stop (registers_of b.cpu 0) c f at)
   same_outcome (Faulted e a s) (Faulted f c t) (inr same) off log file le = inr (refused_same e f a c s t same off log le, same.2.line)
@@ -294,31 +297,37 @@ module _ (b : BoardValue) (i : Instr) (ring : Option Look) where
 
   -- an instruction at PC does the same on both, where what it sees of the ring is the board's, and leaves the port EVENT, or the
   -- machine ends by a bus fault
-  same_seeing : SeesFram ring b.fram → IsWhole b → SameOutcome (executed b i) (machine_executed_seeing ring (machine_of b) i)
+  same_seeing : SeesFram ring b.fram → IsWhole b → SameOutcome (executed b i) (machine_executed_seeing ring (machine_with looks b) i)
   same_seeing sees h =
       let r = registers_of b.cpu in
-      let t = machine_opened_seeing ring (machine_of b) in
+      let t = machine_opened_seeing ring (machine_with looks b) in
       let m = effect board_bus i r (opened b) in
       same_outcome m (effect machine_bus i r t)
-      (effect_alike BusState MachineBus board_bus machine_bus IsRefused (SameBus b.readings b.line) (buses_alike b.readings b.line) i r (opened b) t
-      (begins_seeing ring b sees h))
+      (effect_alike BusState MachineBus board_bus machine_bus IsRefused (SameBus b.readings looks b.line) (buses_alike b.readings looks b.line) i r (opened b) t
+      (begins_seeing ring looks b sees h))
       (ends_offered (opened b) m refl (effect_ends board_bus i r (opened b)))
       (effect_logged i r t)
       (effect_gives board_bus (λ v. Unit {0}) IsFile (λ s. Unit {0}) file_closed i r (opened b) (instruction_free i) (whole_file b h) tt)
       (execution_takes i r (opened b)).from
 
--- an instruction that sees the board's ring
-pub looks_as_the_board : LooksAsTheBoard
-looks_as_the_board b i h = same_seeing b i (Some (fram_of b.fram)) (λ a r. refl) h
+-- an instruction of code that sees the board's ring
+looks_by : (c : Bool) (b : BoardValue) (i : Instr) (more : List Look) → IsWhole b
+    → let s = machine_with (if c then fram_of b.fram ∷ more else more) b in
+    SameOutcome b i None more (executed b i) (if c then executed_looking s.inputs.looks s i else machine_executed s i)
+looks_by true b i more h = same_seeing b i (Some (fram_of b.fram)) more (λ a r. refl) h
+looks_by false b i more h = same_seeing b i None more tt h
 
-as_machines : (b : BoardValue) (i : Instr) → SameOutcome b i None (executed b i) (machine_executed (machine_of b) i)
+pub looks_as_the_board : LooksAsTheBoard
+looks_as_the_board b i more h = looks_by (looks_there i) b i more h
+
+as_machines : (b : BoardValue) (i : Instr) → SameOutcome b i None [] (executed b i) (machine_executed (machine_of b) i)
     → IsBusFault (machine_executed (machine_of b) i) ⊎ IsMachines b i
 as_machines b i (inl at) = inl at
 as_machines b i (inr h) = inr (record { step = h.0; line = h.1 })
 
 -- and one that may not look there
 pub executed_same : (b : BoardValue) (i : Instr) → IsWhole b → IsBusFault (machine_executed (machine_of b) i) ⊎ IsMachines b i
-executed_same b i h = as_machines b i (same_seeing b i None tt h)
+executed_same b i h = as_machines b i (same_seeing b i None [] tt h)
 
 -- a step that is stopped takes nothing
 pub none_taken : (xs : List ℕ) (n : ℕ) → slice_range xs n n ≡ []

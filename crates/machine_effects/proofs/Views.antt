@@ -1,5 +1,5 @@
 -- The views of a powered and of a fresh board.
-use Rattle.std.proofs.Common.{◌≡◌, ◌==◌, ◌&&◌, ◌%◌, ℕ, zero, suc, refl, ap, Bool, true, false, if◌then◌else◌, replicate, slice_index}
+use Rattle.std.proofs.Common.{[], ◌≡◌, ◌==◌, ◌&&◌, ◌%◌, ℕ, zero, suc, refl, ap, Bool, true, false, if◌then◌else◌, replicate, slice_index}
 use mathlib.Core.Path.{fun_ext}
 use Rattle.fram_board.specs.msp_step.Registers.{registers_of, powered_up}
 use Rattle.fram_board.specs.Bus.{is_ram, ram_place}
@@ -33,6 +33,6 @@ fresh_machine fram readings events = ap {B = MachineBoard} (λ r. record {
   registers = registers_of (powered_up (vector_of fram) 0);
   fram = fram_of fram;
   ram = r;
-  inputs = record { readings = readings };
+  inputs = record { readings = readings; looks = [] };
   outnum = 0;
 }) blank_ram

@@ -46,7 +46,8 @@ use Rattle.machine_effects.specs.World.{put}
 use Rattle.machine_effects.specs.Inputs.{Look, InputsAreWords}
 use Rattle.machine_effects.specs.Going.{Goes, Stops}
 use Rattle.machine_effects.specs.Machine.{MachineBus, MachineBoard, MachineOutcome, machine_bus, machine_word, word_address, first_reading, machine_read}
-use Rattle.machine_effects.specs.Machine.{is_readable, ring_read, word_read, word_written}
+use Rattle.machine_effects.specs.Machine.{is_readable, ring_read, word_read, word_written, looks_there, machine_opened_seeing, machine_executed_seeing}
+use Rattle.machine_effects.specs.Machine.{executed_looking, code_executed}
 use Rattle.machine_effects.specs.Machine.{reading_taken, machine_after_read, machine_stored, machine_port_written, machine_written, machine_opened}
 use Rattle.machine_effects.specs.Machine.{machine_outcome, machine_executed, NoInstruction, Executes, standing, step_with, astray, undisturbed}
 use Rattle.machine_effects.specs.View.{IsWhole, IsLineOfWords, IsOfWords, IsMachineOfWords}
@@ -130,7 +131,7 @@ machine_read_small t a Byte v q e =
 taken_words : (ws : List ℕ) (t : MachineBus) → All (λ x. x < 0x10000) ws → OfWords t → OfWords (reading_taken ws t)
 taken_words [] t h q = q
 taken_words (w ∷ ws) t h q =
-    record { fram = q.fram; ram = q.ram; inputs = record { readings = all_tail w ws h }; outnum = q.outnum; ring = q.ring }
+    record { fram = q.fram; ram = q.ram; inputs = record { readings = all_tail w ws h; looks = q.inputs.looks }; outnum = q.outnum; ring = q.ring }
 
 after_words : (b : Bool) (t : MachineBus) → OfWords t → OfWords (if b then reading_taken t.inputs.readings t else t)
 after_words true t q = taken_words t.inputs.readings t q.inputs.readings q
@@ -239,25 +240,46 @@ outcome_words : (pc c : ℕ) (m : Access MachineBus (Registers × Option Written
 outcome_words pc c (Completed x t) h = let q = h.1 in record { registers = h.0; fram = q.fram; ram = q.ram; inputs = q.inputs; outnum = q.outnum }
 outcome_words pc c (Faulted e a t) h = tt
 
-opened_words : (s : MachineBoard) → IsMachineOfWords s → OfWords (machine_opened s)
-opened_words s h = record { fram = h.fram; ram = h.ram; inputs = h.inputs; outnum = h.outnum; ring = tt }
+opened_words : (ring : Option Look) (s : MachineBoard) → SeesWords ring → IsMachineOfWords s → OfWords (machine_opened_seeing ring s)
+opened_words ring s w h = record { fram = h.fram; ram = h.ram; inputs = h.inputs; outnum = h.outnum; ring = w }
 
-executed_words : (s : MachineBoard) (i : Instr) → IsMachineOfWords s → InstructionHas IsWord i → LeavesWords (machine_executed s i)
-executed_words s i h k =
-    outcome_words (s.registers 0) (cycles_of i) (effect machine_bus i s.registers (machine_opened s))
-    (effect_gives machine_bus IsWord AreSmall OfWords machine_closed_words i s.registers (machine_opened s) k h.registers (opened_words s h))
+executed_words : (ring : Option Look) (s : MachineBoard) (i : Instr) → SeesWords ring → IsMachineOfWords s → InstructionHas IsWord i
+    → LeavesWords (machine_executed_seeing ring s i)
+executed_words ring s i w h k =
+    let t = machine_opened_seeing ring s in
+    outcome_words (s.registers 0) (cycles_of i) (effect machine_bus i s.registers t)
+    (effect_gives machine_bus IsWord AreSmall OfWords machine_closed_words i s.registers t k h.registers (opened_words ring s w h))
+
+-- an instruction of code
+looking_words : (looks : List Look) (s : MachineBoard) (i : Instr) → All (λ look. (a : ℕ) → look a < 0x10000) looks → IsMachineOfWords s
+    → InstructionHas IsWord i → LeavesWords (executed_looking looks s i)
+looking_words [] s i w h k = executed_words None s i tt h k
+looking_words (look ∷ more) s i w h k =
+    let rest : All (λ l. (a : ℕ) → l a < 0x10000) more = λ n d low. w (suc n) d (omega arith) in
+    let left : InputsAreWords (record s.inputs { looks = more }) = record { readings = h.inputs.readings; looks = rest } in
+    let first : (a : ℕ) → look a < 0x10000 = w zero look (omega arith) in
+    executed_words (Some look) (record s { inputs = record s.inputs { looks = more } }) i first
+    (record { registers = h.registers; fram = h.fram; ram = h.ram; inputs = left; outnum = h.outnum }) k
+
+either_words : (b : Bool) (o p : MachineOutcome) → LeavesWords o → LeavesWords p → LeavesWords (if b then o else p)
+either_words true o p h k = h
+either_words false o p h k = k
+
+code_words : (s : MachineBoard) (i : Instr) → IsMachineOfWords s → InstructionHas IsWord i → LeavesWords (code_executed s i)
+code_words s i h k =
+    either_words (looks_there i) _ _ (looking_words s.inputs.looks s i h.inputs.looks h k) (executed_words None s i tt h k)
 
 pub machine_words_stay_words : MachineWordsStayWords
 machine_words_stay_words s o h (NoInstruction e k) = tt
 machine_words_stay_words s o h (Executes i k) =
-    let q = opened_words s h in
-    executed_words s i h (immediate_fetched machine_bus (machine_opened s) (λ a v e. some_on (is_word a) (machine_word (machine_opened s) a) v
+    let q = opened_words None s tt h in
+    executed_words None s i tt h (immediate_fetched machine_bus (machine_opened s) (λ a v e. some_on (is_word a) (machine_word (machine_opened s) a) v
     (word_small (machine_opened s) a q) e) i (s.registers 0) k.fetched)
 
 standing_words : (o : Option Instr) (s : MachineBoard) → ((i : Instr) → o ≡ Some i → All (λ w. w < 0x10000) (encoding i)) → IsMachineOfWords s
     → LeavesWords (standing o s)
 standing_words None s e h = tt
-standing_words (Some i) s e h = executed_words s i h (immediate_encoded i (e i refl))
+standing_words (Some i) s e h = code_words s i h (immediate_encoded i (e i refl))
 
 stopped_if_words : (b : Bool) (e : Stop) (o : MachineOutcome) → LeavesWords o → LeavesWords (if b then Stops [] 0 e else o)
 stopped_if_words true e o h = tt
@@ -569,13 +591,16 @@ drop_small zero ws h = h
 drop_small (suc n) [] h = h
 drop_small (suc n) (w ∷ ws) h = drop_small n ws (all_tail w ws h)
 
+no_looks : All (λ (look : Look). (a : ℕ) → look a < 0x10000) []
+no_looks k d low = absurd (omega arith)
+
 -- what a board of words is as a machine
 pub machine_is_of_words : MachineIsOfWords
 machine_is_of_words b h = record {
   registers = λ n. index_small b.cpu n h.registers;
   fram = λ a. either_small ((a % 2 == 0) && is_fram a) (slice_index b.fram (place_of a)) 0 (index_small b.fram (place_of a) h.fram) (omega arith);
   ram = λ a. either_small ((a % 2 == 0) && is_ram a) (slice_index b.ram (ram_place a)) 0 (index_small b.ram (ram_place a) h.ram) (omega arith);
-  inputs = record { readings = drop_small b.taken b.readings h.readings };
+  inputs = record { readings = drop_small b.taken b.readings h.readings; looks = no_looks };
   outnum = h.outnum;
 }
 

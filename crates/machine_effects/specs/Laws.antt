@@ -1,5 +1,5 @@
 -- Laws of the machine, and that it is the board.
-use Rattle.std.specs.Prelude.{ℕ, ◌≡◌, ◌<◌, ◌≤◌, ◌⊎◌, List, All, ◌++◌, length, Some, Ok}
+use Rattle.std.specs.Prelude.{ℕ, ◌≡◌, ◌<◌, ◌≤◌, ◌⊎◌, if◌then◌else◌, List, [], ◌∷◌, All, ◌++◌, length, Some, Ok}
 use Rattle.fram_board.specs.address_space.Limits.{fram_words}
 use Rattle.fram_board.specs.msp_isa.declared.instructions.Instr.{Instr}
 use Rattle.fram_board.specs.msp_isa.Encoding.{encoding}
@@ -13,10 +13,11 @@ use Rattle.fram_board.specs.Steps.{IsPowerState}
 use Rattle.fram_board.specs.Effects.{Effect}
 use Rattle.fram_board.specs.Run.{Measure, moment_of, RunOutcome, ChargeRun, accepted_by, accepted_words}
 use Rattle.machine_effects.specs.World.{World, fram_after, accepted_after, world_after}
-use Rattle.machine_effects.specs.Inputs.{Inputs, TakesExactly}
+use Rattle.machine_effects.specs.Inputs.{Look, Inputs, TakesExactly}
 use Rattle.machine_effects.specs.Going.{Goes, Stops}
-use Rattle.machine_effects.specs.Machine.{MachineBoard, MachineOutcome, machine_executed_seeing, IsMachineStep, Code, exec, fram_of, machine_powered}
-use Rattle.machine_effects.specs.View.{machine_of, IsWhole, IsOfWords, IsMachineOfWords, IsNextPrice, machine_outcome_of, IsBusFault}
+use Rattle.machine_effects.specs.Machine.{MachineBoard, MachineOutcome, looks_there, code_executed, IsMachineStep, Code, exec, fram_of, machine_powered}
+use Rattle.machine_effects.specs.View.{machine_with, machine_of, IsWhole, IsOfWords, IsMachineOfWords, IsNextPrice, machine_outcome_with}
+use Rattle.machine_effects.specs.View.{machine_outcome_of, IsBusFault}
 use Rattle.machine_effects.specs.Runs.{action_effects, moments_effects}
 
 -- a step of the board is the machine's step of its view, with the board's effects and cycles, and leaves the port EVENT; a stop
@@ -40,10 +41,14 @@ abbrev pub MachineStepsAsBoard : Type 0
 MachineStepsAsBoard = (b : BoardValue) (o : MachineOutcome) → IsWhole b → IsMachineStep (machine_of b) o → IsBusFault o
     ⊎ ((x : BoardOutcome) × (price : ℕ) × IsStep b x × IsNextPrice b price × (o ≡ machine_outcome_of b x price) × (x.board.line ≡ b.line))
 
--- an instruction that sees what the board holds in the ring does as on the board, or ends by a bus fault
+-- what an instruction on a board sees of the ring, if it looks there, in front of more looks
+abbrev pub looks_at : BoardValue → Instr → List Look → List Look
+looks_at b i more = if looks_there i then fram_of b.fram ∷ more else more
+
+-- an instruction of code that sees what the board holds in the ring does as on the board, or ends by a bus fault
 abbrev pub LooksAsTheBoard : Type 0
-LooksAsTheBoard = (b : BoardValue) (i : Instr) → IsWhole b → let o = machine_executed_seeing (Some (fram_of b.fram)) (machine_of b) i in
-    IsBusFault o ⊎ ((o ≡ machine_outcome_of b (executed b i) (cycles_of i)) × ((executed b i).board.line ≡ b.line))
+LooksAsTheBoard = (b : BoardValue) (i : Instr) (more : List Look) → IsWhole b → let o = code_executed (machine_with (looks_at b i more) b) i in
+    IsBusFault o ⊎ ((o ≡ machine_outcome_with more b (executed b i) (cycles_of i)) × ((executed b i).board.line ≡ b.line))
 
 -- the machine steps in one way
 abbrev pub MachineStepsInOneWay : Type 0
@@ -110,7 +115,7 @@ FreshMachine = (fram readings : List ℕ) (events : List (ℕ × ℕ)) → machi
   registers = registers_of (powered_up (vector_of fram) 0);
   fram = fram_of fram;
   ram = λ a. 0;
-  inputs = record { readings = readings };
+  inputs = record { readings = readings; looks = [] };
   outnum = 0;
 }
 

@@ -3,14 +3,21 @@
 -- sensor and the receiver. Its instructions, their effects and cycles are those of every bus (SLAU049 and SLAU144, CPU chapter).
 -- What a handler may change between any two instructions of a program, the machine can't depend on: its bus refuses reads of RAM
 -- below SP and of FRAM from the handler on, and writes of a byte in that RAM and of anything in that FRAM.
-use Rattle.std.specs.Prelude.{ℕ, ◌-◌, ◌%◌, ◌≡◌, ◌<◌, ◌≤◌, Bool, nat_le, nat_lt, ◌==◌, ◌&&◌, if◌then◌else◌, slice_index, List, [], ◌∷◌, ◌++◌}
+use Rattle.std.specs.Prelude.{ℕ, ◌-◌, ◌%◌, ◌≡◌, ◌<◌, ◌≤◌, Bool, true, false, nat_le, nat_lt, ◌==◌, ◌&&◌, if◌then◌else◌, slice_index, List, [], ◌∷◌, ◌++◌}
 use Rattle.std.specs.Prelude.{Result, Ok, Err, Option, Some, None}
 use Rattle.fram_board.specs.address_space.Limits.{ram_first, ram_end, fram_first, reset_vector}
 pub use Rattle.fram_board.specs.address_space.Limits.{IsFramWord as IsFram}
 use Rattle.event_places.specs.Places.{handler_place, is_ring}
 use Rattle.fram_board.specs.alp_words.declared.Width.{Width}
 use Rattle.fram_board.specs.alp_words.declared.Width.TheVariants.{Word, Byte}
+use Rattle.fram_board.specs.msp_isa.declared.operands.Operand.{Operand}
+use Rattle.fram_board.specs.msp_isa.declared.operands.Operand.TheVariants as mode
+use Rattle.fram_board.specs.msp_isa.declared.operands.Src.{Src}
+use Rattle.fram_board.specs.msp_isa.declared.operands.Src.TheVariants as src
 use Rattle.fram_board.specs.msp_isa.declared.instructions.Instr.{Instr}
+use Rattle.fram_board.specs.msp_isa.declared.instructions.Instr.TheVariants as instr
+use Rattle.fram_board.specs.msp_isa.declared.instructions.OneOp.{OneOp}
+use Rattle.fram_board.specs.msp_isa.declared.instructions.OneOp.TheVariants as one
 use Rattle.fram_board.specs.msp_cycles.Cycles.{cycles_of}
 use Rattle.fram_board.specs.msp_step.declared.bus.Refused.{Refused}
 use Rattle.fram_board.specs.msp_step.declared.bus.Refused.TheVariants as refused
@@ -171,9 +178,51 @@ pub data IsMachineStep (s : MachineBoard) : MachineOutcome → Type 0 where
   NoInstruction : (e : Stop) → IsStopped machine_bus s.registers (machine_opened s) e → IsMachineStep s (Stops [] 0 e)
   Executes : (i : Instr) → IsCurrentInstruction machine_bus s.registers (machine_opened s) i → IsMachineStep s (machine_executed s i)
 
+-- an operand by which an instruction looks at HEAD or the ring: its address is there, or the number that a register is added to
+abbrev pub operand_looks : Operand → Bool
+operand_looks (mode.Absolute a) = is_ring a
+operand_looks (mode.Indexed b x) = is_ring x
+operand_looks (mode.Reg h) = false
+operand_looks (mode.Symbolic x) = false
+operand_looks (mode.Indirect p) = false
+operand_looks (mode.Increment b) = false
+
+-- a source that is such an operand
+abbrev pub source_looks : Src → Bool
+source_looks (src.Operand p) = operand_looks p
+source_looks (src.Immediate n) = false
+source_looks (src.Constant k) = false
+
+-- PUSH of a word that is one
+abbrev pub pushed_looks : OneOp → Bool
+pushed_looks (one.Push Word x) = source_looks x
+pushed_looks (one.Push Byte x) = false
+pushed_looks (one.Call x) = false
+pushed_looks (one.Rrc w p) = false
+pushed_looks (one.Rra w p) = false
+pushed_looks (one.Swpb p) = false
+pushed_looks (one.Sxt p) = false
+
+-- an instruction that looks: one on words whose source does
+abbrev pub looks_there : Instr → Bool
+looks_there (instr.Two op Word x d) = source_looks x
+looks_there (instr.Two op Byte x d) = false
+looks_there (instr.One o) = pushed_looks o
+looks_there (instr.Jump c o) = false
+looks_there instr.Reti = false
+
+-- one that takes the first look that is left; where none is, it may not look
+abbrev pub executed_looking : List Look → MachineBoard → Instr → MachineOutcome
+executed_looking [] s i = machine_executed s i
+executed_looking (look ∷ more) s i = machine_executed_seeing (Some look) (record s { inputs = record s.inputs { looks = more } }) i
+
+-- an instruction of code
+abbrev pub code_executed : MachineBoard → Instr → MachineOutcome
+code_executed s i = if looks_there i then executed_looking s.inputs.looks s i else machine_executed s i
+
 -- what an instruction that stands at PC does while CPUOFF is clear; where none stands the word there is illegal
 abbrev pub standing : Option Instr → MachineBoard → MachineOutcome
-standing (Some i) s = machine_executed s i
+standing (Some i) s = code_executed s i
 standing None s = Stops [] 0 (stop.Illegal (s.registers 0) (word_in s.fram s.ram (s.registers 0)))
 
 -- the step of a machine with this instruction at PC, or none

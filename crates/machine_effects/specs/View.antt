@@ -1,5 +1,5 @@
 -- The board of the running program as the machine.
-use Rattle.std.specs.Prelude.{ℕ, ◌≡◌, ◌<◌, ◌⊎◌, List, All, IfSome, drop, Result, Ok, Err}
+use Rattle.std.specs.Prelude.{ℕ, ◌≡◌, ◌<◌, ◌⊎◌, List, [], All, IfSome, drop, Result, Ok, Err}
 use Rattle.fram_board.specs.msp_isa.declared.instructions.Instr.{Instr}
 use Rattle.fram_board.specs.msp_cycles.Cycles.{cycles_of}
 use Rattle.fram_board.specs.msp_step.declared.machine.Stop.{Stop}
@@ -11,23 +11,31 @@ use Rattle.fram_board.specs.Events.{EventLine}
 use Rattle.fram_board.specs.Board.{BoardValue, BoardOutcome, executed}
 use Rattle.fram_board.specs.Steps.{BoardCosts, IsBoard}
 use Rattle.fram_board.specs.Effects.{Effect, effects_of}
-use Rattle.machine_effects.specs.Inputs.{Inputs, InputsAreWords}
+use Rattle.machine_effects.specs.Inputs.{Look, Inputs, InputsAreWords}
 use Rattle.machine_effects.specs.Going.{Goes, Stops}
 use Rattle.machine_effects.specs.Machine.{MachineBoard, MachineOutcome, machine_executed, fram_of, ram_of}
 
--- what is ready for a board
-abbrev pub inputs_of : BoardValue → Inputs
-inputs_of b = record { readings = drop b.taken b.readings }
+-- what is ready for a board, with these looks
+abbrev pub inputs_with : List Look → BoardValue → Inputs
+inputs_with looks b = record { readings = drop b.taken b.readings; looks = looks }
 
--- the machine that a board is
-abbrev pub machine_of : BoardValue → MachineBoard
-machine_of b = record {
+-- without any
+abbrev pub inputs_of : BoardValue → Inputs
+inputs_of b = inputs_with [] b
+
+-- the machine that a board is, with these looks
+abbrev pub machine_with : List Look → BoardValue → MachineBoard
+machine_with looks b = record {
   registers = registers_of b.cpu;
   fram = fram_of b.fram;
   ram = ram_of b.ram;
-  inputs = inputs_of b;
+  inputs = inputs_with looks b;
   outnum = b.outnum;
 }
+
+-- the machine that a board is
+abbrev pub machine_of : BoardValue → MachineBoard
+machine_of b = machine_with [] b
 
 -- memory is whole, and there are sixteen registers, each with what it keeps
 pub record IsWhole (b : BoardValue) : Type 0 where
@@ -65,9 +73,13 @@ abbrev pub outcome_of_answer : List Effect → ℕ → Result Stepped Stop → M
 outcome_of_answer es price (Ok done) next = Goes es done.cycles next
 outcome_of_answer es price (Err e) next = Stops es price e
 
+-- a step of the board as one of the machine, with these looks behind it
+abbrev pub machine_outcome_with : List Look → BoardValue → BoardOutcome → ℕ → MachineOutcome
+machine_outcome_with looks b x price = outcome_of_answer (effects_of b x) price x.answer (machine_with looks x.board)
+
 -- a step of the board as one of the machine
 abbrev pub machine_outcome_of : BoardValue → BoardOutcome → ℕ → MachineOutcome
-machine_outcome_of b x price = outcome_of_answer (effects_of b x) price x.answer (machine_of x.board)
+machine_outcome_of b x price = machine_outcome_with [] b x price
 
 -- a bus fault
 abbrev pub IsFault : Stop → Type 0

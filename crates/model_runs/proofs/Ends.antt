@@ -33,7 +33,7 @@ module _ {St : Type 0} (m : Model St) (c : Program) (readings : List ℕ) (origi
   stopped r e stops =
       let l = stops.halts in
       let up : PowersUpBehind m c readings origin l.start =
-      powers_up m c readings origin x b bears l.at.charges (outside_of l.there) l.before l.at.charged l.start l.is_powered l.fram l.readings in
+      powers_up m c readings origin x b bears l.at.charges (outside_of l.there) l.before l.at.charged l.start l.is_powered l.fram l.inputs in
       let s = stops_short m c bears.model bears.program readings origin l.start up l.steps l.price e l.halts in
       let st = s.1.0 in
       let behind = observe m.marks (going c.step l.steps l.start).effects (behind_boot l.before) in

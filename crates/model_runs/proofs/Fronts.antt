@@ -52,9 +52,9 @@ module _ {St : Type 0} (m : Model St) (c : Program) (readings : List ℕ) (origi
   has_run es t h charged = record { world = x; start = outside_of b; begins = bears.begins; charges = es; leads = charged }
 
   abbrev pub powers_up : (es : List Charge) (t : MachineBoard) (h : History) → Charged c m.marks (outside_of b) first es t h → (q : MachineBoard)
-      → c.IsPoweredUp q → q.fram ≡ t.fram → q.inputs.readings ≡ t.inputs.readings → PowersUpBehind m c readings origin q
+      → c.IsPoweredUp q → q.fram ≡ t.fram → q.inputs ≡ t.inputs → PowersUpBehind m c readings origin q
   powers_up es t h charged q up fram left =
-      record { board = t; history = h; run = has_run es t h charged; powered = up; fram = fram; readings_left = left }
+      record { board = t; history = h; run = has_run es t h charged; powered = up; fram = fram; inputs_left = left }
 
   -- what a model says holds there
   pub lawful_front : (ms : List Moment) → IsFront b ms

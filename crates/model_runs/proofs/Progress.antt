@@ -13,7 +13,7 @@ use Rattle.crash_rules.specs.Laws.{Origin, PowersUpBehind, TaskCosts, CoversTask
 use Rattle.crash_rules.proofs.Interface.{tasks_pay, instructions_pay, progress_law}
 use Rattle.run_charges.specs.View.{outside_of}
 use Rattle.run_charges.specs.Charges.{ArePowerStates, observed}
-use Rattle.run_charges.proofs.Interface.{PlacedProgram, run_front, first_start, other_starts, is_powered, same_fram, same_readings, spent_seen}
+use Rattle.run_charges.proofs.Interface.{PlacedProgram, run_front, first_start, other_starts, is_powered, same_fram, same_inputs, spent_seen}
 use Rattle.run_charges.proofs.Interface.{spent_reached, status_behind, all_made, is_spent}
 use Rattle.model_runs.specs.Runs.{BearsModel, PaysFor, Progresses, AllSpent, SpentOne, StoppedIn}
 use Rattle.model_runs.specs.Laws.{MakesProgress}
@@ -39,7 +39,7 @@ module _ {St : Type 0} (m : Model St) (c : Program) (readings : List ℕ) (origi
     abbrev up : PowersUpBehind m c readings origin begun
     up =
         powers_up m c readings origin x b bears at.charges (outside_of t) h at.charged begun
-        (is_powered on t h at.ready d.start ok) (same_fram on t h at.ready d.start ok) (same_readings on t h at.ready d.start ok)
+        (is_powered on t h at.ready d.start ok) (same_fram on t h at.ready d.start ok) (same_inputs on t h at.ready d.start ok)
 
     spent : d.measure ≡ Cycles → Spends c.step d.amount (length ms) begun (outside_of end)
     spent e = is_spent on t h at.ready d ok ms end one e

@@ -33,7 +33,7 @@ module _ (P : ℕ → ℕ → Type 0) (a most : ℕ) (few : (w : ℕ) → P a w 
   -- wherever charges lead, a further one stores so
   abbrev StoresSo : Program → Marks → MachineBoard → History → Type 0
   StoresSo c marks s h = (es : List Charge) (t : MachineBoard) (k : History) → Charged c marks s h es t k → (p : MachineBoard) → c.IsPoweredUp p
-      → p.fram ≡ t.fram → p.inputs.readings ≡ t.inputs.readings → (n : ℕ) → EachStore P (going c.step n p).effects
+      → p.fram ≡ t.fram → p.inputs ≡ t.inputs → (n : ℕ) → EachStore P (going c.step n p).effects
 
   module _ (c : Program) (changes : (s : MachineBoard) → ChangesByEffects s (c.step s)) (marks : Marks) where
     charges_within : (es : List Charge) (s t : MachineBoard) (h k : History) → StoresSo c marks s h → Charged c marks s h es t k → s.fram a ≤ most

@@ -11,7 +11,7 @@ pub use Rattle.run_charges.proofs.Charges.{run_front}
 -- A board on which a program runs that stands in FRAM.
 pub use Rattle.run_charges.proofs.Running.{PlacedProgram, Running, charge_moments, Reaches, instructions_reach}
 -- Charges of such a program, and the boards to which they lead.
-pub use Rattle.run_charges.proofs.Programs.{observed-append, Ready, ready_on, begun, is_powered, same_fram, same_readings, running}
+pub use Rattle.run_charges.proofs.Programs.{observed-append, Ready, ready_on, begun, is_powered, same_fram, same_inputs, running}
 pub use Rattle.run_charges.proofs.Programs.{leads, charged_once, Reached, reached_on, front_reached}
 -- A charge that is spent, the one in which a run stops, and whole runs.
 pub use Rattle.run_charges.proofs.Spent.{spent_moments, spent_seen, spent_reached, status_behind, all_made, is_spent}

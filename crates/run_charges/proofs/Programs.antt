@@ -100,7 +100,7 @@ module _ (on : PlacedProgram) where
     abbrev pub begun : MachineBoard
     begun = outside_of (powered b start)
 
-    -- it begins with a power-up, which keeps FRAM and the readings
+    -- it begins with a power-up, which keeps FRAM and the inputs
     pub is_powered : on.program.IsPoweredUp begun
     is_powered =
         let P : MachineBoard → Type 0 = λ s. on.program.IsPoweredUp s in
@@ -110,11 +110,11 @@ module _ (on : PlacedProgram) where
     pub same_fram : begun.fram ≡ (outside_of b).fram
     same_fram = refl
 
-    pub same_readings : begun.inputs.readings ≡ (outside_of b).inputs.readings
-    same_readings = refl
+    pub same_inputs : begun.inputs ≡ (outside_of b).inputs
+    same_inputs = refl
 
     pub leaves_code : (n : ℕ) → LeavesProgram on.place (length code_words) (going step n begun)
-    leaves_code n = ready.leaves [] (outside_of b) h (refl, refl) begun is_powered same_fram same_readings n
+    leaves_code n = ready.leaves [] (outside_of b) h (refl, refl) begun is_powered same_fram same_inputs n
 
     -- and the program runs on it
     pub running : Running on (powered b start)
@@ -160,12 +160,12 @@ module _ (on : PlacedProgram) where
             leaves = λ charges t k run.
                 let Q : History → Type 0 = λ j. Charged on.program marks (outside_of end) j charges t k in
                 ready.leaves (record { powered = begun; steps = steps } ∷ charges) t k
-                (is_powered, same_fram, same_readings, (outside_of end, leads, subst Q (sym seen) run));
+                (is_powered, same_fram, same_inputs, (outside_of end, leads, subst Q (sym seen) run));
           }
 
       -- it is one charge of the program
       pub charged_once : Charged on.program marks (outside_of b) h (record { powered = begun; steps = steps } ∷ []) (outside_of end) behind
-      charged_once = (is_powered, same_fram, same_readings, (outside_of end, leads, (refl, sym seen)))
+      charged_once = (is_powered, same_fram, same_inputs, (outside_of end, leads, (refl, sym seen)))
 
   -- charges of a board that is ready, and the board behind them
   record LeadsOn (b : BoardValue) (h : History) (fs : List ChargeFront) : Type 0 where
@@ -191,7 +191,7 @@ module _ (on : PlacedProgram) where
         charged = (
           is_powered f.before h here f.start c.start,
           same_fram f.before h here f.start c.start ∙ ap (λ s. s.fram) keeps.outside,
-          same_readings f.before h here f.start c.start ∙ ap (λ s. s.inputs.readings) keeps.outside,
+          same_inputs f.before h here f.start c.start ∙ ap (λ s. s.inputs) keeps.outside,
           (
             outside_of end,
             leads f.before h here f.start c.start ms c.instructions c.moments,

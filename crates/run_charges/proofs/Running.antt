@@ -93,7 +93,7 @@ module _ (on : PlacedProgram) where
     -- what the machine does there the program does
     pub program_steps : (o : MachineOutcome) → IsMachineStep (outside_of b) o → o ≡ step (outside_of b)
     program_steps o is =
-        code_in_fram_steps on.place on.instructions (outside_of b) o on.is.instructions on.is.even on.is.low on.is.high is run.holds
+        code_in_fram_steps on.place on.instructions (outside_of b) o on.is.instructions on.is.even on.is.low on.is.high refl is run.holds
         (no_hole (outside_of b) (run.leaves 1))
         ∙ ap (λ f. f (outside_of b)) (sym on.is.steps)
 

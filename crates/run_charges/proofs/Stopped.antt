@@ -22,7 +22,7 @@ use Rattle.run_charges.specs.View.{outside_of}
 use Rattle.run_charges.specs.Charges.{ArePowerStates, observed}
 use Rattle.run_charges.proofs.Moments.{first_start, other_starts, charge_instructs, told}
 use Rattle.run_charges.proofs.Running.{PlacedProgram, Running, none_accepted, program_steps, made, own, goes, runs_on}
-use Rattle.run_charges.proofs.Programs.{observed-append, instructions_observed, begun, is_powered, same_fram, same_readings, running, Reached}
+use Rattle.run_charges.proofs.Programs.{observed-append, instructions_observed, begun, is_powered, same_fram, same_inputs, running, Reached}
 use Rattle.run_charges.proofs.Spent.{spent_reached}
 
 takes_elsewhere : (gate : ℕ) (ws : List ℕ) → EachStore (IsElsewhere gate) (map (λ w. Take w) ws)
@@ -102,7 +102,7 @@ module _ (on : PlacedProgram) where
     pub start : MachineBoard
     pub is_powered : on.program.IsPoweredUp start
     pub fram : start.fram ≡ (outside_of there).fram
-    pub readings : start.inputs.readings ≡ (outside_of there).inputs.readings
+    pub inputs : start.inputs ≡ (outside_of there).inputs
     pub steps : ℕ
     pub price : ℕ
     pub halts : (going step steps start).status ≡ Halted price e
@@ -145,7 +145,7 @@ module _ (on : PlacedProgram) where
         start = start;
         is_powered = is_powered on t h at.ready d.start ok;
         fram = same_fram on t h at.ready d.start ok;
-        readings = same_readings on t h at.ready d.start ok;
+        inputs = same_inputs on t h at.ready d.start ok;
         steps = steps;
         price = halted.price;
         halts = sym (ap (λ q. q.status) halted.run);

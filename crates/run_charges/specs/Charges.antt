@@ -104,5 +104,5 @@ pub record LeavesProgram (p n : ℕ) (r : MachineStretch) : Type 0 where
 -- wherever charges of a program lead, the steps of a further one are such
 abbrev pub AlwaysLeaves : Program → ℕ → ℕ → Marks → MachineBoard → History → Type 0
 AlwaysLeaves c p n marks s h = (charges : List Charge) (t : MachineBoard) (k : History) → Charged c marks s h charges t k
-    → (q : MachineBoard) → c.IsPoweredUp q → q.fram ≡ t.fram → q.inputs.readings ≡ t.inputs.readings
+    → (q : MachineBoard) → c.IsPoweredUp q → q.fram ≡ t.fram → q.inputs ≡ t.inputs
     → (m : ℕ) → LeavesProgram p n (going c.step m q)

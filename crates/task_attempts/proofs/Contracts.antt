@@ -87,14 +87,14 @@ module _ (run : Started) where
     exact =
         let r = readings_left_over_lem p s.task s.shared inputs.readings completion h.source in
         let used : r.0 ≡ readings_taken front = append_cancel_right r.0 (readings_taken front) m.left (sym r.1 ∙ sym reads) in
-        ap (λ taken. whole_task p s (record { readings = taken })) (sym used ∙ sym (append-nil r.0)) ∙ ap (outcome_of s) (r.2 [])
+        ap (λ taken. whole_task p s (record { readings = taken; looks = [] })) (sym used ∙ sym (append-nil r.0)) ∙ ap (outcome_of [] s) (r.2 [])
 
-    decides : Decides model s (next run t) (record { readings = m.left }) inputs x (program_effects es true)
+    decides : Decides model s (next run t) (record { readings = m.left; looks = inputs.looks }) inputs x (program_effects es true)
     decides = record {
       before = front;
       is = ap (λ e. program_effects e true) (effects_are run t);
       elsewhere = off_gate front (safe_before run t);
-      reads = record { readings = reads };
+      reads = record { readings = reads; seen = []; looks = refl };
       undecided = quiet_through sites view s ver front x (quiet_before run t) (quiet_start run);
       decided = decided run t;
       exact = exact;
@@ -118,7 +118,7 @@ module _ (run : Started) where
 
   -- ---- each end
 
-  keeps : (es : List Effect) (e : End) (o : Outcome) → Meets es e o → AttemptContract model s inputs x (outcome_of s (completion_of o))
+  keeps : (es : List Effect) (e : End) (o : Outcome) → Meets es e o → AttemptContract model s inputs x (outcome_of inputs.looks s (completion_of o))
       (program_effects es (has_jumped e))
   keeps es (GoesOn t) o h = absurd h.sound
   keeps es Broken o h = absurd h.sound
@@ -182,7 +182,8 @@ module _ (run : Started) where
       let k = keeps b.effects b.end (run_block code attempt) (meets agree small) in
       subst (λ q. AttemptContract model s inputs x (whole_task p s inputs) (effects_of (behaviour q (started x.fram inputs))))
       (sym (program_is p l given s.task i))
-      (subst (λ c. AttemptContract model s inputs x (outcome_of s (completion_of (run_block c attempt))) (effects_of b)) (sym (body_is p l given s.task i)) k)
+      (subst (λ c. AttemptContract model s inputs x (outcome_of inputs.looks s (completion_of (run_block c attempt))) (effects_of b))
+      (sym (body_is p l given s.task i)) k)
 
   pub program_stores : BlocksAgree → InputsAreWords inputs → EachStore (IsBelowCode l) ((program_parts p l).body s.task x.fram inputs).effects
   program_stores agree small =

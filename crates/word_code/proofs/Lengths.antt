@@ -7,6 +7,7 @@ use Rattle.word_code.proofs.Names.{SetStack, instruction_of, forms_bytes, instru
 use Rattle.word_code.proofs.Names.{Multiply, Divide, Remainder, Plain, PlainOperation, And, Left, Right, Comparison, Above, SignedAbove, ArrayPlace, ListPlace}
 use Rattle.word_code.proofs.Names.{Step, Test, Program, number, load, keep, update, local, set_local, update_local, unary, binary, shift, long, element}
 use Rattle.word_code.proofs.Names.{emit_word, list_entry, versioned_read, versioned_write, versioned_update, sense, truth, choose, repeat, store_number}
+use Rattle.word_code.proofs.Names.{next_event, freeze_events, event_code, freeze_code}
 use Rattle.word_code.proofs.Names.{move_word, jump, holds, compares, both, either, fails, nothing, step, unary_words, binary_words, right_words, step_words}
 use Rattle.word_code.proofs.Names.{test_words, words_of, Bound, Waiting, local_register, local_address, flushed, top_of, source_from, below_top, kept, stays}
 use Rattle.word_code.proofs.Names.{right_source, top_power, two_code, power_code, power_result, two_to_registers, unary_middle, binary_middle, binary_result}
@@ -320,6 +321,8 @@ module _ {k : ℕ} where
     step_takes bs (versioned_update o place list) os l =
         in_place_takes (known_index os place.length) (is_inside bs (top_of (below_top os)) place.length) o place list os
     step_takes bs sense os l = joined (cleared_takes os) (made_of (forms.Sense R4 ∷ []) 4 (tt, tt) (omega arith)) (omega arith)
+    step_takes bs next_event os l = so_takes (behind_flushed os (made_of event_code 38 (search arith) (omega arith))) (omega arith)
+    step_takes bs freeze_events os l = behind_flushed os (made_of freeze_code 12 (search arith) (omega arith))
     step_takes bs (truth t) os l =
         let push = made_of truth_code 6 (search arith) (omega arith) in
         so_takes (behind_flushed os (behind (test_fits bs t false 2 l) push)) (omega arith)

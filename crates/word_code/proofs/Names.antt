@@ -46,7 +46,8 @@ pub use Rattle.array_versions.specs.Behaviour.{WordState, is_place, stored, word
 pub use Rattle.array_versions.specs.Behaviour.{behind_effects, on_end, strays, raised, ends_before, listed_behind, first_stored, with_stack, assigned}
 pub use Rattle.array_versions.specs.Behaviour.{step_behaviour, behaviour, with_local, turns, pushed, behaves, goes_on, broken, word_stored, jumped, with_top}
 pub use Rattle.array_versions.specs.Behaviour.{with_two, at_place, element_pushed, own_element, versioned_pushed, versioned_stored, with_readings}
-pub use Rattle.array_versions.specs.Behaviour.{reading_pushed, own_stored}
+pub use Rattle.array_versions.specs.Behaviour.{reading_pushed, own_stored, event_index, none_answered, word_answered, event_pushed}
+pub use Rattle.array_versions.specs.Behaviour.{events_frozen, with_looks}
 pub use Rattle.array_versions.specs.Behaviour.{own_place, own_kept, own_updated, versioned_updated, started, local_pushed, local_updated, number_pushed}
 pub use Rattle.array_versions.specs.Behaviour.{way_by_top, way_by_two, then_on, tested}
 pub use Rattle.array_versions.specs.Cost.{spent_on, unary_words, binary_words, right_words, shift_words, step_words, test_words, words_of, turns_spent}
@@ -56,7 +57,8 @@ pub use Rattle.array_versions.specs.Form.{EachStepWay, EachTestWay, EachWay, Tes
 pub use Rattle.array_versions.specs.Form.{OfWords, step_locals, test_locals, locals_of}
 pub use Rattle.array_versions.specs.Operations.{is_true, compare_words, unary_word, plain_word, binary_word, shift_word, shifted_word}
 pub use Rattle.array_versions.specs.Program.{Step, Test, Program, number, load, keep, update, local, set_local, update_local, unary, binary, shift, long}
-pub use Rattle.array_versions.specs.Program.{element, emit_word, list_entry, versioned_read, versioned_write, versioned_update, sense, truth, choose, repeat}
+pub use Rattle.array_versions.specs.Program.{element, emit_word, list_entry, versioned_read, versioned_write, versioned_update, sense, next_event}
+pub use Rattle.array_versions.specs.Program.{freeze_events, truth, choose, repeat}
 pub use Rattle.array_versions.specs.Program.{store_number, move_word, jump, holds, compares, both, either, fails, nothing, step}
 pub use Rattle.array_versions.specs.declared.operations.BinaryOperation.{BinaryOperation}
 pub use Rattle.array_versions.specs.declared.operations.BinaryOperation.TheVariants.{Multiply, Divide, Remainder, Plain}
@@ -73,7 +75,7 @@ pub use Rattle.array_versions.specs.declared.program.ListPlace.{ListPlace}
 -- this room's own definitions
 pub use Rattle.word_code.specs.Code.{number_source, check_code, zero_code, fetch_code, element_code, emit_code, pair_code, entry_code, compare_form, holding}
 pub use Rattle.word_code.specs.Code.{failing, jump_over, decision, waiting_source, flushed, top_of, below_top, any_held, repeated, size, waiting_behind}
-pub use Rattle.word_code.specs.Code.{stack_base, stack_set, stack_cycles, code_spent}
+pub use Rattle.word_code.specs.Code.{stack_base, stack_set, stack_cycles, code_spent, event_code, freeze_code}
 pub use Rattle.word_code.specs.Code.{step_code, steps_code, local_address, local_target, source_from, cleared, kept, four_from, top_number, element_at, stays}
 pub use Rattle.word_code.specs.Code.{sides, right_source, top_power, two_code, power_code, five_from, top_to_four, top_to_five, two_to_registers, unary_middle}
 pub use Rattle.word_code.specs.Code.{binary_middle, plain_instruction, update_code, double, halve, right_code, shift_by, last_bit, shift_code, shift_middle}

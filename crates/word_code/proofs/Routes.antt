@@ -3,7 +3,7 @@
 use Rattle.word_code.proofs.Names.{◌≡◌, ℕ, zero, suc, ◌+◌, ◌-◌, ◌%◌, ◌<◌, ◌==◌, List, [], ◌∷◌, drop, refl, sym, ap, ap₂, ◌∙◌, subst, arith, Bool, true, false}
 use Rattle.word_code.proofs.Names.{if◌then◌else◌, eqb-true, Effect, stretch, after_effects, At, Halted, put, Condition, sum16, distance, is_met, Core, Form, Jump}
 use Rattle.word_code.proofs.Names.{form_bytes, Stands, forms_bytes, forms_run, AreStraight, FormsNeed, Runs, stands_at, first_forms, forms_at, forms_behind, forms_bytes-append, end_of}
-use Rattle.word_code.proofs.Names.{WordState}
+use Rattle.word_code.proofs.Names.{WordState, Inputs}
 use Rattle.std.proofs.Common.{take, take-add}
 use Rattle.code_forms.specs.Forms.{CoreStretch}
 use Rattle.array_versions.specs.machine_effects.Going.{Status}
@@ -180,20 +180,27 @@ module _ (z : Setting) where
     abbrev begun : Core
     begun = named (p + place all j) a b c d w t
 
+    -- through code that writes R4 to R7 and words of FRAM, and takes some of the inputs
+    pub look_route : (ls : List Leg) (es : List Effect) (f : ℕ → ℕ) (n : Inputs) (c : ℕ) (Q : Core → Type 0) → RouteNeeds all p ls j begun
+        → (let r = routed all p ls j begun in let v = end_of begun r.status in r ≡ stretch r.effects c (At v)
+        → kept_by (record v { fram = w.fram; inputs = w.inputs }) ≡ kept_by begun → r.effects ≡ es → v.fram ≡ f → v.inputs ≡ n
+        → (StandsFor z (p + place all (ending all ls j)) (record w { fram = f; inputs = n }) v → Q v) → Runs z.code es c t Q)
+    look_route ls es f n c Q needs made kept effects fram inputs q =
+        let r = routed all p ls j begun in
+        let v = end_of begun r.status in
+        let memory = subst (λ x. Memory z x.sp x.ram x.locals w.stack w.locals) (sym kept) s.memory in
+        let cycles : r.cycles ≡ c = ap (λ x. x.cycles) made in
+        subst (λ x. Runs z.code es c x Q) (sym (is_named s words)) (subst (λ l. Runs z.code l c begun Q) effects (dearer z (omega (arith, cycles))
+        (so_runs (leads z p all h ls j begun v refl needs (ap (λ x. x.status) made)) (λ x k.
+        subst Q (sym k.0) (q (record { at = k.1; memory = memory; fram = fram; inputs = inputs }))))))
+
     -- through code that writes R4 to R7 and words of FRAM
     pub store_route : (ls : List Leg) (es : List Effect) (f : ℕ → ℕ) (c : ℕ) (Q : Core → Type 0) → RouteNeeds all p ls j begun
         → (let r = routed all p ls j begun in let v = end_of begun r.status in r ≡ stretch r.effects c (At v)
         → kept_by (record v { fram = w.fram }) ≡ kept_by begun → r.effects ≡ es → v.fram ≡ f
         → (StandsFor z (p + place all (ending all ls j)) (record w { fram = f }) v → Q v) → Runs z.code es c t Q)
     store_route ls es f c Q needs made kept effects fram q =
-        let r = routed all p ls j begun in
-        let v = end_of begun r.status in
-        let memory = subst (λ x. Memory z x.sp x.ram x.locals w.stack w.locals) (sym kept) s.memory in
-        let inputs : v.inputs ≡ w.inputs = ap (λ x. x.inputs) kept in
-        let cycles : r.cycles ≡ c = ap (λ x. x.cycles) made in
-        subst (λ x. Runs z.code es c x Q) (sym (is_named s words)) (subst (λ l. Runs z.code l c begun Q) effects (dearer z (omega (arith, cycles))
-        (so_runs (leads z p all h ls j begun v refl needs (ap (λ x. x.status) made)) (λ x k.
-        subst Q (sym k.0) (q (record { at = k.1; memory = memory; fram = fram; inputs = inputs }))))))
+        look_route ls es f w.inputs c Q needs made (λ i. record (kept i) { inputs = w.inputs }) effects fram (ap (λ x. x.inputs) kept) q
 
     -- through code that writes R4 to R7 alone
     pub route : (ls : List Leg) (c : ℕ) (Q : Core → Type 0) → RouteNeeds all p ls j begun

@@ -4,7 +4,7 @@ use Rattle.word_code.proofs.Names.{nat_lt, if◌then◌else◌, List, [], ◌∷
 use Rattle.word_code.proofs.Names.{Effect, Core, Form, form_bytes, Move, Branch, Fram, ToFram, Stands, forms_bytes, stands_front, stands_back, forms_behind}
 use Rattle.word_code.proofs.Names.{forms_bytes-append, Comparison, is_true, compare_words, Step, Test, Program, number, load, keep, update, local, set_local}
 use Rattle.word_code.proofs.Names.{update_local, unary, binary, shift, long, element, emit_word, list_entry, versioned_read, versioned_write, versioned_update}
-use Rattle.word_code.proofs.Names.{sense, truth, choose, repeat, store_number, move_word, jump, holds, compares, both, either, fails, nothing, step, WordState}
+use Rattle.word_code.proofs.Names.{next_event, freeze_events, sense, truth, choose, repeat, store_number, move_word, jump, holds, compares, both, either, fails, nothing, step, WordState}
 use Rattle.word_code.proofs.Names.{started, End, GoesOn, Jumps, Short, Strays, Broken, Behaviour, with_stack, with_local, with_top, with_two, is_place}
 use Rattle.word_code.proofs.Names.{local_pushed, local_updated, number_pushed, way_by_top, way_by_two, step_behaviour, then_on, tested, behaviour, Place, start}
 use Rattle.word_code.proofs.Names.{assigning, Moves, EachTurn, EachStepWay, EachTestWay, EachWay, StepLocalsBelow, TestLocalsBelow, StepSpares, TestSpares}
@@ -36,6 +36,7 @@ use Rattle.word_code.proofs.Loops.{loop_by}
 use Rattle.word_code.proofs.Access.{entry_part}
 use Rattle.word_code.proofs.LoopBounds.{Bounded, Spared, spared_so, bounded_with, bounded_on, step_bounded}
 use Rattle.word_code.proofs.VersionUpdates.{in_place_reaches}
+use Rattle.word_code.proofs.Events.{look_small, event_part, freeze_part}
 use Rattle.word_code.proofs.LongResults.{long_reaches}
 
 -- a state from which what follows is fit, which holds words, and in which the local of each loop around is below its number
@@ -301,6 +302,9 @@ module _ (z : Setting) where
     step_follows bs (versioned_update op place list) next os pc w u r known h d =
         in_place_reaches z op place list known.of_words.0.3 bs os pc w w.stack u r.words_in.fram r.bounded refl r.words_in.stack h d
     step_follows bs sense next os pc w u r known h d = sense_part z os pc w w.inputs.readings u (omega (arith, r.fit.1, r.matches.depth)) refl h d
+    step_follows bs next_event next os pc w u r known h d =
+        event_part z os pc w u (omega (arith, r.fit.1, r.matches.depth)) (look_small w.inputs.looks r.words_in.inputs.looks) h d
+    step_follows bs freeze_events next os pc w u r known h d = freeze_part z os pc w u h d
     step_follows bs (truth t) next os pc w u r known h d =
         let a = test_code bs t false 2 in
         let at = pc + forms_bytes (flushed os) in

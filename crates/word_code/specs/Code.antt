@@ -14,9 +14,10 @@ use Rattle.array_versions.specs.msp_step.msp_isa.declared.instructions.Condition
 use Rattle.array_versions.specs.msp_step.msp_isa.declared.instructions.Condition.TheVariants as condition
 use Rattle.code_forms.specs.instruction_forms.declared.kinds.Modification.TheVariants as change
 use Rattle.array_versions.specs.msp_step.msp_isa.alp_words.Words.{word_sum}
+use Rattle.array_versions.specs.machine_effects.event_places.Places.{tail_place, count_place, sent_place, answer_place, ring_slots}
 use Rattle.code_forms.specs.Forms as forms
 use Rattle.code_forms.specs.Forms.{WorkRegister, R4, R5, R6, R7, R8, R9, R10, R11, R12, R13, R14, R15, Register, Number, Constant, Fram, Ram, Indexed, Popped}
-use Rattle.code_forms.specs.Forms.{Source, ToRegister, ToFram, ToRam, ToIndexed, Target, Form, Move, Calculate, Update, Push, Modify, SetStack, Jump, Skip, Branch}
+use Rattle.code_forms.specs.Forms.{Head, Slot, Source, ToRegister, ToFram, ToRam, ToIndexed, Target, Form, Move, Calculate, Update, Push, Modify, SetStack, Jump, Skip, Branch}
 use Rattle.code_forms.specs.Code.{over, back_by, back_over}
 pub use Rattle.code_forms.specs.Code.{size}
 use Rattle.word_code.specs.declared.bounds.Bound.{Bound}
@@ -37,8 +38,8 @@ use Rattle.array_versions.specs.declared.program.ListPlace.{ListPlace}
 use Rattle.array_versions.specs.declared.operations.LongOperation.{LongOperation}
 use Rattle.array_versions.specs.declared.operations.LongOperation.TheVariants as with_longs
 use Rattle.array_versions.specs.Program.{Step, Test, Program, number, load, keep, update, local, set_local, update_local, unary, binary, shift, long, element}
-use Rattle.array_versions.specs.Program.{emit_word, list_entry, versioned_read, versioned_write, versioned_update, sense, truth, choose, repeat, store_number}
-use Rattle.array_versions.specs.Program.{move_word, jump, holds, compares, both, either, fails, nothing, step}
+use Rattle.array_versions.specs.Program.{emit_word, list_entry, versioned_read, versioned_write, versioned_update, sense, next_event}
+use Rattle.array_versions.specs.Program.{freeze_events, truth, choose, repeat, store_number, move_word, jump, holds, compares, both, either, fails, nothing, step}
 use Rattle.array_versions.specs.Form.{locals_of}
 pub use Rattle.array_versions.specs.Form.{stack_base}
 use Rattle.array_versions.specs.Behaviour.{WordState}
@@ -889,6 +890,37 @@ long_behind with_longs.Join os = os
 long_behind with_longs.LowWord os = below_top os
 long_behind with_longs.HighWord os = high_behind os
 
+-- ---- the ring
+
+-- R4 becomes the index of its next word for the attempt: TAIL, and how many words that has taken
+abbrev pub index_code : List Form
+index_code = Move (Fram tail_place) (ToRegister R4) ∷ Calculate op.Add (Fram count_place) R4 ∷ []
+
+-- R5 becomes the offset of the slot of the index in R4
+abbrev pub offset_code : List Form
+offset_code =
+    Move (Register R4) (ToRegister R5) ∷ Calculate op.And (Number (ring_slots - 1)) R5 ∷ Calculate op.Add (Register R5) R5 ∷ []
+
+-- the index is compared with HEAD; R4 becomes the word of the slot, or 0 where they are equal. MOV leaves the flags
+abbrev pub look_code : List Form
+look_code = Calculate op.Cmp Head R4 ∷ Move (Slot R5) (ToRegister R4) ∷ over condition.NotEqual zeroed ∷ zeroed
+
+-- the attempt has taken one word more
+abbrev pub taken_code : List Form
+taken_code = Update op.Add (Constant konst.One) count_place ∷ []
+
+-- R4 is stored as the answer; where the index isn't HEAD, it is a word that the attempt has taken
+abbrev pub answer_code : List Form
+answer_code = Move (Register R4) (ToFram answer_place) ∷ over condition.Equal taken_code ∷ taken_code
+
+-- the answer, in R4
+abbrev pub event_code : List Form
+event_code = index_code ++ (offset_code ++ (look_code ++ answer_code))
+
+-- the index of the next word is stored as TAIL that the transition leaves
+abbrev pub freeze_code : List Form
+freeze_code = index_code ++ Move (Register R4) (ToFram sent_place) ∷ []
+
 -- a local is pushed where it stands in RAM
 abbrev pub local_code : List Waiting → ℕ → List Form
 local_code os n = if nat_lt n 8 then [] else (flushed os ++ Push (Ram (local_address n)) ∷ [])
@@ -906,6 +938,7 @@ waiting_behind os (long operation) = long_behind operation os
 waiting_behind os (element base length) = element_behind (top_number (top_of os)) os base length
 waiting_behind os (versioned_read place list) = waiting.R4 ∷ kept (below_top os)
 waiting_behind os sense = waiting.R4 ∷ kept os
+waiting_behind os next_event = waiting.R4 ∷ []
 waiting_behind os _ = []
 
 -- what waits behind a program
@@ -938,6 +971,8 @@ abbrev mutual
   step_code bs os (versioned_update o place list) =
       update_at (known_index os place.length) (is_inside bs (top_of (below_top os)) place.length) os o place list
   step_code bs os sense = cleared os ++ forms.Sense R4 ∷ []
+  step_code bs os next_event = flushed os ++ event_code
+  step_code bs os freeze_events = flushed os ++ freeze_code
   step_code bs os (truth t) = flushed os ++ (test_code bs t false (size one_pushed) ++ truth_code)
   step_code bs os (choose t taken otherwise) =
       let other = steps_code bs [] otherwise ++ flushed (waiting_after [] otherwise) in
