@@ -18,7 +18,7 @@ use Rattle.runtime_code.specs.runtime_effects.Needs.{AreInFram, CanCommit, IsCop
 use Rattle.runtime_code.proofs.runtime_effects.Interface.{run_length, entries_alike, where_leaves}
 use Rattle.runtime_code.specs.Comes.{Comes, IsAt}
 use Rattle.runtime_code.specs.Counted.{if_any}
-use Rattle.runtime_code.proofs.Interface.{behind, core_at, from_there, then_on, so_ends, recounted, nothing, comes_on, form_comes, straight, jumps}
+use Rattle.runtime_code.proofs.Interface.{behind, core_at, from_there, ends, then_on, so_ends, recounted, nothing, comes_on, form_comes, straight, jumps}
 use Rattle.runtime_code.proofs.Interface.{if_any_grows, Loop, Turning, Point, Turn, Makes, loop_ends, in_front, turn_there, loops}
 use Rattle.runtime_code.proofs.Interface.{IsLeft, all_left, left_from, first_left, BehindSends, sends_are_made}
 use Rattle.runtime_code.proofs.Interface.{tail_is_place, sent_is_place, behind_where, where_comes}

@@ -1,5 +1,5 @@
 -- The length of the commit's code.
-use Rattle.std.proofs.Common.{List, [], ◌∷◌, ◌++◌, arith, ◌∙◌}
+use Rattle.std.proofs.Common.{ℕ, List, [], ◌∷◌, ◌++◌, arith, ◌∙◌}
 use Rattle.runtime_code.specs.code_forms.Forms.{Form, Branch}
 use Rattle.runtime_code.specs.code_forms.Code.{forms_bytes}
 use Rattle.runtime_code.specs.code_forms.Placed.{instructions, AreInstructions}

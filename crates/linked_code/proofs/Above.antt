@@ -50,7 +50,7 @@ dispatch_keeps m = search arith
 fixed_keep : (m : MemoryMap) (commit : ℕ) → Keep (fixed_forms m commit)
 fixed_keep m commit =
     each-append (NamesRamFrom stack_top) (opened m commit) (events_counted m ++ dispatch m) (opened_keeps m commit)
-    (each-append (NamesRamFrom stack_top) (events_counted m) (dispatch m) (where_keeps m.runtime.events event_count_set (tt, tt)) (dispatch_keeps m))
+    (each-append (NamesRamFrom stack_top) (events_counted m) (dispatch m) (where_keeps m.runtime.events event_count_set ((tt, tt), tt)) (dispatch_keeps m))
 
 boot_keeps : (m : MemoryMap) (commit : ℕ) (ts : List TaskEntry) (at : ℕ) → Keep (boot_forms m commit ts at)
 boot_keeps m commit ts at =
@@ -72,7 +72,7 @@ commit_keeps : (m : MemoryMap) (start : ℕ) → Keep (commit_forms m start)
 commit_keeps m start =
     let last = closing m ++ (Branch start ∷ []) in
     each-append (NamesRamFrom stack_top) (sent m) (events_taken m ++ last) (sent_keeps m)
-    (each-append (NamesRamFrom stack_top) (events_taken m) last (where_keeps m.runtime.events tail_set (tt, tt)) (closing_keeps m start))
+    (each-append (NamesRamFrom stack_top) (events_taken m) last (where_keeps m.runtime.events tail_set ((tt, tt), tt)) (closing_keeps m start))
 
 pub linked_keeps_above : LinkedKeepsAbove
 linked_keeps_above l programs = record {
