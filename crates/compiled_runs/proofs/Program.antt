@@ -1,9 +1,10 @@
 -- The code makes each attempt and each commit within the task's bound.
 use Rattle.msp_step.specs.declared.machine.Stop.TheVariants as stop
 use Rattle.std.proofs.Common.{◌≡◌, ◌<◌, ◌≤◌, ◌+◌, ℕ, Bool, true, List, [], ◌∷◌, ◌++◌, length, refl, sym, ap, ◌∙◌, subst, arith, append-nil}
+use Rattle.std.proofs.lemmas.List.Elements.{All-nil}
 use Rattle.fram_board.specs.Effects.{Effect, Store}
 use Rattle.machine_effects.specs.World.{World, put, fram_after, world_after, world_after_one}
-use Rattle.machine_effects.specs.Inputs.{Inputs, InputsAreWords}
+use Rattle.machine_effects.specs.Inputs.{Inputs, InputsAreWords, no_inputs}
 use Rattle.machine_effects.specs.Going.{Stalls}
 use Rattle.machine_effects.specs.Machine.{Code, MachineBoard, exec}
 use Rattle.machine_effects.proofs.Interface.{join, join_stall, code_changes_by_effects, fram_after-append}
@@ -132,39 +133,65 @@ module _ (source : Source) where
         base = d.decided.sends.words (word_place l SentBase);
       }
 
-  -- a pending commit, from a boot on: the list and the words to send have room, and the bound has the cycles for all that has
+  -- what a commit takes behind a boot, at most
+  abbrev CommitWithin : (ℕ → ℕ) → ℕ → Type 0
+  CommitWithin f most = 9 + commit_cycles l.runtime.events (f (word_place l ListLength)) (length (listed l f)) (f (word_place l EmitCount)) ≤ most
+
+  -- a pending commit, from a boot on
   commit_from_boot : (to : State) (accepted : List ℕ) (u : Core) → u.pc ≡ l.boot.address
-      → (d : m.Committing to (record { fram = u.fram; accepted = accepted }))
-      → Makes c m.delay (bound m) (program_effects (m.commit u.fram u.inputs) true) (board_of u)
-  commit_from_boot to accepted u e d =
+      → (d : m.Committing to (record { fram = u.fram; accepted = accepted })) → (most : ℕ) → CommitWithin u.fram most
+      → Makes c m.delay most (program_effects (m.commit u.fram u.inputs) true) (board_of u)
+  commit_from_boot to accepted u e d most within =
       let x : World = record { fram = u.fram; accepted = accepted } in
       let q = d.pending in
       let a = to_commit l (lowered l p) r.fits are_whole u e q.gate (pending_can_commit (program_places p l) x r.apart q)
       (q.words (word_place l SentBase)) in
       let n = u.fram (word_place l ListLength) in let ws = length (listed l u.fram) in let k = u.fram (word_place l EmitCount) in
-      let list = q.list_length in let words = q.list_words in let emits = q.emit_count in
-      let most = r.costs.commits to.task d.rests.is_open.is_task in
-      let dearest = commit_grows l.runtime.events n l.entries ws l.entries k l.emits.words list words emits in
       record {
         steps = 3 + commit_steps l.runtime.events n ws k;
         cycles = 9 + commit_cycles l.runtime.events n ws k;
         ends = λ t. record {
           end = board_of a.end;
-          within = omega (arith, dearest, most);
+          within = omega (arith, within);
           leads = a.leads;
           at_start = record { core = a.end; is = refl; pc = a.holds.pc };
         };
         lacks = λ t. absurd (cc (t));
       }
 
-  makes_commit : (to : State) (x : World) (b : MachineBoard) → IsBooting l b → b.fram ≡ x.fram → m.Committing to x
-      → Makes c m.delay (bound m) (program_effects (m.commit b.fram b.inputs) true) b
-  makes_commit to x b k e d =
+  commit_within : (to : State) (x : World) (b : MachineBoard) → IsBooting l b → b.fram ≡ x.fram → m.Committing to x → (most : ℕ)
+      → CommitWithin x.fram most → Makes c m.delay most (program_effects (m.commit b.fram b.inputs) true) b
+  commit_within to x b k e d most within =
       let u = k.core in
       let f : x.fram ≡ u.fram = sym e ∙ ap (λ q. q.fram) k.is in
       let d' : m.Committing to (record { fram = u.fram; accepted = x.accepted }) =
       subst (λ g. m.Committing to (record { fram = g; accepted = x.accepted })) f d in
-      subst (λ q. Makes c m.delay (bound m) (program_effects (m.commit q.fram q.inputs) true) q) (sym k.is) (commit_from_boot to x.accepted u k.pc d')
+      subst (λ q. Makes c m.delay most (program_effects (m.commit q.fram q.inputs) true) q) (sym k.is)
+      (commit_from_boot to x.accepted u k.pc d' most (subst (λ g. CommitWithin g most) f within))
+
+  -- any commit: the list and the words to send have room, and the bound has the cycles for all that has
+  makes_commit : (to : State) (x : World) (b : MachineBoard) → IsBooting l b → b.fram ≡ x.fram → m.Committing to x
+      → Makes c m.delay (bound m) (program_effects (m.commit b.fram b.inputs) true) b
+  makes_commit to x b k e d =
+      let q = d.pending in
+      let list = q.list_length in let words = q.list_words in let emits = q.emit_count in
+      let most = r.costs.commits to.task d.rests.is_open.is_task in
+      let n = x.fram (word_place l ListLength) in let ws = length (listed l x.fram) in let o = x.fram (word_place l EmitCount) in
+      let dearest = commit_grows l.runtime.events n l.entries ws l.entries o l.emits.words list words emits in
+      commit_within to x b k e d (bound m) (omega (arith, dearest, most))
+
+  -- one that a task decided: it lists no more words and has no more to send than the task may, for which the task's own cost has the cycles
+  makes_decided : (s next : State) (x : World) (b : MachineBoard) → IsBooting l b → b.fram ≡ x.fram → m.Decided s next x
+      → Makes c m.delay (cost s.task) (program_effects (m.commit b.fram b.inputs) true) b
+  makes_decided s next x b k e d =
+      let fits = fits_commit s next x d in
+      let list = fits.list in let words = fits.words in let emits = fits.emits in
+      let most : whole_cycles p l s.task x.fram no_inputs ≤ cost s.task =
+      r.costs.within s.task x.fram no_inputs d.decided.sends.is_task d.decided.sends.words (record { readings = All-nil (λ w. w < 0x10000) }) in
+      let n = x.fram (word_place l ListLength) in let ws = length (listed l x.fram) in let o = x.fram (word_place l EmitCount) in
+      let entries = (program_places p l).list_capacity s.task in
+      let dearest = commit_grows l.runtime.events n entries ws entries o ((program_places p l).emit_capacity s.task) list words emits in
+      commit_within next x b k e (laws.decided_committing s next x d) (cost s.task) (omega (arith, dearest, most))
 
   -- an attempt that comes to its end is decided
   record IsDecidedBehind (s : State) (f : ℕ → ℕ) (es : List Effect) : Type 0 where
@@ -375,5 +402,6 @@ code_keeps_the_laws p l r laws =
       takes_cycles = λ s. code_takes (placed_code p l) s;
       makes_boot = makes_boot source;
       makes_attempt = λ s x b k. makes_from source s x b (from_start source b k);
+      makes_decided = makes_decided source;
       makes_commit = makes_commit source;
     })

@@ -1,6 +1,7 @@
 -- The image of an accepted source without events suits it.
 use Rattle.compiled_states.proofs.Names.{◌≡◌, ℕ, suc, List, [], ◌∷◌, length, map, Some, refl, sym, ap, ap₂, ◌∙◌, arith, slice_get}
-use Rattle.compiled_states.proofs.Names.{SharedDeclaration, CheckedTask, TaskPlanValue, VariablePlace, TaskPlace, IsTaskLayout, TaskValue, variables_of, shared_name, task_value_of, tasks_of}
+use Rattle.compiled_states.proofs.Names.{SharedDeclaration, CheckedTask, TaskPlanValue, VariablePlace, TaskPlace}
+use Rattle.compiled_states.proofs.Names.{IsTaskLayout, TaskValue, variables_of, shared_name, task_value_of, tasks_of}
 use Rattle.compiled_states.proofs.Names.{map_of, ArePlacesOf, ImagesSuitTheirSources}
 use Rattle.fram_state.specs.Suits.{line_of, declared_line, planned_task, planned_tasks}
 use Rattle.memory_map.specs.declared.place.PrivateScalar.{PrivateScalar}

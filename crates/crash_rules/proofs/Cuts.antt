@@ -11,18 +11,20 @@ use Rattle.crash_rules.specs.Model.{AttemptContract, CommitKeeps}
 use Rattle.crash_rules.specs.History.{Done, History, with_effect, behind_decide, behind_done, observe_one, observe, behind_boot, inputs_from}
 use Rattle.crash_rules.specs.History.{decided_inputs, done_inputs}
 use Rattle.crash_rules.specs.Laws.{Origin, Resting, Pending, SourceRun, HasNoSpan, Reaches, IsPending, IsSettled, Transits, Phase, UndecidedPhase, DecidedPhase}
-use Rattle.crash_rules.specs.Laws.{CommittingPhase, StandsFor, IsLawful, AreConsecutive}
+use Rattle.crash_rules.specs.Laws.{CommittingPhase, StandsFor, IsLawful, AreConsecutive, TaskCosts, CoversTasks}
 use Rattle.crash_rules.proofs.Lists.{world_fram, each_prefix, holds_prefix, holds_end, prefix_cases, prefix_one, nothing_first, range_of}
 use Rattle.crash_rules.proofs.Front.{in_front}
 use Rattle.crash_rules.proofs.Observed.{observe-append, with_effects, observe_quiet, observe_done, observe_decide}
 
--- a model that keeps its laws, the readings of a run, and how it begins
+-- a model that keeps its laws, the readings of a run, how it begins, and what its transitions cost at most
 pub record Setting (St : Type 0) : Type 1 where
   pub model : Model St
   pub laws : ModelLaws model
   pub readings : List ℕ
   pub words : All IsWord readings
   pub origin : Origin St
+  pub costs : TaskCosts
+  pub covers : CoversTasks model origin costs
 
 module _ {St : Type 0} (given : Setting St) where
   open given use {model as m, laws, readings, words, origin}
@@ -416,9 +418,21 @@ module _ {St : Type 0} (given : Setting St) where
   attempt_whole h u (Ends next left) r c e = decides_whole h u next left r c
   attempt_whole h u Short r c e = absurd (cc (c.is, e))
 
+  -- whose commit is due: that of the task of the state of the last done; or one that was pending at the start
+  pub data CommitOf (h : History) : Type 0 where
+    OfTask : (s next : St) → Reaches m readings origin h.completed s → IsSettled origin h.completed → m.Decided s next h.world → CommitOf h
+    OfStart : IsPending origin h.completed → CommitOf h
+
+  -- where nothing is pending
+  transits_settled : (o : Origin St) (ds : List Done) (rs : Inputs) (s next : St) → Transits m o ds rs s next → IsSettled o ds
+  transits_settled (Resting a) ds rs s next t = tt
+  transits_settled (Pending a) [] rs s next t = absurd t
+  transits_settled (Pending a) (c ∷ ds) rs s next t = tt
+
   -- one where a commit is due, with the state that it leaves; it is behind a boot
   pub record AtCommit (h : History) : Type 0 where
     pub to : St
+    pub whose : CommitOf h
     pub decided : h.decided ≡ true
     pub booted : h.booted ≡ false → ⊥
     pub holds : m.Committing to h.world
@@ -426,10 +440,11 @@ module _ {St : Type 0} (given : Setting St) where
     pub part : (inputs : Inputs) (es : List Effect) → IsPrefix es (m.commit h.world.fram inputs) → IsTold h → MayGoOn h es
         → Part h (observe m.marks es h)
 
-  at_commit : (h : History) (s next : St) (Kept : World → Type 0) → IsDue h s next Kept → (h.booted ≡ false → h.decided ≡ false) → AtCommit h
-  at_commit h s next Kept due ready =
+  at_commit : (h : History) (s next : St) (Kept : World → Type 0) → CommitOf h → IsDue h s next Kept → (h.booted ≡ false → h.decided ≡ false) → AtCommit h
+  at_commit h s next Kept whose due ready =
       record {
         to = next;
+        whose = whose;
         decided = due.decided;
         booted = λ z. let u = ready z in let d = due.decided in absurd (cc (u, d));
         holds = due.committing h.world due.holds;
@@ -445,8 +460,10 @@ module _ {St : Type 0} (given : Setting St) where
       by_phase s r (UndecidedPhase d k u) w =
           inl (record { point = p; state = s; reached = r; undecided = d; settled = k; holds = u; ready = λ z. (w z).settled })
       by_phase s r (DecidedPhase next d t u) w =
-          inr (at_commit h s next (m.Decided s next) (due_decided h s next r d t u) (λ z. (w z).undecided))
-      by_phase s r (CommittingPhase d p n u) w = inr (at_commit h s s (m.Committing s) (due_first h s r d p n u) (λ z. (w z).undecided))
+          inr (at_commit h s next (m.Decided s next)
+          (OfTask s next r (transits_settled origin h.completed (decided_inputs readings h) s next t) u)
+          (due_decided h s next r d t u) (λ z. (w z).undecided))
+      by_phase s r (CommittingPhase d p n u) w = inr (at_commit h s s (m.Committing s) (OfStart p) (due_first h s r d p n u) (λ z. (w z).undecided))
 
   -- what the script is, by GATE
   abbrev undecided_script : Bool → (ℕ → ℕ) → Inputs → ProgramEffects

@@ -12,4 +12,4 @@ pub use Rattle.crash_rules.proofs.Events.{events_of_instructions}
 pub use Rattle.crash_rules.proofs.Steps.{goes_on, changed}
 -- The laws of runs that are cut anywhere.
 pub use Rattle.crash_rules.proofs.Theorems.{crash_theorem, stops_short, never_lost, sent_once, pending_sends, spans_follow, pending_spans_follow}
-pub use Rattle.crash_rules.proofs.Theorems.{progress_law, stores_only, runs_may_begin}
+pub use Rattle.crash_rules.proofs.Theorems.{tasks_pay, instructions_pay, progress_law, stores_only, runs_may_begin}

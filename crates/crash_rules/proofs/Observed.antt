@@ -1,12 +1,12 @@
 -- What effects make of a history.
-use Rattle.std.proofs.Common.{◌≡◌, ℕ, zero, suc, ◌+◌, ◌≤◌, List, [], ◌∷◌, ◌++◌, length, refl, sym, ap, ap₂, ◌∙◌, arith, true, false, cond, ne_eqb, append_assoc}
-use Rattle.std.proofs.Common.{append-nil, length-append}
+use Rattle.std.proofs.Common.{◌≡◌, ℕ, zero, suc, ◌+◌, List, [], ◌∷◌, ◌++◌, length, refl, sym, ap, ap₂, ◌∙◌, arith, true, false, cond, ne_eqb, append_assoc}
+use Rattle.std.proofs.Common.{append-nil}
 use Rattle.std.specs.Prelude.{◌&&◌, ◌%◌, ◌==◌, not}
 use Rattle.machine_effects.specs.fram_board.Effects.{Effect, Store, Take, Outside, OutsideEffect, Offered}
 use Rattle.machine_effects.specs.World.{World, received, accepted_behind, world_after_one, world_after, readings_taken, OfStore, EachStore}
 use Rattle.machine_effects.proofs.Interface.{put_same, put_other}
 use Rattle.crash_rules.specs.Model.{Marks, IsElsewhere}
-use Rattle.crash_rules.specs.History.{History, is_decide, is_done, with_effect, behind_decide, behind_done, behind_gate, observe_one, observe}
+use Rattle.crash_rules.specs.History.{Done, History, is_decide, is_done, with_effect, behind_decide, behind_done, behind_gate, observe_one, observe}
 
 -- the history behind two parts
 pub observe-append : (marks : Marks) (es fs : List Effect) (h : History) → observe marks (es ++ fs) h ≡ observe marks fs (observe marks es h)
@@ -72,20 +72,23 @@ pub observe_decide : (marks : Marks) (h : History) → h.world.fram marks.gate �
 observe_decide marks h e = ap₂ (λ b n. behind_gate b n (with_effect (Store marks.gate 1) h)) e (put_same h.world.fram marks.gate 1)
 
 -- dones are never taken back
-gate_grows : (before now : ℕ) (h : History) → length h.completed ≤ length (behind_gate before now h).completed
+gate_grows : (before now : ℕ) (h : History) → (more : List Done) × ((behind_gate before now h).completed ≡ h.completed ++ more)
 gate_grows before now h =
-    let more = length-append h.completed (record { span_from = h.span_from; span_to = h.span_to; world = h.world } ∷ []) in
-    elim (is_done before now) as (λ b. length h.completed ≤ length (cond b (behind_done h) (cond (is_decide before now) (behind_decide h) h)).completed) [
-      | true ↦ omega (arith, more)
-      | false ↦ elim (is_decide before now) as (λ b. length h.completed ≤ length
-          (cond b (behind_decide h) h).completed) [ true ↦ omega arith | false ↦ omega arith ]
+    elim (is_done before now) as (λ b. (more : List Done)
+    × ((cond b (behind_done h) (cond (is_decide before now) (behind_decide h) h)).completed ≡ h.completed ++ more)) [
+      | true ↦ (record { span_from = h.span_from; span_to = h.span_to; world = h.world } ∷ [], refl)
+      | false ↦ elim (is_decide before now) as (λ b. (more : List Done) × ((cond b (behind_decide h) h).completed ≡ h.completed ++ more)) [
+        | true ↦ ([], sym (append-nil h.completed))
+        | false ↦ ([], sym (append-nil h.completed))
+      ]
     ]
 
-pub dones_grow : (marks : Marks) (es : List Effect) (h : History) → length h.completed ≤ length (observe marks es h).completed
-dones_grow marks [] h = omega arith
+pub dones_grow : (marks : Marks) (es : List Effect) (h : History) → (more : List Done) × ((observe marks es h).completed ≡ h.completed ++ more)
+dones_grow marks [] h = ([], sym (append-nil h.completed))
 dones_grow marks (e ∷ es) h =
     let a = gate_grows (h.world.fram marks.gate) ((world_after_one e h.world).fram marks.gate) (with_effect e h) in
-    let b = dones_grow marks es (observe_one marks e h) in omega (arith, a, b)
+    let b = dones_grow marks es (observe_one marks e h) in
+    (a.0 ++ b.0, b.1 ∙ ap (λ l. l ++ b.0) a.1 ∙ append_assoc h.completed a.0 b.0)
 
 taken_gate : (before now : ℕ) (h : History) → (behind_gate before now h).taken ≡ h.taken
 taken_gate before now h =

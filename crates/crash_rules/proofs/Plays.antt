@@ -14,11 +14,12 @@ use Rattle.crash_rules.specs.Model.{Outcome, Ends, Short, AttemptContract, Progr
 use Rattle.crash_rules.specs.Model.{Inputs, InputsAreWords, inputs_behind, with_commit, attempt_from}
 use Rattle.crash_rules.specs.History.{History, Done, observe, inputs_from}
 use Rattle.crash_rules.specs.Runs.{Program, AtEntry, Makes, ProgramLaws}
-use Rattle.crash_rules.specs.Laws.{IsLawful, Matches, AreConsecutive, ScriptsStore}
+use Rattle.crash_rules.specs.Laws.{Origin, Resting, Pending, SourceRun, Reaches, IsPending, IsSettled, IsLawful, Matches, AreConsecutive, ScriptsStore}
+use Rattle.crash_rules.specs.Laws.{next_cost, IsTaskWithin, IsFirstWithin}
 use Rattle.crash_rules.proofs.Lists.{world_fram, each_prefix}
 use Rattle.crash_rules.proofs.Observed.{observe-append, observed_taken, observed_world}
 use Rattle.crash_rules.proofs.Cuts.{Setting, ChargeEffects, partial, complete, Point, Next, Grows, Stayed, Finished, Spans, EndsShort, done_of, point_part}
-use Rattle.crash_rules.proofs.Cuts.{point_grows, point_whole, point_some, point_short, phase_of}
+use Rattle.crash_rules.proofs.Cuts.{CommitOf, OfTask, OfStart, AtCommit, point_grows, point_whole, point_some, point_short, phase_of}
 use Rattle.crash_rules.proofs.Cuts.{script_at, script_u, script_d, words_left, short_effects, owed_from}
 use Rattle.crash_rules.proofs.Steps.{halts, fewer, leads_end, stalls_end, no_steps, Changed, changed}
 
@@ -56,7 +57,7 @@ by_value true t f = t refl
 by_value false t f = f refl
 
 module _ {St : Type 0} (given : Setting St) (c : Program) (code : ProgramLaws given.model c) where
-  open given use {model as m, laws, readings, origin}
+  open given use {model as m, laws, readings, origin, costs, covers}
 
   abbrev pub AtPoint : History → Type 0
   AtPoint h = Point given h
@@ -77,6 +78,29 @@ module _ {St : Type 0} (given : Setting St) (c : Program) (code : ProgramLaws gi
     pub matches : Matches readings b h
     pub point : AtPoint h
 
+  -- what the transition that is due costs at most
+  abbrev pub due : History → ℕ
+  due h = next_cost costs.behind costs.first h.completed
+
+  -- behind a source's run from a state on
+  source_within : (s t : St) (ds : List Done) (first : ℕ) → SourceRun m readings s ds t → IsTaskWithin m s first
+      → IsTaskWithin m t (next_cost costs.behind first ds)
+  source_within s t [] first run h = subst (λ u. IsTaskWithin m u first) (sym run) h
+  source_within s t (d ∷ ds) first run h = source_within run.0 t ds (costs.behind d.world) run.3 (covers.behind run.0 d.world run.2)
+
+  -- where nothing is pending, it is that of the state's task
+  task_within : (o : Origin St) (ds : List Done) (s : St) → IsFirstWithin m o costs.first → Reaches m readings o ds s → IsSettled o ds
+      → IsTaskWithin m s (next_cost costs.behind costs.first ds)
+  task_within (Resting a) ds s first r k = source_within a s ds costs.first r first
+  task_within (Pending to) [] s first r k = absurd k
+  task_within (Pending to) (d ∷ ds) s first r k = source_within to s ds (costs.behind d.world) r.2 (covers.behind to d.world r.1)
+
+  -- else it is the bound
+  pending_within : (o : Origin St) (ds : List Done) → IsFirstWithin m o costs.first → IsPending o ds → bound m ≤ next_cost costs.behind costs.first ds
+  pending_within (Resting a) ds first p = absurd p
+  pending_within (Pending to) [] first p = first
+  pending_within (Pending to) (d ∷ ds) first p = absurd p
+
   abbrev inputs_there : History → Inputs
   inputs_there h = inputs_from readings h.taken
 
@@ -90,13 +114,25 @@ module _ {St : Type 0} (given : Setting St) (c : Program) (code : ProgramLaws gi
   makes_attempt true s x b en f ws u k = code.makes_boot s x b en f ws u
   makes_attempt false s x b en f ws u k = code.makes_attempt s x b en f ws (k refl)
 
-  makes_commit : (booted : Bool) (to : St) (x : World) (b : MachineBoard) → AtEntry c booted b → b.fram ≡ x.fram → m.Committing to x
-      → (booted ≡ false → ⊥) → Makes c m.delay (bound m) (program_effects (m.commit b.fram b.inputs) true) b
-  makes_commit true to x b en f d k = code.makes_commit to x b en f d
-  makes_commit false to x b en f d k = absurd (k refl)
+  -- so is a commit that is due there, or within the bound
+  makes_commit : (booted : Bool) (h : History) (d : AtCommit given h) (b : MachineBoard) → AtEntry c booted b → b.fram ≡ h.world.fram
+      → (booted ≡ false → ⊥) → Makes c m.delay (due h) (program_effects (m.commit b.fram b.inputs) true) b
+  makes_commit false h d b en f k = absurd (k refl)
+  makes_commit true h d b en f k = by_whose d.whose
+    where
+      commit_there : ProgramEffects
+      commit_there = program_effects (m.commit b.fram b.inputs) true
 
-  -- at an entry the script is made, within the bound
-  pub makes_script : (h : History) (b : MachineBoard) → IsThere b h → Makes c m.delay (bound m) (script_there h) b
+      by_whose : CommitOf given h → Makes c m.delay (due h) commit_there b
+      by_whose (OfTask s next r settled u) =
+          widen c m.delay (m.task_cost (m.task_number s)) (due h) commit_there b
+          (task_within origin h.completed s covers.first r settled (laws.decided_task s next h.world u)) (code.makes_decided s next h.world b en f u)
+      by_whose (OfStart pending) =
+          widen c m.delay (bound m) (due h) commit_there b (pending_within origin h.completed covers.first pending)
+          (code.makes_commit d.to h.world b en f d.holds)
+
+  -- at an entry the script is made, within what is due there
+  pub makes_script : (h : History) (b : MachineBoard) → IsThere b h → Makes c m.delay (due h) (script_there h) b
   makes_script h b t =
       let f : b.fram ≡ h.world.fram = t.matches.fram in
       let i : b.inputs ≡ inputs_there h = inputs_are b h t.matches in
@@ -106,12 +142,13 @@ module _ {St : Type 0} (given : Setting St) (c : Program) (code : ProgramLaws gi
       let mk = makes_attempt h.booted u.state h.world b t.entry f ws u.holds u.ready in
       let same : with_commit m b.fram b.inputs (attempt_from m h.booted b.fram b.inputs) ≡ script_there h =
       ap₂ (λ g j. with_commit m g j (attempt_from m h.booted g j)) f i ∙ sym (script_u given h u) in
-      subst (λ q. Makes c m.delay (bound m) q b) same
-      (widen c m.delay _ _ _ b (below_greatest m.task_cost m.tasks (m.task_number u.state) (laws.undecided_task u.state h.world u.holds)) mk))
+      subst (λ q. Makes c m.delay (due h) q b) same
+      (widen c m.delay _ _ _ b
+      (task_within origin h.completed u.state covers.first u.reached u.settled (laws.undecided_task u.state h.world u.holds)) mk))
       (λ d.
       let same : program_effects (m.commit b.fram b.inputs) true ≡ script_there h =
       ap₂ (λ g j. program_effects (m.commit g j) true) f i ∙ sym (script_d given h d) in
-      subst (λ q. Makes c m.delay (bound m) q b) same (makes_commit h.booted d.to h.world b t.entry f d.holds d.booted))
+      subst (λ q. Makes c m.delay (due h) q b) same (makes_commit h.booted h d b t.entry f d.booted))
       (phase_of given h t.point)
 
   -- a board behind effects holds what the history behind them says
@@ -130,14 +167,14 @@ module _ {St : Type 0} (given : Setting St) (c : Program) (code : ProgramLaws gi
     pub steps : ℕ
     pub cycles : ℕ
     pub board : MachineBoard
-    pub within : cycles + m.delay board.inputs ≤ bound m + m.delay b.inputs
+    pub within : cycles + m.delay board.inputs ≤ due h + m.delay b.inputs
     pub leads : Leads c.step steps (script_there h).effects cycles b board
     pub whole : (script_there h).ends ≡ true
     pub next : Next given h (behind_script h)
     pub there : IsThere board (behind_script h)
     pub some : 0 < steps
 
-  pub round : (h : History) (b : MachineBoard) → IsThere b h → (mk : Makes c m.delay (bound m) (script_there h) b) → (script_there h).ends ≡ true
+  pub round : (h : History) (b : MachineBoard) → IsThere b h → (mk : Makes c m.delay (due h) (script_there h) b) → (script_there h).ends ≡ true
       → Round h b
   round h b k mk e =
       let r = mk.ends e in
@@ -294,7 +331,7 @@ module _ {St : Type 0} (given : Setting St) (c : Program) (code : ProgramLaws gi
       (next j i x2))
       (cases_lt k r.steps)
 
-  stall_halts : (k : ℕ) (h : History) (b : MachineBoard) (price : ℕ) (e : Stop) (mk : Makes c m.delay (bound m) (script_there h) b) → AtPoint h
+  stall_halts : (k : ℕ) (h : History) (b : MachineBoard) (price : ℕ) (e : Stop) (mk : Makes c m.delay (due h) (script_there h) b) → AtPoint h
       → (script_there h).ends ≡ false → Halts k b price e → ShortBehind k b h e
   stall_halts k h b price e mk p lacking x =
       let es = (script_there h).effects in

@@ -5,19 +5,19 @@ use Rattle.machine_effects.specs.fram_board.Effects.{Effect}
 use Rattle.machine_effects.specs.World.{World}
 use Rattle.machine_effects.specs.Going.{Halted, going}
 use Rattle.machine_effects.specs.Machine.{MachineBoard}
-use Rattle.crash_rules.specs.Model.{Model, ModelLaws, Marks, IsWord, IsBetween}
+use Rattle.crash_rules.specs.Model.{Model, ModelLaws, Marks, IsWord, IsBetween, bound}
 use Rattle.crash_rules.specs.History.{Done, History, observe, behind_boot, first_history, decided_inputs}
 use Rattle.crash_rules.specs.Runs.{Program, ProgramLaws, Charge, Charged}
 use Rattle.crash_rules.specs.Laws.{Origin, Resting, Pending, Reaches, IsPending, IsSettled, Transits, Phase, UndecidedPhase, DecidedPhase, CommittingPhase}
 use Rattle.crash_rules.specs.Laws.{StandsFor, IsLawful, Matches, Begins, HasRun, PowersUpBehind, AcceptedDecided, AcceptedWords, AreConsecutive, CrashTheorem}
 use Rattle.crash_rules.specs.Laws.{StopsShort, NeverLost, SentOnce, PendingSends, SpansFollow, FollowFirst, PendingSpansFollow, ProgressLaw, StoresOnly}
-use Rattle.crash_rules.specs.Laws.{RunsMayBegin}
+use Rattle.crash_rules.specs.Laws.{RunsMayBegin, TaskCosts, IsFirstWithin, CoversTasks, TasksPay, InstructionsPay}
 use Rattle.crash_rules.proofs.Lists.{nothing_first}
 use Rattle.crash_rules.proofs.Observed.{accepted_more}
 use Rattle.crash_rules.proofs.Cuts.{Setting, booted}
 use Rattle.crash_rules.proofs.Plays.{AtPoint, IsThere, IsCharge, plays_from, lawful_from, matches_more, charge_spans, SpansPast, NoDone, PastDone, charge_past}
-use Rattle.crash_rules.proofs.Plays.{charge_stores, HaltsShort, halted_from}
-use Rattle.crash_rules.proofs.Progress.{counts_from}
+use Rattle.crash_rules.proofs.Plays.{charge_stores, HaltsShort, halted_from, below_greatest}
+use Rattle.crash_rules.proofs.Progress.{bounds_count, steps_cost, all_spent, spent_from}
 use Rattle.crash_rules.proofs.Steps.{changed}
 
 module _ {St : Type 0} (given : Setting St) (c : Program) (code : ProgramLaws given.model c) where
@@ -70,9 +70,31 @@ module _ {St : Type 0} (given : Setting St) (c : Program) (code : ProgramLaws gi
       → HaltsShort given c code (observe m.marks (going c.step n p).effects (behind_boot up.history)) e
   halts_short p up n price e halted = halted_from given c code (suc n) n (behind_boot up.history) p price e (omega arith) (ready p up) halted
 
--- the setting of a run
+-- the bound for each transition covers all
+bound_first : {St : Type 0} (m : Model St) (origin : Origin St) → IsFirstWithin m origin (bound m)
+bound_first m (Resting s) = λ below. below_greatest m.task_cost m.tasks (m.task_number s) below
+bound_first m (Pending to) = omega arith
+
+abbrev bounds : {St : Type 0} → Model St → TaskCosts
+bounds m = record { first = bound m; behind = λ x. bound m }
+
+bounds_cover : {St : Type 0} (m : Model St) (origin : Origin St) → CoversTasks m origin (bounds m)
+bounds_cover m origin = record {
+  first = bound_first m origin;
+  behind = λ s x rests below. below_greatest m.task_cost m.tasks (m.task_number s) below;
+}
+
+-- the setting of a run, where nothing is asked of what transitions cost
 abbrev setting : {St : Type 0} (m : Model St) → ModelLaws m → (readings : List ℕ) → All IsWord readings → (origin : Origin St) → Setting St
-setting m laws readings words origin = record { model = m; laws = laws; readings = readings; words = words; origin = origin }
+setting m laws readings words origin = record {
+  model = m;
+  laws = laws;
+  readings = readings;
+  words = words;
+  origin = origin;
+  costs = bounds m;
+  covers = bounds_cover m origin;
+}
 
 -- the crash theorem
 pub crash_theorem : {St : Type 0} (m : Model St) (c : Program) → CrashTheorem m c
@@ -227,11 +249,26 @@ pending_spans_follow {St} m c laws code readings to t h run e one =
     follow k (NoDone a) = subst (λ ds. FollowFirst ds k.since) (sym a) tt
     follow k (PastDone d ds a f) = subst (λ l. FollowFirst l k.since) (sym a) f
 
--- a charge of at least n bounds that is spent has at least n dones
+-- a charge that is spent is less than what its transitions cost, and the one that was to come
+pub tasks_pay : {St : Type 0} (m : Model St) (c : Program) → TasksPay m c
+tasks_pay m c laws code readings origin p up costs covers amount spent =
+    let given = record (setting m laws readings up.run.begins.words origin) { costs = costs; covers = covers } in
+    spent_from given c code (suc spent.steps) amount (behind_boot up.history) p (ready given c code p up) spent (omega arith)
+
+-- so is one of so many instructions
+pub instructions_pay : {St : Type 0} (m : Model St) (c : Program) → InstructionsPay m c
+instructions_pay m c laws code readings origin p up costs covers n t at =
+    let on = tasks_pay m c laws code readings origin p up costs covers (going c.step n p).cycles
+    (record { steps = n; end = t; spends = all_spent c.step code.takes_cycles n p t at }) in
+    let cycles = steps_cost c.step code.takes_cycles n p t at in
+    let less = on.less in
+    record { dones = on.dones; completed = on.completed; less = omega (arith, cycles, less) }
+
+-- a charge of at least n bounds that is spent has at least n dones: each transition costs no more than the bound
 pub progress_law : {St : Type 0} (m : Model St) (c : Program) → ProgressLaw m c
 progress_law m c laws code readings origin p up n amount most spent =
-    let given = setting m laws readings up.run.begins.words origin in
-    counts_from given c code n amount (behind_boot up.history) p (ready given c code p up) most spent
+    bounds_count (bound m) (m.delay p.inputs) amount n up.history.completed _
+    (tasks_pay m c laws code readings origin p up (bounds m) (bounds_cover m origin) amount spent) most
 
 -- a fact of each store that a run makes
 pub stores_only : {St : Type 0} (m : Model St) (c : Program) (P : ℕ → ℕ → Type 0) → StoresOnly m c P

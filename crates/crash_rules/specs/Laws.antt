@@ -1,9 +1,9 @@
 -- What runs that are cut anywhere stand for, and the laws of them.
-use Rattle.std.specs.Prelude.{◌≡◌, ℕ, ◌+◌, ◌*◌, ◌≤◌, Bool, true, false, List, [], ◌∷◌, length, drop, All}
+use Rattle.std.specs.Prelude.{◌≡◌, ℕ, ◌+◌, ◌*◌, ◌<◌, ◌≤◌, Bool, true, false, List, [], ◌∷◌, ◌++◌, length, drop, All}
 use Rattle.machine_effects.specs.msp_step.declared.machine.Stop.{Stop}
 use Rattle.machine_effects.specs.msp_step.declared.machine.Stop.TheVariants as stop
 use Rattle.machine_effects.specs.World.{World, world_after, IsPrefix, EachStore}
-use Rattle.machine_effects.specs.Going.{Halted, going}
+use Rattle.machine_effects.specs.Going.{At, Halted, going}
 use Rattle.machine_effects.specs.Machine.{MachineBoard}
 use Rattle.crash_rules.specs.Model.{Model, ModelLaws, Ends, Short, IsWord, IsBetween, Inputs, no_inputs, InputsAreWords, bound, script}
 use Rattle.crash_rules.specs.History.{Done, History, observe, behind_boot, first_history, inputs_from, decided_inputs, done_inputs}
@@ -187,6 +187,58 @@ abbrev pub ProgressLaw : {St : Type 0} → Model St → Program → Type 0
 ProgressLaw {St} m c = ModelLaws m → ProgramLaws m c → (readings : List ℕ) (origin : Origin St) (p : MachineBoard)
     → (up : PowersUpBehind m c readings origin p) → (n amount : ℕ) → n * bound m + m.delay p.inputs ≤ amount → (spent : IsSpentFrom c.step amount p)
     → n + length up.history.completed ≤ length (observe m.marks (going c.step spent.steps p).effects (behind_boot up.history)).completed
+
+-- what transitions cost at most: the first one of a run, and each further one, by the world behind the done before it
+pub record TaskCosts : Type 0 where
+  pub first : ℕ
+  pub behind : World → ℕ
+
+-- what the transition behind these dones costs, where the first of them costs so much
+abbrev pub next_cost : (World → ℕ) → ℕ → List Done → ℕ
+next_cost behind first [] = first
+next_cost behind first (d ∷ ds) = next_cost behind (behind d.world) ds
+
+-- what these dones and the transition behind them cost together
+abbrev pub costs_of : (World → ℕ) → ℕ → List Done → ℕ
+costs_of behind first [] = first
+costs_of behind first (d ∷ ds) = first + costs_of behind (behind d.world) ds
+
+-- a task of the source costs no more than this
+abbrev pub IsTaskWithin : {St : Type 0} → Model St → St → ℕ → Type 0
+IsTaskWithin m s most = m.task_number s < m.tasks → m.task_cost (m.task_number s) ≤ most
+
+-- nor does the first transition of a run: that of a state's task, or a commit that was pending at the start, which has the bound
+abbrev pub IsFirstWithin : {St : Type 0} → Model St → Origin St → ℕ → Type 0
+IsFirstWithin m (Resting s) most = IsTaskWithin m s most
+IsFirstWithin m (Pending to) most = bound m ≤ most
+
+-- a run's transitions cost no more than these: each its own task's cost, from a boot or a done on up to the end of its commit
+pub record CoversTasks {St : Type 0} (m : Model St) (origin : Origin St) (costs : TaskCosts) : Type 0 where
+  pub first : IsFirstWithin m origin costs.first
+  pub behind : (s : St) (x : World) → m.Rests s x → IsTaskWithin m s (costs.behind x)
+
+-- an amount of cycles or instructions was spent behind some dones on more, and on a transition that isn't done: it is less than these cost
+-- together, with the cycles that inputs may delay commits by
+pub record IsSpentOn (costs : TaskCosts) (delay amount : ℕ) (before behind : List Done) : Type 0 where
+  pub dones : List Done
+  pub completed : behind ≡ before ++ dones
+  pub less : amount < costs_of costs.behind (next_cost costs.behind costs.first before) dones + delay
+
+-- The law task by task: a charge that is spent is less than what the transitions that were completed in it cost, and the one that was to come
+-- then. So one that holds the costs of the next n tasks, whatever is pending at its beginning, completes n.
+abbrev pub TasksPay : {St : Type 0} → Model St → Program → Type 0
+TasksPay {St} m c = ModelLaws m → ProgramLaws m c → (readings : List ℕ) (origin : Origin St) (p : MachineBoard)
+    → (up : PowersUpBehind m c readings origin p) → (costs : TaskCosts) → CoversTasks m origin costs
+    → (amount : ℕ) → (spent : IsSpentFrom c.step amount p)
+    → IsSpentOn costs (m.delay p.inputs) amount up.history.completed
+    (observe m.marks (going c.step spent.steps p).effects (behind_boot up.history)).completed
+
+-- the same of a charge of so many instructions: each takes a cycle at least
+abbrev pub InstructionsPay : {St : Type 0} → Model St → Program → Type 0
+InstructionsPay {St} m c = ModelLaws m → ProgramLaws m c → (readings : List ℕ) (origin : Origin St) (p : MachineBoard)
+    → (up : PowersUpBehind m c readings origin p) → (costs : TaskCosts) → CoversTasks m origin costs
+    → (n : ℕ) (t : MachineBoard) → (going c.step n p).status ≡ At t
+    → IsSpentOn costs (m.delay p.inputs) n up.history.completed (observe m.marks (going c.step n p).effects (behind_boot up.history)).completed
 
 -- each recovery, each attempt and each commit stores only so
 pub record ScriptsStore {St : Type 0} (m : Model St) (P : ℕ → ℕ → Type 0) : Type 0 where

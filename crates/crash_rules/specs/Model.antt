@@ -141,6 +141,7 @@ pub record ModelLaws {St : Type 0} (m : Model St) : Type 0 where
   pub undecided_gate : (s : St) (x : World) → m.Undecided s x → x.fram m.marks.gate ≡ 0
   pub undecided_task : (s : St) (x : World) → m.Undecided s x → m.task_number s < m.tasks
   pub undecided_words : (s : St) (x : World) → m.Undecided s x → x.accepted ≡ m.emitted s
+  pub decided_task : (s next : St) (x : World) → m.Decided s next x → m.task_number s < m.tasks
   pub decided_words : (s next : St) (x : World) → m.Decided s next x → IsBetween (m.emitted s) (m.emitted next) x.accepted
   pub decided_commits : (s next : St) (x : World) → m.Decided s next x → CommitContract m s next x
   pub decided_committing : (s next : St) (x : World) → m.Decided s next x → m.Committing next x

@@ -53,6 +53,10 @@ pub record ProgramLaws {St : Type 0} (m : Model St) (c : Program) : Type 0 where
       → Makes c m.delay (m.task_cost (m.task_number s)) (with_commit m b.fram b.inputs (attempt_from m true b.fram b.inputs)) b
   pub makes_attempt : (s : St) (x : World) (b : MachineBoard) → c.AtStart b → b.fram ≡ x.fram → InputsAreWords b.inputs → m.Settled s x
       → Makes c m.delay (m.task_cost (m.task_number s)) (with_commit m b.fram b.inputs (m.attempt b.fram b.inputs)) b
+  -- a commit that a task decided is within the task's own cost
+  pub makes_decided : (s next : St) (x : World) (b : MachineBoard) → c.IsPoweredUp b → b.fram ≡ x.fram → m.Decided s next x
+      → Makes c m.delay (m.task_cost (m.task_number s)) (program_effects (m.commit b.fram b.inputs) true) b
+  -- any that is pending is within the bound
   pub makes_commit : (to : St) (x : World) (b : MachineBoard) → c.IsPoweredUp b → b.fram ≡ x.fram → m.Committing to x
       → Makes c m.delay (bound m) (program_effects (m.commit b.fram b.inputs) true) b
 

@@ -5,7 +5,7 @@ ghost use Rattle.crash_rules.specs.Model.{Model};
 ghost use Rattle.crash_rules.specs.History.{EventsOfInstructions};
 ghost use Rattle.crash_rules.specs.Runs.{Program};
 ghost use Rattle.crash_rules.specs.Laws.{CrashTheorem, NeverLost, PendingSends, PendingSpansFollow, ProgressLaw, RunsMayBegin, SentOnce, SpansFollow};
-ghost use Rattle.crash_rules.specs.Laws.{StopsShort, StoresOnly};
+ghost use Rattle.crash_rules.specs.Laws.{InstructionsPay, StopsShort, StoresOnly, TasksPay};
 
 /// A compiled program as the laws see it. The type is what a state of its source is.
 pub trait Compiled {
@@ -58,6 +58,14 @@ pub fn one_charge_takes_readings_in_order<S: Compiled>()
 /// In one charge that begins with a pending commit so do those of the transitions behind it.
 pub fn one_charge_takes_readings_behind_a_commit<S: Compiled>()
     ensures { PendingSpansFollow S.model S.program }
+{}
+
+/// A charge that is spent, of cycles or of instructions, is less than what its transitions cost, each its own task's, and the one that was
+/// to come then, and the cycles that its inputs may delay commits by. So one that holds the costs of the next n tasks, whatever is pending
+/// at its beginning, has n dones.
+pub fn charges_are_spent_on_tasks<S: Compiled>()
+    ensures cycles { TasksPay S.model S.program }
+    ensures instructions { InstructionsPay S.model S.program }
 {}
 
 /// A charge of at least n bounds, and of the cycles that its inputs may delay commits by, that is spent has at least n dones.

@@ -9,7 +9,9 @@ models_are_of_sources text p l m is = record {
   of_source = is.of_source;
   emits_fit = is.runnable.emits_fit;
   marks = ap (λ w. record { gate = w.gate }) (sym is.words);
+  task_number = λ s. refl;
   bound = bound_is_the_sources p l ∙ sym is.bound;
+  costs = refl;
   delay = refl;
   transits = λ s u inputs e. transits p s u inputs e;
   is_short = λ s inputs below e. is_short p is.runnable s inputs below e;

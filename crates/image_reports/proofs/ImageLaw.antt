@@ -1,13 +1,14 @@
 -- Each run of an image of an accepted text keeps the laws.
 use Rattle.image_reports.proofs.Names.{ℕ, refl, subst, arith, List, ImageValue, BoardValue, fresh, Moment, last_board, CheckedProgram, State, first_state}
 use Rattle.image_reports.proofs.Names.{MemoryMap, Model, History, Resting, trace_inputs, traces_are_few, stops_where_short, SoundAtRest, compiled_model}
-use Rattle.image_reports.proofs.Names.{is_redo}
+use Rattle.image_reports.proofs.Names.{is_redo, false, map_of, word_place, CurrentTask, Allow, IsCompiled, IsAcceptedText, IsTaskWithin, cost_of, state_within}
 use Rattle.image_reports.proofs.Names.{KeepsCapacities, compiled_program, sources_are_ready, fresh_world, laid_out, images_are_fresh, known_behind, KeepsCode}
 use Rattle.image_reports.proofs.Names.{HoldsAt, ImagesKeepTheLaws, ImagesAreTold, ImagesKeepCapacities, HoldsFrom, ImagesBelong}
 use Rattle.board_run.specs.Charges.{charges_of}
 use Rattle.image_reports.proofs.Begins.{at_first, bears, run_of_words}
 use Rattle.image_reports.proofs.Capacities.{fresh_capacities}
-use Rattle.image_reports.proofs.Told.{runs_are_told}
+use Rattle.image_reports.proofs.CompiledTold.{models_are_of_sources}
+use Rattle.image_reports.proofs.Told.{source, runs_are_told}
 use Rattle.image_reports.proofs.Onward.{Onward, front, unheard, raises, pays}
 
 -- the fresh image belongs to itself
@@ -41,6 +42,17 @@ held_at p l image readings b ms h k =
       events = k.events;
     }
 
+-- the first task costs what the fresh world says, whose CUR names it
+first_within : (text : List ℕ) (p : CheckedProgram) (allow : Allow) (image : ImageValue) (ok : IsAcceptedText text p allow)
+    → (c : IsCompiled text p allow image)
+    → IsTaskWithin (compiled_model p c.layout) (first_state p) (cost_of p ((fresh_world image).fram (word_place c.layout CurrentTask)))
+first_within text p allow image ok c =
+    let l = c.layout in
+    let m = map_of text p l allow in
+    let is = models_are_of_sources text p l m (source text p allow image ok c) in
+    let x = fresh_world image in
+    state_within text p m (compiled_model p l) is (first_state p) x (is.rests (first_state p) x (images_are_fresh text p allow image ok c).rests)
+
 pub images_keep_the_laws : ImagesKeepTheLaws
 images_keep_the_laws text p allow image ok c cs starts readings events inputs r go =
     let l = c.layout in
@@ -63,7 +75,7 @@ images_keep_the_laws text p allow image ok c cs starts readings events inputs r 
           (fresh image.words readings events) r on.run (bears on.start);
       unheard = unheard on;
       raises = raises on;
-      progress = pays on;
+      progress = pays on false (first_within text p allow image ok c);
       told = runs_are_told text p allow image ok c cs readings events inputs r on.run;
     }
 

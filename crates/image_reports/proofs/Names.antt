@@ -24,7 +24,8 @@ pub use Rattle.code_forms.specs.Placed.{AreInstructions, Holds, placed, words_of
 pub use Rattle.runtime_effects.specs.Stages.{cleared, clearing_if, commit_effects, copied_in, counting_effects, is_at_end, opening_effects, start_effects}
 pub use Rattle.crash_rules.proofs.Interface.{changed, never_lost, pending_sends, runs_may_begin, sent_once, stops_short, stores_only, world_fram}
 pub use Rattle.crash_rules.specs.History.{History, behind_boot, first_history, observe}
-pub use Rattle.crash_rules.specs.Laws.{Begins, CommittingPhase, DecidedPhase, Origin, Pending, Phase, Resting, StandsFor, UndecidedPhase}
+pub use Rattle.crash_rules.specs.Laws.{Begins, CommittingPhase, DecidedPhase, IsFirstWithin, IsTaskWithin, Origin, Pending, Phase, Resting, StandsFor}
+pub use Rattle.crash_rules.specs.Laws.{UndecidedPhase}
 pub use Rattle.crash_rules.specs.Model.{Ends, Inputs, IsElsewhere, Marks, Model, ModelLaws, Short, no_inputs}
 pub use Rattle.crash_rules.specs.Runs.{Charge, Charged, Program}
 pub use Rattle.stands_for.proofs.Interface.{each_weaker, elsewhere_same, unsent_are_few}
@@ -34,8 +35,8 @@ pub use Rattle.run_charges.specs.Laws.{IsRunOfWords}
 pub use Rattle.run_charges.specs.View.{AreMoments, Instructs, IsMomentFrom, PowersUp, outside_of}
 pub use Rattle.board_run.specs.History.{start_of, start_with}
 pub use Rattle.board_run.specs.Report.{report_of}
-pub use Rattle.model_runs.proofs.Interface.{AtFront, at_front, fronts_are_lawful, makes_progress, powers_up, starts_hold, stood, stops_where_short}
-pub use Rattle.model_runs.specs.Runs.{BearsModel, Progresses, all_amounts, no_delay}
+pub use Rattle.model_runs.proofs.Interface.{AtFront, at_front, fronts_are_lawful, powers_up, starts_hold, stood, stops_where_short}
+pub use Rattle.model_runs.specs.Runs.{BearsModel, all_amounts}
 -- sources
 pub use Rattle.cost_bound.specs.declared.allowance.Allow.{Allow}
 pub use Rattle.source_values.specs.Running.{IsRunnable}
@@ -43,8 +44,8 @@ pub use Rattle.source_values.specs.Runs.{CheckedProgram, Completion, EndsWell, S
 pub use Rattle.source_values.specs.Runs.{first_state, fresh_attempt, state_after, transition_of}
 pub use Rattle.source_meaning.proofs.Interface.{accepted_texts_run}
 pub use Rattle.source_meaning.specs.Acceptance.{IsAcceptedText}
-pub use Rattle.source_runs.proofs.Interface.{read_off, resumed_runs_are_told, runs_are_told, trace_inputs, traces_are_few}
-pub use Rattle.source_runs.specs.Tells.{EachChargePays, IsToldBySource, at_first}
+pub use Rattle.source_runs.proofs.Interface.{charges_pay, resumed_runs_are_told, runs_are_told, state_within, task_costs, trace_inputs, traces_are_few}
+pub use Rattle.source_runs.specs.Tells.{EachChargePays, IsToldBySource, at_first, cost_due, cost_of}
 pub use Rattle.source_maps.specs.Maps.{map_of}
 -- compiled sources
 pub use Rattle.compiled_model.proofs.Interface.{is_redo, under_map}

@@ -2,12 +2,13 @@
 use Rattle.image_reports.proofs.Names.{◌≡◌, ◌≢◌, ℕ, zero, ◌+◌, ◌%◌, ◌<◌, ◌≤◌, refl, sym, ap, ◌∙◌, subst, arith, List, [], ◌∷◌, ◌++◌, length, take, drop}
 use Rattle.image_reports.proofs.Names.{append_assoc, length-take-le, encoding, BoardValue, PowerState, powered, started, filled, BoardCharge, PowerUp, Moment}
 use Rattle.image_reports.proofs.Names.{RunOutcome, World, fram_after, going, continued, fram_of, last_board, words_of, CheckedProgram, State, IsAcceptedText}
-use Rattle.image_reports.proofs.Names.{map_of, read_off, Gate, Version, MemoryMap, word_place, IsElsewhere, Model, ModelLaws, History, first_history, Program}
+use Rattle.image_reports.proofs.Names.{map_of, Gate, Version, MemoryMap, word_place, IsElsewhere, Model, ModelLaws, History, first_history, Program}
 use Rattle.image_reports.proofs.Names.{Origin, Phase, UndecidedPhase, DecidedPhase, CommittingPhase, Begins, world_fram, never_lost}
 use Rattle.image_reports.proofs.Names.{sent_once, pending_sends, stops_short, stores_only, outside_of, IsMomentFrom, PowersUp, Instructs, AreMoments}
-use Rattle.image_reports.proofs.Names.{AreInstructionMoments, IsRunOfWords, BearsModel, no_delay, Progresses, stood, AtFront, at_front, powers_up, starts_hold}
-use Rattle.image_reports.proofs.Names.{fronts_are_lawful, makes_progress, HoldsWords, IsSound, SoundAtRest, SoundPending, each_weaker, program_places}
-use Rattle.image_reports.proofs.Names.{redo_model, compiled_model, start_under, is_redo, under_map, KeepsCapacities, bound_is_the_sources, KeepsVersions}
+use Rattle.image_reports.proofs.Names.{AreInstructionMoments, IsRunOfWords, BearsModel, stood, AtFront, at_front, powers_up, starts_hold}
+use Rattle.image_reports.proofs.Names.{Bool, IsFirstWithin, task_costs, cost_of, cost_due, charges_pay}
+use Rattle.image_reports.proofs.Names.{fronts_are_lawful, HoldsWords, IsSound, SoundAtRest, SoundPending, each_weaker, program_places}
+use Rattle.image_reports.proofs.Names.{redo_model, compiled_model, start_under, is_redo, under_map, KeepsCapacities, KeepsVersions}
 use Rattle.image_reports.proofs.Names.{phase_keeps_versions, capacities_are_kept, source_code, placed_code, compiled_program, code_is_placed}
 use Rattle.image_reports.proofs.Names.{power_ups_raise_version, scripts_store_below, at_first, EachChargePays, runtime_marks, VersionsBelow, KeepsCode}
 use Rattle.image_reports.proofs.Names.{FetchesCode, IsRaisedSoon, RaisesVersion, BelongsTo, known_from, HoldsFrom}
@@ -32,7 +33,8 @@ use Rattle.memory_map.specs.declared.runtime.Role.{Role}
 use Rattle.compiled_model.specs.Parts.{start_of as start_due}
 use Rattle.image_reports.proofs.Begins.{Beginning, first_world, first_board, begins, bears}
 use Rattle.image_reports.proofs.Capacities.{attempts_fit}
-use Rattle.image_reports.proofs.Told.{made}
+use Rattle.image_reports.proofs.CompiledTold.{models_are_of_sources}
+use Rattle.image_reports.proofs.Told.{source}
 use Rattle.image_reports.proofs.ImageStart.{versions_below}
 use Rattle.image_reports.proofs.Untouched.{NeverThere, untouched}
 use Rattle.image_reports.proofs.ImageCode.{GoesOn, StopsAtReadings, goes_on, StandsOn, stands_on, placed_within, same_words, words_fetched}
@@ -323,11 +325,10 @@ module _ (onward : Onward) where
       record { history = h; at = at; fram_words = subst HoldsWords (sym same) (keeps_versions ms tail e).words } in
       raises_from boot.before from steps first more cut five (front_are first more (subst AreInstructionMoments cut are)) boot up moments.1 moments.2
 
-  -- each charge that is spent pays for its transitions
-  pub pays : let m = map_of text p l allow in EachChargePays m cs b (at_first m b) r
-  pays =
+  -- each charge that is spent pays for its transitions, where the first one costs no more than its world says
+  pub pays : (pending : Bool) → IsFirstWithin model origin (task_costs (map_of text p l allow) (cost_of p) pending x).first
+      → let m = map_of text p l allow in EachChargePays m (cost_due m (cost_of p) pending) cs b (at_first m b) r
+  pays pending first =
       let m = map_of text p l allow in
-      let P : ℕ → Type 0 = λ n. Progresses (runtime_marks l) n no_delay cs b (first_history (runtime_marks l) x) r in
-      let paid : Progresses (runtime_marks l) m.bound no_delay cs b (first_history (runtime_marks l) x) r =
-      subst P (bound_is_the_sources p l ∙ sym ok.allowed.cycles) (makes_progress model program readings origin x cs b r run bearing) in
-      (read_off m x cs b r (made text p allow image ok c).is_map starts_with plain).pays x paid starts_with
+      charges_pay text p m model program x cs b r (models_are_of_sources text p l m (source text p allow image ok c)) origin bearing starts_with run pending
+      first

@@ -6,7 +6,8 @@ use Rattle.image_reports.proofs.Names.{word_place, commit_effects, Model, first_
 use Rattle.image_reports.proofs.Names.{BearsModel, all_amounts, stops_where_short, IsSound, SoundAtRest, SoundPending, IsAtRest, IsPendingCommit}
 use Rattle.image_reports.proofs.Names.{unsent_are_few, program_places, compiled_model, compiled_program, IsReadyToRun, sources_are_ready, IsCompiled, HasStates}
 use Rattle.image_reports.proofs.Names.{laid_out, images_are_fresh, worlds_stand, runtime_marks, BelongsTo, origin_of, pending_transition, IsToldOnward}
-use Rattle.image_reports.proofs.Names.{ToldAtRest, ToldPending, IsResumedRun, ImagesResume}
+use Rattle.image_reports.proofs.Names.{ToldAtRest, ToldPending, IsResumedRun, ImagesResume, Bool, true, false, IsFirstWithin, task_costs, cost_of}
+use Rattle.image_reports.proofs.Names.{bound_is_the_sources}
 use Rattle.std.proofs.Math.Seq.{drop-append_seam}
 use Rattle.energy_trace.specs.TraceValue.{Event}
 use Rattle.source_runs.specs.Traces.{AreInputs}
@@ -49,6 +50,12 @@ module _ (text : List ℕ) (p : CheckedProgram) (allow : Allow) (image : ImageVa
 
   in_commit : x.fram (word_place l Gate) ≡ 1 → Pending (state_left l x) ≡ origin
   in_commit e = sym (ap (λ n. if n == 1 then Pending (state_left l x) else Resting (state_in l x)) e)
+
+  -- the first transition costs what CUR says; or the bound, where it is a pending commit
+  first_within : (pending : Bool) → IsFirstWithin model (if pending then Pending (state_left l x) else Resting (state_in l x))
+      (task_costs m (cost_of p) pending x).first
+  first_within true = let same = bound_is_the_sources p l ∙ sym (source text p allow image ok c).bound in omega (arith, same)
+  first_within false = λ below. omega arith
 
   -- a sound world is undecided at the state that it has, or about to commit the one that its commit leaves
   undecided_there : IsAtRest (program_places p l) x → model.Undecided (state_in l x) x
@@ -141,7 +148,7 @@ module _ (text : List ℕ) (p : CheckedProgram) (allow : Allow) (image : ImageVa
       stops = stops_where_short model (compiled_program p l) readings origin x cs b r run bearing;
       unheard = unheard on;
       raises = raises on;
-      progress = pays on;
+      progress = pays on (x.fram (word_place l Gate) == 1) (first_within (x.fram (word_place l Gate) == 1));
       told = onward;
     }
 

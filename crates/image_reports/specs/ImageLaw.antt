@@ -24,7 +24,7 @@ use Rattle.cost_bound.specs.declared.allowance.Allow.{Allow}
 use Rattle.source_values.specs.Runs.{CheckedProgram, State, first_state}
 use Rattle.source_meaning.specs.Acceptance.{IsAcceptedText}
 use Rattle.source_runs.specs.Traces.{AreInputs}
-use Rattle.source_runs.specs.Tells.{at_first, EachChargePays, IsToldBySource}
+use Rattle.source_runs.specs.Tells.{at_first, cost_of, EachChargePays, IsToldBySource}
 use Rattle.source_maps.specs.Maps.{map_of}
 use Rattle.memory_map.specs.declared.words.RuntimeWord.TheVariants.{Gate, Version}
 use Rattle.memory_map.specs.MemoryMap.{MemoryMap, word_place}
@@ -139,8 +139,10 @@ pub record IsLawfulRun (text : List ℕ) (p : CheckedProgram) (allow : Allow) (l
   pub unheard : NeverReads r
   -- in a charge that begins with GATE 0 and VER not 65535, VER is raised within the first 40 instructions, if the charge has them
   pub raises : RaisesVersion l r.moments
-  -- a charge of n bounds that is spent has n transitions
-  pub progress : let m = map_of text p l allow in EachChargePays m cs (fresh image.words readings events) (at_first m (fresh image.words readings events)) r
+  -- a charge of n bounds that is spent has n transitions; and one that is spent is less than the costs of the tasks that were completed in it, and
+  -- of the one that was to come
+  pub progress : let m = map_of text p l allow in let b = fresh image.words readings events in
+      EachChargePays m (λ h. cost_of p h.task) cs b (at_first m b) r
   -- its report is told by the source, where the charges have fewer than 2^64 cycles and instructions in all
   pub told : all_amounts cs < 2 ^ 64
       → IsToldBySource text p (map_of text p l allow) cs (fresh image.words readings events) r (report_of (start_of image) events r)

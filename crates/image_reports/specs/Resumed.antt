@@ -22,7 +22,7 @@ use Rattle.cost_bound.specs.declared.allowance.Allow.{Allow}
 use Rattle.source_values.specs.Runs.{CheckedProgram, State, Transition}
 use Rattle.source_meaning.specs.Acceptance.{IsAcceptedText}
 use Rattle.source_runs.specs.Traces.{AreInputs}
-use Rattle.source_runs.specs.Tells.{at_first, EachChargePays}
+use Rattle.source_runs.specs.Tells.{at_first, cost_of, cost_due, EachChargePays}
 use Rattle.source_runs.specs.Resumed.{IsToldFrom, IsToldBehind}
 use Rattle.source_maps.specs.Maps.{map_of}
 use Rattle.memory_map.specs.declared.words.RuntimeWord.TheVariants.{CurrentTask, Gate}
@@ -116,8 +116,9 @@ pub record IsResumedRun (text : List ℕ) (p : CheckedProgram) (allow : Allow) (
   pub unheard : NeverReads r
   -- in a charge that begins with GATE 0 and VER not 65535, VER is raised within the first 40 instructions, if the charge has them
   pub raises : RaisesVersion l r.moments
-  -- a charge of n bounds that is spent has n transitions
-  pub progress : let m = map_of text p l allow in EachChargePays m cs b (at_first m b) r
+  -- a charge of n bounds that is spent has n transitions; and one that is spent is less than the costs of the tasks that were completed in it, and
+  -- of the one that was to come; a commit that was pending at the start costs the bound
+  pub progress : let m = map_of text p l allow in EachChargePays m (cost_due m (cost_of p) (x.fram (word_place l Gate) == 1)) cs b (at_first m b) r
   -- its report is told by the source, where the charges have fewer than 2^64 cycles and instructions in all
   pub told : all_amounts cs < 2 ^ 64
       → IsToldOnward text p (map_of text p l allow) l x cs b r (report_of (start_of (record image { words = b.fram })) b.line.coming r)

@@ -17,7 +17,7 @@ pub fn models_are_of_sources()
 
 /// The report of a run of a compiled source is the source's report on the committed readings of its transitions, behind the bound and
 /// before the lines that say what became of its events, of which none is accepted, and how it ended; each charge of n bounds that is
-/// spent has n transitions.
+/// spent has n transitions, as has one that holds the bounds of the next n tasks.
 pub fn compiled_runs_are_told<S: Coded>()
     ensures { CompiledRunsAreTold S.program }
 {}
@@ -25,7 +25,7 @@ pub fn compiled_runs_are_told<S: Coded>()
 /// The report of the run of an accepted source's image on a trace is the source's report on the committed readings of its
 /// transitions, behind the bound and before the lines that say what became of the trace's events, of which none is accepted, and how it
 /// ended; the run never ends at a fault, and for want of a reading only where the source is short; and each charge of n bounds that is
-/// spent has n transitions.
+/// spent has n transitions, as has one that holds the bounds of the next n tasks.
 pub fn images_are_told()
     ensures { ImagesAreTold }
 {}

@@ -131,7 +131,7 @@ even_word : (a : ℕ) → (a % 2 == 0) ≡ true → word_address a ≡ a
 even_word a h = let e : a % 2 ≡ 0 = eqb-true (a % 2) 0 h in omega arith
 
 -- a word written
-put_fram : (xs : List ℕ) (a v : ℕ) → length xs ≡ 24064 → is_fram a ≡ true → put (fram_of xs) (word_address a) v ≡ fram_of (slice_set xs (place_of a) v)
+pub put_fram : (xs : List ℕ) (a v : ℕ) → length xs ≡ 24064 → is_fram a ≡ true → put (fram_of xs) (word_address a) v ≡ fram_of (slice_set xs (place_of a) v)
 put_fram xs a v len h =
     let r = fram_low a h in
     let l = r.0 in let u = r.1 in
@@ -139,7 +139,7 @@ put_fram xs a v len h =
     let within : place_of (word_address a) < length xs = omega arith in
     put_view is_fram 0x4400 in_fram xs (word_address a) v (fram_there a h) within ∙ ap (λ p. fram_of (slice_set xs p v)) (fram_place a h)
 
-put_ram : (xs : List ℕ) (a v : ℕ) → length xs ≡ 1024 → is_ram a ≡ true → put (ram_of xs) (word_address a) v ≡ ram_of (slice_set xs (ram_place a) v)
+pub put_ram : (xs : List ℕ) (a v : ℕ) → length xs ≡ 1024 → is_ram a ≡ true → put (ram_of xs) (word_address a) v ≡ ram_of (slice_set xs (ram_place a) v)
 put_ram xs a v len h =
     let r = ram_range a h in
     let l = r.0 in let u = r.1 in

@@ -12,8 +12,10 @@ pub use Rattle.machine_effects.proofs.Inputs.{left_are_words, taken_is_word}
 pub use Rattle.machine_effects.proofs.Logs.{takes, written_effects, LoggedBy, effect_logged, step_changes, code_changes_by_effects, machine_changes_by_effects}
 -- The board's bus and the machine's answer alike, but for what the machine refuses.
 pub use Rattle.machine_effects.proofs.Alike.{is_fram_address}
+-- Memory by addresses, from the lists of its words: a word read, and a word written.
+pub use Rattle.machine_effects.proofs.Alike.{fram_at, ram_at, put_fram, put_ram}
 -- Each step of a board is a step of the machine that it is, and each step of that is one of the board, but for its bus faults.
-pub use Rattle.machine_effects.proofs.Steps.{looks_as_the_board, executed_same, current_to_machine, stopped_to_machine}
+pub use Rattle.machine_effects.proofs.Steps.{looks_as_the_board, executed_same, current_to_machine, stopped_to_machine, none_taken}
 -- The boundary behind a step keeps a board whole, and words; there and behind a power-up nothing was read of EVENT.
 pub use Rattle.machine_effects.proofs.Lines.{boundary_whole, boundary_words, boundary_heard, powered_heard}
 -- What an instruction of a board leaves, made or refused.

@@ -321,7 +321,7 @@ pub executed_same : (b : BoardValue) (i : Instr) → IsWhole b → IsBusFault (m
 executed_same b i h = as_machines b i (same_seeing b i None tt h)
 
 -- a step that is stopped takes nothing
-none_taken : (xs : List ℕ) (n : ℕ) → slice_range xs n n ≡ []
+pub none_taken : (xs : List ℕ) (n : ℕ) → slice_range xs n n ≡ []
 none_taken xs n = let e : n - n ≡ 0 = omega arith in ap (λ k. take k (drop n xs)) e
 
 stopped_same : (b : BoardValue) (e : Stop)

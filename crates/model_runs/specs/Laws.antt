@@ -9,7 +9,7 @@ use Rattle.machine_effects.specs.Runs.{last_board}
 use Rattle.crash_rules.specs.Model.{Model, Marks, bound}
 use Rattle.crash_rules.specs.History.{History, first_history}
 use Rattle.crash_rules.specs.Runs.{Program}
-use Rattle.crash_rules.specs.Laws.{Origin, Resting, Pending, IsLawful, Matches, ScriptsStore}
+use Rattle.crash_rules.specs.Laws.{Origin, Resting, Pending, IsLawful, Matches, TaskCosts, CoversTasks, ScriptsStore}
 use Rattle.run_charges.specs.View.{outside_of}
 use Rattle.run_charges.specs.Charges.{observed}
 use Rattle.run_charges.specs.Laws.{IsRunOfWords, IsPlainRun}
@@ -27,11 +27,11 @@ StopsWhereShort {St} m c = (readings : List ℕ) (origin : Origin St) (x : World
     → IsRunOfWords cs b r → BearsModel m c readings origin x b → (e : Stop) → r.ending ≡ Stopped e
     → (e ≡ stop.NoReading) × IsShort m readings origin (history_behind m x r.moments)
 
--- each charge that is spent has as many dones as it has bounds
+-- each charge that is spent has as many dones as it has bounds; and is less than what its transitions cost and the one that was to come
 abbrev pub MakesProgress : {St : Type 0} → Model St → Program → Type 0
 MakesProgress {St} m c = (readings : List ℕ) (origin : Origin St) (x : World) (cs : List BoardCharge) (b : BoardValue) (r : RunOutcome)
-    → IsRunOfWords cs b r → BearsModel m c readings origin x b
-    → Progresses m.marks (bound m) m.delay cs b (first_history m.marks x) r
+    → IsRunOfWords cs b r → BearsModel m c readings origin x b → (costs : TaskCosts) → CoversTasks m origin costs
+    → Progresses m.marks (bound m) costs m.delay cs b (first_history m.marks x) r
 
 -- in one charge from a state on the spans follow one another, from the first reading on
 abbrev pub SpansAreInOrder : {St : Type 0} → Model St → Program → Type 0

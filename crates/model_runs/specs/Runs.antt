@@ -7,7 +7,7 @@ use Rattle.machine_effects.specs.World.{World}
 use Rattle.crash_rules.specs.Model.{Model, ModelLaws, Marks, Inputs, Short}
 use Rattle.crash_rules.specs.History.{Done, History, first_history, inputs_from}
 use Rattle.crash_rules.specs.Runs.{Program, ProgramLaws}
-use Rattle.crash_rules.specs.Laws.{Origin, Begins, IsSettled, Reaches}
+use Rattle.crash_rules.specs.Laws.{Origin, Begins, IsSettled, Reaches, TaskCosts, IsSpentOn}
 use Rattle.run_charges.specs.View.{outside_of}
 use Rattle.run_charges.specs.Charges.{observed}
 use Rattle.run_charges.specs.Laws.{StandsIn}
@@ -35,23 +35,24 @@ pub record IsShort {St : Type 0} (m : Model St) (readings : List ℕ) (origin : 
 abbrev pub no_delay : Inputs → ℕ
 no_delay inputs = 0
 
--- a charge of cycles has n dones at least where it has n bounds, and the cycles that its inputs may delay commits, if these are the
--- histories before and behind it
-abbrev pub PaysFor : (bound delay : ℕ) → BoardCharge → History → History → Type 0
-PaysFor bound delay c before behind =
-    c.measure ≡ Cycles → (n : ℕ) → n * bound + delay ≤ c.amount → n + length before.completed ≤ length behind.completed
+-- What a charge that was spent completed, if these are the histories before and behind it. One of cycles has n dones at least where it has n
+-- bounds, and the cycles that its inputs may delay commits by. And however it's counted, it is less than what its transitions cost, and the one
+-- that was to come then, and those cycles
+pub record PaysFor (bound : ℕ) (costs : TaskCosts) (delay : ℕ) (c : BoardCharge) (before behind : History) : Type 0 where
+  pub bounds : c.measure ≡ Cycles → (n : ℕ) → n * bound + delay ≤ c.amount → n + length before.completed ≤ length behind.completed
+  pub tasks : IsSpentOn costs delay c.amount before.completed behind.completed
 
 -- a run from a board and a history on, each of whose charges pays for dones, but the one in which the board stops
-pub data Progresses (marks : Marks) (bound : ℕ) (delay : Inputs → ℕ) : List BoardCharge → BoardValue → History → RunOutcome → Type 0 where
-  AllSpent : (b : BoardValue) (h : History) → Progresses marks bound delay [] b h (run_outcome [] Charges b)
+pub data Progresses (marks : Marks) (bound : ℕ) (costs : TaskCosts) (delay : Inputs → ℕ) : List BoardCharge → BoardValue → History → RunOutcome → Type 0 where
+  AllSpent : (b : BoardValue) (h : History) → Progresses marks bound costs delay [] b h (run_outcome [] Charges b)
   SpentOne : (c : BoardCharge) (cs : List BoardCharge) (b : BoardValue) (h : History) (ms : List Moment) (end : BoardValue) (rest : RunOutcome)
       → ChargeRun c.measure c.amount (powered b c.start) (run_outcome ms Charges end)
-      → PaysFor bound (delay (outside_of (powered b c.start)).inputs) c h (observed marks (power_up_of b c.start ∷ ms) h)
-      → Progresses marks bound delay cs end (observed marks (power_up_of b c.start ∷ ms) h) rest
-      → Progresses marks bound delay (c ∷ cs) b h (after_moments (power_up_of b c.start ∷ ms) rest)
+      → PaysFor bound costs (delay (outside_of (powered b c.start)).inputs) c h (observed marks (power_up_of b c.start ∷ ms) h)
+      → Progresses marks bound costs delay cs end (observed marks (power_up_of b c.start ∷ ms) h) rest
+      → Progresses marks bound costs delay (c ∷ cs) b h (after_moments (power_up_of b c.start ∷ ms) rest)
   StoppedIn : (c : BoardCharge) (cs : List BoardCharge) (b : BoardValue) (h : History) (ms : List Moment) (stop : Stop) (end : BoardValue)
       → ChargeRun c.measure c.amount (powered b c.start) (run_outcome ms (Stopped stop) end)
-      → Progresses marks bound delay (c ∷ cs) b h (run_outcome (power_up_of b c.start ∷ ms) (Stopped stop) end)
+      → Progresses marks bound costs delay (c ∷ cs) b h (run_outcome (power_up_of b c.start ∷ ms) (Stopped stop) end)
 
 -- how many cycles or instructions charges have in all, and a power-up each
 abbrev pub all_amounts : List BoardCharge → ℕ

@@ -37,7 +37,8 @@ pub fn runs_stop_where_the_source_is_short<S: Compiled>()
     ensures { StopsWhereShort S.model S.program }
 {}
 
-/// A charge of at least n bounds that is spent has at least n dones.
+/// A charge of at least n bounds that is spent has at least n dones. Each charge that is spent, of cycles or of instructions, is less than
+/// what its transitions cost, each its own task's, and the one that was to come then.
 pub fn runs_make_progress<S: Compiled>()
     ensures { MakesProgress S.model S.program }
 {}

@@ -21,4 +21,4 @@ pub no_audit : SourcesExclude → (source trace : List ℕ) (place : ℕ) (r : R
     → AuditRefuses source trace place r → ⊥
 no_audit law source trace place r ((said, none), traced) (the_audits_source x fails) = law source said.0 r said.1 fails
 no_audit law source trace place r (said, traced) (the_audits_trace p x other fails) = no_trace trace r traced fails
-no_audit law source trace place r ((said, none), traced) (the_audits_events p x other trace_is has) = one_or_none source has.0 none has.1.0
+no_audit law source trace place r ((said, none), traced) (the_audits_events p x other trace_is has) = one_or_none source has.0 none has.1

@@ -14,7 +14,7 @@ pub use Rattle.run_charges.proofs.Running.{PlacedProgram, Running, charge_moment
 pub use Rattle.run_charges.proofs.Programs.{observed-append, Ready, ready_on, begun, is_powered, same_fram, same_readings, running}
 pub use Rattle.run_charges.proofs.Programs.{leads, charged_once, Reached, reached_on, front_reached}
 -- A charge that is spent, the one in which a run stops, and whole runs.
-pub use Rattle.run_charges.proofs.Spent.{spent_moments, spent_seen, spent_reached, is_spent}
+pub use Rattle.run_charges.proofs.Spent.{spent_moments, spent_seen, spent_reached, status_behind, all_made, is_spent}
 pub use Rattle.run_charges.proofs.Stopped.{SameDones, StopsBehind, run_halts}
 pub use Rattle.run_charges.proofs.Fronts.{plain_run}
 -- Nothing is read of EVENT.

@@ -7,9 +7,9 @@ use Rattle.msp_step.specs.Access.{Access, Completed, Faulted}
 use Rattle.msp_step.specs.Effect.{Written}
 use Rattle.msp_step.specs.Step.{effect}
 use Rattle.fram_board.specs.declared.board.NextStep.TheVariants as next_step
-use Rattle.fram_board.specs.Board.{BoardValue, powered, executed, at_boundary, IsNextInstruction}
+use Rattle.fram_board.specs.Board.{BoardValue, powered, executed, performed, at_boundary, IsNextInstruction}
 use Rattle.fram_board.specs.Steps.{IsPowerState}
-use Rattle.fram_board.specs.Run.{Cycles, Moment, moment_of, Charges, RunOutcome, run_outcome, BoardCharge}
+use Rattle.fram_board.specs.Run.{Cycles, Instructions, Moment, moment_of, Charges, RunOutcome, run_outcome, BoardCharge}
 use Rattle.fram_board.specs.Run.{ChargeRun, Spent, NoInstruction, TooDear, Refused, Executed}
 use Rattle.machine_effects.specs.Going.{Goes, Stops, At, stretch, going}
 use Rattle.machine_effects.specs.Machine.{MachineBus, MachineBoard, MachineOutcome, machine_outcome, machine_bus, machine_opened, machine_executed}
@@ -74,6 +74,15 @@ module _ (on : PlacedProgram) where
       uses_more left (cycles_of i) (moment_of b (next_step.Instruction i) done) rest.moments rest.board (told_cycles b i done a) paid
       (charge_used (left - cycles_of i) (at_boundary (executed b i).board) rest (runs_on on b run i c.1 done a) h e)
 
+-- a charge of instructions that is spent has as many
+instructions_used : (left : ℕ) (b : BoardValue) (r : RunOutcome) → ChargeRun Instructions left b r → r.ending ≡ Charges → length r.moments ≡ left
+instructions_used left b r (Spent _ _ none) e = omega (arith, none)
+instructions_used left b r (NoInstruction _ _ x pos h) e = absurd cc
+instructions_used left b r (TooDear _ _ n pos c dear) e = absurd (omega (arith, pos, dear))
+instructions_used left b r (Refused _ _ n x pos c paid a) e = absurd cc
+instructions_used left b r (Executed _ _ n done rest pos c paid a h) e =
+    let more = instructions_used (left - 1) (at_boundary (performed b n).board) rest h e in omega (arith, pos, more)
+
 -- a charge that is spent, from a board that is ready
 module _ (on : PlacedProgram) (b : BoardValue) (h : History) (ready : Ready on b h) (d : BoardCharge) (ok : IsPowerState d.start) (ms : List Moment)
     (end : BoardValue) (one : ChargeRun d.measure d.amount (powered b d.start) (run_outcome ms Charges end)) where
@@ -111,7 +120,7 @@ module _ (on : PlacedProgram) (b : BoardValue) (h : History) (ready : Ready on b
   made : stretch (moments_effects ms) (moments_cycles ms) (At q) ≡ going step n p
   made = ap (λ t. stretch (moments_effects ms) (moments_cycles ms) (At (outside_of t))) (sym last) ∙ sym reach.run
 
-  status_behind : (going step n p).status ≡ At q
+  pub status_behind : (going step n p).status ≡ At q
   status_behind = sym (ap (λ z. z.status) made)
 
   -- the program's effects are those that the moments tell
@@ -141,6 +150,12 @@ module _ (on : PlacedProgram) (b : BoardValue) (h : History) (ready : Ready on b
 
   end_runs : Running on end
   end_runs = subst (λ t. Running on t) last reach.running
+
+  -- one of instructions has made them all
+  pub all_made : d.measure ≡ Instructions → n ≡ d.amount
+  all_made e =
+      let of_instructions : ChargeRun Instructions d.amount start spent = subst (λ y. ChargeRun y d.amount start spent) e one in
+      instructions_used d.amount start spent of_instructions refl
 
   -- it is spent
   pub is_spent : d.measure ≡ Cycles → Spends step d.amount n p q

@@ -1,6 +1,7 @@
 mod Apart
 mod Received
 mod Transitions
+mod Costs
 mod Spans
 mod Told
 mod Traces

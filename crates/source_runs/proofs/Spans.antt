@@ -18,6 +18,7 @@ use Rattle.machine_effects.specs.View.{IsMachines}
 use Rattle.machine_effects.specs.Runs.{last_board}
 use Rattle.crash_rules.specs.Model.{Marks}
 use Rattle.crash_rules.specs.History.{History, is_decide, behind_decide, behind_done, behind_gate, first_history}
+use Rattle.crash_rules.specs.Laws.{TaskCosts}
 use Rattle.crash_rules.proofs.Interface.{with_effects}
 use Rattle.run_charges.specs.View.{outside_effects, IsMomentFrom, PowersUp, Instructs, AreMoments}
 use Rattle.run_charges.specs.Charges.{behind_moment, observed}
@@ -30,7 +31,8 @@ use Rattle.source_report.specs.SourceReport.{Committed}
 use Rattle.source_runs.specs.Transitions.{committed_by}
 use Rattle.model_runs.specs.Runs as model
 use Rattle.model_runs.specs.Runs.{no_delay, Progresses}
-use Rattle.source_runs.specs.Tells.{spans_by, spans_of, at_first, PaysFor, EachChargePays, AllSpent, SpentOne, StoppedIn}
+use Rattle.source_runs.specs.Tells.{spans_by, spans_of, at_first, cost_due, PaysFor, EachChargePays, AllSpent, SpentOne, StoppedIn}
+use Rattle.source_runs.proofs.Costs.{task_costs, less_than_read}
 
 -- a span, or none
 abbrev span_if : Bool → ℕ → ℕ → List Committed
@@ -92,39 +94,56 @@ module _ (m : MapValue) (x : World) (ok : IsMap m) where
       ∙ ap (λ l. l ++ spans_of m (noted h o) ms) (moment_adds o.before h k here o are.1)
       ∙ append_assoc (committed_by k.completed) (spans_by m h o.action o.after) (spans_of m (noted h o) ms)
 
-  -- a charge that pays for dones pays for the transitions that are read off its moments
-  pays_so : (c : BoardCharge) (k j : History) (spans : List Committed) → committed_by j.completed ≡ committed_by k.completed ++ spans
-      → model.PaysFor m.bound 0 c k j → PaysFor m c spans
-  pays_so c k j spans e pays is n enough =
-      let more = pays is n (omega (arith, enough)) in
-      let all : length (committed_by j.completed) ≡ length (committed_by k.completed) + length spans =
-      ap length e ∙ length-append (committed_by k.completed) spans in
-      let now : length (committed_by j.completed) ≡ length j.completed = length-map j.completed (λ d. record { from = d.span_from; to = d.span_to }) in
-      let old : length (committed_by k.completed) ≡ length k.completed = length-map k.completed (λ d. record { from = d.span_from; to = d.span_to }) in
-      omega (arith, more, all, now, old)
+  -- where each task costs so much, and a commit that was pending at the start the bound
+  module _ (cost : ℕ → ℕ) (pending : Bool) where
+    abbrev costs : TaskCosts
+    costs = task_costs m cost pending x
 
-  charges_pay : (cs : List BoardCharge) (b : BoardValue) (k : History) (r : RunOutcome) (h : board.History) → Together m x b h k → AreMoments b r.moments
-      → Progresses marks m.bound no_delay cs b k r → EachChargePays m cs b h r
-  charges_pay cs b k r h t all (model.AllSpent _ _) = AllSpent b h
-  charges_pay cs b k r h t all (model.SpentOne c ds _ _ ms end rest one pays more) =
-      let own = power_up_of b c.start ∷ ms in
-      let are : AreMoments b own = front_moments b (run_outcome (own ++ rest.moments) Charges end) own rest.moments all refl in
-      let there : last_board (powered b c.start) ms ≡ end = charge_last c.measure c.amount (powered b c.start) (run_outcome ms Charges end) one refl in
-      let P : BoardValue → Type 0 = λ y. Together m x y (after_all h own) (observed marks own k) in
-      let Q : BoardValue → Type 0 = λ y. AreMoments y rest.moments in
-      let next = subst P there (moments_lead m x ok b h k own t are).together in
-      let behind = subst Q there (are_behind b own rest.moments all) in
-      SpentOne c ds b h ms end rest one
-      (pays_so c k (observed marks own k) (spans_of m h own) (moments_add b h k own t are) pays)
-      (charges_pay ds end (observed marks own k) rest (after_all h own) next behind more)
-  charges_pay cs b k r h t all (model.StoppedIn c ds _ _ ms stop end one) = StoppedIn c ds b h ms stop end one
+    abbrev due : board.History → ℕ
+    due h = cost_due m cost pending h
+
+    -- a charge that pays for dones pays for the transitions that are read off its moments
+    pays_so : (c : BoardCharge) (b : BoardValue) (h : board.History) (k : History) (ms : List Moment) → Together m x b h k → AreMoments b ms
+        → model.PaysFor m.bound costs 0 c k (observed marks ms k) → PaysFor m due c h ms
+    pays_so c b h k ms t are pays =
+        record {
+          bounds = λ is n enough.
+              let more = pays.bounds is n (omega (arith, enough)) in
+              let j = observed marks ms k in
+              let spans = spans_of m h ms in
+              let all : length (committed_by j.completed) ≡ length (committed_by k.completed) + length spans =
+              ap length (moments_add b h k ms t are) ∙ length-append (committed_by k.completed) spans in
+              let now : length (committed_by j.completed) ≡ length j.completed =
+              length-map j.completed (λ d. record { from = d.span_from; to = d.span_to }) in
+              let old : length (committed_by k.completed) ≡ length k.completed =
+              length-map k.completed (λ d. record { from = d.span_from; to = d.span_to }) in
+              omega (arith, more, all, now, old);
+          tasks = less_than_read m x ok cost pending c.amount b h k ms t are pays.tasks;
+        }
+
+    charges_pay : (cs : List BoardCharge) (b : BoardValue) (k : History) (r : RunOutcome) (h : board.History) → Together m x b h k
+        → AreMoments b r.moments → Progresses marks m.bound costs no_delay cs b k r → EachChargePays m due cs b h r
+    charges_pay cs b k r h t all (model.AllSpent _ _) = AllSpent b h
+    charges_pay cs b k r h t all (model.SpentOne c ds _ _ ms end rest one pays more) =
+        let own = power_up_of b c.start ∷ ms in
+        let are : AreMoments b own = front_moments b (run_outcome (own ++ rest.moments) Charges end) own rest.moments all refl in
+        let there : last_board (powered b c.start) ms ≡ end = charge_last c.measure c.amount (powered b c.start) (run_outcome ms Charges end) one refl in
+        let P : BoardValue → Type 0 = λ y. Together m x y (after_all h own) (observed marks own k) in
+        let Q : BoardValue → Type 0 = λ y. AreMoments y rest.moments in
+        let next = subst P there (moments_lead m x ok b h k own t are).together in
+        let behind = subst Q there (are_behind b own rest.moments all) in
+        SpentOne c ds b h ms end rest one
+        (pays_so c b h k own t are pays)
+        (charges_pay ds end (observed marks own k) rest (after_all h own) next behind more)
+    charges_pay cs b k r h t all (model.StoppedIn c ds _ _ ms stop end one) = StoppedIn c ds b h ms stop end one
 
 -- of a run from its beginning on: the spans, the readings taken at the last boot or done, and what its charges pay for
 pub record IsReadOff (m : MapValue) (cs : List BoardCharge) (b : BoardValue) (r : RunOutcome) (k : History) : Type 0 where
   pub spans : committed_by k.completed ≡ spans_of m (at_first m b) r.moments
   pub since : k.since ≡ (after_all (at_first m b) r.moments).since
-  pub pays : (x : World) → Progresses (marks_of m) m.bound no_delay cs b (first_history (marks_of m) x) r → StartsWith b x
-      → EachChargePays m cs b (at_first m b) r
+  pub pays : (x : World) (cost : ℕ → ℕ) (pending : Bool)
+      → Progresses (marks_of m) m.bound (task_costs m cost pending x) no_delay cs b (first_history (marks_of m) x) r → StartsWith b x
+      → EachChargePays m (cost_due m cost pending) cs b (at_first m b) r
 
 -- the events that are read off moments are those of the effects
 pub read_off : (m : MapValue) (x : World) (cs : List BoardCharge) (b : BoardValue) (r : RunOutcome) → IsMap m → StartsWith b x → IsPlainRun cs b r
@@ -135,7 +154,8 @@ read_off m x cs b r ok starts run =
     record {
       spans = moments_add m x ok b (at_first m b) k r.moments t run.moments;
       since = sym (moments_lead m x ok b (at_first m b) k r.moments t run.moments).together.same.alike.since;
-      pays = λ y progress begins. charges_pay m y ok cs b (first_history (marks_of m) y) r (at_first m b) (together y begins) run.moments progress;
+      pays = λ y cost pending progress begins.
+          charges_pay m y ok cost pending cs b (first_history (marks_of m) y) r (at_first m b) (together y begins) run.moments progress;
     }
   where
     together : (y : World) → StartsWith b y → Together m y b (at_first m b) (first_history (marks_of m) y)

@@ -1,5 +1,5 @@
 -- The report of a run is the source's, on the committed readings of its dones.
-use Rattle.std.proofs.Common.{◌≡◌, ℕ, ◌+◌, ◌-◌, ◌<◌, ◌≤◌, ◌^◌, refl, sym, ap, ap₂, ◌∙◌, subst, arith, List, [], ◌∷◌, ◌++◌, length, drop, append-nil}
+use Rattle.std.proofs.Common.{◌≡◌, ℕ, ◌+◌, ◌-◌, ◌<◌, ◌≤◌, ◌^◌, Bool, true, refl, sym, ap, ap₂, ◌∙◌, subst, arith, List, [], ◌∷◌, ◌++◌, length, drop, append-nil}
 use Rattle.std.proofs.Common.{length-append, Some}
 use Rattle.std.proofs.lemmas.List.{length-map, map-append}
 use Rattle.alp_io.specs.declared.report.Reason.{Reason}
@@ -22,7 +22,7 @@ use Rattle.machine_effects.specs.World.{World}
 use Rattle.crash_rules.specs.Model.{Model, Marks, Inputs, bound}
 use Rattle.crash_rules.specs.History.{Done, History, first_history, inputs_from}
 use Rattle.crash_rules.specs.Runs.{Program}
-use Rattle.crash_rules.specs.Laws.{Origin, Resting, Pending, IsSettled, Reaches, IsLawful, SourceRun}
+use Rattle.crash_rules.specs.Laws.{Origin, Resting, Pending, IsSettled, Reaches, IsLawful, SourceRun, IsTaskWithin, IsFirstWithin, CoversTasks}
 use Rattle.run_charges.specs.Charges.{observed}
 use Rattle.run_charges.specs.Laws.{IsRunOfWords, IsPlainRun}
 use Rattle.model_runs.specs.Events.{marks_of, counted, dones_lines}
@@ -32,14 +32,15 @@ use Rattle.model_runs.proofs.Interface.{runs_plainly, never_reads, spans_are_in_
 use Rattle.source_runs.specs.Transitions.{HasWordsOf, StandForTransitions, committed_by}
 use Rattle.source_runs.proofs.Lines.{dones_are_transitions, counted_below}
 use Rattle.model_runs.specs.Runs.{BearsModel, history_behind, IsShort, Progresses, all_amounts, AreInOrder, AreInOrderPast}
-use Rattle.source_runs.specs.Tells.{EachChargePays, IsEndOf, IsUninterrupted, at_first}
-use Rattle.source_runs.specs.Resumed.{unread, IsToldFrom, IsToldUndone, IsToldBehind, CommitUndone, CommitDone, HasTransition}
+use Rattle.source_runs.specs.Tells.{cost_of, cost_due, EachChargePays, IsEndOf, IsUninterrupted, at_first}
+use Rattle.source_runs.specs.Resumed.{unread, is_pending, IsToldFrom, IsToldUndone, IsToldBehind, CommitUndone, CommitDone, HasTransition}
 use Rattle.source_runs.specs.Sources.{IsOfSource, events_of}
 use Rattle.source_runs.specs.Laws.{RunsAreTold, ResumedRunsAreTold}
 use Rattle.source_runs.proofs.Apart.{spans_are_apart}
 use Rattle.source_runs.proofs.Received.{words_are_received, run_hears}
 use Rattle.source_runs.proofs.Transitions.{Tells, tells}
 use Rattle.source_runs.proofs.Spans.{IsReadOff, read_off}
+use Rattle.source_runs.proofs.Costs.{task_costs}
 
 -- spans of dones as a source's report has them
 consecutive : (from to end : ℕ) (ds : List Done) → AreInOrder from to ds → to ≤ end
@@ -54,6 +55,32 @@ stand_both m s [] es [] us h k = k
 stand_both m s [] es (t ∷ ts) us h k = absurd h
 stand_both m s (d ∷ ds) es [] us h k = absurd h
 stand_both m s (d ∷ ds) es (t ∷ ts) us h k = (h.0, stand_both m (state_after s t) ds es ts us h.1 k)
+
+-- a task costs no more than what the world says that has a state's words
+pub state_within : (text : List ℕ) (program : CheckedProgram) (m : MapValue) (model : Model State) → IsOfSource text program m model → (s : State) (x : World)
+    → HasWordsOf m x s → IsTaskWithin model s (cost_of program (x.fram m.words.current_task))
+state_within text program m model is s x here below =
+    let same : model.task_cost (model.task_number s) ≡ cost_of program (x.fram m.words.current_task) =
+    ap (λ f. f (model.task_number s)) is.costs ∙ ap (cost_of program) (is.task_number s ∙ sym here.task) in
+    omega (arith, same)
+
+-- each charge pays for its transitions, where the first one costs no more than its world says
+pub charges_pay : (text : List ℕ) (program : CheckedProgram) (m : MapValue) (model : Model State) (c : Program) (x : World) (cs : List BoardCharge)
+    (b : BoardValue) (r : RunOutcome) (is : IsOfSource text program m model) (origin : Origin State) (bears : BearsModel model c b.readings origin x b)
+    (starts : StartsWith b x) (run : IsRunOfWords cs b r) (pending : Bool) → IsFirstWithin model origin (task_costs m (cost_of program) pending x).first
+    → EachChargePays m (cost_due m (cost_of program) pending) cs b (at_first m b) r
+charges_pay text program m model c x cs b r is origin bears starts run pending first =
+    let costs = task_costs m (cost_of program) pending x in
+    let covers : CoversTasks model origin costs = record {
+      first = first;
+      behind = λ s y rests. state_within text program m model is s y (is.rests s y rests);
+    } in
+    let P : Marks → Type 0 = λ g. Progresses g (bound model) costs model.delay cs b (first_history g x) r in
+    let Q : ℕ → Type 0 = λ n. Progresses (marks_of m) n costs model.delay cs b (first_history (marks_of m) x) r in
+    let R : (Inputs → ℕ) → Type 0 = λ d. Progresses (marks_of m) m.bound costs d cs b (first_history (marks_of m) x) r in
+    let made = makes_progress model c b.readings origin x cs b r run bears costs covers in
+    (read_off m x cs b r is.is_map starts (runs_plainly model c b.readings origin x b bears cs r run)).pays x (cost_of program) pending
+    (subst R is.delay (subst Q is.bound (subst P is.marks made))) starts
 
 module _ (text : List ℕ) (program : CheckedProgram) (m : MapValue) (model : Model State) (c : Program) (x : World) (cs : List BoardCharge) (b : BoardValue)
     (r : RunOutcome) (is : IsOfSource text program m model) (origin : Origin State) (bears : BearsModel model c b.readings origin x b)
@@ -79,13 +106,9 @@ module _ (text : List ℕ) (program : CheckedProgram) (m : MapValue) (model : Mo
   off : IsReadOff m cs b r h
   off = read_off m x cs b r is.is_map starts plain
 
-  progress : EachChargePays m cs b (at_first m b) r
-  progress =
-      let P : Marks → Type 0 = λ g. Progresses g (bound model) model.delay cs b (first_history g x) r in
-      let Q : ℕ → Type 0 = λ n. Progresses (marks_of m) n model.delay cs b (first_history (marks_of m) x) r in
-      let R : (Inputs → ℕ) → Type 0 = λ d. Progresses (marks_of m) m.bound d cs b (first_history (marks_of m) x) r in
-      let made = makes_progress model c b.readings origin x cs b r run bears in
-      off.pays x (subst R is.delay (subst Q is.bound (subst P is.marks made))) starts
+  progress : (pending : Bool) → IsFirstWithin model origin (task_costs m (cost_of program) pending x).first
+      → EachChargePays m (cost_due m (cost_of program) pending) cs b (at_first m b) r
+  progress pending first = charges_pay text program m model c x cs b r is origin bears starts run pending first
 
   in_readings : h.since ≤ length b.readings
   in_readings = takes_what_is_there cs b r plain (marks_of m) (first_history (marks_of m) x) (sym starts.taken) (omega arith)
@@ -115,7 +138,8 @@ module _ (text : List ℕ) (program : CheckedProgram) (m : MapValue) (model : Mo
   module _ (s0 s : State) (here : HasWordsOf m x s0) (done : List Done) (first : List Transition) (stand : StandForTransitions m s0 done first)
       (at : s ≡ state_behind s0 first) (spans : committed_by done ≡ unread first) (ds : List Done) (split : h.completed ≡ done ++ ds)
       (onward : (z : State) → Reaches model b.readings origin h.completed z → SourceRun model b.readings s ds z)
-      (alone : length cs ≡ 1 → AreInOrder 0 h.since ds) where
+      (alone : length cs ≡ 1 → AreInOrder 0 h.since ds)
+      (dear : IsFirstWithin model origin (task_costs m (cost_of program) (is_pending first) x).first) where
     all : Tells text program m model is b.readings s ds lawful.stands.state
     all = tells text program m model is b.readings s lawful.stands.state ds (onward lawful.stands.state lawful.stands.reached)
 
@@ -200,7 +224,7 @@ module _ (text : List ℕ) (program : CheckedProgram) (m : MapValue) (model : Mo
           source = all.source;
           lines = lines;
           ending = subst Ends off.since es.ending;
-          progress = progress;
+          progress = progress (is_pending first) dear;
           apart = subst (AreApart 0 (length b.readings)) spans_are (spans_are_apart (marks_of m) x r.moments (length b.readings) in_readings);
           words = words_are_received m x cs b r s0 (first ++ all.transitions) is.is_map starts plain here stand_all;
           heard = heard;
@@ -234,11 +258,15 @@ module _ (text : List ℕ) (program : CheckedProgram) (m : MapValue) (model : Mo
         → IsToldFrom text program m [] s cs b r (report_of (start_with b.fram (Some m)) b.line.coming r)
     told_resting s bears undecided here =
         told_from text program m model c x cs b r is (Resting s) bears starts run few s s here [] [] tt refl refl (events_of m x r).completed refl
-        (λ z reached. reached) (one_charge s bears undecided cs run)
+        (λ z reached. reached) (one_charge s bears undecided cs run) (state_within text program m model is s x here)
+
+    -- a commit that was pending at the start costs the bound
+    bound_within : (to : State) → IsFirstWithin model (Pending to) m.bound
+    bound_within to = let same = is.bound in omega (arith, same)
 
     -- a commit that isn't done
     told_undone : (to : State) → BearsModel model c b.readings (Pending to) x b → (events_of m x r).completed ≡ []
-        → IsToldUndone m cs b r (report_of (start_with b.fram (Some m)) b.line.coming r)
+        → IsToldUndone program m cs b r (report_of (start_with b.fram (Some m)) b.line.coming r)
     told_undone to bears none =
         record {
           spans_are = ap committed_by (sym none) ∙ (off text program m model c x cs b r is (Pending to) bears starts run few).spans;
@@ -246,7 +274,7 @@ module _ (text : List ℕ) (program : CheckedProgram) (m : MapValue) (model : Mo
               ∙ ap₂ (λ ds q. bound_line m.bound ++ (dones_lines m 0 x ds ++ (events_lines b.line.coming (none_accepted r.board) ++ q))) none
               (last_is r.ending (by_charges r.ending refl));
           ending = by_charges r.ending refl;
-          progress = progress text program m model c x cs b r is (Pending to) bears starts run few;
+          progress = progress text program m model c x cs b r is (Pending to) bears starts run few true (bound_within to);
           heard = heard text program m model c x cs b r is (Pending to) bears starts run few;
         }
       where
@@ -273,7 +301,7 @@ module _ (text : List ℕ) (program : CheckedProgram) (m : MapValue) (model : Mo
         let unread_span : committed_by (d ∷ []) ≡ unread (t ∷ []) = ap₂ (λ p q. record { from = p; to = q } ∷ []) reached.0.0 reached.0.1 in
         told_from text program m model c x cs b r is (Pending to) bears starts run few s to has.words (d ∷ []) (t ∷ []) stand (sym has.leaves)
         unread_span ds e (λ z q. (subst (λ l. Reaches model b.readings (Pending to) l z) e q).2)
-        (λ one. subst (λ l. AreInOrderPast (events_of m x r).since l) e (one_charge_past to bears cs run one))
+        (λ one. subst (λ l. AreInOrderPast (events_of m x r).since l) e (one_charge_past to bears cs run one)) (bound_within to)
 
     -- behind a pending commit
     told_pending : (s to : State) (t : Transition) → BearsModel model c b.readings (Pending to) x b → HasTransition m x s to t

@@ -1,5 +1,5 @@
 -- A run of the board that goes on from a saved state, as its source tells it.
-use Rattle.std.specs.Prelude.{◌≡◌, ℕ, ◌+◌, ◌^◌, ◌≤◌, ◌<◌, List, [], ◌∷◌, ◌++◌, length, map, drop, sum_by, Some}
+use Rattle.std.specs.Prelude.{◌≡◌, ℕ, ◌+◌, ◌^◌, ◌≤◌, ◌<◌, Bool, true, false, List, [], ◌∷◌, ◌++◌, length, map, drop, sum_by, Some}
 use Rattle.alp_io.specs.declared.report.Reason.{Reason}
 use Rattle.alp_io.specs.declared.report.Reason.TheVariants as reason
 use Rattle.alp_io.specs.Report.{bound_line, end_line}
@@ -12,12 +12,17 @@ use Rattle.source_values.specs.Runs.{CheckedProgram, State, Transition, state_af
 use Rattle.source_report.specs.Apart.{AreApart}
 use Rattle.source_report.specs.SourceReport.{Committed, readings_of, source_report}
 use Rattle.machine_effects.specs.World.{World}
-use Rattle.source_runs.specs.Tells.{spans_of, at_first, EachChargePays, IsEndOf, IsUninterrupted}
+use Rattle.source_runs.specs.Tells.{spans_of, at_first, cost_of, cost_due, EachChargePays, IsEndOf, IsUninterrupted}
 use Rattle.source_runs.specs.Transitions.{HasWordsOf}
 
 -- the spans of transitions whose commit was pending at the start: these have no readings of their own
 abbrev pub unread : List Transition → List Committed
 unread ts = map (λ t. record { from = 0; to = 0 }) ts
+
+-- whether a commit was pending at the start
+abbrev pub is_pending : List Transition → Bool
+is_pending [] = false
+is_pending (t ∷ ts) = true
 
 -- the report of a run, as the source tells it from a state on, behind the transitions whose commit was pending at the start: none or one.
 -- It is the source's report of these and of the source's transitions from there on, on the spans of the dones, each of which one task takes
@@ -35,25 +40,25 @@ pub record IsToldFrom (text : List ℕ) (program : CheckedProgram) (m : MapValue
       ++ end_line why (length first + length spans) r.board.receiver.accepted r.board.receiver.repeats))
   pub ending : let t = state_behind s transitions in
       IsEndOf r.ending (attempt_of program t.task t.shared (drop (after_all (at_first m b) r.moments).since b.readings)) why
-  pub progress : EachChargePays m cs b (at_first m b) r
+  pub progress : EachChargePays m (cost_due m (cost_of program) (is_pending first)) cs b (at_first m b) r
   pub apart : AreApart 0 (length b.readings) (unread first ++ spans)
   pub words : sum_by (λ t. length t.emitted) (first ++ transitions) ≤ r.board.receiver.accepted
   pub heard : r.board.receiver.accepted + r.board.receiver.repeats < b.receiver.accepted + b.receiver.repeats + 2 ^ 64
   pub uninterrupted : length cs ≡ 1 → IsUninterrupted b.readings (after_all (at_first m b) r.moments).since spans
 
 -- a run in which the commit that was pending at the start isn't done: it ended with its charges, and its report has no transition
-pub record IsToldUndone (m : MapValue) (cs : List BoardCharge) (b : BoardValue) (r : RunOutcome) (report : List ℕ) : Type 0 where
+pub record IsToldUndone (program : CheckedProgram) (m : MapValue) (cs : List BoardCharge) (b : BoardValue) (r : RunOutcome) (report : List ℕ) : Type 0 where
   pub spans_are : [] ≡ spans_of m (at_first m b) r.moments
   pub lines : report ≡ bound_line m.bound ++ (events_lines b.line.coming (none_accepted r.board)
       ++ end_line reason.Charges 0 r.board.receiver.accepted r.board.receiver.repeats)
   pub ending : r.ending ≡ Charges
-  pub progress : EachChargePays m cs b (at_first m b) r
+  pub progress : EachChargePays m (cost_due m (cost_of program) true) cs b (at_first m b) r
   pub heard : r.board.receiver.accepted + r.board.receiver.repeats < b.receiver.accepted + b.receiver.repeats + 2 ^ 64
 
 -- a run that began with a pending commit, which makes a transition to a state: it isn't done, or the run is told from there on
 pub data IsToldBehind (text : List ℕ) (program : CheckedProgram) (m : MapValue) (pending : Transition) (to : State) (cs : List BoardCharge)
     (b : BoardValue) (r : RunOutcome) (report : List ℕ) : Type 0 where
-  CommitUndone : IsToldUndone m cs b r report → IsToldBehind text program m pending to cs b r report
+  CommitUndone : IsToldUndone program m cs b r report → IsToldBehind text program m pending to cs b r report
   CommitDone : IsToldFrom text program m (pending ∷ []) to cs b r report → IsToldBehind text program m pending to cs b r report
 
 -- a world has the words of a state, from which a transition leads to another

@@ -15,16 +15,19 @@ use Rattle.run_charges.specs.Charges.{observed}
 use Rattle.model_runs.specs.Events.{marks_of}
 use Rattle.model_runs.specs.EventLaws.{StartsWith}
 use Rattle.source_runs.specs.Naming.{IsMapOf}
+use Rattle.source_runs.specs.Tells.{cost_of}
 use Rattle.source_runs.specs.Transitions.{HasWordsOf}
 use Rattle.model_runs.specs.Runs.{BearsModel, no_delay}
 
--- a model whose tasks are a source's and whose commits nothing delays, and where GATE and the words of each state are as a map says
+-- a model whose tasks are a source's, with their costs, and whose commits nothing delays, and where GATE and the words of each state are as a map says
 pub record IsOfSource (text : List ℕ) (program : CheckedProgram) (m : MapValue) (model : Model State) : Type 0 where
   pub is_map : IsMap m
   pub of_source : IsMapOf text program m
   pub emits_fit : All EmitsFit program.tasks
   pub marks : model.marks ≡ marks_of m
+  pub task_number : (s : State) → model.task_number s ≡ s.task
   pub bound : bound model ≡ m.bound
+  pub costs : model.task_cost ≡ cost_of program
   pub delay : model.delay ≡ no_delay
   pub transits : (s u : State) (inputs : Inputs) → model.task s inputs ≡ Ends u no_inputs
       → (t : Transition) × (transition_of program s inputs.readings ≡ Some t) × (u ≡ state_after s t)

@@ -23,7 +23,8 @@ pub trait Told {
 
 /// The report of a run is the source's report on the committed readings of its transitions, behind the bound and before the lines
 /// that say what became of its events, of which none is accepted, and how it ended; it never ends at a fault, nor for want of a
-/// reading but where the source is short; and each charge of n bounds that is spent has n transitions.
+/// reading but where the source is short; and each charge of n bounds that is spent has n transitions, as has one that holds the bounds of
+/// the next n tasks.
 pub fn run_is_told_by_its_source<S: Told>()
     ensures { RunsAreTold S.model S.program }
 {}

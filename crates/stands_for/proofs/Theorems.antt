@@ -18,6 +18,7 @@ keeps_the_laws St l v privates p apart room start tasks =
       undecided_gate = λ s x u. u.is_open.gate;
       undecided_task = λ s x u. u.is_open.is_task;
       undecided_words = λ s x u. u.is_open.accepted;
+      decided_task = λ s next x d. d.decided.sends.is_task;
       decided_words = λ s next x d. record {
         sent = take d.decided.sends.accepted.count d.emits;
         unsent = drop d.decided.sends.accepted.count d.emits;

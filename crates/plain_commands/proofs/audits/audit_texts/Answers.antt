@@ -1,6 +1,7 @@
 use Rattle.std.proofs.Common.{refl, subst}
 use Rattle.command_texts.specs.source_meaning.Events.{HasEvent}
-use Rattle.plain_commands.specs.Audit.{the_audits_source, the_audits_trace, the_audits_events}
+use Rattle.command_texts.specs.command_answers.Refusals.{Refusal}
+use Rattle.plain_commands.specs.Audit.{HasEventAt, the_audits_source, the_audits_trace, the_audits_events}
 use Rattle.command_texts.proofs.command_answers.Interface.{handed_on, refusal_fails}
 use Rattle.plain_commands.proofs.CommandLaws.{audit_product}
 use Rattle.plain_commands.proofs.audits.audit_texts.Goals as goal
@@ -20,8 +21,8 @@ pub returns-in_err-verdict-clause-failure : goal.returns-in_err-verdict-clause-f
 returns-in_err-verdict-clause-failure g c =
     handed_on _ _ _ c.from_residual-in_err-verdict.ensures
     (λ shelf stands. refusal_fails _ _ _ _ _ 0 _ _ refl
-    (λ r has. the_audits_events _ r c.in_ok-source.ensures.said (_, c.in_ok-trace.ensures.said)
-    (has.0, (subst (λ t. HasEvent t has.0) c.in_ok-source.ensures.text has.1.0, has.1.1))) stands refl c.in_err-verdict.ensures.failure)
+    (λ (r : Refusal) (has : HasEventAt c.in_ok-source.source.text.items r). the_audits_events _ r c.in_ok-source.ensures.said (_, c.in_ok-trace.ensures.said)
+    (has.0, subst (λ t. HasEvent t has.0) c.in_ok-source.ensures.text has.1, has.2)) stands refl c.in_err-verdict.ensures.failure)
 
 pub verdict_of-requires-clause-accepted : goal.verdict_of-requires-clause-accepted
 verdict_of-requires-clause-accepted g c = rw c.in_ok-source.ensures.text c.in_ok-source.ensures.accepted
