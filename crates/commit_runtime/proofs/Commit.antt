@@ -190,7 +190,8 @@ module _ (code : Code) (tidy : IsTidy code) (m : MemoryMap) (places : AreInFram 
       (λ v j. subst (λ x. Closed x v) next (close_part (p + with_events events 6) start number g l v even behind_tail j)))
       (λ v j. record { pc = j.pc; fram = j.fram ∙ sym (fram_after-append ts es f); inputs = j.inputs })
 
-  commits : (p start : ℕ) (f : ℕ → ℕ) (l : Inputs) (u : Core) → p + commit_bytes m.runtime.events < 0x10000 → start % 2 ≡ 0 → Stands code p (commit_forms m start) → CanCommit m f
+  commits : (p start : ℕ) (f : ℕ → ℕ) (l : Inputs) (u : Core) → p + commit_bytes m.runtime.events < 0x10000 → start % 2 ≡ 0
+      → Stands code p (commit_forms m start) → CanCommit m f
       → f (word_place m SentBase) < 0x10000 → IsAt p f l u
       → let n = f (word_place m ListLength) in let ws = length (listed m f) in let k = f (word_place m EmitCount) in let es = commit_effects m f in
       let events = m.runtime.events in
