@@ -131,7 +131,8 @@ start_is_made code m commit tasks at u boot e named word =
     recounted (omega (arith, once)) (omega (arith, dear)) (so_ends (comes_on
     (moved_to (omega arith) (opens code boot.tidy m boot.places (at + 10) f u.inputs u (omega (arith, room)) word
     (opening_there code m commit tasks at boot u) (record { pc = e; fram = refl; inputs = refl })))
-    (λ v j. to_task code boot.tidy m (dispatch_at code m commit tasks at boot u) (stubs_address m tasks at) (map rung_for tasks) (rung_for t) (copying t.privates g u.inputs) v
+    (λ v j. to_task code boot.tidy m (dispatch_at code m commit tasks at boot u) (stubs_address m tasks at) (map rung_for tasks)
+    (rung_for t) (copying t.privates g u.inputs) v
     (laddered code m commit tasks at boot u) j
     (omega (arith, named, stays, count)) is (copies_done code boot.tidy t.privates g u.inputs entered.privates)))
     (λ v h. record { pc = h.pc; sp = h.sp; fram = h.fram ∙ sym (fram_after-append os cs f); inputs = h.inputs }))

@@ -18,7 +18,7 @@ use Rattle.runtime_code.specs.runtime_effects.Needs.{AreInFram, CanCommit, IsCop
 use Rattle.runtime_code.proofs.runtime_effects.Interface.{run_length, entries_alike, where_leaves}
 use Rattle.runtime_code.specs.Comes.{Comes, IsAt}
 use Rattle.runtime_code.specs.Counted.{if_any}
-use Rattle.runtime_code.proofs.Interface.{behind, core_at, from_there, then_on, so_ends, recounted, nothing, comes_on, form_comes, straight, jumps}
+use Rattle.runtime_code.proofs.Interface.{behind, core_at, from_there, ends, then_on, so_ends, recounted, nothing, comes_on, form_comes, straight, jumps}
 use Rattle.runtime_code.proofs.Interface.{if_any_grows, Loop, Turning, Point, Turn, Makes, loop_ends, in_front, turn_there, loops}
 use Rattle.runtime_code.proofs.Interface.{IsLeft, all_left, left_from, first_left, BehindSends, sends_are_made}
 use Rattle.runtime_code.proofs.Interface.{tail_is_place, sent_is_place, behind_where, where_comes}
@@ -190,7 +190,8 @@ module _ (code : Code) (tidy : IsTidy code) (m : MemoryMap) (places : AreInFram 
       (λ v j. subst (λ x. Closed x v) next (close_part (p + with_events events 6) start number g l v even behind_tail j)))
       (λ v j. record { pc = j.pc; fram = j.fram ∙ sym (fram_after-append ts es f); inputs = j.inputs })
 
-  commits : (p start : ℕ) (f : ℕ → ℕ) (l : Inputs) (u : Core) → p + commit_bytes m.runtime.events < 0x10000 → start % 2 ≡ 0 → Stands code p (commit_forms m start) → CanCommit m f
+  commits : (p start : ℕ) (f : ℕ → ℕ) (l : Inputs) (u : Core) → p + commit_bytes m.runtime.events < 0x10000 → start % 2 ≡ 0
+      → Stands code p (commit_forms m start) → CanCommit m f
       → f (word_place m SentBase) < 0x10000 → IsAt p f l u
       → let n = f (word_place m ListLength) in let ws = length (listed m f) in let k = f (word_place m EmitCount) in let es = commit_effects m f in
       let events = m.runtime.events in

@@ -16,8 +16,8 @@ use Rattle.commit_runtime.specs.Listing.{commit_forms, commit_bytes, commit_step
 -- from where the listing stands, on FRAM on which a commit can be made and SB is a word, the code makes exactly the commit, whatever the registers,
 -- and comes to the attempt's start, in a number of steps and of cycles that depends on CLN, the listed words and EN alone
 abbrev pub CommitIsMade : Type 0
-CommitIsMade = (code : Code) (m : MemoryMap) (at start : ℕ) (u : Core) → IsTidy code → AreInFram m → at + commit_bytes m.runtime.events < 0x10000 → start % 2 ≡ 0
-    → Stands code at (commit_forms m start) → u.pc ≡ at → CanCommit m u.fram → u.fram (word_place m SentBase) < 0x10000
+CommitIsMade = (code : Code) (m : MemoryMap) (at start : ℕ) (u : Core) → IsTidy code → AreInFram m → at + commit_bytes m.runtime.events < 0x10000
+    → start % 2 ≡ 0 → Stands code at (commit_forms m start) → u.pc ≡ at → CanCommit m u.fram → u.fram (word_place m SentBase) < 0x10000
     → let entries = u.fram (word_place m ListLength) in
     let words = length (listed m u.fram) in
     let emits = u.fram (word_place m EmitCount) in

@@ -54,7 +54,8 @@ module _ (l : ProgramPlaces) (apart : AreApart l.map) where
       let w = (g (word_place l.map Version) + 1) % 0x10000 in
       where_leaves l.map.runtime.events count_place 0 a
       (put (put (put g (word_place l.map Version) w) (word_place l.map ListLength) 0) (word_place l.map EmitCount) 0) (λ on q. omega (arith, q, high))
-      ∙ put_other (put (put g (word_place l.map Version) w) (word_place l.map ListLength) 0) (word_place l.map EmitCount) 0 a (λ q. omega (arith, apart, q, low))
+      ∙ put_other (put (put g (word_place l.map Version) w) (word_place l.map ListLength) 0) (word_place l.map EmitCount) 0 a
+      (λ q. omega (arith, apart, q, low))
       ∙ put_other (put g (word_place l.map Version) w) (word_place l.map ListLength) 0 a (λ q. omega (arith, apart, q, low))
       ∙ put_other g (word_place l.map Version) w a (λ q. omega (arith, apart, q, low))
 

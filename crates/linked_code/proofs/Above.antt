@@ -8,7 +8,8 @@ use Rattle.boot_runtime.specs.runtime_effects.Places.{CopyPair}
 use Rattle.boot_runtime.specs.Entries.{task_entries}
 use Rattle.boot_runtime.specs.Listing.{TaskEntry, stub_bytes, stubs_address, copies_in, stub_to, stub, stubs, ladder_to, fixed_forms, boot_forms}
 use Rattle.boot_runtime.specs.Listing.{head, end_tested, clearing, counts_set, event_count_set, events_counted, dispatch}
-use Rattle.commit_runtime.specs.Listing.{copies_begin, copy_loop, sends_begin, send_loop, tail_set, events_taken, closing, commit_forms}
+use Rattle.commit_runtime.specs.Listing.{tail_set, events_taken, closing, commit_forms}
+use Rattle.commit_runtime.proofs.Interface.{commit_front}
 use Rattle.word_code.specs.TaskForms.{EachForm, NamesRamFrom}
 use Rattle.word_code.proofs.Interface.{code_names_ram_from, each-append}
 use Rattle.linked_code.specs.Laws.{LinkedKeepsAbove}
@@ -50,7 +51,7 @@ dispatch_keeps m = search arith
 fixed_keep : (m : MemoryMap) (commit : ℕ) → Keep (fixed_forms m commit)
 fixed_keep m commit =
     each-append (NamesRamFrom stack_top) (opened m commit) (events_counted m ++ dispatch m) (opened_keeps m commit)
-    (each-append (NamesRamFrom stack_top) (events_counted m) (dispatch m) (where_keeps m.runtime.events event_count_set (tt, tt)) (dispatch_keeps m))
+    (each-append (NamesRamFrom stack_top) (events_counted m) (dispatch m) (where_keeps m.runtime.events event_count_set ((tt, tt), tt)) (dispatch_keeps m))
 
 boot_keeps : (m : MemoryMap) (commit : ℕ) (ts : List TaskEntry) (at : ℕ) → Keep (boot_forms m commit ts at)
 boot_keeps m commit ts at =
@@ -59,11 +60,8 @@ boot_keeps m commit ts at =
     (each-append (NamesRamFrom stack_top) ladder (stubs ts) (ladder_keeps (stubs_address m ts at) ts) (stubs_keep ts))
 
 -- the commit up to the store to TAIL, and behind it
-abbrev sent : MemoryMap → List Form
-sent m = copies_begin m ++ (copy_loop m ++ (sends_begin m ++ send_loop m))
-
-sent_keeps : (m : MemoryMap) → Keep (sent m)
-sent_keeps m = search arith
+front_keeps : (m : MemoryMap) → Keep (commit_front m)
+front_keeps m = search arith
 
 closing_keeps : (m : MemoryMap) (start : ℕ) → Keep (closing m ++ (Branch start ∷ []))
 closing_keeps m start = search arith
@@ -71,8 +69,8 @@ closing_keeps m start = search arith
 commit_keeps : (m : MemoryMap) (start : ℕ) → Keep (commit_forms m start)
 commit_keeps m start =
     let last = closing m ++ (Branch start ∷ []) in
-    each-append (NamesRamFrom stack_top) (sent m) (events_taken m ++ last) (sent_keeps m)
-    (each-append (NamesRamFrom stack_top) (events_taken m) last (where_keeps m.runtime.events tail_set (tt, tt)) (closing_keeps m start))
+    each-append (NamesRamFrom stack_top) (commit_front m) (events_taken m ++ last) (front_keeps m)
+    (each-append (NamesRamFrom stack_top) (events_taken m) last (where_keeps m.runtime.events tail_set ((tt, tt), tt)) (closing_keeps m start))
 
 pub linked_keeps_above : LinkedKeepsAbove
 linked_keeps_above l programs = record {

@@ -96,9 +96,11 @@ behind_commit m x =
     let f = x.fram in
     let a = copied_home (listed m f) f in let b = emits_sent m f in let c = commit_closed m f in
     let y : World = record { fram = copies_behind (listed m f) f; accepted = x.accepted } in
+    let moved : List Effect = Store (word_place m CurrentTask) (f (word_place m NextTask)) ∷ Store (word_place m Base) (next_base m f)
+    ∷ Store (word_place m Gate) 0 ∷ [] in
     world_after-append a (b ++ c) x ∙ ap (world_after (b ++ c)) (copies_world (listed m f) x) ∙ world_after-append b c y
     ∙ ap (world_after c) (sends_world (f (word_place m EmitCount)) (f (word_place m SentBase)) m.emits.address f y)
-    ∙ tail_world m.runtime.events (f sent_place) _ (record { fram = y.fram; accepted = accepted_after b x.accepted })
+    ∙ tail_world m.runtime.events (f sent_place) moved (record { fram = y.fram; accepted = accepted_after b x.accepted })
 
 -- a word that none of the last stores has stays as the copies leave it
 pub closed_other : (m : MemoryMap) (f g : ℕ → ℕ) (a : ℕ) → (IsTail m a → ⊥) → (a ≡ word_place m CurrentTask → ⊥) → (a ≡ word_place m Base → ⊥)

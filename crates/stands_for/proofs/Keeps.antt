@@ -51,9 +51,12 @@ reads_alike l x y apart same =
       sent_base = same (word_place m SentBase) (λ h. omega (arith, apart, h)) (λ e. omega (arith, apart, e)) (λ e. omega (arith, e)) (λ e. omega (arith, e));
       sent_tail = same sent_place (λ h. omega (arith, apart, h)) (λ e. omega (arith, e)) (λ e. omega (arith, apart, e)) (λ e. omega (arith, apart, e));
       version = same (word_place m Version) (λ h. omega (arith, apart, h)) (λ e. omega (arith, apart, e)) (λ e. omega (arith, e)) (λ e. omega (arith, e));
-      entries = λ a lo hi. same a (λ h. omega (arith, apart, h, hi)) (λ e. omega (arith, apart, e, hi)) (λ e. omega (arith, apart, e, lo)) (λ e. omega (arith, apart, e, lo));
-      emits = λ a lo hi. same a (λ h. omega (arith, apart, h, hi)) (λ e. omega (arith, apart, e, hi)) (λ e. omega (arith, apart, e, lo)) (λ e. omega (arith, apart, e, lo));
-      copies = λ a c. same a (λ h. omega (arith, apart, h, c)) (λ e. omega (arith, apart, e, c)) (λ e. omega (arith, apart, e, c)) (λ e. omega (arith, apart, e, c));
+      entries = λ a lo hi. same a (λ h. omega (arith, apart, h, hi)) (λ e. omega (arith, apart, e, hi))
+          (λ e. omega (arith, apart, e, lo)) (λ e. omega (arith, apart, e, lo));
+      emits = λ a lo hi. same a (λ h. omega (arith, apart, h, hi)) (λ e. omega (arith, apart, e, hi))
+          (λ e. omega (arith, apart, e, lo)) (λ e. omega (arith, apart, e, lo));
+      copies = λ a c. same a (λ h. omega (arith, apart, h, c)) (λ e. omega (arith, apart, e, c))
+          (λ e. omega (arith, apart, e, c)) (λ e. omega (arith, apart, e, c));
       versions = λ i h. same (m.versions.address + 2 * i) (λ s. omega (arith, apart, s, h)) (λ e. omega (arith, apart, e, h)) (λ e. omega (arith, apart, e))
           (λ e. omega (arith, apart, e));
     }

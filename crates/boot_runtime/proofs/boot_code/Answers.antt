@@ -14,6 +14,7 @@ pub returns : goal.returns
 returns c =
     let xs = c.tasks-tasks.result.now in
     let ladder = rw c.in_ok-code.ensures at c.in_ok-push_ladder.ensures in
-    boot_written c.args.layout.now c.args.layout.now.commit.address c.args.at (ladder_address c.args.layout.now c.args.at + 4 * length xs) (task_entries c.args.layout.now)
+    boot_written c.args.layout.now c.args.layout.now.commit.address c.args.at (ladder_address c.args.layout.now c.args.at + 4 * length xs)
+    (task_entries c.args.layout.now)
     (map entry_of xs) c.push_ladder.new.code.items c.push_stubs.new.code.items (ap (map entry_of) c.tasks-tasks.ensures)
     (ap (λ n. ladder_address c.args.layout.now c.args.at + 4 * n) (sym (length-map xs entry_of))) ladder c.in_ok-push_stubs.ensures
