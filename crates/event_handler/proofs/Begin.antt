@@ -1,23 +1,19 @@
 -- The acceptance leads to the handler's first instruction.
-use Rattle.std.proofs.Common.{◌≡◌, ◌+◌, ◌-◌, ◌*◌, ◌/◌, ◌%◌, ◌≤◌, ◌==◌, if◌then◌else◌, not, arith, ℕ, refl, sym, ◌∙◌, ap, subst, Bool, true, false}
-use Rattle.std.proofs.Common.{List, [], ◌∷◌, ◌++◌, length, length-set, slice_index, slice_set, Option, Some, None, Ok}
+use Rattle.std.proofs.Common.{◌≡◌, ◌-◌, ◌*◌, ◌/◌, if◌then◌else◌, arith, ℕ, refl, sym, ◌∙◌, ap, subst, true, false}
+use Rattle.std.proofs.Common.{[], ◌∷◌, ◌++◌, length-set, slice_set, None}
 use Rattle.msp_step.specs.Registers.{Registers, registers_of}
 use Rattle.msp_step.specs.Effect.{word_sum}
-use Rattle.msp_step.specs.Step.{Outcome, return_place, status_place, interrupted}
-use Rattle.fram_board.specs.address_space.Limits.{event_vector}
-use Rattle.fram_board.specs.image_text.ImageValue.{place_of}
-use Rattle.fram_board.specs.declared.board.Stepped.{Stepped}
+use Rattle.msp_step.specs.Step.{return_place, status_place}
 use Rattle.fram_board.specs.Bus.{BusState, is_word, is_ram, is_fram, ram_place, with_word}
-use Rattle.fram_board.specs.Board.{BoardValue, opened, closed, board_outcome, acceptance, acceptance_on, acceptance_made, acceptance_refused, at_boundary}
-use Rattle.fram_board.specs.Effects.{Effect, Store, store_of, acceptance_effects}
+use Rattle.fram_board.specs.Board.{BoardValue, opened, board_outcome, acceptance, acceptance_on, acceptance_made, at_boundary}
+use Rattle.fram_board.specs.Effects.{Store, store_of}
 use Rattle.fram_board.proofs.Interface.{ram_not_fram}
 use Rattle.machine_effects.specs.World.{put}
 use Rattle.machine_effects.specs.Machine.{ram_of}
 use Rattle.machine_effects.specs.View.{IsWhole, IsOfWords}
 use Rattle.machine_effects.proofs.Interface.{acceptance_keeps_words, boundary_whole, boundary_words, boundary_heard}
-use Rattle.event_places.specs.Places.{handler_place}
 use Rattle.event_handler.specs.Handler.{SaveR4}
-use Rattle.event_handler.specs.Boundaries.{IsInterrupted, IsInHandler, KeepsTheRest, stack_of, with_return}
+use Rattle.event_handler.specs.Boundaries.{IsInterrupted, IsInHandler, stack_of, with_return}
 use Rattle.event_handler.specs.Laws.{Begins, HandlerBegins}
 use Rattle.event_handler.proofs.Bus.{IsStackWord, stack_ram, stack_is_word, with_ram, ram_written, ram_put}
 use Rattle.event_handler.proofs.Stages.{IsStack, stack_from, word_below, kept_even, event_waits}
@@ -33,13 +29,9 @@ first_place sp q = let l = q.low in let u = q.high in omega arith
 second_place : (sp : ℕ) → IsStack sp → word_sum sp 0xFFFC ≡ sp - 4
 second_place sp q = let l = q.low in let u = q.high in omega arith
 
--- what it stores
-both : (r : Registers) (s : BusState) → BusState
-both r s = with_ram (with_ram s (return_place r) (r 0)) (status_place r) (r 2)
-
+-- both stores go to RAM
 both_written : (r : Registers) (s : BusState) → is_ram (return_place r) ≡ true → is_ram (status_place r) ≡ true
-    → with_word (with_word s (return_place r) (r 0)) (status_place r) (r 2) ≡ both r s
-unfolding both
+    → with_word (with_word s (return_place r) (r 0)) (status_place r) (r 2) ≡ with_ram (with_ram s (return_place r) (r 0)) (status_place r) (r 2)
 both_written r s e f =
     ap (λ t. with_word t (status_place r) (r 2)) (ram_written s (return_place r) (r 0) e)
     ∙ ram_written (with_ram s (return_place r) (r 0)) (status_place r) (r 2) f
@@ -68,7 +60,6 @@ module _ (from : BoardValue) (g : IsInterrupted from) where
 
   accepted_as : acceptance_on file (opened from)
       ≡ acceptance_made file (with_ram (with_ram (opened from) (return_place file) (file 0)) (status_place file) (file 2))
-  unfolding both
   accepted_as =
       is_made file (opened from) (stack_is_word (return_place file) first_word) (stack_is_word (status_place file) second_word)
       ∙ ap (acceptance_made file)

@@ -1,21 +1,21 @@
 -- Reads and writes of words of memory on the board's bus, and addresses of the stack.
-use Rattle.std.proofs.Common.{◌≡◌, ◌+◌, ◌-◌, ◌*◌, ◌/◌, ◌%◌, ◌≤◌, ◌<◌, ◌==◌, ◌&&◌, if◌then◌else◌, arith, ℕ, refl, sym, ◌∙◌, ap, Bool, true, false}
-use Rattle.std.proofs.Common.{List, [], ◌∷◌, ◌++◌, append-nil, length, slice_index, slice_set, slice_range, map, Option, Some, None, Ok, Err, cond}
+use Rattle.std.proofs.Common.{◌≡◌, ◌%◌, ◌≤◌, ◌<◌, ◌==◌, if◌then◌else◌, arith, ℕ, refl, sym, ◌∙◌, ap, true, false}
+use Rattle.std.proofs.Common.{List, ◌++◌, append-nil, length, slice_index, slice_set, slice_range, map, Option, None}
 use Rattle.std.specs.Option.{option_map}
 use Rattle.std.proofs.lemmas.Bool.Decides.{nat_tests}
 use Rattle.msp_isa.specs.alp_words.declared.Width.TheVariants.{Word}
 use Rattle.msp_isa.specs.declared.instructions.Instr.{Instr}
 use Rattle.fram_board.specs.msp_step.Registers.{Registers, registers_of}
-use Rattle.fram_board.specs.msp_step.Access.{Access, Completed, read_at, write_at}
+use Rattle.fram_board.specs.msp_step.Access.{Completed, read_at, write_at}
 use Rattle.fram_board.specs.msp_step.Effect.{Written}
 use Rattle.fram_board.specs.msp_step.Step.{effect, outcome_of}
 use Rattle.fram_board.specs.image_text.ImageValue.{place_of}
-use Rattle.fram_board.specs.Bus.{BusState, board_bus, is_ram, is_fram, is_word, ram_place, memory_word, with_word, after_read, sensor_port, event_port}
+use Rattle.fram_board.specs.Bus.{BusState, board_bus, is_ram, is_word, ram_place, memory_word, with_word, sensor_port, event_port}
 use Rattle.fram_board.specs.Board.{BoardValue, opened, board_outcome, executed}
-use Rattle.fram_board.specs.Effects.{Take, store_at, sends_of, effects_of, Effect}
+use Rattle.fram_board.specs.Effects.{Take, store_at, sends_of, effects_of}
 use Rattle.machine_effects.specs.World.{put}
-use Rattle.machine_effects.specs.Machine.{ram_of, fram_of, word_address}
-use Rattle.machine_effects.proofs.Interface.{ram_at, put_ram, put_fram, none_taken}
+use Rattle.machine_effects.specs.Machine.{ram_of, word_address}
+use Rattle.machine_effects.proofs.Interface.{ram_at, put_ram, none_taken}
 
 -- a word of memory is read, and the bus stays
 pub memory_read : (s : BusState) (a : ℕ) → is_word a ≡ true → (a == sensor_port) ≡ false → (a == event_port) ≡ false

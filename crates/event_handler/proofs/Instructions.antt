@@ -1,5 +1,5 @@
 -- The effect of each of the handler's instructions.
-use Rattle.std.proofs.Common.{◌≡◌, ◌+◌, ◌*◌, ◌%◌, ℕ, refl, ◌∙◌, ap, Bool, true, false, slice_index, slice_set, Option, Some, None, if◌then◌else◌}
+use Rattle.std.proofs.Common.{◌≡◌, ℕ, refl, ◌∙◌, ap, true, false, slice_index, slice_set, Option, Some, None}
 use Rattle.msp_isa.specs.alp_words.declared.Width.TheVariants.{Word}
 use Rattle.msp_isa.specs.alp_words.declared.Flags.{Flags}
 use Rattle.msp_isa.specs.alp_words.Words.{sum_of, difference_of, and_of}
@@ -11,15 +11,15 @@ use Rattle.msp_isa.specs.declared.registers.Reg.TheVariants as reg
 use Rattle.msp_isa.specs.declared.operands.Dst.TheVariants as dst
 use Rattle.fram_board.specs.msp_step.Registers.{Registers, with_register}
 use Rattle.fram_board.specs.msp_step.Access.{Access, Completed, then_do, read_at}
-use Rattle.fram_board.specs.msp_step.Effect.{Written, word_sum, below_stack, flags_of, status_with, jump_effect, after_source, destination_location}
+use Rattle.fram_board.specs.msp_step.Effect.{Written, word_sum, below_stack, status_with, jump_effect, after_source, destination_location}
 use Rattle.fram_board.specs.msp_step.Step.{effect}
 use Rattle.fram_board.specs.image_text.ImageValue.{place_of}
 use Rattle.fram_board.specs.Bus.{BusState, board_bus, with_word, is_word}
 use Rattle.fram_board.specs.Events.{port_word, port_read}
 use Rattle.event_places.specs.Places.{tail_place, head_place, ring_place, ring_slots}
-use Rattle.event_handler.specs.Handler.{SaveR4, SaveR5, TakeEvent, LoadHead, SubtractTail, CompareRoom, LeaveIfFull, LoadHeadAgain, CutToSlots}
+use Rattle.event_handler.specs.Handler.{SaveR4, SaveR5, TakeEvent, LoadHead, SubtractTail, CompareRoom, LeaveIfFull, CutToSlots}
 use Rattle.event_handler.specs.Handler.{DoubleIndex, StoreWord, RaiseHead, RestoreR5, RestoreR4, Return, instruction_at}
-use Rattle.event_handler.proofs.Bus.{IsStackWord, with_ram, stack_write, stack_read, memory_write}
+use Rattle.event_handler.proofs.Bus.{IsStackWord, with_ram, stack_write, memory_write}
 
 -- PC moved behind the operation word, and then behind the extension words of source and destination
 abbrev pub moved : Registers → ℕ → ℕ → Registers
@@ -45,16 +45,19 @@ returned r sr pc = with_register (with_register (with_register r 1 (word_sum (r 
 abbrev popping : Registers → IndexRegister → Access BusState ℕ → Effect
 popping r n m =
     let first = word_sum (r 0) 2 in
-    then_do {A = ℕ × Registers} {B = Registers × Option Written} (then_do {A = ℕ} {B = ℕ × Registers} m (λ v t. Completed (v, with_register (with_register r 0 first) 1 (word_sum (r 1) 2)) t))
+    let raised = with_register (with_register r 0 first) 1 (word_sum (r 1) 2) in
+    then_do {A = ℕ × Registers} {B = Registers × Option Written} (then_do {A = ℕ} {B = ℕ × Registers} m (λ v t. Completed (v, raised) t))
     (λ x t. let past = with_register x.1 0 (word_sum (word_sum first 0) 0) in
     after_source board_bus Mov Word (destination_location past (word_sum first 0) (dst.Reg (reg.Index n))) x.0 past t)
 
 module _ (r : Registers) (s : BusState) where
-  pub saves_r4 : IsStackWord (below_stack r) → effect board_bus (instruction_at SaveR4) r s ≡ Completed (pushed r, Some (below_stack r, r 4)) (with_ram s (below_stack r) (r 4))
+  pub saves_r4 : IsStackWord (below_stack r) → effect board_bus (instruction_at SaveR4) r s ≡
+      Completed (pushed r, Some (below_stack r, r 4)) (with_ram s (below_stack r) (r 4))
   unfolding effect
   saves_r4 h = stack_write s (below_stack r) (r 4) (pushed r, Some (below_stack r, r 4)) h
 
-  pub saves_r5 : IsStackWord (below_stack r) → effect board_bus (instruction_at SaveR5) r s ≡ Completed (pushed r, Some (below_stack r, r 5)) (with_ram s (below_stack r) (r 5))
+  pub saves_r5 : IsStackWord (below_stack r) → effect board_bus (instruction_at SaveR5) r s ≡
+      Completed (pushed r, Some (below_stack r, r 5)) (with_ram s (below_stack r) (r 5))
   unfolding effect
   saves_r5 h = stack_write s (below_stack r) (r 5) (pushed r, Some (below_stack r, r 5)) h
 

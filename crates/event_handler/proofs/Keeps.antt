@@ -1,19 +1,17 @@
 -- What the handler leaves alone, and how many cycles it takes.
-use Rattle.std.proofs.Common.{◌≡◌, ◌+◌, ◌-◌, ◌*◌, ◌%◌, ◌≤◌, ◌<◌, ◌&&◌, if◌then◌else◌, nat_le, nat_lt, arith, ℕ, refl, ◌∙◌, ap, Bool, true, false}
-use Rattle.std.proofs.Common.{Option, Some, None}
+use Rattle.std.proofs.Common.{◌≡◌, ◌+◌, ◌-◌, ◌≤◌, if◌then◌else◌, arith, ℕ, refl, ◌∙◌, ap, Bool, true, false}
 use Rattle.std.proofs.lemmas.Bool.Decides.{nat_tests}
-use Rattle.msp_cycles.specs.Cycles.{cycles_of}
 use Rattle.fram_board.specs.Board.{BoardValue}
 use Rattle.machine_effects.specs.World.{put}
 use Rattle.machine_effects.specs.Machine.{fram_of, ram_of}
 use Rattle.machine_effects.proofs.Interface.{put_other}
 use Rattle.event_places.specs.Places.{slot_place, head_place, is_ring}
 use Rattle.event_handler.specs.Handler.{Stage, SaveR4, SaveR5, TakeEvent, LoadHead, SubtractTail, CompareRoom, LeaveIfFull, LoadHeadAgain, CutToSlots}
-use Rattle.event_handler.specs.Handler.{DoubleIndex, StoreWord, RaiseHead, RestoreR5, RestoreR4, Return, instruction_at}
-use Rattle.event_handler.specs.Boundaries.{IsInterrupted, IsInHandler, HasReturned, IsOutsideAs, stack_of, head_of, event_of, is_ring_full, with_event}
-use Rattle.event_handler.specs.Boundaries.{with_head_raised, fram_behind, fram_at, with_return, with_r4, with_r5, ram_at, next_stage, cycles_left}
-use Rattle.event_handler.specs.Boundaries.{instructions_left, left_behind}
-use Rattle.event_handler.specs.Laws.{HandlerTakesItsCycles, HandlerKeepsTheRest, TakesOfTheLeft}
+use Rattle.event_handler.specs.Handler.{DoubleIndex, StoreWord, RaiseHead, RestoreR5, RestoreR4, Return}
+use Rattle.event_handler.specs.Boundaries.{stack_of, head_of, event_of, is_ring_full, with_event}
+use Rattle.event_handler.specs.Boundaries.{with_head_raised, fram_at, with_return, with_r4, with_r5, ram_at, cycles_left}
+use Rattle.event_handler.specs.Boundaries.{instructions_left}
+use Rattle.event_handler.specs.Laws.{HandlerTakesItsCycles, HandlerKeepsTheRest}
 
 -- where the ring is full, the rest is shorter
 either_left : (full : Bool) → (2 + cycles_left (if full then RestoreR5 else LoadHeadAgain) ≤ 25)

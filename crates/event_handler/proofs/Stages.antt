@@ -1,6 +1,6 @@
 -- The handler's instructions, one after another: each leaves what the next one finds.
-use Rattle.std.proofs.Common.{◌≡◌, ◌+◌, ◌-◌, ◌*◌, ◌/◌, ◌%◌, ◌≤◌, ◌<◌, ◌==◌, ◌&&◌, if◌then◌else◌, nat_le, arith, ℕ, refl, sym, ◌∙◌, ap, subst, Bool, true, false}
-use Rattle.std.proofs.Common.{List, [], ◌∷◌, length, slice_index, slice_set, bit_and, Option, Some, None, Ok}
+use Rattle.std.proofs.Common.{◌≡◌, ◌+◌, ◌-◌, ◌*◌, ◌/◌, ◌%◌, ◌≤◌, ◌<◌, ◌==◌, if◌then◌else◌, nat_le, arith, ℕ, refl, sym, ◌∙◌, ap, subst, Bool, true, false}
+use Rattle.std.proofs.Common.{List, [], ◌∷◌, length, slice_index, slice_set, bit_and, Option, Some, None}
 use Rattle.std.proofs.lemmas.Nat.{and_mask}
 use Rattle.std.proofs.lemmas.Bool.{and_parts}
 use Rattle.std.proofs.lemmas.Bool.Decides.{nat_tests}
@@ -17,23 +17,23 @@ use Rattle.fram_board.specs.image_text.ImageValue.{place_of}
 use Rattle.fram_board.specs.Bus.{BusState, board_bus, is_ram, is_fram, is_word, ram_place, with_word}
 use Rattle.fram_board.specs.declared.events.Heard.TheVariants.{Once}
 use Rattle.fram_board.specs.Events.{EventLine, heard_again, is_full, port_word, port_read, port_behind, arising, arising_due, line_behind_step}
-use Rattle.fram_board.specs.Board.{BoardValue, opened, closed, register_list, receiver_after, is_accepting, at_boundary}
-use Rattle.fram_board.specs.Effects.{Effect, Store, store_at}
+use Rattle.fram_board.specs.Board.{BoardValue, opened, closed, register_list, receiver_after}
+use Rattle.fram_board.specs.Effects.{Store, store_at}
 use Rattle.fram_board.proofs.Interface.{ram_not_fram}
 use Rattle.machine_effects.specs.World.{put}
 use Rattle.machine_effects.specs.Machine.{fram_of, ram_of, word_address}
 use Rattle.machine_effects.proofs.Interface.{put_other, put_at, put_fram, fram_at as fram_word, index_small, bit_low}
 use Rattle.event_places.specs.Places.{tail_place, head_place, ring_place, ring_slots, slot_place}
 use Rattle.event_handler.specs.Handler.{Stage, SaveR4, SaveR5, TakeEvent, LoadHead, SubtractTail, CompareRoom, LeaveIfFull, LoadHeadAgain, CutToSlots}
-use Rattle.event_handler.specs.Handler.{DoubleIndex, StoreWord, RaiseHead, RestoreR5, RestoreR4, Return, place_at, instruction_at}
+use Rattle.event_handler.specs.Handler.{DoubleIndex, StoreWord, RaiseHead, RestoreR5, RestoreR4, Return, instruction_at}
 use Rattle.event_handler.specs.Boundaries.{IsInterrupted, IsInHandler, KeepsTheRest, stack_of, event_of, head_of, tail_of, is_ring_full, with_event}
-use Rattle.event_handler.specs.Boundaries.{with_head_raised, fram_behind, with_return, with_r4, with_r5, other_registers, next_stage, effects_at, heard_at}
+use Rattle.event_handler.specs.Boundaries.{with_head_raised, with_return, with_r4, with_r5, other_registers, effects_at, heard_at}
 use Rattle.event_handler.specs.Laws.{GoesOn, HandlerGoesOn}
 use Rattle.event_handler.proofs.Bus.{IsStackWord, stack_ram, stack_read, with_ram, ram_put, even_address}
 use Rattle.event_handler.proofs.Instructions.{moved, flagged, pushed, popped, returned, saves_r4, saves_r5, takes_event, loads_head, subtracts_tail}
 use Rattle.event_handler.proofs.Instructions.{compares_room, leaves_if_full, cuts_to_slots, doubles_index, stores_word, raises_head, restores_r5}
 use Rattle.event_handler.proofs.Instructions.{restores_r4, returns}
-use Rattle.event_handler.proofs.Step.{Leaves, Served, LeavesBehind, goes_on, comes_back}
+use Rattle.event_handler.proofs.Step.{Served, goes_on, comes_back}
 
 -- SP, and the words below it
 pub record IsStack (sp : ℕ) : Type 0 where
@@ -79,7 +79,7 @@ zero_back sr f h =
 
 -- what the operations give
 difference_is : (d t : ℕ) → t < 0x10000 → (difference_of Word d t true).0 ≡ word_difference d t
-difference_is d t low = let e : 0xFFFF - t + 1 ≡ 0x10000 - t = omega arith in let f : d + (0xFFFF - t) + 1 ≡ d + (0x10000 - t) = omega arith in ap (λ n. n % 0x10000) f
+difference_is d t low = let e : d + (0xFFFF - t) + 1 ≡ d + (0x10000 - t) = omega arith in ap (λ n. n % 0x10000) e
 
 compared : (d : ℕ) → d < 0x10000 → ((d + 65471 + 1) % 0x10000 == 0) ≡ (d == 64)
 compared d low = grind (arith, nat_tests)
@@ -247,7 +247,8 @@ module _ (from b : BoardValue) (g : IsInterrupted from) where
       let d = difference_of Word (file 5) (slice_index b.fram (place_of tail_place)) true in
       let r = with_register (flagged (moved file 2 0) d.1) 5 d.0 in
       let low = index_small b.fram (place_of tail_place) h.words.fram in
-      goes_on from b SubtractTail CompareRoom g h refl r None (opened b) (quiet SubtractTail refl r (opened b) (subtracts_tail file (opened b)) refl refl h.heard)
+      goes_on from b SubtractTail CompareRoom g h refl r None (opened b)
+      (quiet SubtractTail refl r (opened b) (subtracts_tail file (opened b)) refl refl h.heard)
       (record {
         pc = ap (λ p. kept 0 (word_sum (word_sum (word_sum p 2) 2) 0)) h.pc;
         sp = h.sp;

@@ -1,6 +1,6 @@
 -- A step of the handler, put together from what its instruction leaves.
-use Rattle.std.proofs.Common.{◌≡◌, ◌+◌, ◌-◌, ◌*◌, ◌/◌, ◌%◌, ◌≤◌, ◌<◌, ◌==◌, ◌&&◌, nat_lt, arith, ℕ, refl, sym, ◌∙◌, ap, subst, Bool, true, false}
-use Rattle.std.proofs.Common.{List, [], ◌∷◌, Option, Some, None, Ok, slice_index}
+use Rattle.std.proofs.Common.{◌≡◌, ◌+◌, ◌-◌, ◌*◌, ◌/◌, ◌%◌, ◌<◌, ◌==◌, ◌&&◌, nat_lt, arith, ℕ, refl, sym, ◌∙◌, ap, subst, Bool, true, false}
+use Rattle.std.proofs.Common.{Option, Some, None, slice_index}
 use Rattle.std.specs.Option.{option_map}
 use Rattle.std.proofs.lemmas.Bool.Decides.{nat_tests}
 use Rattle.msp_isa.specs.declared.instructions.Instr.{Instr}
@@ -9,11 +9,12 @@ use Rattle.msp_cycles.specs.Cycles.{cycles_of}
 use Rattle.fram_board.specs.msp_step.Registers.{Registers, registers_of}
 use Rattle.fram_board.specs.msp_step.Access.{Completed}
 use Rattle.fram_board.specs.msp_step.Effect.{Written}
-use Rattle.fram_board.specs.msp_step.Step.{effect, outcome_of, FetchedAt, off_bit, enabled_bit}
+use Rattle.fram_board.specs.msp_step.Step.{effect, FetchedAt, off_bit, enabled_bit}
 use Rattle.fram_board.specs.declared.board.Stepped.{Stepped}
 use Rattle.fram_board.specs.Bus.{BusState, board_bus}
 use Rattle.fram_board.specs.Events.{is_full}
-use Rattle.fram_board.specs.Board.{BoardValue, opened, closed, register_list, accepted_word, board_outcome, executed, IsNextInstruction, is_accepting, at_boundary}
+use Rattle.fram_board.specs.Board.{BoardValue, opened, closed, register_list, accepted_word, executed, IsNextInstruction, is_accepting}
+use Rattle.fram_board.specs.Board.{at_boundary}
 use Rattle.fram_board.specs.Effects.{store_at, effects_of}
 use Rattle.machine_effects.specs.Machine.{fram_of, ram_of}
 use Rattle.machine_effects.specs.View.{IsWhole, IsOfWords}
@@ -21,7 +22,7 @@ use Rattle.machine_effects.proofs.Interface.{executed_is_step, step_leaves_it_wh
 use Rattle.event_places.specs.Places.{handler_place, is_ring}
 use Rattle.event_handler.specs.Handler.{Stage, SaveR4, SaveR5, TakeEvent, LoadHead, SubtractTail, CompareRoom, LeaveIfFull, LoadHeadAgain, CutToSlots}
 use Rattle.event_handler.specs.Handler.{DoubleIndex, StoreWord, RaiseHead, RestoreR5, RestoreR4, Return, instruction_at, handler_words, place_at}
-use Rattle.event_handler.specs.Boundaries.{IsInterrupted, IsInHandler, HasReturned, KeepsTheRest, IsBehind, KnowsAt, HoldsR5, stack_of, depth_at, r4_at}
+use Rattle.event_handler.specs.Boundaries.{IsInterrupted, IsInHandler, KeepsTheRest, IsBehind, KnowsAt, HoldsR5, stack_of, depth_at, r4_at}
 use Rattle.event_handler.specs.Boundaries.{other_registers, fram_at, fram_behind, ram_at, with_r5, next_stage, effects_at, heard_at}
 use Rattle.event_handler.specs.Laws.{GoesOn}
 use Rattle.event_handler.proofs.Keeps.{off_ring}

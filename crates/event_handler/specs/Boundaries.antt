@@ -1,6 +1,6 @@
 -- The boundaries of a run at which the handler runs: what the board holds there, beside the port EVENT, is what the acceptance found,
 -- as far as the handler has come.
-use Rattle.std.specs.Prelude.{◌≡◌, ℕ, ◌+◌, ◌-◌, ◌*◌, ◌/◌, ◌%◌, ◌≤◌, ◌==◌, Bool, true, false, if◌then◌else◌, List, [], ◌∷◌, Option, Some, None}
+use Rattle.std.specs.Prelude.{◌≡◌, ℕ, ◌-◌, ◌*◌, ◌/◌, ◌%◌, ◌≤◌, ◌==◌, Bool, true, false, if◌then◌else◌, List, [], ◌∷◌, Option, Some, None}
 use Rattle.msp_step.specs.alp_words.Words.{word_sum, word_difference}
 use Rattle.fram_board.specs.address_space.Limits.{stack_top}
 use Rattle.fram_board.specs.msp_step.Registers.{Registers, registers_of}

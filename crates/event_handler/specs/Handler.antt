@@ -1,5 +1,5 @@
 -- The handler: it takes the event that waits in the port EVENT into the ring, unless that is full, and lets the program go on as it was.
-use Rattle.std.specs.Prelude.{◌≡◌, ℕ, ◌+◌, ◌*◌, ◌<◌, List, [], ◌∷◌, ◌++◌, slice_index, Bool}
+use Rattle.std.specs.Prelude.{◌≡◌, ℕ, ◌+◌, ◌*◌, ◌<◌, List, [], ◌∷◌, ◌++◌, slice_index}
 use Rattle.msp_isa.specs.alp_words.declared.Width.TheVariants.{Word}
 use Rattle.msp_isa.specs.declared.registers.IndexRegister.{IndexRegister}
 use Rattle.msp_isa.specs.declared.registers.IndexRegister.TheVariants.{Sp, R4, R5}
@@ -46,21 +46,21 @@ abbrev to : IndexRegister → Dst
 to r = dst.Reg (reg.Index r)
 
 abbrev pub instruction_at : Stage → Instr
-instruction_at SaveR4 = instr.One (Push Word (register R4))                                    -- push r4
-instruction_at SaveR5 = instr.One (Push Word (register R5))                                    -- push r5
-instruction_at TakeEvent = instr.Two Mov Word (Operand (Absolute event_port)) (to R4)           -- mov &EVENT,r4
-instruction_at LoadHead = instr.Two Mov Word (Operand (Absolute head_place)) (to R5)            -- mov &HEAD,r5
-instruction_at SubtractTail = instr.Two Sub Word (Operand (Absolute tail_place)) (to R5)        -- sub &TAIL,r5
-instruction_at CompareRoom = instr.Two Cmp Word (Immediate ring_slots) (to R5)                  -- cmp #64,r5
-instruction_at LeaveIfFull = instr.Jump Equal 9                                                -- jeq out
-instruction_at LoadHeadAgain = instr.Two Mov Word (Operand (Absolute head_place)) (to R5)       -- mov &HEAD,r5
-instruction_at CutToSlots = instr.Two And Word (Immediate 63) (to R5)                           -- and #63,r5
-instruction_at DoubleIndex = instr.Two Add Word (register R5) (to R5)                           -- add r5,r5
-instruction_at StoreWord = instr.Two Mov Word (register R4) (dst.Indexed R5 ring_place)         -- mov r4,ring(r5)
-instruction_at RaiseHead = instr.Two Add Word (Constant One) (dst.Absolute head_place)          -- add #1,&HEAD
-instruction_at RestoreR5 = instr.Two Mov Word (Operand (Increment Sp)) (to R5)                  -- out: mov @sp+,r5
-instruction_at RestoreR4 = instr.Two Mov Word (Operand (Increment Sp)) (to R4)                  -- mov @sp+,r4
-instruction_at Return = instr.Reti                                                             -- reti
+instruction_at SaveR4 = instr.One (Push Word (register R4))  -- push r4
+instruction_at SaveR5 = instr.One (Push Word (register R5))  -- push r5
+instruction_at TakeEvent = instr.Two Mov Word (Operand (Absolute event_port)) (to R4)  -- mov &EVENT,r4
+instruction_at LoadHead = instr.Two Mov Word (Operand (Absolute head_place)) (to R5)  -- mov &HEAD,r5
+instruction_at SubtractTail = instr.Two Sub Word (Operand (Absolute tail_place)) (to R5)  -- sub &TAIL,r5
+instruction_at CompareRoom = instr.Two Cmp Word (Immediate ring_slots) (to R5)  -- cmp #64,r5
+instruction_at LeaveIfFull = instr.Jump Equal 9  -- jeq out
+instruction_at LoadHeadAgain = instr.Two Mov Word (Operand (Absolute head_place)) (to R5)  -- mov &HEAD,r5
+instruction_at CutToSlots = instr.Two And Word (Immediate 63) (to R5)  -- and #63,r5
+instruction_at DoubleIndex = instr.Two Add Word (register R5) (to R5)  -- add r5,r5
+instruction_at StoreWord = instr.Two Mov Word (register R4) (dst.Indexed R5 ring_place)  -- mov r4,ring(r5)
+instruction_at RaiseHead = instr.Two Add Word (Constant One) (dst.Absolute head_place)  -- add #1,&HEAD
+instruction_at RestoreR5 = instr.Two Mov Word (Operand (Increment Sp)) (to R5)  -- out: mov @sp+,r5
+instruction_at RestoreR4 = instr.Two Mov Word (Operand (Increment Sp)) (to R4)  -- mov @sp+,r4
+instruction_at Return = instr.Reti  -- reti
 
 -- they stand one after another
 abbrev pub stages : List Stage

@@ -1,5 +1,5 @@
 -- The handler's contract: from an acceptance to its return each step is the handler's next instruction, and is served.
-use Rattle.std.specs.Prelude.{◌≡◌, ℕ, ◌+◌, ◌≤◌, false, List, [], Option, Ok}
+use Rattle.std.specs.Prelude.{◌≡◌, ◌+◌, ◌≤◌, false, [], Ok}
 use Rattle.msp_cycles.specs.Cycles.{cycles_of}
 use Rattle.fram_board.specs.declared.board.Stepped.{Stepped}
 use Rattle.fram_board.specs.Board.{BoardValue, is_accepting, IsNextInstruction, executed, acceptance, at_boundary}
