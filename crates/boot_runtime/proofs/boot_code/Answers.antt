@@ -1,4 +1,4 @@
-use Rattle.std.proofs.Common.{◌+◌, ◌*◌, All, ap, sym, subst, map, length}
+use Rattle.std.proofs.Common.{◌+◌, ◌*◌, All, ap, sym, subst, map, length, ◌∙◌}
 use Rattle.std.proofs.lemmas.List.{length-map}
 use Rattle.boot_runtime.specs.Entries.{entry_of, task_entries, EndsInMemory}
 use Rattle.boot_runtime.specs.Listing.{ladder_address}
@@ -12,9 +12,11 @@ push_stubs-requires c =
 
 pub returns : goal.returns
 returns c =
+    let l = c.args.layout.now in
     let xs = c.tasks-tasks.result.now in
     let ladder = rw c.in_ok-code.ensures at c.in_ok-push_ladder.ensures in
-    boot_written c.args.layout.now c.args.layout.now.commit.address c.args.at (ladder_address c.args.layout.now c.args.at + 4 * length xs)
-    (task_entries c.args.layout.now)
-    (map entry_of xs) c.push_ladder.new.code.items c.push_stubs.new.code.items (ap (map entry_of) c.tasks-tasks.ensures)
-    (ap (λ n. ladder_address c.args.layout.now c.args.at + 4 * n) (sym (length-map xs entry_of))) ladder c.in_ok-push_stubs.ensures
+    let there = ap (λ n. c.args.at + n + 4 * length xs) c.ladder_offset.ensures
+    ∙ ap (λ n. ladder_address l c.args.at + 4 * n) (sym (length-map xs entry_of)) in
+    boot_written l l.commit.address c.args.at (c.args.at + c.ladder_offset.result + 4 * length xs) (task_entries l)
+    (map entry_of xs) c.push_ladder.new.code.items c.push_stubs.new.code.items (ap (map entry_of) c.tasks-tasks.ensures) there ladder
+    c.in_ok-push_stubs.ensures
