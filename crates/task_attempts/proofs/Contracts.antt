@@ -6,7 +6,7 @@ use Rattle.task_attempts.proofs.Names.{Completion, completion_of, attempt_of, fr
 use Rattle.task_attempts.proofs.Names.{GoesOn, Jumps, Broken, behaviour, started, behaves_by_effects, whole_ends_soundly, StoresWords, stores_words, Ends}
 use Rattle.task_attempts.proofs.Names.{program_effects, IsElsewhere, Model, AttemptContract, Decides, RunsShort, TakesAndStores, EndsAs, BlocksAgree}
 use Rattle.task_attempts.proofs.Names.{lowered_block, task_program, outcome_of, whole_task, has_jumped, effects_of, program_parts, redo_model, LeavesFor}
-use Rattle.task_attempts.proofs.Names.{IsBelowCode, Gate, word_place}
+use Rattle.task_attempts.proofs.Names.{inl, IsBelowCode, Gate, word_place}
 use Rattle.array_versions.specs.Program.{Program}
 use Rattle.array_versions.specs.Behaviour.{Short as Starves}
 use Rattle.array_versions.specs.Laws.{EndsByEffects, IsSound}
