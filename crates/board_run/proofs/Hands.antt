@@ -11,7 +11,7 @@ use Rattle.board_run.specs.History.{word_in}
 use Rattle.board_run.specs.Events.{HandEnd, Reads, ChangesHead, Returns, PowersUp, Hand, no_hand, handed, handed_all, head_ends, is_return, return_ends}
 use Rattle.board_run.specs.Events.{reads_of}
 use Rattle.board_run.specs.Events.{head_of, action_ends, hand_behind, hand_after, hand_at, run_hand, taken_by, words_known, AllWordsAreKnown}
-use Rattle.board_run.specs.Events.{EventsAreAccounted, counts_of, heard_by, SilentRunsAcceptNothing, RinglessRunsAcceptNothing}
+use Rattle.board_run.specs.Events.{counts_of, heard_by, SilentRunsAcceptNothing, RinglessRunsAcceptNothing}
 
 -- one end keeps count of the words
 known_behind : (e : HandEnd) (h : Hand) → words_known (handed e h) ≡ taken_by e + words_known h
@@ -26,9 +26,6 @@ all_words_are_known (e ∷ es) h =
     let first = known_behind e h in
     let rest = all_words_are_known es (handed e h) in
     omega (arith, first, rest)
-
-pub events_are_accounted : EventsAreAccounted
-events_are_accounted arisen missed port es all = let known = all_words_are_known es no_hand in omega (arith, all, known)
 
 -- with nothing in hand a change of HEAD changes nothing
 head_silent : (head : Option ℕ) (before after : List ℕ) (es : List HandEnd)

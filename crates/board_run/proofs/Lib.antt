@@ -7,5 +7,6 @@ pub mod Written
 pub mod Marks
 pub mod Transitions
 pub mod Hands
+pub mod Accounts
 pub mod Tallies
 pub mod Interface

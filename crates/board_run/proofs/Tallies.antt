@@ -97,17 +97,19 @@ seen_so : (place : Option ℕ) (head : ℕ) (before after : List ℕ) → IsHead
 seen_so None head before after is = refl
 seen_so (Some place) head before after is = ap (λ w. change_ends w (word_in after place)) is
 
-pub step_tallied : (m : Option MapValue) (place : Option ℕ) (head : ℕ) (b : BoardValue) (n : NextStep) (done : Stepped) (after : List ℕ) (r : Bool) (t u : TallyValue)
+pub step_ends_are : (m : Option MapValue) (place : Option ℕ) (head : ℕ) (b : BoardValue) (n : NextStep) (done : Stepped) (after : List ℕ) (r : Bool)
     → WatchesHead m place head b.fram → r ≡ is_return (kind_of n) → after ≡ (moment_of b n done).after.fram
-    → u ≡ tallied_all (step_ends done.heard place head after r) t → u ≡ tally_behind (head_of m) (moment_of b n done) t
-unfolding tally_behind
-step_tallied m place head b n done after r t u w is at e =
-    let moment = moment_of b n done in
-    let ends : step_ends done.heard place head after r ≡ action_ends (head_of m) moment.action b.fram moment.after.fram =
+    → step_ends done.heard place head after r ≡ action_ends (head_of m) (moment_of b n done).action b.fram (moment_of b n done).after.fram
+step_ends_are m place head b n done after r w is at =
     ap (λ x. step_ends done.heard place head after x) is
     ∙ ap (λ es. reads_of done.heard ++ (es ++ return_ends (is_return (kind_of n)))) (seen_so place head b.fram after w.same
-    ∙ ap (λ a. head_ends place b.fram a) at ∙ ap (λ p. head_ends p b.fram moment.after.fram) w.place) in
-    e ∙ ap (λ es. tallied_all es t) ends
+    ∙ ap (λ a. head_ends place b.fram a) at ∙ ap (λ p. head_ends p b.fram (moment_of b n done).after.fram) w.place)
+
+-- a tally of the ends of a moment is the one behind it
+pub tallied_by : (head : Option ℕ) (m : Moment) (es : List HandEnd) (t u : TallyValue) → es ≡ action_ends head m.action m.before.fram m.after.fram
+    → u ≡ tallied_all es t → u ≡ tally_behind head m t
+unfolding tally_behind
+tallied_by head m es t u is e = e ∙ ap (λ es. tallied_all es t) is
 
 -- moments behind moments
 pub tally_append : (head : Option ℕ) (ms ns : List Moment) (t : TallyValue) → tally_after head (ms ++ ns) t ≡ tally_after head ns (tally_after head ms t)

@@ -6,8 +6,10 @@ use Rattle.std.specs.Prelude.{◌≡◌, ℕ, ◌+◌, ◌==◌, Bool, true, fal
 use Rattle.image_text.specs.image_map.MapValue.{MapValue}
 use Rattle.fram_board.specs.declared.events.Heard.{Heard}
 use Rattle.fram_board.specs.declared.events.Heard.TheVariants as heard
-use Rattle.fram_board.specs.Board.{BoardValue}
+use Rattle.fram_board.specs.Events.{words_in}
+use Rattle.fram_board.specs.Board.{BoardValue, started}
 use Rattle.fram_board.specs.Run.{Moment, Action, PowerUp, Execute, StepKind, Accepting, Returning, Plain, End, Charges, Stopped, RunOutcome, word_list}
+use Rattle.fram_board.specs.Run.{BoardCharge, Run}
 use Rattle.board_run.specs.History.{word_in}
 
 -- what ends the time of a word in hand
@@ -137,12 +139,16 @@ counts_of arisen missed h = record { arisen = arisen; accepted = length h.accept
 abbrev pub event_counts : Option MapValue → RunOutcome → EventCounts
 event_counts m r = counts_of r.board.line.arisen r.board.line.missed (run_hand m r)
 
--- Where each event that arose was lost at the port, is in it, or was taken from it, each is accepted, lost, or waits: in the port or in hand
+-- how many events wait behind such a run: in the port, and in hand
+abbrev pub events_waiting : Option MapValue → RunOutcome → ℕ
+events_waiting m r = words_in r.board.line.port + length (word_list (run_hand m r).word)
+
+-- of a board that starts with these events, each that arose in a run was accepted, was lost, or waits, and none is counted twice
 abbrev pub EventsAreAccounted : Type 0
-EventsAreAccounted = (arisen missed port : ℕ) (es : List HandEnd) → arisen ≡ missed + port + words_taken es
-    → let h = handed_all es no_hand in
-    let c = counts_of arisen missed h in
-    c.arisen ≡ c.accepted + c.lost + (port + length (word_list h.word))
+EventsAreAccounted = (cs : List BoardCharge) (fram : List ℕ) (number : ℕ) (readings : List ℕ) (events : List (ℕ × ℕ)) (m : Option MapValue) (r : RunOutcome)
+    → Run cs (started fram number readings events) r
+    → let c = event_counts m r in
+    c.arisen ≡ c.accepted + c.lost + events_waiting m r
 
 -- what an action read of EVENT
 abbrev pub heard_by : Action → Heard

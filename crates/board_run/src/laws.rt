@@ -7,7 +7,9 @@ pub fn words_of_events_are_known()
     ensures { AllWordsAreKnown }
 {}
 
-/// Each event that arose is accepted, lost, or waits in the port or in hand, and none is counted twice.
+/// Of a board that starts with events, each that arose in a run was accepted, was lost, or waits in the port or in hand, and none
+/// is counted twice.
+#[tactic(auto, using(crate::proofs::Accounts::events_are_accounted))]
 pub fn events_are_accounted()
     ensures { EventsAreAccounted }
 {}

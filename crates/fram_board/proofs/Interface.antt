@@ -8,5 +8,7 @@ pub use Rattle.fram_board.proofs.Effects.{ram_not_fram, other_is_fram, fram_low,
 pub use Rattle.fram_board.proofs.Runs.{price_low, charge_run, has_run}
 -- The receiver's count is the number of the words that a run accepted, and it stays where it started.
 pub use Rattle.fram_board.proofs.Counts.{counted, first_kept}
+-- Each event that arose was lost at the port, waits there, or was taken.
+pub use Rattle.fram_board.proofs.PortWords.{AreCounted, IsCountedLine, stop_counts, step_counts, boundary_counts, power_up_counts}
 -- A power-up leaves a whole board.
 pub use Rattle.fram_board.proofs.Powers.{power_up_leaves_a_board, fill_is_a_power_state}

@@ -6,6 +6,7 @@ mod Fits
 mod Effects
 mod Acceptances
 mod Accepted
+mod PortWords
 mod Runs
 mod Counts
 mod Powers

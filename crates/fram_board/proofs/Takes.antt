@@ -65,33 +65,37 @@ only_takes n s t h =
     let b = g.takes.to in
     record { same = g.same; takes = record { from = g.takes.from; to = omega arith } }
 
--- a write takes none
-abbrev SameTaken : BusState → Option BusState → Type 0
-SameTaken s None = Unit {0}
-SameTaken s (Some t) = t.taken ≡ s.taken
+-- the same was taken from outside: readings, and what waited in EVENT
+abbrev pub SameInputs : BusState → BusState → Type 0
+SameInputs s t = (t.taken ≡ s.taken) × (t.line ≡ s.line)
 
-word_taken : (s : BusState) (b : Bool) (r f : List ℕ) → (if b then record s { ram = r } else record s { fram = f }).taken ≡ s.taken
-word_taken s true r f = refl
-word_taken s false r f = refl
+-- a write takes nothing
+abbrev SameIfServed : BusState → Option BusState → Type 0
+SameIfServed s None = Unit {0}
+SameIfServed s (Some t) = SameInputs s t
 
-port_taken : (s : BusState) (b c : Bool) (v : ℕ) → SameTaken s (if b then Some (record s { outnum = v }) else if c then Some (record s { offered = Some v })
+pub word_same : (s : BusState) (b : Bool) (r f : List ℕ) → SameInputs s (if b then record s { ram = r } else record s { fram = f })
+word_same s true r f = (refl, refl)
+word_same s false r f = (refl, refl)
+
+port_same : (s : BusState) (b c : Bool) (v : ℕ) → SameIfServed s (if b then Some (record s { outnum = v }) else if c then Some (record s { offered = Some v })
     else None)
-port_taken s true c v = refl
-port_taken s false true v = refl
-port_taken s false false v = tt
+port_same s true c v = (refl, refl)
+port_same s false true v = (refl, refl)
+port_same s false false v = tt
 
-either_taken : (s : BusState) (b : Bool) (x y : Option BusState) → SameTaken s x → SameTaken s y → SameTaken s (if b then x else y)
-either_taken s true x y g h = g
-either_taken s false x y g h = h
+either_same : (s : BusState) (b : Bool) (x y : Option BusState) → SameIfServed s x → SameIfServed s y → SameIfServed s (if b then x else y)
+either_same s true x y g h = g
+either_same s false x y g h = h
 
-write_taken : (s : BusState) (a : ℕ) (w : Width) (v : ℕ) → SameTaken s (written s a w v)
-write_taken s a Word v = either_taken s (is_word a) (Some (with_word s a v)) (port_written s a v) (word_taken s (is_ram a) _ _)
-    (port_taken s (a == number_port) (a == data_port) v)
-write_taken s a Byte v = either_taken s (is_memory a) (Some (with_word s a (with_byte (memory_word s a) a v))) None (word_taken s (is_ram a) _ _) tt
+write_same : (s : BusState) (a : ℕ) (w : Width) (v : ℕ) → SameIfServed s (written s a w v)
+write_same s a Word v = either_same s (is_word a) (Some (with_word s a v)) (port_written s a v) (word_same s (is_ram a) _ _)
+    (port_same s (a == number_port) (a == data_port) v)
+write_same s a Byte v = either_same s (is_memory a) (Some (with_word s a (with_byte (memory_word s a) a v))) None (word_same s (is_ram a) _ _) tt
 
-after_write_taken : (s t : BusState) (w : Option Written) → AfterWrite board_bus w s t → t.taken ≡ s.taken
-after_write_taken s t None h = ap (λ x. x.taken) h
-after_write_taken s t (Some w) h = let P : Option BusState → Type 0 = λ x. SameTaken s x in subst P h.1 (write_taken s w.0 h.0 w.1)
+pub after_write_same : (s t : BusState) (w : Option Written) → AfterWrite board_bus w s t → SameInputs s t
+after_write_same s t None h = (ap (λ x. x.taken) h, ap (λ x. x.line) h)
+after_write_same s t (Some w) h = let P : Option BusState → Type 0 = λ x. SameIfServed s x in subst P h.1 (write_same s w.0 h.0 w.1)
 
 outcome_takes : (i : Instr) (r : Registers) (s : BusState) (m : Access BusState (Registers × Option Written)) → Ends board_bus 2 s m
     → TakesUpTo 2 s (outcome_of i r m).bus
@@ -99,7 +103,7 @@ outcome_takes i r s (Completed x t) h =
     let g = only_takes 2 s h.0 h.1 in
     let a = g.takes.from in
     let b = g.takes.to in
-    let c = after_write_taken h.0 t x.1 h.2 in
+    let c = (after_write_same h.0 t x.1 h.2).0 in
     record { from = omega arith; to = omega arith }
 outcome_takes i r s (Faulted e a t) h = (only_takes 2 s t h).takes
 

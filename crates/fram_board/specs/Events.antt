@@ -37,6 +37,12 @@ heard_again port heard.Nothing = heard.Once port
 heard_again port (heard.Once taken) = heard.Again taken
 heard_again port (heard.Again taken) = heard.Again taken
 
+-- how many words the reads took
+abbrev pub words_heard : Heard → ℕ
+words_heard heard.Nothing = 0
+words_heard (heard.Once taken) = words_in taken
+words_heard (heard.Again taken) = words_in taken
+
 -- a word read at EVENT takes what waits there
 abbrev pub port_read : EventLine → EventLine
 port_read q = record q { port = None; heard = heard_again q.port q.heard }

@@ -3,11 +3,12 @@ use Rattle.msp_step.specs.Registers.{registers_of}
 use Rattle.msp_step.specs.Step.{return_place, status_place}
 use Rattle.fram_board.specs.declared.board.NextStep.TheVariants.{Acceptance}
 use Rattle.fram_board.specs.Board.{BoardValue, acceptance, board_behind}
+use Rattle.fram_board.specs.Run.{moment_of}
 use Rattle.board_run.specs.Charges.{measure_of}
 use Rattle.board_run.specs.State.{known_so}
 use Rattle.board_run.specs.Tally.{counted}
 use Rattle.board_run.proofs.Written.{follows_but, Twice}
-use Rattle.board_run.proofs.Tallies.{step_tallied}
+use Rattle.board_run.proofs.Tallies.{step_ends_are, tallied_by}
 use Rattle.board_run.proofs.Turns.{too_dear, refused, turned, turned_partly, IsMade, IsNoted}
 use Rattle.board_run.proofs.spend.accept.Goals as goal
 
@@ -49,8 +50,8 @@ returns-clause-turn g c =
     } in
     let noted : IsNoted (known_so watch) (known_so c.note.new.self) b after Acceptance c.in-Ok.done = record {
       history = c.in_ok-note.ensures.history;
-      tally = step_tallied _ watch.head.place watch.head.word b Acceptance c.in-Ok.done after.fram _ (counted watch.tally) _
-          c.requires.follows.head refl (ap (λ (x : BoardValue). x.fram) made.board) c.note.ensures.tally;
+      tally = tallied_by _ (moment_of b Acceptance c.in-Ok.done) _ (counted watch.tally) _ (step_ends_are _ watch.head.place watch.head.word b Acceptance c.in-Ok.done
+          after.fram _ c.requires.follows.head refl (ap (λ (x : BoardValue). x.fram) made.board)) c.note.ensures.tally;
       words = c.note.ensures.few;
     } in
     turned (known_so watch) (known_so c.note.new.self) (measure_of c.args.kind) c.args.left _ b after Acceptance c.in-Ok.done _ _
