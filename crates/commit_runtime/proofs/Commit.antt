@@ -8,7 +8,7 @@ use Rattle.runtime_code.specs.fram_board.Effects.{Effect, Store}
 use Rattle.runtime_code.specs.machine_effects.World.{fram_after}
 use Rattle.runtime_code.specs.machine_effects.Inputs.{Inputs}
 use Rattle.runtime_code.specs.machine_effects.Machine.{Code, IsPlace}
-use Rattle.runtime_code.proofs.machine_effects.Interface.{fram_after-append}
+use Rattle.runtime_code.proofs.machine_effects.Interface.{fram_after-append, all_behind}
 use Rattle.runtime_code.specs.code_forms.Forms.{Core, Branch}
 use Rattle.runtime_code.specs.code_forms.Code.{Stands, IsTidy, forms_bytes}
 use Rattle.runtime_code.proofs.code_forms.Interface.{stands_front, forms_at, forms_behind}
@@ -26,7 +26,7 @@ use Rattle.commit_runtime.specs.Listing.{copies_begin, entry_begin, word_moved, 
 use Rattle.commit_runtime.specs.Listing.{commit_bytes, commit_steps, commit_cycles}
 use Rattle.commit_runtime.specs.Laws.{CommitIsMade}
 use Rattle.commit_runtime.proofs.WordLoop.{words_home}
-use Rattle.commit_runtime.proofs.Copies.{all_front, all_back, copied_behind, list_stays, emits_stay, sends_alike, sends_keep, sent_base_stays, emit_count_stays}
+use Rattle.commit_runtime.proofs.Copies.{all_front, copied_behind, list_stays, emits_stay, sends_alike, sends_keep, sent_base_stays, emit_count_stays}
 use Rattle.commit_runtime.proofs.Copies.{next_task_stays, sent_tail_stays}
 use Rattle.memory_map.specs.declared.words.RuntimeWord.TheVariants.{CurrentTask, NextTask, Gate, ListLength, EmitCount, Base, SentBase}
 use Rattle.memory_map.specs.MemoryMap.{MemoryMap, word_place, where_events, with_events}
@@ -107,7 +107,7 @@ module _ (code : Code) (tidy : IsTidy code) (m : MemoryMap) (places : AreInFram 
                 ready = record {
                   entries = left_from 6 (6 * n) r.entries refl (omega arith);
                   few = omega (arith, few, both, left);
-                  copied = All-same (IsCopied m) (named n to) rest same (all_back (IsCopied m) run rest r.copied);
+                  copied = All-same (IsCopied m) (named n to) rest same (all_behind (IsCopied m) run rest r.copied);
                 };
               })));
           made = all;

@@ -43,10 +43,6 @@ pub all_front : {X : Type 0} (P : X → Type 0) (xs ys : List X) → All P (xs +
 all_front P [] ys h = All-nil P
 all_front P (x ∷ xs) ys h = All-cons P x xs (All-head P x (xs ++ ys) h) (all_front P xs ys (All-tail P x (xs ++ ys) h))
 
-pub all_back : {X : Type 0} (P : X → Type 0) (xs ys : List X) → All P (xs ++ ys) → All P ys
-all_back P [] ys h = h
-all_back P (x ∷ xs) ys h = all_back P xs ys (All-tail P x (xs ++ ys) h)
-
 -- copies behind copies
 pub copied_behind : (xs ys : List CopyPair) (f : ℕ → ℕ) → copied_home (xs ++ ys) f ≡ copied_home xs f ++ copied_home ys (fram_after (copied_home xs f) f)
 copied_behind [] ys f = refl

@@ -44,7 +44,7 @@ pub no_looks_behind : (es : List Effect) (before after : Inputs) → TakesExactl
 no_looks_behind es before after h none = no_more h.seen after.looks (h.looks ∙ none)
 
 -- what holds of each of a list, behind others
-all_behind : {A : Type 0} (P : A → Type 0) (us vs : List A) → All P (us ++ vs) → All P vs
+pub all_behind : {A : Type 0} (P : A → Type 0) (us vs : List A) → All P (us ++ vs) → All P vs
 all_behind P [] vs h = h
 all_behind P (u ∷ us) vs h = all_behind P us vs (λ k d low. h (suc k) d (omega (arith, low)))
 

@@ -7,7 +7,7 @@ pub use Rattle.machine_effects.proofs.Worlds.{fram_after-append, world_after-app
 pub use Rattle.machine_effects.proofs.Worlds.{each_store-back, fram_untouched, taking_takes, world_by_its_parts, put_same, put_other, put_at}
 -- What effects take of what is ready, one stretch after another.
 pub use Rattle.machine_effects.proofs.Inputs.{takes_nothing, takes_behind_store, takes_none, takes_through, readings_behind, no_looks_behind}
-pub use Rattle.machine_effects.proofs.Inputs.{left_are_words, taken_is_word}
+pub use Rattle.machine_effects.proofs.Inputs.{all_behind, left_are_words, taken_is_word}
 -- What the machine's bus logs of an instruction: the readings that it takes, and then its one store or its one send.
 pub use Rattle.machine_effects.proofs.Logs.{takes, written_effects, LoggedBy, effect_logged, step_changes, code_changes_by_effects, machine_changes_by_effects}
 -- The board's bus and the machine's answer alike, but for what the machine refuses.
