@@ -12,7 +12,8 @@ use Rattle.array_versions.specs.Operations.{plain_word, is_true, compare_words, 
 use Rattle.array_versions.specs.Program.{Step, Test, Program, number, load, keep, update, local, set_local, update_local, unary, binary, shift, long, element}
 use Rattle.array_versions.specs.Program.{emit_word}
 use Rattle.array_versions.specs.Program.{list_entry}
-use Rattle.array_versions.specs.Program.{versioned_read, versioned_write, versioned_update, sense, next_event, freeze_events, truth, choose, repeat, store_number}
+use Rattle.array_versions.specs.Program.{versioned_read, versioned_write, versioned_update, sense, next_event, freeze_events, truth, choose, repeat}
+use Rattle.array_versions.specs.Program.{store_number}
 use Rattle.array_versions.specs.Program.{move_word, jump, holds}
 use Rattle.array_versions.specs.Program.{compares}
 use Rattle.array_versions.specs.Program.{both, either, fails, nothing, step}

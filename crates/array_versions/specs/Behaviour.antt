@@ -15,7 +15,8 @@ use Rattle.array_versions.specs.Operations.{unary_word, plain_word, binary_word,
 use Rattle.array_versions.specs.Program.{Step, Test, Program, number, load, keep, update, local, set_local, update_local, unary, binary, shift, long, element}
 use Rattle.array_versions.specs.Program.{emit_word}
 use Rattle.array_versions.specs.Program.{list_entry}
-use Rattle.array_versions.specs.Program.{versioned_read, versioned_write, versioned_update, sense, next_event, freeze_events, truth, choose, repeat, store_number}
+use Rattle.array_versions.specs.Program.{versioned_read, versioned_write, versioned_update, sense, next_event, freeze_events, truth, choose, repeat}
+use Rattle.array_versions.specs.Program.{store_number}
 use Rattle.array_versions.specs.Program.{move_word, jump, holds}
 use Rattle.array_versions.specs.Program.{compares}
 use Rattle.array_versions.specs.Program.{both, either, fails, nothing, step}
@@ -32,8 +33,8 @@ abbrev pub started : (ℕ → ℕ) → Inputs → WordState
 started fram inputs = record { stack = []; locals = λ n. None; fram = fram; inputs = inputs }
 
 -- how steps end: behind the last one; by a jump; where a reading is wanted and none is left; where an address isn't that of a
--- word of FRAM in front of a program's end, or a look is wanted and none is left; or where a word is taken from an empty stack, a local is read before it is assigned,
--- or a jump goes to an odd address
+-- word of FRAM in front of a program's end, or a look is wanted and none is left; or where a word is taken from an empty stack, a local
+-- is read before it is assigned, or a jump goes to an odd address
 pub data End : Type 0 where
   GoesOn : (state : WordState) → End
   Jumps : (to : ℕ) → (state : WordState) → End

@@ -8,7 +8,8 @@ use Rattle.fram_board.specs.declared.events.Heard.TheVariants as heard
 use Rattle.msp_step.specs.declared.machine.Stop.{Stop}
 use Rattle.fram_board.specs.Events.{words_heard}
 use Rattle.fram_board.specs.Board.{BoardValue, PowerState, started, powered, performed, at_boundary}
-use Rattle.fram_board.specs.Run.{Measure, BoardCharge, Moment, StepKind, Execute, End, Charges, Stopped, RunOutcome, run_outcome, kind_of, moment_of, power_up_of}
+use Rattle.fram_board.specs.Run.{Measure, BoardCharge, Moment, StepKind, Execute, End, Charges, Stopped, RunOutcome, run_outcome, kind_of, moment_of}
+use Rattle.fram_board.specs.Run.{power_up_of}
 use Rattle.fram_board.specs.Run.{ChargeRun, Spent, NoInstruction, TooDear, Refused, Executed, Run, Over, Next, Last}
 use Rattle.fram_board.proofs.Interface.{AreCounted, IsCountedLine, stop_counts, step_counts, boundary_counts, power_up_counts}
 use Rattle.board_run.specs.History.{word_in}

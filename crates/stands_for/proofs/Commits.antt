@@ -4,7 +4,8 @@ use Rattle.stands_for.proofs.Names.{length-append, length-take-le, append_assoc,
 use Rattle.stands_for.proofs.Names.{HoldsThroughout, ProgramPlaces, StateView, IsSharedWord, HaveRoom, RestsAt, SendsAndCloses, CopiesHome, DecidedFrom}
 use Rattle.stands_for.proofs.Names.{IsPendingCommit, CommittingTo, words_at, word_place, CurrentTask, NextTask, SentBase, AreApart, sent_place}
 use Rattle.stands_for.proofs.Sends.{next_base}
-use Rattle.stands_for.proofs.Keeps.{Transition, So, few_emits, shared_sends, tail_keeps, cur_keeps, base_keeps, weaken, send_keeps, few, few_words, bears_home, copy_home}
+use Rattle.stands_for.proofs.Keeps.{Transition, So, few_emits, shared_sends, tail_keeps, cur_keeps, base_keeps, weaken, send_keeps, few, few_words}
+use Rattle.stands_for.proofs.Keeps.{bears_home, copy_home}
 use Rattle.stands_for.proofs.Walks.{commit_before, SendsKeep, through}
 use Rattle.stands_for.proofs.Behind.{any_among, copies_behind, copies_related, closed, closed_other, behind_commit, emits_received, words_are}
 use Rattle.stands_for.proofs.Pending.{copies_apart, current_behind, rest_behind}

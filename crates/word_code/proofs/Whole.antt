@@ -4,7 +4,8 @@ use Rattle.word_code.proofs.Names.{nat_lt, if◌then◌else◌, List, [], ◌∷
 use Rattle.word_code.proofs.Names.{Effect, Core, Form, form_bytes, Move, Branch, Fram, ToFram, Stands, forms_bytes, stands_front, stands_back, forms_behind}
 use Rattle.word_code.proofs.Names.{forms_bytes-append, Comparison, is_true, compare_words, Step, Test, Program, number, load, keep, update, local, set_local}
 use Rattle.word_code.proofs.Names.{update_local, unary, binary, shift, long, element, emit_word, list_entry, versioned_read, versioned_write, versioned_update}
-use Rattle.word_code.proofs.Names.{next_event, freeze_events, sense, truth, choose, repeat, store_number, move_word, jump, holds, compares, both, either, fails, nothing, step, WordState}
+use Rattle.word_code.proofs.Names.{next_event, freeze_events, sense, truth, choose, repeat, store_number, move_word, jump, holds, compares, both, either}
+use Rattle.word_code.proofs.Names.{fails, nothing, step, WordState}
 use Rattle.word_code.proofs.Names.{started, End, GoesOn, Jumps, Short, Strays, Broken, Behaviour, with_stack, with_local, with_top, with_two, is_place}
 use Rattle.word_code.proofs.Names.{local_pushed, local_updated, number_pushed, way_by_top, way_by_two, step_behaviour, then_on, tested, behaviour, Place, start}
 use Rattle.word_code.proofs.Names.{assigning, Moves, EachTurn, EachStepWay, EachTestWay, EachWay, StepLocalsBelow, TestLocalsBelow, StepSpares, TestSpares}
@@ -31,7 +32,8 @@ use Rattle.word_code.proofs.Locals.{program_below, program_least, HasStack, stac
 use Rattle.word_code.proofs.Follows.{StandsFor, Follows, FollowsEnd, OnGoesOn, more_cycles, then_hop, ends_at, guarded, reach_more, reach_way, reaches}
 use Rattle.word_code.proofs.Follows.{then_end, then_follows, reach_guarded}
 use Rattle.word_code.proofs.Parts.{constant_part, store_part, move_part, jump_part}
-use Rattle.word_code.proofs.Choices.{Fork, fork_at, fork_turned, fork_both, fork_either, Forked, forked_behind, decided_follows, zero_test, holds_part, compares_part}
+use Rattle.word_code.proofs.Choices.{Fork, fork_at, fork_turned, fork_both, fork_either, Forked, forked_behind, decided_follows, zero_test, holds_part}
+use Rattle.word_code.proofs.Choices.{compares_part}
 use Rattle.word_code.proofs.Loops.{loop_by}
 use Rattle.word_code.proofs.Access.{entry_part}
 use Rattle.word_code.proofs.LoopBounds.{Bounded, Spared, spared_so, bounded_with, bounded_on, step_bounded}

@@ -17,7 +17,8 @@ use Rattle.array_versions.specs.msp_step.msp_isa.alp_words.Words.{word_sum}
 use Rattle.array_versions.specs.machine_effects.event_places.Places.{tail_place, count_place, sent_place, answer_place, ring_slots}
 use Rattle.code_forms.specs.Forms as forms
 use Rattle.code_forms.specs.Forms.{WorkRegister, R4, R5, R6, R7, R8, R9, R10, R11, R12, R13, R14, R15, Register, Number, Constant, Fram, Ram, Indexed, Popped}
-use Rattle.code_forms.specs.Forms.{Head, Slot, Source, ToRegister, ToFram, ToRam, ToIndexed, Target, Form, Move, Calculate, Update, Push, Modify, SetStack, Jump, Skip, Branch}
+use Rattle.code_forms.specs.Forms.{Head, Slot, Source, ToRegister, ToFram, ToRam, ToIndexed, Target, Form, Move, Calculate, Update, Push, Modify, SetStack}
+use Rattle.code_forms.specs.Forms.{Jump, Skip, Branch}
 use Rattle.code_forms.specs.Code.{over, back_by, back_over}
 pub use Rattle.code_forms.specs.Code.{size}
 use Rattle.word_code.specs.declared.bounds.Bound.{Bound}
@@ -39,7 +40,8 @@ use Rattle.array_versions.specs.declared.operations.LongOperation.{LongOperation
 use Rattle.array_versions.specs.declared.operations.LongOperation.TheVariants as with_longs
 use Rattle.array_versions.specs.Program.{Step, Test, Program, number, load, keep, update, local, set_local, update_local, unary, binary, shift, long, element}
 use Rattle.array_versions.specs.Program.{emit_word, list_entry, versioned_read, versioned_write, versioned_update, sense, next_event}
-use Rattle.array_versions.specs.Program.{freeze_events, truth, choose, repeat, store_number, move_word, jump, holds, compares, both, either, fails, nothing, step}
+use Rattle.array_versions.specs.Program.{freeze_events, truth, choose, repeat, store_number, move_word, jump, holds, compares, both, either, fails}
+use Rattle.array_versions.specs.Program.{nothing, step}
 use Rattle.array_versions.specs.Form.{locals_of}
 pub use Rattle.array_versions.specs.Form.{stack_base}
 use Rattle.array_versions.specs.Behaviour.{WordState}
