@@ -33,6 +33,15 @@ stack_top = ram_end
 abbrev pub spare_words : ℕ
 spare_words = 16
 
+-- the lowest SP of a compiled task: below it stand those words alone
+abbrev pub stack_floor : ℕ
+stack_floor = ram_first + 2 * spare_words
+
+-- where a source that takes events has its stack: below the room in RAM for the most locals that a task has, so that no task sets SP lower
+-- while a handler may write below it (256 locals, of which the first eight stand in registers)
+abbrev pub stack_start : ℕ
+stack_start = stack_top - 2 * 248
+
 -- a stack that grows down from this address has room for so many words
 pub record HasStackRoom (lowest words : ℕ) : Type 0 where
   pub fits : ram_first + 2 * (spare_words + words) ≤ lowest

@@ -22,6 +22,10 @@ pub const RAM_END: u16 = 0x2400;
 /// SP where nothing is on the stack: behind the last word of RAM, from which PUSH goes down.
 pub const STACK_TOP: u16 = RAM_END;
 
+/// SP where nothing is on the stack of a source that takes events: below the room in RAM for the most locals that a task has, 256, of which the
+/// first eight stand in registers.
+pub const STACK_START: u16 = STACK_TOP - 2 * 248;
+
 /// The first word of the FRAM, which goes on to the last address.
 pub const FRAM_FIRST: u16 = 0x4400;
 
