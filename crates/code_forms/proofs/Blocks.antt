@@ -12,6 +12,7 @@ use Rattle.machine_effects.specs.Going.{Goes, Stops, Status, At, Halted, stretch
 use Rattle.machine_effects.specs.Machine.{MachineBoard, MachineStretch, Code, step_with, exec, undisturbed, astray}
 use Rattle.machine_effects.proofs.Interface.{stay, one_step, join, join_stall, stall, after_after, after_nothing}
 use Rattle.code_forms.specs.Forms.{WorkRegister, Core, CoreOutcome, CoreStretch, board_of, outcome_of_core, source_read, Target, ToRegister, ToFram, ToRam}
+use Rattle.code_forms.specs.Forms.{source_effects, behind_source}
 use Rattle.code_forms.specs.Forms.{ToIndexed, ToPointed, ToOutnum, ToOutdata, target_written, Form, Move, Calculate, Compare, Update, Push, Modify, SetStack}
 use Rattle.code_forms.specs.Forms.{Sense, Jump, Skip, Branch, BranchIndexed, SkipBy, instruction_of, form_bytes, sensed, form_step, FormNeeds}
 use Rattle.code_forms.specs.Code.{Stands, forms_bytes, IsStraight, AreStraight, forms_run, OfNext, FormsNeed, IsTidy, IsAtForm, OfState, StepsAreForms}
@@ -76,8 +77,15 @@ sensed_at : (ws : List ℕ) (b : WorkRegister) (u : Core) → OfNext (sensed ws 
 sensed_at [] b u = tt
 sensed_at (w ∷ ws) b u = refl
 
+at_behind : (es : List Effect) (o : CoreOutcome) (p : ℕ) → OfNext o (IsAt p) → OfNext (behind_source es o) (IsAt p)
+at_behind es (Goes [] c u) p h = h
+at_behind es (Goes (f ∷ fs) c u) p h = h
+at_behind es (Stops fs price e) p h = h
+
 goes_to : (m : Form) (u : Core) → IsStraight m → OfNext (form_step m u) (IsAt (u.pc + form_bytes m))
-goes_to (Move x y) u h = written_at y _ _ (record (source_read x u) { pc = u.pc + form_bytes (Move x y) })
+goes_to (Move x y) u h =
+    at_behind (source_effects x u) (target_written y _ _ (record (source_read x u) { pc = u.pc + form_bytes (Move x y) })) _
+    (written_at y _ _ (record (source_read x u) { pc = u.pc + form_bytes (Move x y) }))
 goes_to (Calculate op x b) u h = refl
 goes_to (Compare x a) u h = refl
 goes_to (Push x) u h = refl

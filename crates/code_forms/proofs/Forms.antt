@@ -1,6 +1,6 @@
 -- Each form does what its instruction does.
 use Rattle.std.proofs.Common.{◌≡◌, ◌/◌, ◌==◌, if◌then◌else◌, ◌+◌, ◌-◌, ◌*◌, ◌%◌, ◌≤◌, ℕ, refl, sym, ◌∙◌, ap, Bool, true, false, arith, List, [], ◌∷◌, Option}
-use Rattle.std.proofs.Common.{Some, None, length, nat_le, nat_lt, ◌<◌}
+use Rattle.std.proofs.Common.{Some, None, length, nat_le, nat_lt, ◌<◌, append-nil}
 use Rattle.std.proofs.lemmas.Bool.Decides.{nat_tests}
 use Rattle.machine_effects.specs.alp_words.declared.Flags.{Flags}
 use Rattle.machine_effects.specs.alp_words.declared.Width.{Width}
@@ -28,17 +28,17 @@ use Rattle.machine_effects.specs.msp_step.Effect.{after_source, two_operand_effe
 use Rattle.machine_effects.specs.msp_step.Step.{effect}
 use Rattle.machine_effects.specs.event_places.Places.{handler_place, head_place, ring_place, is_ring}
 use Rattle.machine_effects.specs.fram_board.Bus.{is_word, is_ram}
-use Rattle.machine_effects.specs.fram_board.Effects.{Store}
+use Rattle.machine_effects.specs.fram_board.Effects.{Effect, Store}
 use Rattle.machine_effects.specs.World.{put}
-use Rattle.machine_effects.specs.Going.{Goes, Stops}
+use Rattle.machine_effects.specs.Going.{Goes, Stops, step_behind}
 use Rattle.machine_effects.specs.msp_step.declared.machine.Stop.TheVariants as stop
 use Rattle.machine_effects.specs.msp_isa.declared.instructions.Instr.{Instr}
-use Rattle.machine_effects.specs.Inputs.{Look, first_look, other_looks, HasLook}
+use Rattle.machine_effects.specs.Inputs.{Look, first_look, other_looks, look_effects}
 use Rattle.machine_effects.specs.Machine.{MachineOutcome, MachineBus, machine_bus, machine_outcome, step_with, word_address, is_readable, IsPlace, IsRam}
 use Rattle.machine_effects.specs.Machine.{looks_there, source_looks, machine_executed, executed_looking, code_executed}
 use Rattle.code_forms.specs.Forms.{WorkRegister, work_number, index_of, Core, register_file, board_of, outcome_of_core, Source, Register, Number, Constant}
 use Rattle.code_forms.specs.Forms.{Fram, Ram, Pointed, PointedNext, Indexed, Popped, Head, Slot}
-use Rattle.code_forms.specs.Forms.{source_operand, source_bytes, source_value, source_read, SourceNeeds}
+use Rattle.code_forms.specs.Forms.{source_operand, source_bytes, source_value, source_read, source_effects, SourceNeeds, CoreOutcome, behind_source}
 use Rattle.code_forms.specs.Forms.{Target, ToRegister, ToFram, ToRam, ToIndexed, ToPointed, ToOutnum, ToOutdata, target_operand, target_bytes, target_written}
 use Rattle.code_forms.specs.Forms.{TargetNeeds, Move, Calculate, Compare, Update, Push, Modify, SetStack, Sense, Jump, Skip, Branch, BranchIndexed}
 use Rattle.code_forms.specs.Forms.{SkipBy, instruction_of, flags_after, calculated, sensed, form_step, FormNeeds, IsNotMov, HasPushRoom, IsCodeAddress, IsSlot}
@@ -53,8 +53,7 @@ inside floor ring u = record { fram = u.fram; ram = u.ram; inputs = u.inputs; ou
 
 -- the bus as an instruction begins that takes the first of these looks, if it looks
 abbrev seen_by : List Look → Core → MachineBus
-seen_by [] u = inside u.sp None u
-seen_by (look ∷ more) u = inside u.sp (Some look) (record u { inputs = record u.inputs { looks = more } })
+seen_by looks u = inside u.sp (Some (first_look looks)) (record u { inputs = record u.inputs { looks = other_looks looks } })
 
 -- as one begins with this source
 abbrev begun : Source → Core → MachineBus
@@ -71,13 +70,9 @@ begun (Indexed b x) u = inside u.sp None u
 begun Popped u = inside u.sp None u
 
 -- what it sees of the ring
-abbrev ring_by : List Look → Option Look
-ring_by [] = None
-ring_by (look ∷ more) = Some look
-
 abbrev ring_of : Source → Core → Option Look
-ring_of Head u = ring_by u.inputs.looks
-ring_of (Slot b) u = ring_by u.inputs.looks
+ring_of Head u = Some (first_look u.inputs.looks)
+ring_of (Slot b) u = Some (first_look u.inputs.looks)
 ring_of (Register b) u = None
 ring_of (Number n) u = None
 ring_of (Constant k) u = None
@@ -168,19 +163,17 @@ module _ (u : Core) (p : ℕ) where
   up b v = ap (λ n. with_register (regs_in u p) n v) (number b) ∙ set_work p u.sp (work_number b) v u.flags u.work (high b)
 
   -- a word of the ring
-  from_head : (looks : List Look) → HasLook looks
+  from_head : (looks : List Look)
       → source machine_bus (regs_in u p) Word (source_operand Head) (seen_by looks u) ≡ Completed (first_look looks head_place, regs_in u p) (seen_by looks u)
-  from_head [] h = absurd h
-  from_head (look ∷ more) h = refl
+  from_head looks = refl
 
-  from_slot : (looks : List Look) (b : WorkRegister) → HasLook looks → IsSlot (u.work (work_number b) + ring_place)
+  from_slot : (looks : List Look) (b : WorkRegister) → IsSlot (u.work (work_number b) + ring_place)
       → source machine_bus (regs_in u p) Word (source_operand (Slot b)) (seen_by looks u) ≡
       Completed (first_look looks (u.work (work_number b) + ring_place), regs_in u p) (seen_by looks u)
-  from_slot [] b h at = absurd h
-  from_slot (look ∷ more) b h at =
+  from_slot looks b at =
       let e : word_sum (u.work (work_number b)) ring_place ≡ u.work (work_number b) + ring_place = let hi = at.high in omega arith in
-      let s = seen_by (look ∷ more) u in
-      rw (got b, e, read_slot s look (u.work (work_number b) + ring_place) refl at) refl
+      let s = seen_by looks u in
+      rw (got b, e, read_slot s (first_look looks) (u.work (work_number b) + ring_place) refl at) refl
 
   pub from_source : (x : Source) → SourceNeeds x u
       → source machine_bus (regs_in u p) Word (source_operand x) (begun x u) ≡ Completed (source_value x u, regs_in (source_read x u) p) (begun x u)
@@ -200,8 +193,8 @@ module _ (u : Core) (p : ℕ) where
       let v = h.even in let l = h.high in
       let e : word_sum u.sp 2 / 2 * 2 ≡ u.sp + 2 = omega arith in
       rw (read_ram (inside u.sp None u) u.sp h (omega arith), set_sp p u.sp (word_sum u.sp 2) (u.sp + 2) u.flags u.work e) refl
-  from_source Head h = from_head u.inputs.looks h
-  from_source (Slot b) h = from_slot u.inputs.looks b h.0 h.1
+  from_source Head h = from_head u.inputs.looks
+  from_source (Slot b) h = from_slot u.inputs.looks b h
 
 pub from_length : (x : Source) → 2 * length (source_row (source_operand x)).extension ≡ source_bytes x
 from_length (Register b) = refl
@@ -237,11 +230,6 @@ from_small (Slot b) = (omega arith, refl)
 dest_small : (d : Dst) → length (destination_row d).extension ≤ 1
 dest_small d = grind arith
 
-behind_look : (looks : List Look) (u : Core) → HasLook looks
-    → inside u.sp (ring_by looks) (record u { inputs = record u.inputs { looks = other_looks looks } }) ≡ seen_by looks u
-behind_look [] u h = absurd h
-behind_look (look ∷ more) u h = refl
-
 read_same : (x : Source) (u : Core) → SourceNeeds x u → inside u.sp (ring_of x u) (source_read x u) ≡ begun x u
 read_same (Register b) u h = refl
 read_same (Number n) u h = refl
@@ -252,8 +240,8 @@ read_same (Pointed b) u h = refl
 read_same (PointedNext b) u h = refl
 read_same (Indexed b x) u h = refl
 read_same Popped u h = refl
-read_same Head u h = behind_look u.inputs.looks u h
-read_same (Slot b) u h = behind_look u.inputs.looks u h.0
+read_same Head u h = refl
+read_same (Slot b) u h = refl
 
 -- a source that is no look, by its needs
 place_no_ring : (a : ℕ) → IsPlace a → is_ring a ≡ false
@@ -265,31 +253,37 @@ ram_no_ring a h = let l = h.high in grind (arith, nat_tests)
 below_no_ring : (a n : ℕ) → a + n < handler_place → is_ring n ≡ false
 below_no_ring a n l = grind (arith, nat_tests)
 
--- an instruction that looks where its source does begins so
-looking_begun : (looks : List Look) (u : Core) (i : Instr)
-    → executed_looking looks (board_of u) i ≡ machine_outcome u.pc (cycles_of i) (effect machine_bus i (regs_in u u.pc) (seen_by looks u))
-looking_begun [] u i = refl
-looking_begun (look ∷ more) u i = refl
+-- no effects in front of a step
+none_behind : (o : MachineOutcome) → o ≡ step_behind [] o
+none_behind (Goes es c t) = refl
+none_behind (Stops es price e) = refl
+
+-- effects in front of what a form does
+core_behind : (es : List Effect) (o : CoreOutcome) → step_behind es (outcome_of_core o) ≡ outcome_of_core (behind_source es o)
+core_behind es (Goes [] c u) = ap (λ l. Goes l c (board_of u)) (append-nil es)
+core_behind es (Goes (f ∷ fs) c u) = refl
+core_behind es (Stops fs price e) = refl
 
 by_test : (b : Bool) (o p : MachineOutcome) → b ≡ false → (if b then o else p) ≡ p
 by_test true o p e = absurd cc
 by_test false o p e = refl
 
 code_begun : (x : Source) (u : Core) (i : Instr) → SourceNeeds x u → looks_there i ≡ source_looks (source_operand x)
-    → code_executed (board_of u) i ≡ machine_outcome u.pc (cycles_of i) (effect machine_bus i (regs_in u u.pc) (begun x u))
-code_begun (Register b) u i h e = by_test (looks_there i) _ _ e
-code_begun (Number n) u i h e = by_test (looks_there i) _ _ e
-code_begun (Constant k) u i h e = by_test (looks_there i) _ _ e
-code_begun (Fram a) u i h e = by_test (looks_there i) _ _ (e ∙ place_no_ring a h)
-code_begun (Ram a) u i h e = by_test (looks_there i) _ _ (e ∙ ram_no_ring a h.0)
-code_begun (Pointed b) u i h e = by_test (looks_there i) _ _ e
-code_begun (PointedNext b) u i h e = by_test (looks_there i) _ _ e
-code_begun (Indexed b x) u i h e = by_test (looks_there i) _ _ (e ∙ below_no_ring (u.work (work_number b)) x h.high)
-code_begun Popped u i h e = by_test (looks_there i) _ _ e
+    → code_executed (board_of u) i
+    ≡ step_behind (source_effects x u) (machine_outcome u.pc (cycles_of i) (effect machine_bus i (regs_in u u.pc) (begun x u)))
+code_begun (Register b) u i h e = by_test (looks_there i) _ _ e ∙ none_behind _
+code_begun (Number n) u i h e = by_test (looks_there i) _ _ e ∙ none_behind _
+code_begun (Constant k) u i h e = by_test (looks_there i) _ _ e ∙ none_behind _
+code_begun (Fram a) u i h e = by_test (looks_there i) _ _ (e ∙ place_no_ring a h) ∙ none_behind _
+code_begun (Ram a) u i h e = by_test (looks_there i) _ _ (e ∙ ram_no_ring a h.0) ∙ none_behind _
+code_begun (Pointed b) u i h e = by_test (looks_there i) _ _ e ∙ none_behind _
+code_begun (PointedNext b) u i h e = by_test (looks_there i) _ _ e ∙ none_behind _
+code_begun (Indexed b x) u i h e = by_test (looks_there i) _ _ (e ∙ below_no_ring (u.work (work_number b)) x h.high) ∙ none_behind _
+code_begun Popped u i h e = by_test (looks_there i) _ _ e ∙ none_behind _
 code_begun Head u i h e =
-    ap (λ c. if c then executed_looking u.inputs.looks (board_of u) i else machine_executed (board_of u) i) e ∙ looking_begun u.inputs.looks u i
+    ap (λ c. if c then executed_looking u.inputs.looks (board_of u) i else machine_executed (board_of u) i) e
 code_begun (Slot b) u i h e =
-    ap (λ c. if c then executed_looking u.inputs.looks (board_of u) i else machine_executed (board_of u) i) e ∙ looking_begun u.inputs.looks u i
+    ap (λ c. if c then executed_looking u.inputs.looks (board_of u) i else machine_executed (board_of u) i) e
 
 abbrev ext_of : Source → Core → ℕ
 ext_of x u = word_sum (word_sum u.pc 2) (2 * length (source_row (source_operand x)).extension)
@@ -360,10 +354,10 @@ ok_pc ToOutdata t p h = h
 -- an instruction with two operands, where the machine is on
 on_two : (op : TwoOp) (x : Source) (d : Dst) (u : Core) → IsCodeAddress u.pc → SourceNeeds x u →
     step_with (Some (instr.Two op Word (source_operand x) d)) (board_of u) ≡
-    machine_outcome u.pc (cycles_of (instr.Two op Word (source_operand x) d)) (after_source machine_bus op Word
+    step_behind (source_effects x u) (machine_outcome u.pc (cycles_of (instr.Two op Word (source_operand x) d)) (after_source machine_bus op Word
     (destination_location (regs_in (source_read x u) (u.pc + (2 + source_bytes x + 2 * length (destination_row d).extension))) (ext_of x u) d)
     (source_value x u) (regs_in (source_read x u) (u.pc + (2 + source_bytes x + 2 * length (destination_row d).extension)))
-    (inside u.sp (ring_of x u) (source_read x u)))
+    (inside u.sp (ring_of x u) (source_read x u))))
 unfolding effect
 on_two op x d u c h =
     let i = instr.Two op Word (source_operand x) d in
@@ -376,10 +370,13 @@ moves : (x : Source) (y : Target) (u : Core) → IsCodeAddress u.pc → SourceNe
     → step_with (Some (instruction_of (Move x y))) (board_of u) ≡ outcome_of_core (form_step (Move x y) u)
 moves x y u c h k =
     let n : Core = record (source_read x u) { pc = u.pc + (2 + source_bytes x + 2 * length (destination_row (target_operand y)).extension) } in
+    let out : ℕ → CoreOutcome = λ m.
+    target_written y (cycles_of (instruction_of (Move x y))) (source_value x u) (record (source_read x u) { pc = u.pc + (2 + source_bytes x + m) }) in
     on_two Mov x (target_operand y) u c h
-    ∙ written y (source_value x u) (ext_of x u) u.pc (cycles_of (instruction_of (Move x y))) u.sp (ring_of x u) n (ok_pc y (source_read x u) n.pc k)
-    ∙ ap (λ m. outcome_of_core (target_written y (cycles_of (instruction_of (Move x y))) (source_value x u)
-    (record (source_read x u) { pc = u.pc + (2 + source_bytes x + m) }))) (to_length y)
+    ∙ ap (step_behind (source_effects x u))
+    (written y (source_value x u) (ext_of x u) u.pc (cycles_of (instruction_of (Move x y))) u.sp (ring_of x u) n (ok_pc y (source_read x u) n.pc k)
+    ∙ ap (λ m. outcome_of_core (out m)) (to_length y))
+    ∙ core_behind (source_effects x u) (out (target_bytes y))
 
 -- the others read their destination
 reads : (op : TwoOp) → IsNotMov op → reads_destination op ≡ true
@@ -432,13 +429,15 @@ calculates : (op : TwoOp) (x : Source) (b : WorkRegister) (u : Core) → IsCodeA
 calculates op x b u c n h =
     let t : Core = record (source_read x u) { pc = u.pc + (2 + source_bytes x) } in
     on_two op x (target_operand (ToRegister b)) u c h
-    ∙ ap (λ p. machine_outcome u.pc (cycles_of (instruction_of (Calculate op x b)))
+    ∙ ap (step_behind (source_effects x u)) (ap (λ p. machine_outcome u.pc (cycles_of (instruction_of (Calculate op x b)))
     (after_source machine_bus op Word (destination_location (regs_in (source_read x u) p) (ext_of x u) (target_operand (ToRegister b)))
     (source_value x u) (regs_in (source_read x u) p) (inside u.sp (ring_of x u) (source_read x u))))
     (let e : u.pc + (2 + source_bytes x + 2 * 0) ≡ u.pc + (2 + source_bytes x) = omega arith in e)
     ∙ calculated_half op (source_value x u) (ext_of x u) u.pc (cycles_of (instruction_of (Calculate op x b))) u.sp (ring_of x u) b t (reads op n)
     ∙ ap (λ f. outcome_of_core (Goes [] (cycles_of (instruction_of (Calculate op x b)))
-    (calculated op b (operated op Word (t.work (work_number b)) (source_value x u) f) t))) (read_flags x u)
+    (calculated op b (operated op Word (t.work (work_number b)) (source_value x u) f) t))) (read_flags x u))
+    ∙ ap (λ es. outcome_of_core (Goes es (cycles_of (instruction_of (Calculate op x b)))
+    (calculated op b (operated op Word (t.work (work_number b)) (source_value x u) u.flags) t))) (append-nil (source_effects x u))
 
 compared_half : (v a ext pc c floor : ℕ) (ring : Option Look) (t : Core) → IsPlace a
     → machine_outcome pc c (after_source machine_bus Cmp Word (destination_location (regs_in t t.pc) ext (dst.Absolute a)) v (regs_in t t.pc)
@@ -464,8 +463,12 @@ compares : (x : Source) (a : ℕ) (u : Core) → IsCodeAddress u.pc → SourceNe
 compares x a u c h k =
     let t : Core = record (source_read x u) { pc = u.pc + (2 + source_bytes x + 2) } in
     on_two Cmp x (dst.Absolute a) u c h
-    ∙ compared_half (source_value x u) a (ext_of x u) u.pc (cycles_of (instruction_of (Compare x a))) u.sp (ring_of x u) t k
-    ∙ ap (λ f. outcome_of_core (Goes [] (cycles_of (instruction_of (Compare x a))) (record t { flags = f }))) (rw (read_memory x u) refl)
+    ∙ ap (step_behind (source_effects x u))
+    (compared_half (source_value x u) a (ext_of x u) u.pc (cycles_of (instruction_of (Compare x a))) u.sp (ring_of x u) t k
+    ∙ ap (λ f. outcome_of_core (Goes [] (cycles_of (instruction_of (Compare x a))) (record t { flags = f }))) (rw (read_memory x u) refl))
+    ∙ ap (λ es. outcome_of_core (Goes es (cycles_of (instruction_of (Compare x a))) (record t {
+      flags = flags_after (operated Cmp Word (u.fram a) (source_value x u) u.flags).flags u.flags;
+    }))) (append-nil (source_effects x u))
 
 updated_half : (op : TwoOp) (v a ext pc c floor : ℕ) (ring : Option Look) (t : Core) → reads_destination op ≡ true → writes_destination op ≡ true → IsPlace a
     → machine_outcome pc c (after_source machine_bus op Word (destination_location (regs_in t t.pc) ext (dst.Absolute a)) v (regs_in t t.pc)
@@ -483,8 +486,9 @@ updates op x a u c h =
     let out : (ℕ → ℕ) → Flags → MachineOutcome = λ f g. outcome_of_core (let o = operated op Word (f a) (source_value x u) g in Goes
     (Store a o.value ∷ []) (cycles_of (instruction_of (Update op x a))) (record t { flags = flags_after o.flags g; fram = put f a o.value })) in
     on_two op x (dst.Absolute a) u c h.2
-    ∙ updated_half op (source_value x u) a (ext_of x u) u.pc (cycles_of (instruction_of (Update op x a))) u.sp (ring_of x u) t (reads op h.0) h.1 h.3
-    ∙ ap (λ f. out f t.flags) (read_memory x u) ∙ ap (λ g. out u.fram g) (read_flags x u)
+    ∙ ap (step_behind (source_effects x u))
+    (updated_half op (source_value x u) a (ext_of x u) u.pc (cycles_of (instruction_of (Update op x a))) u.sp (ring_of x u) t (reads op h.0) h.1 h.3
+    ∙ ap (λ f. out f t.flags) (read_memory x u) ∙ ap (λ g. out u.fram g) (read_flags x u))
 
 -- no operand that is written
 push_half : (x : Source) (u : Core) → IsCodeAddress u.pc → SourceNeeds x u
@@ -523,7 +527,10 @@ pushes x u c h =
     let t : Core = record (source_read x u) { pc = u.pc + (2 + source_bytes x) } in
     ap (λ b. if b then Stops [] 0 stop.Off else code_executed (board_of u) (instruction_of (Push x))) on
     ∙ code_begun x u (instruction_of (Push x)) h.0 refl
-    ∙ rw (push_half x u c h.0) (pushed_at (source_value x u) u.pc (cycles_of (instruction_of (Push x))) u.sp (ring_of x u) t h.1)
+    ∙ ap (step_behind (source_effects x u))
+    (rw (push_half x u c h.0) (pushed_at (source_value x u) u.pc (cycles_of (instruction_of (Push x))) u.sp (ring_of x u) t h.1))
+    ∙ ap (λ es. Goes es (cycles_of (instruction_of (Push x)))
+    (board_of (record t { sp = t.sp - 2; ram = put t.ram (t.sp - 2) (source_value x u) }))) (append-nil (source_effects x u))
 
 sets_stack : (n : ℕ) (u : Core) → IsCodeAddress u.pc → n % 2 ≡ 0
     → step_with (Some (instruction_of (SetStack n))) (board_of u) ≡ outcome_of_core (form_step (SetStack n) u)

@@ -14,9 +14,9 @@ use Rattle.machine_effects.specs.fram_board.Bus.{is_word, is_ram}
 use Rattle.machine_effects.specs.fram_board.Effects.{Effect, Store, Take, Outside}
 use Rattle.machine_effects.specs.World.{put, fram_after_one, fram_after, OfStore, EachStore}
 use Rattle.machine_effects.specs.Going.{Goes, Stops}
-use Rattle.machine_effects.specs.Machine.{MachineBoard, MachineOutcome, machine_bus, machine_opened, machine_fetched, machine_executed}
-use Rattle.machine_effects.specs.Machine.{looks_there, executed_looking, code_executed}
-use Rattle.machine_effects.specs.Machine.{IsMachineStep, NoInstruction, Executes, Code, step_with, exec, undisturbed, astray, word_address}
+use Rattle.machine_effects.specs.Machine.{MachineBoard, MachineOutcome, machine_bus, machine_opened, machine_fetched}
+use Rattle.machine_effects.specs.Machine.{code_executed}
+use Rattle.machine_effects.specs.Machine.{IsLookingStep, NoInstruction, Executes, Code, step_with, exec, undisturbed, astray, word_address}
 use Rattle.code_forms.specs.Forms.{Form, Move, Calculate, Compare, Update, Push, Modify, SetStack, Sense, Jump, Skip, Branch, BranchIndexed}
 use Rattle.code_forms.specs.Forms.{SkipBy, source_operand, Target, ToRegister, target_operand, target_bytes, instruction_of, form_bytes}
 use Rattle.code_forms.specs.Forms.{Core}
@@ -179,14 +179,6 @@ if_off n o e = rw e refl
 if_on : (n : ℕ) (o : MachineOutcome) → n ≡ 0 → (if n == 1 then Stops [] 0 stop.Off else o) ≡ o
 if_on n o e = rw e refl
 
-blind_by : (b : Bool) (o p q : MachineOutcome) → o ≡ q → p ≡ q → (if b then o else p) ≡ q
-blind_by true o p q e f = e
-blind_by false o p q e f = f
-
--- where no look is left, an instruction of code is one that may not look
-blind_is : (s : MachineBoard) (i : Instr) → s.inputs.looks ≡ [] → code_executed s i ≡ machine_executed s i
-blind_is s i none = blind_by (looks_there i) _ _ _ (ap (λ l. executed_looking l s i) none) refl
-
 module _ (p : ℕ) (is : List Instr) (are : AreInstructions is) (even : p % 2 ≡ 0) (low : 0x4400 ≤ p) (high : p + 2 * length (words_of is) < 0x10000) where
   abbrev there : Code
   there = placed p is
@@ -201,12 +193,11 @@ module _ (p : ℕ) (is : List Instr) (are : AreInstructions is) (even : p % 2 �
   stopped_at s None e on k h t hole = hole [] 0 _ _ (if_on (off_bit s.registers) _ on)
   stopped_at s (Some i) e on k h t hole = not_stopped machine_bus s.registers (machine_opened s) e i k (standing_at s i h t on)
 
-  executes_at : (s : MachineBoard) (q : Option Instr) (i : Instr) → s.inputs.looks ≡ [] → IsCurrentInstruction machine_bus s.registers (machine_opened s) i
-      → Holds s.fram p (words_of is) → there (s.registers 0) ≡ q → IsNoHole (step_with q s) → machine_executed s i ≡ step_with q s
-  executes_at s None i none c h t hole = absurd (hole [] 0 _ _ (if_on (off_bit s.registers) _ c.on))
-  executes_at s (Some j) i none c h t hole =
-      ap (λ x. machine_executed s x) (same_current machine_bus s.registers (machine_opened s) i j c (standing_at s j h t c.on))
-      ∙ sym (blind_is s j none)
+  executes_at : (s : MachineBoard) (q : Option Instr) (i : Instr) → IsCurrentInstruction machine_bus s.registers (machine_opened s) i
+      → Holds s.fram p (words_of is) → there (s.registers 0) ≡ q → IsNoHole (step_with q s) → code_executed s i ≡ step_with q s
+  executes_at s None i c h t hole = absurd (hole [] 0 _ _ (if_on (off_bit s.registers) _ c.on))
+  executes_at s (Some j) i c h t hole =
+      ap (λ x. code_executed s x) (same_current machine_bus s.registers (machine_opened s) i j c (standing_at s j h t c.on))
       ∙ sym (if_on (off_bit s.registers) (code_executed s j) c.on)
 
   none_at : (s : MachineBoard) (q : Option Instr) (e : Stop) → IsStopped machine_bus s.registers (machine_opened s) e → Holds s.fram p (words_of is)
@@ -216,22 +207,22 @@ module _ (p : ℕ) (is : List Instr) (are : AreInstructions is) (even : p % 2 �
   none_at s q (stop.Bus at a) k h t hole = absurd (stopped_at s q (stop.Bus at a) k.0 k h t hole)
   none_at s q stop.NoReading k h t hole = absurd k
 
-  step_as : (s : MachineBoard) (o : MachineOutcome) → s.inputs.looks ≡ [] → IsMachineStep s o → Holds s.fram p (words_of is)
+  step_as : (s : MachineBoard) (o : MachineOutcome) → IsLookingStep s o → Holds s.fram p (words_of is)
       → IsNoHole (step_with (there (s.registers 0)) s)
       → o ≡ step_with (there (s.registers 0)) s
-  step_as s o none (NoInstruction e k) h hole = none_at s (there (s.registers 0)) e k h refl hole
-  step_as s o none (Executes i c) h hole = executes_at s (there (s.registers 0)) i none c h refl hole
+  step_as s o (NoInstruction e k) h hole = none_at s (there (s.registers 0)) e k h refl hole
+  step_as s o (Executes i c) h hole = executes_at s (there (s.registers 0)) i c h refl hole
 
   -- a step of the machine is a step of the code that stays
-  step_is : (s : MachineBoard) (o : MachineOutcome) → s.inputs.looks ≡ [] → IsMachineStep s o → Holds s.fram p (words_of is) → IsNoHole (exec there s)
+  step_is : (s : MachineBoard) (o : MachineOutcome) → IsLookingStep s o → Holds s.fram p (words_of is) → IsNoHole (exec there s)
       → o ≡ exec there s
-  step_is s o none is_step h hole =
+  step_is s o is_step h hole =
       let same = undisturbed_is s (step_with (there (s.registers 0)) s) hole in
-      step_as s o none is_step h (subst IsNoHole same hole) ∙ sym same
+      step_as s o is_step h (subst IsNoHole same hole) ∙ sym same
 
 -- code that stands in FRAM is executed as it stands
 pub code_in_fram_steps : CodeInFramSteps
-code_in_fram_steps p is s o are even low high none is_step h hole = step_is p is are even low high s o none is_step h hole
+code_in_fram_steps p is s o are even low high is_step h hole = step_is p is are even low high s o is_step h hole
 
 -- instructions stand at even addresses, within their bytes
 placed_within : (is : List Instr) (q : ℕ) → q % 2 ≡ 0 → (a : ℕ) (i : Instr) → placed q is a ≡ Some i

@@ -1,6 +1,6 @@
 -- The forms of instructions that the compiler and its runtime write, on a machine whose registers are told apart: what each is
 -- as an instruction, how long it is, what it needs and what it does (SLAU049 and SLAU144, CPU chapter).
-use Rattle.std.specs.Prelude.{ℕ, ◌+◌, ◌-◌, ◌%◌, ◌≡◌, ◌<◌, ◌≤◌, true, false, ◌==◌, if◌then◌else◌, List, [], ◌∷◌, Option, Some, None}
+use Rattle.std.specs.Prelude.{ℕ, ◌+◌, ◌-◌, ◌%◌, ◌≡◌, ◌<◌, ◌≤◌, true, false, ◌==◌, if◌then◌else◌, List, [], ◌∷◌, ◌++◌, Option, Some, None}
 use Rattle.machine_effects.specs.address_space.Limits.{fram_end, stack_top, event_vector, HasStackRoom}
 use Rattle.machine_effects.specs.event_places.Places.{head_place, ring_place}
 use Rattle.machine_effects.specs.alp_words.declared.Flags.{Flags}
@@ -16,7 +16,8 @@ use Rattle.machine_effects.specs.msp_step.Effect.{status_with, operated, Operate
 use Rattle.machine_effects.specs.msp_step.Effect.{word_sum, distance, is_met}
 use Rattle.machine_effects.specs.fram_board.Effects.{Store, Take, Outside, Offered}
 use Rattle.machine_effects.specs.World.{put}
-use Rattle.machine_effects.specs.Inputs.{Inputs, first_look, other_looks, HasLook}
+use Rattle.machine_effects.specs.fram_board.Effects.{Effect}
+use Rattle.machine_effects.specs.Inputs.{Inputs, first_look, other_looks, look_effects}
 use Rattle.machine_effects.specs.Going.{StepOutcome, Goes, Stops, Stretch}
 use Rattle.machine_effects.specs.Machine.{MachineBoard, MachineOutcome, IsPlace, IsRam}
 pub use Rattle.instruction_forms.specs.Encoding.{index_of, source_operand, source_bytes, target_operand, target_bytes, modification_operand}
@@ -130,6 +131,20 @@ source_read (Indexed b x) u = u
 source_read Head u = look_taken u
 source_read (Slot b) u = look_taken u
 
+-- the effects of reading it: those of a look
+abbrev pub source_effects : Source → Core → List Effect
+source_effects (Register b) u = []
+source_effects (Number n) u = []
+source_effects (Constant k) u = []
+source_effects (Fram a) u = []
+source_effects (Ram a) u = []
+source_effects (Pointed b) u = []
+source_effects (PointedNext b) u = []
+source_effects (Indexed b x) u = []
+source_effects Popped u = []
+source_effects Head u = look_effects u.inputs.looks
+source_effects (Slot b) u = look_effects u.inputs.looks
+
 -- the address of a slot of the ring
 pub record IsSlot (a : ℕ) : Type 0 where
   pub even : a % 2 ≡ 0
@@ -147,8 +162,8 @@ SourceNeeds (Pointed b) u = IsPlace (u.work (work_number b))
 SourceNeeds (PointedNext b) u = IsPlace (u.work (work_number b))
 SourceNeeds (Indexed b x) u = IsPlace (u.work (work_number b) + x)
 SourceNeeds Popped u = IsRam u.sp
-SourceNeeds Head u = HasLook u.inputs.looks
-SourceNeeds (Slot b) u = HasLook u.inputs.looks × IsSlot (u.work (work_number b) + ring_place)
+SourceNeeds Head u = Unit {0}
+SourceNeeds (Slot b) u = IsSlot (u.work (work_number b) + ring_place)
 
 -- the address in RAM at which it reads, if it does
 abbrev pub source_ram : Source → Core → Option ℕ
@@ -167,6 +182,12 @@ target_written (ToIndexed b x) c v u =
 target_written (ToPointed b) c v u = Goes (Store (u.work (work_number b)) v ∷ []) c (record u { fram = put u.fram (u.work (work_number b)) v })
 target_written ToOutnum c v u = Goes [] c (record u { outnum = v })
 target_written ToOutdata c v u = Goes (Outside (Offered u.outnum v) ∷ []) c u
+
+-- a write behind the effects of the source
+abbrev pub behind_source : List Effect → CoreOutcome → CoreOutcome
+behind_source es (Goes [] c u) = Goes es c u
+behind_source es (Goes (f ∷ fs) c u) = Goes (es ++ f ∷ fs) c u
+behind_source es (Stops fs price e) = Stops (es ++ fs) price e
 
 -- what it needs
 abbrev pub TargetNeeds : Target → Core → Type 0
@@ -203,23 +224,26 @@ sensed (w ∷ ws) b u = Goes (Take w ∷ []) 3 (record u { pc = u.pc + 4; work =
 abbrev pub form_step : Form → Core → CoreOutcome
 form_step (Move x y) u =
     let t = source_read x u in
-    target_written y (cycles_of (instruction_of (Move x y))) (source_value x u) (record t { pc = u.pc + (2 + source_bytes x + target_bytes y) })
+    behind_source (source_effects x u)
+    (target_written y (cycles_of (instruction_of (Move x y))) (source_value x u) (record t { pc = u.pc + (2 + source_bytes x + target_bytes y) }))
 form_step (Calculate op x b) u =
     let t = source_read x u in
     let o = operated op Word (t.work (work_number b)) (source_value x u) u.flags in
-    Goes [] (cycles_of (instruction_of (Calculate op x b))) (calculated op b o (record t { pc = u.pc + (2 + source_bytes x) }))
+    Goes (source_effects x u) (cycles_of (instruction_of (Calculate op x b))) (calculated op b o (record t { pc = u.pc + (2 + source_bytes x) }))
 form_step (Compare x a) u =
     let t = source_read x u in
     let o = operated Cmp Word (u.fram a) (source_value x u) u.flags in
-    Goes [] (cycles_of (instruction_of (Compare x a))) (record t { pc = u.pc + (2 + source_bytes x + 2); flags = flags_after o.flags u.flags })
+    let after : Core = record t { pc = u.pc + (2 + source_bytes x + 2); flags = flags_after o.flags u.flags } in
+    Goes (source_effects x u) (cycles_of (instruction_of (Compare x a))) after
 form_step (Update op x a) u =
     let t = source_read x u in
     let o = operated op Word (u.fram a) (source_value x u) u.flags in
     let after : Core = record t { pc = u.pc + (2 + source_bytes x + 2); flags = flags_after o.flags u.flags; fram = put u.fram a o.value } in
-    Goes (Store a o.value ∷ []) (cycles_of (instruction_of (Update op x a))) after
+    Goes (source_effects x u ++ Store a o.value ∷ []) (cycles_of (instruction_of (Update op x a))) after
 form_step (Push x) u =
     let t = source_read x u in
-    Goes [] (cycles_of (instruction_of (Push x))) (record t { pc = u.pc + (2 + source_bytes x); sp = t.sp - 2; ram = put t.ram (t.sp - 2) (source_value x u) })
+    let after : Core = record t { pc = u.pc + (2 + source_bytes x); sp = t.sp - 2; ram = put t.ram (t.sp - 2) (source_value x u) } in
+    Goes (source_effects x u) (cycles_of (instruction_of (Push x))) after
 form_step (Modify m b) u =
     let o = modified m (u.work (work_number b)) u.flags in
     Goes [] 1 (record u { pc = u.pc + 2; flags = flags_after o.flags u.flags; work = put u.work (work_number b) o.value })

@@ -7,7 +7,7 @@ use Rattle.machine_effects.specs.msp_step.Step.{is_interruptible}
 use Rattle.machine_effects.specs.fram_board.Board.{PowerState}
 use Rattle.machine_effects.specs.fram_board.Effects.{Effect}
 use Rattle.machine_effects.specs.Going.{Goes, Stops, At, stretch, Leads, going}
-use Rattle.machine_effects.specs.Machine.{Code, MachineBoard, MachineOutcome, IsMachineStep, exec, step_with, machine_powered}
+use Rattle.machine_effects.specs.Machine.{Code, MachineBoard, MachineOutcome, IsLookingStep, exec, step_with, machine_powered}
 use Rattle.code_forms.specs.Forms.{Core, board_of, core_of, outcome_of_core, Form, instruction_of, form_step, FormNeeds, ram_read, IsCodeAddress}
 use Rattle.code_forms.specs.Code.{Stands, AreStraight, forms_run, FormsNeed, IsTidy, IsAtForm, OfState, StepsAreForms}
 use Rattle.code_forms.specs.Placed.{placed, words_of, instructions, Holds, AreInstructions}
@@ -52,11 +52,11 @@ PlacedIsTidy = (is : List Instr) (p : ℕ) → p % 2 ≡ 0 → p + 2 * length (w
 abbrev pub IsNoHole : MachineOutcome → Type 0
 IsNoHole o = (es : List Effect) (price pc word : ℕ) → o ≢ Stops es price (stop.Illegal pc word)
 
--- a machine whose FRAM holds instructions, and for which no look is ready, steps as the code that they are, where that doesn't go astray
+-- a machine whose FRAM holds instructions steps as the code that they are, where that doesn't go astray
 abbrev pub CodeInFramSteps : Type 0
 CodeInFramSteps = (p : ℕ) (is : List Instr) (s : MachineBoard) (o : MachineOutcome)
     → AreInstructions is → p % 2 ≡ 0 → fram_first ≤ p → p + 2 * length (words_of is) < fram_end
-    → s.inputs.looks ≡ [] → IsMachineStep s o → Holds s.fram p (words_of is) → IsNoHole (exec (placed p is) s) → o ≡ exec (placed p is) s
+    → IsLookingStep s o → Holds s.fram p (words_of is) → IsNoHole (exec (placed p is) s) → o ≡ exec (placed p is) s
 
 -- where code that stays goes on, the CPU accepts no interrupt
 abbrev pub CodeGoesUndisturbed : Type 0

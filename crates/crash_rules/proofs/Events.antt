@@ -77,6 +77,7 @@ gate_positions before now h =
           (map-append (λ (d : Done). (d.span_from, d.span_to)) h.completed (record {
             span_from = h.span_from;
             span_to = h.span_to;
+            looks = h.looks;
             world = h.world;
           } ∷ []))
       | false ↦ elim (is_decide before now) as (λ c. positions_of (cond c (behind_decide h) h) ≡ cond c (record {

@@ -2,7 +2,7 @@
 use Rattle.std.proofs.Common.{◌≡◌, ℕ, zero, suc, ◌+◌, List, [], ◌∷◌, ◌++◌, length, refl, sym, ap, ap₂, ◌∙◌, arith, true, false, cond, ne_eqb, append_assoc}
 use Rattle.std.proofs.Common.{append-nil}
 use Rattle.std.specs.Prelude.{◌&&◌, ◌%◌, ◌==◌, not}
-use Rattle.machine_effects.specs.fram_board.Effects.{Effect, Store, Take, Outside, OutsideEffect, Offered}
+use Rattle.machine_effects.specs.fram_board.Effects.{Effect, Store, Take, Outside, OutsideEffect, Offered, Looked}
 use Rattle.machine_effects.specs.World.{World, received, accepted_behind, world_after_one, world_after, readings_taken, OfStore, EachStore}
 use Rattle.machine_effects.proofs.Interface.{put_same, put_other}
 use Rattle.crash_rules.specs.Model.{Marks, IsElsewhere}
@@ -76,7 +76,7 @@ gate_grows : (before now : ℕ) (h : History) → (more : List Done) × ((behind
 gate_grows before now h =
     elim (is_done before now) as (λ b. (more : List Done)
     × ((cond b (behind_done h) (cond (is_decide before now) (behind_decide h) h)).completed ≡ h.completed ++ more)) [
-      | true ↦ (record { span_from = h.span_from; span_to = h.span_to; world = h.world } ∷ [], refl)
+      | true ↦ (record { span_from = h.span_from; span_to = h.span_to; looks = h.looks; world = h.world } ∷ [], refl)
       | false ↦ elim (is_decide before now) as (λ b. (more : List Done) × ((cond b (behind_decide h) h).completed ≡ h.completed ++ more)) [
         | true ↦ ([], sym (append-nil h.completed))
         | false ↦ ([], sym (append-nil h.completed))
@@ -121,6 +121,7 @@ received_more n w ws =
 
 accepted_grows : (o : OutsideEffect) (ws : List ℕ) → (more : List ℕ) × (accepted_behind o ws ≡ ws ++ more)
 accepted_grows (Offered n w) ws = received_more n w ws
+accepted_grows (Looked seen) ws = ([], sym (append-nil ws))
 
 -- words that are accepted stay so
 world_more : (es : List Effect) (x : World) → (more : List ℕ) × ((world_after es x).accepted ≡ x.accepted ++ more)

@@ -6,14 +6,15 @@ use Rattle.std.specs.List.{slice_range}
 use Rattle.machine_effects.specs.fram_board.Board.{BoardValue, BoardOutcome}
 use Rattle.machine_effects.specs.fram_board.Effects.{Effect, effects_of}
 pub use Rattle.machine_effects.specs.fram_board.Gate.{is_decide, is_done}
-use Rattle.machine_effects.specs.World.{World, world_after_one, world_after, readings_taken}
-use Rattle.machine_effects.specs.Inputs.{Inputs}
+use Rattle.machine_effects.specs.World.{World, world_after_one, world_after, readings_taken, looks_taken}
+use Rattle.machine_effects.specs.Inputs.{Look, Inputs}
 use Rattle.crash_rules.specs.Model.{Marks}
 
--- a done: the span of the decide before it, and FRAM and the accepted words behind it
+-- a done: the span and the looks of the decide before it, and FRAM and the accepted words behind it
 pub record Done : Type 0 where
   pub span_from : ℕ
   pub span_to : ℕ
+  pub looks : List Look
   pub world : World
 
 -- what is known of a run so far
@@ -26,6 +27,7 @@ pub record History : Type 0 where
   pub effects : List Effect  -- the effects since
   pub span_from : ℕ  -- the span of the last decide: the readings taken between the last boot or done before it and the decide
   pub span_to : ℕ
+  pub looks : List Look  -- the looks of the last decide, which were taken between the same
   pub decided : Bool  -- whether no done came since the last decide
   pub completed : List Done  -- the dones, in order
 
@@ -39,7 +41,7 @@ with_effect e h = record h {
 
 -- the history behind a decide
 abbrev pub behind_decide : History → History
-behind_decide h = record h { span_from = h.since; span_to = h.taken; decided = true }
+behind_decide h = record h { span_from = h.since; span_to = h.taken; looks = looks_taken h.effects; decided = true }
 
 -- the history behind a done
 abbrev pub behind_done : History → History
@@ -49,7 +51,7 @@ behind_done h = record h {
   start = h.world;
   effects = [];
   decided = false;
-  completed = h.completed ++ record { span_from = h.span_from; span_to = h.span_to; world = h.world } ∷ [];
+  completed = h.completed ++ record { span_from = h.span_from; span_to = h.span_to; looks = h.looks; world = h.world } ∷ [];
 }
 
 -- the history behind a change of GATE
@@ -80,6 +82,7 @@ first_history marks x = record {
   effects = [];
   span_from = 0;
   span_to = 0;
+  looks = [];
   decided = x.fram marks.gate == 1;
   completed = [];
 }
@@ -92,16 +95,16 @@ decided_readings readings h = slice_range readings h.span_from h.span_to
 abbrev pub done_readings : List ℕ → Done → List ℕ
 done_readings readings d = slice_range readings d.span_from d.span_to
 
--- what is left of a run's readings from a position on, as inputs: no look is ready
-abbrev pub inputs_from : List ℕ → ℕ → Inputs
-inputs_from readings from = record { readings = drop from readings; looks = [] }
+-- what is left of a run's readings from a position on, as inputs with these looks. Readings are a run's; the looks of each charge are its own
+abbrev pub inputs_from : List ℕ → ℕ → List Look → Inputs
+inputs_from readings from looks = record { readings = drop from readings; looks = looks }
 
 -- what the last decide took, and what a done committed
 abbrev pub decided_inputs : List ℕ → History → Inputs
-decided_inputs readings h = record { readings = decided_readings readings h; looks = [] }
+decided_inputs readings h = record { readings = decided_readings readings h; looks = h.looks }
 
 abbrev pub done_inputs : List ℕ → Done → Inputs
-done_inputs readings d = record { readings = done_readings readings d; looks = [] }
+done_inputs readings d = record { readings = done_readings readings d; looks = d.looks }
 
 -- the positions of a history: those at the last boot or done and of the last decide, and from where to where each done has its span
 pub record Positions : Type 0 where

@@ -3,7 +3,7 @@
 use Rattle.std.specs.Prelude.{◌≡◌, ◌≢◌, ℕ, zero, suc, ◌<◌, ◌==◌, if◌then◌else◌, nat_lt, Bool, true, false, List, [], ◌∷◌, ◌++◌}
 pub use Rattle.machine_effects.specs.alp_words.Words.{IsWord}
 use Rattle.machine_effects.specs.fram_board.Effects.{Effect, Store}
-use Rattle.machine_effects.specs.World.{World, world_after_one, world_after, fram_after, readings_taken, EachStore}
+use Rattle.machine_effects.specs.World.{World, world_after_one, world_after, fram_after, EachStore}
 pub use Rattle.machine_effects.specs.Inputs.{Inputs, inputs_taken, no_inputs, inputs_behind, InputsAreWords, TakesExactly}
 
 -- how a whole task ends: in a state of the source, with inputs left over, or for want of a reading
@@ -101,9 +101,9 @@ abbrev pub AttemptContract : {St : Type 0} → Model St → St → Inputs → Wo
 AttemptContract m s inputs x (Ends next left) p = Decides m s next left inputs x p
 AttemptContract m s inputs x Short p = RunsShort m s x p
 
--- effects that take no reading, leave GATE alone and keep the world undecided throughout
+-- effects that take nothing of what is ready, leave GATE alone and keep the world undecided throughout
 pub record StaysUndecided {St : Type 0} (m : Model St) (s : St) (x : World) (es : List Effect) : Type 0 where
-  pub takes_none : readings_taken es ≡ []
+  pub takes_none : inputs_taken es ≡ no_inputs
   pub elsewhere : EachStore (IsElsewhere m.marks.gate) es
   pub undecided : HoldsThroughout (m.Undecided s) es x
 
@@ -113,12 +113,12 @@ pub record RecoveryKeeps {St : Type 0} (m : Model St) (s : St) (x : World) : Typ
   pub settled : m.Settled s (world_after (m.recover x.fram) x)
 
 -- what a commit owes on these inputs: its last effect stores 0 to GATE; up to there the world stays as it is said to be, and behind it
--- rests at a state. It takes no reading
+-- rests at a state. It takes nothing of what is ready
 pub record CommitKeeps {St : Type 0} (m : Model St) (Kept : World → Type 0) (to : St) (inputs : Inputs) (x : World) : Type 0 where
   pub before : List Effect
   pub is : m.commit x.fram inputs ≡ before ++ Store m.marks.gate 0 ∷ []
   pub elsewhere : EachStore (IsElsewhere m.marks.gate) before
-  pub takes_none : readings_taken before ≡ []
+  pub takes_none : inputs_taken before ≡ no_inputs
   pub kept : HoldsThroughout Kept before x
   pub rests : m.Rests to (world_after_one (Store m.marks.gate 0) (world_after before x))
 

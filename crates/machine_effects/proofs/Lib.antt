@@ -5,6 +5,8 @@ mod Logs
 mod Alike
 mod Along
 mod Steps
+mod Seen
+mod Blind
 mod Lines
 mod Executed
 mod Values

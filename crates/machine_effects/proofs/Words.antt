@@ -43,8 +43,8 @@ use Rattle.fram_board.specs.Run.{Measure, price, RunOutcome, ChargeRun}
 use Rattle.fram_board.specs.Run as run
 use Rattle.fram_board.proofs.Interface.{power_up_leaves_a_board}
 use Rattle.machine_effects.specs.World.{put}
-use Rattle.machine_effects.specs.Inputs.{Look, InputsAreWords}
-use Rattle.machine_effects.specs.Going.{Goes, Stops}
+use Rattle.machine_effects.specs.Inputs.{Look, Inputs, InputsAreWords, first_look, other_looks, look_effects}
+use Rattle.machine_effects.specs.Going.{Goes, Stops, step_behind}
 use Rattle.machine_effects.specs.Machine.{MachineBus, MachineBoard, MachineOutcome, machine_bus, machine_word, word_address, first_reading, machine_read}
 use Rattle.machine_effects.specs.Machine.{is_readable, ring_read, word_read, word_written, looks_there, machine_opened_seeing, machine_executed_seeing}
 use Rattle.machine_effects.specs.Machine.{executed_looking, code_executed}
@@ -250,16 +250,29 @@ executed_words ring s i w h k =
     outcome_words (s.registers 0) (cycles_of i) (effect machine_bus i s.registers t)
     (effect_gives machine_bus IsWord AreSmall OfWords machine_closed_words i s.registers t k h.registers (opened_words ring s w h))
 
+-- the first of looks at words sees words, and so do the others
+pub first_small : (looks : List Look) → All (λ look. (a : ℕ) → look a < 0x10000) looks → (a : ℕ) → first_look looks a < 0x10000
+first_small [] w a = omega arith
+first_small (look ∷ more) w a = w zero look (omega arith) a
+
+pub others_small : (looks : List Look) → All (λ look. (a : ℕ) → look a < 0x10000) looks → All (λ look. (a : ℕ) → look a < 0x10000) (other_looks looks)
+others_small [] w = w
+others_small (look ∷ more) w = λ n d low. w (suc n) d (omega arith)
+
+-- effects in front change nothing of that
+behind_words : (es : List Effect) (o : MachineOutcome) → LeavesWords o → LeavesWords (step_behind es o)
+behind_words es (Goes fs c t) h = h
+behind_words es (Stops fs price e) h = h
+
 -- an instruction of code
 looking_words : (looks : List Look) (s : MachineBoard) (i : Instr) → All (λ look. (a : ℕ) → look a < 0x10000) looks → IsMachineOfWords s
     → InstructionHas IsWord i → LeavesWords (executed_looking looks s i)
-looking_words [] s i w h k = executed_words None s i tt h k
-looking_words (look ∷ more) s i w h k =
-    let rest : All (λ l. (a : ℕ) → l a < 0x10000) more = λ n d low. w (suc n) d (omega arith) in
-    let left : InputsAreWords (record s.inputs { looks = more }) = record { readings = h.inputs.readings; looks = rest } in
-    let first : (a : ℕ) → look a < 0x10000 = w zero look (omega arith) in
-    executed_words (Some look) (record s { inputs = record s.inputs { looks = more } }) i first
-    (record { registers = h.registers; fram = h.fram; ram = h.ram; inputs = left; outnum = h.outnum }) k
+looking_words looks s i w h k =
+    let left : Inputs = record s.inputs { looks = other_looks looks } in
+    let words : InputsAreWords left = record { readings = h.inputs.readings; looks = others_small looks w } in
+    behind_words (look_effects looks) _
+    (executed_words (Some (first_look looks)) (record s { inputs = left }) i (first_small looks w)
+    (record { registers = h.registers; fram = h.fram; ram = h.ram; inputs = words; outnum = h.outnum }) k)
 
 either_words : (b : Bool) (o p : MachineOutcome) → LeavesWords o → LeavesWords p → LeavesWords (if b then o else p)
 either_words true o p h k = h

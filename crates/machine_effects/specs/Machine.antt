@@ -32,8 +32,8 @@ use Rattle.fram_board.specs.Bus.{ram_place, is_ram, is_fram, is_memory, is_word,
 use Rattle.fram_board.specs.Board.{PowerState}
 use Rattle.fram_board.specs.Effects.{Effect, Store, Take, Outside, Offered}
 use Rattle.machine_effects.specs.World.{put}
-use Rattle.machine_effects.specs.Inputs.{Inputs, Look}
-use Rattle.machine_effects.specs.Going.{StepOutcome, Goes, Stops, Stretch}
+use Rattle.machine_effects.specs.Inputs.{Inputs, Look, first_look, other_looks, look_effects}
+use Rattle.machine_effects.specs.Going.{StepOutcome, Goes, Stops, step_behind, Stretch}
 
 -- memory and ports during one instruction, and what it did so far
 pub record MachineBus : Type 0 where
@@ -172,11 +172,15 @@ machine_executed_seeing ring s i = machine_outcome (s.registers 0) (cycles_of i)
 abbrev pub machine_executed : MachineBoard → Instr → MachineOutcome
 machine_executed s i = machine_executed_seeing None s i
 
--- one step of the machine: it is stopped with no instruction, or the instruction at PC is executed. A stop that needs no
--- instruction costs nothing; CPUOFF comes first
-pub data IsMachineStep (s : MachineBoard) : MachineOutcome → Type 0 where
-  NoInstruction : (e : Stop) → IsStopped machine_bus s.registers (machine_opened s) e → IsMachineStep s (Stops [] 0 e)
-  Executes : (i : Instr) → IsCurrentInstruction machine_bus s.registers (machine_opened s) i → IsMachineStep s (machine_executed s i)
+-- one step of the machine, which executes instructions like this: it is stopped with no instruction, or the instruction at PC is
+-- executed. A stop that needs no instruction costs nothing; CPUOFF comes first
+pub data IsStepBy (run : MachineBoard → Instr → MachineOutcome) (s : MachineBoard) : MachineOutcome → Type 0 where
+  NoInstruction : (e : Stop) → IsStopped machine_bus s.registers (machine_opened s) e → IsStepBy run s (Stops [] 0 e)
+  Executes : (i : Instr) → IsCurrentInstruction machine_bus s.registers (machine_opened s) i → IsStepBy run s (run s i)
+
+-- a step of the machine that may not look
+abbrev pub IsMachineStep : MachineBoard → MachineOutcome → Type 0
+IsMachineStep = IsStepBy machine_executed
 
 -- an operand by which an instruction looks at HEAD or the ring: its address is there, or the number that a register is added to
 abbrev pub operand_looks : Operand → Bool
@@ -211,14 +215,19 @@ looks_there (instr.One o) = pushed_looks o
 looks_there (instr.Jump c o) = false
 looks_there instr.Reti = false
 
--- one that takes the first look that is left; where none is, it may not look
+-- one that takes the first of these looks; where none is left, it sees nothing but 0
 abbrev pub executed_looking : List Look → MachineBoard → Instr → MachineOutcome
-executed_looking [] s i = machine_executed s i
-executed_looking (look ∷ more) s i = machine_executed_seeing (Some look) (record s { inputs = record s.inputs { looks = more } }) i
+executed_looking looks s i =
+    step_behind (look_effects looks)
+    (machine_executed_seeing (Some (first_look looks)) (record s { inputs = record s.inputs { looks = other_looks looks } }) i)
 
 -- an instruction of code
 abbrev pub code_executed : MachineBoard → Instr → MachineOutcome
 code_executed s i = if looks_there i then executed_looking s.inputs.looks s i else machine_executed s i
+
+-- a step of the machine that looks
+abbrev pub IsLookingStep : MachineBoard → MachineOutcome → Type 0
+IsLookingStep = IsStepBy code_executed
 
 -- what an instruction that stands at PC does while CPUOFF is clear; where none stands the word there is illegal
 abbrev pub standing : Option Instr → MachineBoard → MachineOutcome

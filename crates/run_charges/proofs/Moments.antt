@@ -1,6 +1,7 @@
 -- The moments of a run, one behind the other, and what each of its instructions does to the machine.
 use Rattle.std.proofs.Common.{◌≡◌, ◌==◌, ◌≤◌, ◌+◌, ◌-◌, ◌%◌, ℕ, suc, refl, sym, ap, ◌∙◌, subst, arith, Bool, true, false, if◌then◌else◌, List, [], ◌∷◌, ◌++◌}
-use Rattle.std.proofs.Common.{length, length-append, Option, Some, None, Ok}
+use Rattle.std.proofs.Common.{ap₂, length, length-append, Option, Some, None, Ok}
+use Rattle.std.proofs.lemmas.List.Elements.{All-cons}
 use Rattle.msp_isa.specs.declared.instructions.Instr.{Instr}
 use Rattle.msp_cycles.specs.Cycles.{cycles_of}
 use Rattle.msp_step.specs.Registers.{Registers, registers_of}
@@ -15,20 +16,21 @@ use Rattle.fram_board.specs.Board.{BoardValue, opened, executed, performed, at_b
 use Rattle.fram_board.specs.Board.{offered_to}
 use Rattle.fram_board.specs.Saved.{TakesNextBehind}
 use Rattle.fram_board.specs.Steps.{IsPowerState}
-use Rattle.fram_board.specs.Effects.{Effect, Store, Take, Outside, OutsideEffect, Offered, sends_of, effects_of, heard}
+use Rattle.fram_board.specs.Effects.{Effect, Store, Take, Outside, OutsideEffect, Offered, Looked, sends_of, effects_of, heard}
 use Rattle.fram_board.specs.Run.{Measure, price, Moment, moment_of, Charges, RunOutcome}
 use Rattle.fram_board.specs.Run.{ChargeRun}
 use Rattle.fram_board.specs.Run.{Spent, NoInstruction, TooDear, Refused, BoardCharge, word_list}
 use Rattle.fram_board.specs.Run as run
 use Rattle.fram_board.proofs.Interface.{step_makes_its_effects, data_not_fram}
 use Rattle.machine_effects.specs.World.{fram_after, received, accepted_after, readings_taken}
-use Rattle.machine_effects.specs.Going.{Goes}
-use Rattle.machine_effects.specs.Machine.{MachineBus, MachineBoard, MachineOutcome, word_address, IsMachineStep, machine_bus}
-use Rattle.machine_effects.specs.Machine.{machine_opened, machine_outcome}
-use Rattle.machine_effects.specs.Machine.{machine_executed}
-use Rattle.machine_effects.specs.View.{machine_of, IsWhole, IsOfWords, outcome_of_answer, IsMachines}
+use Rattle.machine_effects.specs.Inputs.{Look, SeeWords, look_effects}
+use Rattle.machine_effects.specs.Going.{Goes, Stops, step_behind}
+use Rattle.machine_effects.specs.Machine.{MachineBus, MachineBoard, MachineOutcome, word_address, machine_bus, machine_opened_seeing, machine_outcome}
+use Rattle.machine_effects.specs.Machine.{machine_executed_seeing, machine_executed, looks_there, executed_looking, code_executed}
+use Rattle.machine_effects.specs.View.{machine_of, machine_with, looks_at, seen_at_pc, IsWhole, IsOfWords, outcome_of_answer, IsMachines}
+use Rattle.machine_effects.specs.Laws.{ChangesByEffects}
 use Rattle.machine_effects.specs.Runs.{last_board}
-use Rattle.machine_effects.proofs.Interface.{takes, written_effects, LoggedBy, effect_logged, machine_changes_by_effects, current_to_machine}
+use Rattle.machine_effects.proofs.Interface.{takes, written_effects, LoggedBy, effect_logged, code_changes, seen_by_words}
 use Rattle.machine_effects.proofs.Interface.{step_leaves_it_whole, words_stay_words, boundary_whole, boundary_words, told_effects, step_accepts_by_sends}
 use Rattle.crash_rules.specs.Model.{Marks}
 use Rattle.crash_rules.specs.History.{History}
@@ -89,10 +91,18 @@ pub data AtMostOne (es : List Effect) : Type 0 where
   AnOutside : (o : OutsideEffect) → es ≡ Outside o ∷ [] → AtMostOne es
 
 -- takes, and then one store or one effect outside at most
+record TakesAndWrites (es : List Effect) : Type 0 where
+  words : List ℕ
+  write : List Effect
+  split : es ≡ takes words ++ write
+  one : AtMostOne write
+
+-- the same behind a look
 pub record OneWrite (es : List Effect) : Type 0 where
+  pub looks : List Look
   pub words : List ℕ
   pub write : List Effect
-  pub split : es ≡ takes words ++ write
+  pub split : es ≡ look_effects looks ++ (takes words ++ write)
   pub one : AtMostOne write
 
 one_by_tests : (x y : Bool) (a v w n : ℕ) → (y ≡ true → x ≡ false)
@@ -107,7 +117,7 @@ one_written None f n = NoWrite refl
 one_written (Some w) f n = one_by_tests (is_fram w.0) (w.0 == data_port) (word_address w.0) w.1 (f (word_address w.0)) n (data_not_fram w.0)
 
 one_logged : (s : MachineBus) (pc c d : ℕ) (m : Access MachineBus (Registers × Option Written)) (es : List Effect) (next : MachineBoard) → s.log ≡ []
-    → LoggedBy s m → machine_outcome pc c m ≡ Goes es d next → OneWrite es
+    → LoggedBy s m → machine_outcome pc c m ≡ Goes es d next → TakesAndWrites es
 one_logged s pc c d (Completed x t) es next e h g =
     let same : t.log ≡ es = cc in
     let P : List Effect → Type 0 = λ l. t.log ≡ (l ++ takes h.words) ++ written_effects x.1 t.fram s.outnum in
@@ -118,6 +128,28 @@ one_logged s pc c d (Completed x t) es next e h g =
       one = one_written x.1 t.fram s.outnum;
     }
 one_logged s pc c d (Faulted f a t) es next e h g = absurd cc
+
+-- so does an instruction that sees this of the ring
+one_seeing : (ring : Option Look) (s : MachineBoard) (i : Instr) (es : List Effect) (d : ℕ) (next : MachineBoard)
+    → machine_executed_seeing ring s i ≡ Goes es d next → TakesAndWrites es
+one_seeing ring s i es d next e =
+    let t = machine_opened_seeing ring s in
+    one_logged t (s.registers 0) (cycles_of i) d (effect machine_bus i s.registers t) es next refl (effect_logged i s.registers t) e
+
+-- and one of code, behind its look
+one_behind : (looks : List Look) (o : MachineOutcome) (es : List Effect) (d : ℕ) (next : MachineBoard)
+    → ((fs : List Effect) (c : ℕ) (t : MachineBoard) → o ≡ Goes fs c t → TakesAndWrites fs) → step_behind (look_effects looks) o ≡ Goes es d next → OneWrite es
+one_behind looks (Goes fs c t) es d next one e =
+    let k = one fs c t refl in
+    let same : look_effects looks ++ fs ≡ es = cc e in
+    record { looks = looks; words = k.words; write = k.write; split = sym same ∙ ap (λ l. look_effects looks ++ l) k.split; one = k.one }
+one_behind looks (Stops fs price x) es d next one e = absurd (cc e)
+
+one_by_look : (c : Bool) (s : MachineBoard) (i : Instr) (es : List Effect) (d : ℕ) (next : MachineBoard)
+    → (if c then executed_looking s.inputs.looks s i else machine_executed s i) ≡ Goes es d next → OneWrite es
+one_by_look true s i es d next e = one_behind s.inputs.looks _ es d next (one_seeing _ _ i) e
+one_by_look false s i es d next e =
+    let k = one_seeing None s i es d next e in record { looks = []; words = k.words; write = k.write; split = k.split; one = k.one }
 
 heard_one : (c : Bool) (w : ℕ) (r : Receiver) (ws : List ℕ) → TakesNextBehind ws r
     → TakesNextBehind (if c then ws ++ w ∷ [] else ws) (if c then record r { accepted = r.accepted + 1 } else record r { repeats = r.repeats + 1 })
@@ -133,6 +165,25 @@ heard_count (Outside (Offered n w) ∷ es) r ws e =
     let test : (n == (length ws % 0x10000)) ≡ is_accepted n r = ap (λ c. n == c) e in
     heard_count es (offered_to n r) (received n w ws)
     (ap (λ c. length (if c then ws ++ w ∷ [] else ws) % 0x10000) test ∙ heard_one (is_accepted n r) w r ws e)
+heard_count (Outside (Looked seen) ∷ es) r ws e = heard_count es r ws e
+
+-- behind a look as many are accepted, and readings taken
+look_accepts : (looks : List Look) (es : List Effect) (ws : List ℕ) → accepted_after (look_effects looks ++ es) ws ≡ accepted_after es ws
+look_accepts [] es ws = refl
+look_accepts (look ∷ more) es ws = refl
+
+look_takes_none : (looks : List Look) (es : List Effect) → readings_taken (look_effects looks ++ es) ≡ readings_taken es
+look_takes_none [] es = refl
+look_takes_none (look ∷ more) es = refl
+
+-- no look is one at words
+pub nothing_seen : SeeWords []
+nothing_seen = λ k d low. absurd (omega arith)
+
+-- a list of one look and others, of words
+pub front_sees : (c : Bool) (look : Look) (more : List Look) → ((a : ℕ) → look a < 0x10000) → SeeWords more → SeeWords ((if c then look ∷ [] else []) ++ more)
+front_sees true look more w see = All-cons (λ l. (a : ℕ) → l a < 0x10000) look more w see
+front_sees false look more w see = see
 
 at_most : (t n k : ℕ) → t ≤ n → n ≡ k → t ≤ k
 at_most t n k h e = omega arith
@@ -151,18 +202,23 @@ module _ (b : BoardValue) (whole : IsWhole b) (i : Instr) (done : Stepped) (curr
   abbrev pub told : List Effect
   told = outside_effects moment
 
-  told_same : told ≡ effects_of b (executed b i)
-  told_same = told_effects b i done answer
+  -- behind the effect of its look
+  seen : seen_at_pc b ≡ looks_at b i
+  seen = seen_by_words b i whole current
 
-  -- it is a step of the machine
-  pub same_step : machine_executed (machine_of b) i ≡ Goes told done.cycles (machine_of after)
-  same_step =
-      own.step
-      ∙ ap (λ y. outcome_of_answer (effects_of b (executed b i)) (cycles_of i) y (machine_of after)) answer
-      ∙ ap (λ es. Goes es done.cycles (machine_of after)) (sym told_same)
+  told_same : told ≡ look_effects (looks_at b i) ++ effects_of b (executed b i)
+  told_same = ap₂ (λ l es. look_effects l ++ es) seen (told_effects b i done answer)
 
-  step : IsMachineStep (machine_of b) (Goes told done.cycles (machine_of after))
-  step = let P : MachineOutcome → Type 0 = λ o. IsMachineStep (machine_of b) o in subst P same_step (current_to_machine b i whole current)
+  -- it is a step of the machine, whatever is to be seen later
+  pub same_step : (more : List Look) → SeeWords more → code_executed (machine_with (seen_at_pc b ++ more) b) i ≡ Goes told done.cycles (machine_with more after)
+  same_step more see =
+      ap (λ l. code_executed (machine_with (l ++ more) b) i) seen
+      ∙ own.step more see
+      ∙ ap (λ y. outcome_of_answer (look_effects (looks_at b i) ++ effects_of b (executed b i)) (cycles_of i) y (machine_with more after)) answer
+      ∙ ap (λ es. Goes es done.cycles (machine_with more after)) (sym told_same)
+
+  step : code_executed (machine_with (seen_at_pc b ++ []) b) i ≡ Goes told done.cycles (machine_of after)
+  step = same_step [] nothing_seen
 
   is_step : IsStep b (executed b i)
   is_step = (execution board_bus i (registers_of b.cpu) (opened b), Executed i current, refl)
@@ -177,24 +233,24 @@ module _ (b : BoardValue) (whole : IsWhole b) (i : Instr) (done : Stepped) (curr
 
   -- FRAM changes as what is told says
   pub fram_changed : (outside_of after).fram ≡ fram_after told (outside_of b).fram
-  fram_changed = (machine_changes_by_effects (machine_of b) (Goes told done.cycles (machine_of after)) step).0
+  fram_changed =
+      let s = machine_with (seen_at_pc b ++ []) b in
+      let P : MachineOutcome → Type 0 = λ o. ChangesByEffects s o in (subst P step (code_changes s i)).0
 
   -- an instruction writes once
   pub one_write : OneWrite told
-  one_write =
-      let s = machine_of b in
-      one_logged (machine_opened s) (s.registers 0) (cycles_of i) done.cycles (effect machine_bus i s.registers (machine_opened s)) told (machine_of after) refl
-      (effect_logged i s.registers (machine_opened s)) same_step
+  one_write = one_by_look (looks_there i) (machine_with (seen_at_pc b ++ []) b) i told done.cycles (machine_of after) step
 
   -- the word that is accepted
   pub words_accepted : (ws : List ℕ) → TakesNextBehind ws b.receiver → accepted_after told ws ≡ ws ++ word_list done.accepted
-  words_accepted ws len = step_accepts_by_sends b (next_step.Instruction i) done ws len answer
+  words_accepted ws len = look_accepts (seen_at_pc b) _ ws ∙ step_accepts_by_sends b (next_step.Instruction i) done ws len answer
 
   -- the accepted words are counted
   pub words_counted : (ws : List ℕ) → TakesNextBehind ws b.receiver → TakesNextBehind (accepted_after told ws) after.receiver
   words_counted ws len =
       let made = step_makes_its_effects b (executed b i) whole.board is_step in
       ap (λ es. length (accepted_after es ws) % 0x10000) told_same
+      ∙ ap (λ l. length l % 0x10000) (look_accepts (looks_at b i) (effects_of b (executed b i)) ws)
       ∙ heard_count (effects_of b (executed b i)) b.receiver ws len
       ∙ ap next_number (sym made.receiver)
 
@@ -210,4 +266,5 @@ module _ (b : BoardValue) (whole : IsWhole b) (i : Instr) (done : Stepped) (curr
       let any : Marks = record { gate = 0 } in
       let event = events_of_instructions any b (executed b i) k e made.from room in
       let count = observed_taken any (effects_of b (executed b i)) k in
-      ap (λ es. k.taken + length (readings_taken es)) told_same ∙ sym count ∙ event.taken
+      ap (λ es. k.taken + length (readings_taken es)) told_same
+      ∙ ap (λ l. k.taken + length l) (look_takes_none (looks_at b i) (effects_of b (executed b i))) ∙ sym count ∙ event.taken

@@ -1,25 +1,27 @@
 -- Fronts of a run as charges of a program that stands in FRAM.
-use Rattle.std.proofs.Common.{◌≡◌, ℕ, refl, sym, ap, ◌∙◌, subst, List, [], ◌∷◌, ◌++◌, length}
+use Rattle.std.proofs.Common.{◌≡◌, ℕ, refl, sym, ap, ◌∙◌, subst, List, [], ◌∷◌, ◌++◌, append-nil, length}
 use Rattle.fram_board.specs.Board.{BoardValue, PowerState, powered}
 use Rattle.fram_board.specs.Steps.{IsPowerState}
 use Rattle.fram_board.specs.Effects.{Effect}
 use Rattle.fram_board.specs.Run.{Action, PowerUp, Execute, Moment}
 use Rattle.machine_effects.specs.World.{EachStore}
-use Rattle.machine_effects.specs.Going.{At, going}
+use Rattle.machine_effects.specs.Going.{At, stretch, going}
+use Rattle.machine_effects.specs.Inputs.{Look, SeeWords}
 use Rattle.machine_effects.specs.Machine.{MachineBoard, MachineOutcome, MachineStretch}
-use Rattle.machine_effects.specs.View.{IsWhole, IsOfWords}
-use Rattle.machine_effects.specs.Runs.{moments_effects, last_board}
-use Rattle.machine_effects.proofs.Interface.{fram_untouched, power_up_keeps_words, machine_is_of_words, power_up_is_the_machines}
+use Rattle.machine_effects.specs.View.{IsWhole, IsOfWords, IsMachineOfWords}
+use Rattle.machine_effects.specs.Runs.{moments_cycles, last_board}
+use Rattle.machine_effects.proofs.Interface.{fram_untouched, power_up_keeps_words, machine_is_of_words}
 use Rattle.code_forms.specs.Placed.{words_of, Holds}
 use Rattle.crash_rules.specs.Model.{IsElsewhere, Marks}
 use Rattle.crash_rules.specs.History.{History, observe, behind_boot}
-use Rattle.crash_rules.specs.Runs.{Program, Charge, Charged}
+use Rattle.crash_rules.specs.Runs.{Program, Charge, IsPoweredFrom, Charged}
 use Rattle.crash_rules.proofs.Interface.{observe-append}
-use Rattle.run_charges.specs.View.{outside_of, outside_effects, Follows, AreMoments, IsFront}
+use Rattle.run_charges.specs.View.{outside_with, outside_of, outside_effects, looks_in, all_outside_effects, Follows, AreMoments, IsFront}
 use Rattle.run_charges.specs.Charges.{ChargeFront, board_powered, board_behind, board_behind_all, moments_of, IsInstruction, AreInstructionMoments}
 use Rattle.run_charges.specs.Charges.{AreChargesFrom, behind_action, behind_moment, observed, charges_of, LeavesProgram, AlwaysLeaves}
 use Rattle.run_charges.specs.Laws.{IsChargedBy}
 use Rattle.run_charges.proofs.View.{follows_keeps}
+use Rattle.run_charges.proofs.Moments.{nothing_seen}
 use Rattle.run_charges.proofs.Charges.{front_charges}
 use Rattle.run_charges.proofs.Running.{PlacedProgram, Running, Reaches, instructions_reach}
 
@@ -34,13 +36,13 @@ action_observed marks (Execute kind done offered) es k h = refl
 
 -- moments that are instructions are observed by their effects
 pub instructions_observed : (marks : Marks) (ms : List Moment) (k : History) → AreInstructionMoments ms
-    → observed marks ms k ≡ observe marks (moments_effects ms) k
+    → observed marks ms k ≡ observe marks (all_outside_effects ms) k
 instructions_observed marks [] k h = refl
 instructions_observed marks (m ∷ ms) k h =
     let es = outside_effects m in
     ap (observed marks ms) (action_observed marks m.action es k h.0)
     ∙ instructions_observed marks ms (observe marks es k) h.1
-    ∙ sym (observe-append marks es (moments_effects ms) k)
+    ∙ sym (observe-append marks es (all_outside_effects ms) k)
 
 -- the board behind moments in two parts
 pub last-append : (b : BoardValue) (ms ns : List Moment) → last_board b (ms ++ ns) ≡ last_board (last_board b ms) ns
@@ -61,7 +63,7 @@ charged_join c marks [] fs s q t h j k run more =
     subst P run.0 (subst Q run.1 more)
 charged_join c marks (e ∷ es) fs s q t h j k run more =
     let behind = observe marks (going c.step e.steps e.powered).effects (behind_boot h) in
-    (run.0, run.1, run.2, (run.3.0, run.3.1, charged_join c marks es fs run.3.0 q t behind j k run.3.2 more))
+    (run.0, run.1, (run.2.0, run.2.1, charged_join c marks es fs run.2.0 q t behind j k run.2.2 more))
 
 module _ (on : PlacedProgram) where
   abbrev step : MachineBoard → MachineOutcome
@@ -97,30 +99,34 @@ module _ (on : PlacedProgram) where
 
   -- a charge from such a board
   module _ (b : BoardValue) (h : History) (ready : Ready b h) (start : PowerState) (ok : IsPowerState start) where
-    abbrev pub begun : MachineBoard
-    begun = outside_of (powered b start)
+    -- it begins with a power-up, which keeps FRAM and the readings, and then sees these of the ring
+    module _ (looks : List Look) (see : SeeWords looks) where
+      abbrev pub begun : MachineBoard
+      begun = outside_with looks (powered b start)
 
-    -- it begins with a power-up, which keeps FRAM and the inputs
-    pub is_powered : on.program.IsPoweredUp begun
-    is_powered =
-        let P : MachineBoard → Type 0 = λ s. on.program.IsPoweredUp s in
-        subst P (sym (power_up_is_the_machines b start))
-        (on.is.powers (outside_of b) start (machine_is_of_words b ready.words) ok ready.vector)
+      pub is_powered : on.program.IsPoweredUp begun
+      is_powered =
+          let w = machine_is_of_words b ready.words in
+          let words : IsMachineOfWords (outside_with looks b) = record {
+            registers = w.registers;
+            fram = w.fram;
+            ram = w.ram;
+            inputs = record { readings = w.inputs.readings; looks = see };
+            outnum = w.outnum;
+          } in
+          on.is.powers (outside_with looks b) start words ok ready.vector
 
-    pub same_fram : begun.fram ≡ (outside_of b).fram
-    same_fram = refl
+      pub is_powered_from : IsPoweredFrom (outside_of b) begun
+      is_powered_from = record { fram = refl; readings = refl; looks = see }
 
-    pub same_inputs : begun.inputs ≡ (outside_of b).inputs
-    same_inputs = refl
-
-    pub leaves_code : (n : ℕ) → LeavesProgram on.place (length code_words) (going step n begun)
-    leaves_code n = ready.leaves [] (outside_of b) h (refl, refl) begun is_powered same_fram same_inputs n
+      pub leaves_code : (n : ℕ) → LeavesProgram on.place (length code_words) (going step n begun)
+      leaves_code n = ready.leaves [] (outside_of b) h (refl, refl) begun is_powered is_powered_from n
 
     -- and the program runs on it
     pub running : Running on (powered b start)
     running =
         let up = power_up_keeps_words b start ready.whole ready.words ok in
-        record { whole = up.0; words = up.1; quiet = refl; holds = ready.holds; leaves = λ n. (leaves_code n).code }
+        record { whole = up.0; words = up.1; quiet = refl; holds = ready.holds; leaves = λ looks see n. (leaves_code looks see n).code }
 
     -- its instructions so far
     module _ (ms : List Moment) (are : AreInstructionMoments ms) (moments : AreMoments (powered b start) ms) where
@@ -136,18 +142,28 @@ module _ (on : PlacedProgram) where
       pub reaches : Reaches on (powered b start) ms
       reaches = instructions_reach on (powered b start) ms running moments are
 
+      -- it takes their looks
+      pub sees : SeeWords (looks_in ms)
+      sees = subst SeeWords (append-nil (looks_in ms)) (reaches.sees [] nothing_seen)
+
+      abbrev pub first : MachineBoard
+      first = begun (looks_in ms) sees
+
+      pub made : going step steps first ≡ stretch (all_outside_effects ms) (moments_cycles ms) (At (outside_of end))
+      made = ap (λ l. going step steps (outside_with l (powered b start))) (sym (append-nil (looks_in ms))) ∙ reaches.run [] nothing_seen
+
       -- they lead where the program's steps lead
-      pub leads : (going step steps begun).status ≡ At (outside_of end)
-      leads = ap (λ r. r.status) reaches.run
+      pub leads : (going step steps first).status ≡ At (outside_of end)
+      leads = ap (λ r. r.status) made
 
       -- with the program's effects
-      pub seen : observe marks (going step steps begun).effects (behind_boot h) ≡ behind
-      seen = ap (λ r. observe marks r.effects (behind_boot h)) reaches.run ∙ sym (instructions_observed marks ms (behind_boot h) are)
+      pub seen : observe marks (going step steps first).effects (behind_boot h) ≡ behind
+      seen = ap (λ r. observe marks r.effects (behind_boot h)) made ∙ sym (instructions_observed marks ms (behind_boot h) are)
 
-      off_vector : EachStore (IsElsewhere 0xFFFE) (moments_effects ms)
+      off_vector : EachStore (IsElsewhere 0xFFFE) (all_outside_effects ms)
       off_vector =
           let P : MachineStretch → Type 0 = λ r. EachStore (IsElsewhere 0xFFFE) r.effects in
-          subst P reaches.run (leaves_code steps).vector
+          subst P made (leaves_code (looks_in ms) sees steps).vector
 
       -- and the board behind them is ready too
       pub ready_behind : Ready end behind
@@ -155,17 +171,17 @@ module _ (on : PlacedProgram) where
           record {
             whole = reaches.running.whole;
             words = reaches.running.words;
-            vector = ap (λ (g : ℕ → ℕ). g 0xFFFE) reaches.fram ∙ fram_untouched (moments_effects ms) 0xFFFE (outside_of b).fram off_vector ∙ ready.vector;
+            vector = ap (λ (g : ℕ → ℕ). g 0xFFFE) reaches.fram ∙ fram_untouched (all_outside_effects ms) 0xFFFE (outside_of b).fram off_vector ∙ ready.vector;
             holds = reaches.running.holds;
             leaves = λ charges t k run.
                 let Q : History → Type 0 = λ j. Charged on.program marks (outside_of end) j charges t k in
-                ready.leaves (record { powered = begun; steps = steps } ∷ charges) t k
-                (is_powered, same_fram, same_inputs, (outside_of end, leads, subst Q (sym seen) run));
+                ready.leaves (record { powered = first; steps = steps } ∷ charges) t k
+                (is_powered (looks_in ms) sees, is_powered_from (looks_in ms) sees, (outside_of end, leads, subst Q (sym seen) run));
           }
 
       -- it is one charge of the program
-      pub charged_once : Charged on.program marks (outside_of b) h (record { powered = begun; steps = steps } ∷ []) (outside_of end) behind
-      charged_once = (is_powered, same_fram, same_inputs, (outside_of end, leads, (refl, sym seen)))
+      pub charged_once : Charged on.program marks (outside_of b) h (record { powered = first; steps = steps } ∷ []) (outside_of end) behind
+      charged_once = (is_powered (looks_in ms) sees, is_powered_from (looks_in ms) sees, (outside_of end, leads, (refl, sym seen)))
 
   -- charges of a board that is ready, and the board behind them
   record LeadsOn (b : BoardValue) (h : History) (fs : List ChargeFront) : Type 0 where
@@ -180,6 +196,7 @@ module _ (on : PlacedProgram) where
       let keeps = follows_keeps b f.before c.follows in
       let here = ready_on b f.before h c.follows ready in
       let end = board_behind f in
+      let own = sees f.before h here f.start c.start ms c.instructions c.moments in
       let k = observed marks ms (behind_boot h) in
       let rest = lead_on end k fs (ready_behind f.before h here f.start c.start ms c.instructions c.moments) all.1 in
       let last = outside_of (board_behind_all end fs) in
@@ -189,9 +206,8 @@ module _ (on : PlacedProgram) where
       let R : History → Type 0 = λ j. Ready (board_behind_all end fs) j in
       record {
         charged = (
-          is_powered f.before h here f.start c.start,
-          same_fram f.before h here f.start c.start ∙ ap (λ s. s.fram) keeps.outside,
-          same_inputs f.before h here f.start c.start ∙ ap (λ s. s.inputs) keeps.outside,
+          is_powered f.before h here f.start c.start (looks_in ms) own,
+          record { fram = ap (λ s. s.fram) keeps.outside; readings = ap (λ s. s.inputs.readings) keeps.outside; looks = own },
           (
             outside_of end,
             leads f.before h here f.start c.start ms c.instructions c.moments,

@@ -1,5 +1,6 @@
 -- A charge of cycles that is spent is spent by the program too.
-use Rattle.std.proofs.Common.{◌≡◌, ℕ, ◌-◌, ◌≤◌, ◌<◌, ◌⊎◌, refl, sym, ap, ◌∙◌, subst, arith, inl, inr, List, [], ◌∷◌, ◌++◌, length, Option}
+use Rattle.std.proofs.Common.{◌≡◌, ℕ, ◌-◌, ◌≤◌, ◌<◌, ◌⊎◌, refl, sym, ap, ◌∙◌, subst, arith, inl, inr, List, [], ◌∷◌, ◌++◌, length}
+use Rattle.std.proofs.Common.{if◌then◌else◌, Bool, true, false, Option, Some, None}
 use Rattle.msp_isa.specs.declared.instructions.Instr.{Instr}
 use Rattle.msp_cycles.specs.Cycles.{cycles_of}
 use Rattle.msp_step.specs.Registers.{Registers}
@@ -11,18 +12,21 @@ use Rattle.fram_board.specs.Board.{BoardValue, powered, executed, performed, at_
 use Rattle.fram_board.specs.Steps.{IsPowerState}
 use Rattle.fram_board.specs.Run.{Cycles, Instructions, Moment, moment_of, Charges, RunOutcome, run_outcome, BoardCharge}
 use Rattle.fram_board.specs.Run.{ChargeRun, Spent, NoInstruction, TooDear, Refused, Executed}
-use Rattle.machine_effects.specs.Going.{Goes, Stops, At, stretch, going}
-use Rattle.machine_effects.specs.Machine.{MachineBus, MachineBoard, MachineOutcome, machine_outcome, machine_bus, machine_opened, machine_executed}
+use Rattle.machine_effects.specs.Inputs.{Look, first_look, other_looks, look_effects}
+use Rattle.machine_effects.specs.Going.{Goes, Stops, step_behind, At, stretch, going}
+use Rattle.machine_effects.specs.Machine.{MachineBus, MachineBoard, MachineOutcome, machine_outcome, machine_bus, machine_opened_seeing}
+use Rattle.machine_effects.specs.Machine.{machine_executed_seeing, machine_executed, looks_there, executed_looking, code_executed}
 use Rattle.machine_effects.proofs.Interface.{told_cycles}
-use Rattle.machine_effects.specs.Runs.{action_cycles, moments_effects, moments_cycles, last_board}
+use Rattle.machine_effects.specs.Runs.{action_cycles, moments_cycles, last_board}
+use Rattle.fram_board.specs.Effects.{Effect}
 use Rattle.crash_rules.specs.History.{History, observe, behind_boot}
 use Rattle.crash_rules.specs.Runs.{Charge, Charged, IsSpent, Spends}
-use Rattle.run_charges.specs.View.{outside_of, AreMoments}
+use Rattle.run_charges.specs.View.{outside_with, outside_of, looks_in, all_outside_effects, AreMoments}
 use Rattle.run_charges.specs.Charges.{AreInstructionMoments, observed}
-use Rattle.run_charges.proofs.Moments.{charge_last, charge_instructs}
+use Rattle.run_charges.proofs.Moments.{charge_last, charge_instructs, nothing_seen}
 use Rattle.run_charges.proofs.Running.{PlacedProgram, Running, Reaches, none_accepted, runs_on, charge_moments}
 use Rattle.run_charges.proofs.Running as program
-use Rattle.run_charges.proofs.Programs.{Ready, begun, running, reaches, seen, ready_behind, charged_once, Reached, charged_join}
+use Rattle.run_charges.proofs.Programs.{Ready, running, first, reaches, made, seen, ready_behind, charged_once, Reached, charged_join}
 
 -- a step that takes, or would take, so many cycles
 abbrev IsPriced : ℕ → MachineOutcome → Type 0
@@ -33,9 +37,23 @@ outcome_priced : (pc n : ℕ) (a : Access MachineBus (Registers × Option Writte
 outcome_priced pc n (Completed x t) = refl
 outcome_priced pc n (Faulted e a t) = refl
 
--- an instruction takes its cycles
-executed_priced : (s : MachineBoard) (i : Instr) → IsPriced (cycles_of i) (machine_executed s i)
-executed_priced s i = outcome_priced (s.registers 0) (cycles_of i) (effect machine_bus i s.registers (machine_opened s))
+seeing_priced : (ring : Option Look) (s : MachineBoard) (i : Instr) → IsPriced (cycles_of i) (machine_executed_seeing ring s i)
+seeing_priced ring s i = outcome_priced (s.registers 0) (cycles_of i) (effect machine_bus i s.registers (machine_opened_seeing ring s))
+
+priced_behind : (es : List Effect) (n : ℕ) (o : MachineOutcome) → IsPriced n o → IsPriced n (step_behind es o)
+priced_behind es n (Goes fs c t) h = h
+priced_behind es n (Stops fs price e) h = h
+
+priced_by : (c : Bool) (s : MachineBoard) (i : Instr) → IsPriced (cycles_of i) (if c then executed_looking s.inputs.looks s i else machine_executed s i)
+priced_by true s i =
+    let looks = s.inputs.looks in
+    priced_behind (look_effects looks) (cycles_of i) _
+    (seeing_priced (Some (first_look looks)) (record s { inputs = record s.inputs { looks = other_looks looks } }) i)
+priced_by false s i = seeing_priced None s i
+
+-- an instruction takes its cycles, also one that looks
+executed_priced : (s : MachineBoard) (i : Instr) → IsPriced (cycles_of i) (code_executed s i)
+executed_priced s i = priced_by (looks_there i) s i
 
 -- a charge is spent where nothing is left, or less than the next step takes
 none_left : (left : ℕ) (o : MachineOutcome) → left ≡ 0 → IsSpent left o
@@ -89,9 +107,6 @@ module _ (on : PlacedProgram) (b : BoardValue) (h : History) (ready : Ready on b
   abbrev step : MachineBoard → MachineOutcome
   step = on.program.step
 
-  abbrev p : MachineBoard
-  p = begun on b h ready d.start ok
-
   abbrev q : MachineBoard
   q = outside_of end
 
@@ -117,11 +132,16 @@ module _ (on : PlacedProgram) (b : BoardValue) (h : History) (ready : Ready on b
   reach : Reaches on start ms
   reach = reaches on b h ready d.start ok ms are spent_moments
 
-  made : stretch (moments_effects ms) (moments_cycles ms) (At q) ≡ going step n p
-  made = ap (λ t. stretch (moments_effects ms) (moments_cycles ms) (At (outside_of t))) (sym last) ∙ sym reach.run
+  -- the machine with which it begins takes the looks of its moments
+  abbrev p : MachineBoard
+  p = first on b h ready d.start ok ms are spent_moments
+
+  all : stretch (all_outside_effects ms) (moments_cycles ms) (At q) ≡ going step n p
+  all =
+      ap (λ t. stretch (all_outside_effects ms) (moments_cycles ms) (At (outside_of t))) (sym last) ∙ sym (made on b h ready d.start ok ms are spent_moments)
 
   pub status_behind : (going step n p).status ≡ At q
-  status_behind = sym (ap (λ z. z.status) made)
+  status_behind = sym (ap (λ z. z.status) all)
 
   -- the program's effects are those that the moments tell
   pub spent_seen : observe on.marks (going step n p).effects (behind_boot h) ≡ observed on.marks ms (behind_boot h)
@@ -162,7 +182,7 @@ module _ (on : PlacedProgram) (b : BoardValue) (h : History) (ready : Ready on b
   is_spent e =
       let one_of_cycles : ChargeRun Cycles d.amount start spent = subst (λ y. ChargeRun y d.amount start spent) e one in
       let uses = charge_used on d.amount start spent (running on b h ready d.start ok) one_of_cycles refl in
-      let cycles : moments_cycles ms ≡ (going step n p).cycles = ap (λ z. z.cycles) made in
+      let cycles : moments_cycles ms ≡ (going step n p).cycles = ap (λ z. z.cycles) all in
       let within = uses.within in
       record {
         status = status_behind;
@@ -176,5 +196,5 @@ module _ (on : PlacedProgram) (b : BoardValue) (h : History) (ready : Ready on b
       by_use cycles (inr dear) =
           let i = dear.0 in
           let more = dear.2 in
-          let next = program.made on end end_runs i dear.1 in
+          let next = program.made on end end_runs i dear.1 [] nothing_seen in
           too_dear _ (cycles_of i) (step q) (subst (λ o. IsPriced (cycles_of i) o) next (executed_priced q i)) (omega (arith, cycles, more))

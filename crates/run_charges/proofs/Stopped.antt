@@ -1,5 +1,5 @@
 -- The charge in which a run stops.
-use Rattle.std.proofs.Common.{◌≡◌, ℕ, ◌+◌, ◌-◌, suc, refl, sym, ap, ◌∙◌, subst, List, [], ◌∷◌, ◌++◌, append_assoc, length, map, Err}
+use Rattle.std.proofs.Common.{◌≡◌, ℕ, ◌+◌, ◌-◌, suc, refl, sym, ap, ◌∙◌, subst, List, [], ◌∷◌, ◌++◌, append_assoc, append-nil, length, map, Err}
 use Rattle.msp_isa.specs.declared.instructions.Instr.{Instr}
 use Rattle.msp_cycles.specs.Cycles.{cycles_of}
 use Rattle.msp_step.specs.declared.machine.Stop.{Stop}
@@ -11,64 +11,89 @@ use Rattle.fram_board.specs.Run.{Measure, price, Moment, Stopped, RunOutcome, ru
 use Rattle.fram_board.specs.Run.{ChargeRun, Spent, NoInstruction, TooDear, Refused, Executed}
 use Rattle.machine_effects.specs.World.{EachStore}
 use Rattle.machine_effects.specs.Going.{Stops, Halted, stretch, after_effects, continued, going}
-use Rattle.machine_effects.specs.Machine.{MachineBoard, MachineOutcome}
-use Rattle.machine_effects.specs.View.{machine_of, outcome_of_answer}
-use Rattle.machine_effects.specs.Runs.{moments_effects, moments_cycles}
+use Rattle.machine_effects.specs.Machine.{MachineBoard, MachineOutcome, code_executed}
+use Rattle.machine_effects.specs.Inputs.{Look, SeeWords, look_effects}
+use Rattle.machine_effects.specs.View.{machine_with, looks_at, seen_at_pc, outcome_of_answer}
+use Rattle.machine_effects.specs.Runs.{moments_cycles}
 use Rattle.machine_effects.proofs.Interface.{takes, left_of, stopped_to_machine}
 use Rattle.crash_rules.specs.Model.{IsElsewhere, Marks}
 use Rattle.crash_rules.specs.History.{History, observe, behind_boot}
+use Rattle.crash_rules.specs.Runs.{IsPoweredFrom}
 use Rattle.crash_rules.proofs.Interface.{observe-append, observe_quiet, with_effects}
-use Rattle.run_charges.specs.View.{outside_of}
+use Rattle.run_charges.specs.View.{outside_with, outside_of, looks_in, all_outside_effects}
 use Rattle.run_charges.specs.Charges.{ArePowerStates, observed}
-use Rattle.run_charges.proofs.Moments.{first_start, other_starts, charge_instructs, told}
-use Rattle.run_charges.proofs.Running.{PlacedProgram, Running, none_accepted, program_steps, made, own, goes, runs_on}
-use Rattle.run_charges.proofs.Programs.{observed-append, instructions_observed, begun, is_powered, same_fram, same_inputs, running, Reached}
+use Rattle.run_charges.proofs.Moments.{first_start, other_starts, charge_instructs, nothing_seen, told}
+use Rattle.run_charges.proofs.Running.{PlacedProgram, Running, none_accepted, program_steps, sees, made, own, goes, front, runs_on}
+use Rattle.run_charges.proofs.Programs.{observed-append, instructions_observed, begun, is_powered, is_powered_from, running, Reached}
 use Rattle.run_charges.proofs.Spent.{spent_reached}
 
 takes_elsewhere : (gate : ℕ) (ws : List ℕ) → EachStore (IsElsewhere gate) (map (λ w. Take w) ws)
 takes_elsewhere gate [] = tt
 takes_elsewhere gate (w ∷ ws) = (tt, takes_elsewhere gate ws)
 
--- readings that are taken behind the last instruction are no events
+-- a look, and readings taken
+abbrev looks_and_takes : List Look → List ℕ → List Effect
+looks_and_takes looks ws = look_effects looks ++ takes ws
+
+seen_elsewhere : (gate : ℕ) (looks : List Look) (ws : List ℕ) → EachStore (IsElsewhere gate) (looks_and_takes looks ws)
+seen_elsewhere gate [] ws = takes_elsewhere gate ws
+seen_elsewhere gate (look ∷ more) ws = (tt, takes_elsewhere gate ws)
+
+-- readings that are taken behind the last instruction, and what it saw, are no events
 pub record SameDones (h k : History) : Type 0 where
   pub completed : k.completed ≡ h.completed
   pub since : k.since ≡ h.since
 
-taken_more : (marks : Marks) (es : List Effect) (ws : List ℕ) (h : History)
-    → SameDones (observe marks es h) (observe marks (es ++ map (λ w. Take w) ws) h)
-taken_more marks es ws h =
-    let fs : List Effect = map (λ w. Take w) ws in
+taken_more : (marks : Marks) (es : List Effect) (looks : List Look) (ws : List ℕ) (h : History)
+    → SameDones (observe marks es h) (observe marks (es ++ looks_and_takes looks ws) h)
+taken_more marks es looks ws h =
+    let fs : List Effect = looks_and_takes looks ws in
     let all : observe marks (es ++ fs) h ≡ with_effects fs (observe marks es h) =
-    observe-append marks es fs h ∙ observe_quiet marks fs (observe marks es h) (takes_elsewhere marks.gate ws) in
+    observe-append marks es fs h ∙ observe_quiet marks fs (observe marks es h) (seen_elsewhere marks.gate looks ws) in
     record { completed = ap (λ k. k.completed) all; since = ap (λ k. k.since) all }
 
 module _ (on : PlacedProgram) where
   abbrev step : MachineBoard → MachineOutcome
   step = on.program.step
 
-  -- so many instructions are steps of the program, and at the next one it halts, behind the readings that this one took
+  -- so many instructions are steps of the program, and at the next one it halts, behind what this one saw and the readings that it took
   record HaltsBehind (b : BoardValue) (ms : List Moment) (e : Stop) : Type 0 where
+    pub last_seen : List Look
     pub last_taken : List ℕ
     pub price : ℕ
-    pub run : stretch (moments_effects ms ++ takes last_taken) (moments_cycles ms) (Halted price e) ≡ going step (suc (length ms)) (outside_of b)
+    pub sees : SeeWords (looks_in ms ++ last_seen)
+    pub run : stretch (all_outside_effects ms ++ looks_and_takes last_seen last_taken) (moments_cycles ms) (Halted price e)
+        ≡ going step (suc (length ms)) (outside_with (looks_in ms ++ last_seen) b)
 
   no_instruction_halts : (b : BoardValue) → Running on b → (e : Stop) → IsStoppedBy b e → HaltsBehind b [] e
   no_instruction_halts b run e h = record {
+    last_seen = [];
     last_taken = [];
     price = 0;
-    run = ap (λ o. continued o (going step 0)) (program_steps on b run (Stops [] 0 e) (stopped_to_machine b e run.whole h));
+    sees = nothing_seen;
+    run = ap (λ o. continued o (going step 0))
+        (program_steps on b run [] nothing_seen (Stops [] 0 e) (stopped_to_machine code_executed [] b run.whole e h));
   }
 
   refused_halts : (b : BoardValue) → Running on b → (i : Instr) (e : Stop) → IsNextInstruction b i → (executed b i).answer ≡ Err e → HaltsBehind b [] e
   refused_halts b run i e c a =
       let x = executed b i in
       let l = left_of b i e a in
-      let same : step (outside_of b) ≡ Stops (takes l.words) (cycles_of i) e =
-      sym (made on b run i c)
-      ∙ (own on b run i c).step
-      ∙ ap (λ y. outcome_of_answer (effects_of b x) (cycles_of i) y (machine_of x.board)) a
-      ∙ ap (λ es. Stops es (cycles_of i) e) l.effects in
-      record { last_taken = l.words; price = cycles_of i; run = ap (λ o. continued o (going step 0)) (sym same) }
+      let looks = looks_at b i in
+      let plain = append-nil looks in
+      let all : SeeWords (looks ++ []) = sees on b run i c [] nothing_seen in
+      let same : step (outside_with (looks ++ []) b) ≡ Stops (looks_and_takes looks l.words) (cycles_of i) e =
+      sym (made on b run i c (looks ++ []) all)
+      ∙ (own on b run i c).step [] nothing_seen
+      ∙ ap (λ y. outcome_of_answer (look_effects looks ++ effects_of b x) (cycles_of i) y (machine_with [] x.board)) a
+      ∙ ap (λ es. Stops (look_effects looks ++ es) (cycles_of i) e) l.effects in
+      record {
+        last_seen = looks;
+        last_taken = l.words;
+        price = cycles_of i;
+        sees = subst SeeWords plain all;
+        run = ap (λ o. continued o (going step 0)) (sym same) ∙ ap (λ k. going step 1 (outside_with k b)) plain;
+      }
 
   charge_halts : (m : Measure) (left : ℕ) (b : BoardValue) (r : RunOutcome) → Running on b → ChargeRun m left b r → (e : Stop) → r.ending ≡ Stopped e
       → HaltsBehind b r.moments e
@@ -84,14 +109,21 @@ module _ (on : PlacedProgram) where
       let next = at_boundary (executed b i).board in
       let more = charge_halts m (left - price m (next_step.Instruction i)) next rest (runs_on on b run i c.1 done a) h e ends in
       let first : List Effect = told b run.whole i done c.1 a (own on b run i c.1) in
-      let es : List Effect = moments_effects rest.moments in
+      let es : List Effect = all_outside_effects rest.moments in
+      let behind = looks_in rest.moments ++ more.last_seen in
+      let joined : seen_at_pc b ++ behind ≡ (seen_at_pc b ++ looks_in rest.moments) ++ more.last_seen =
+      sym (append_assoc (seen_at_pc b) (looks_in rest.moments) more.last_seen) in
       record {
+        last_seen = more.last_seen;
         last_taken = more.last_taken;
         price = more.price;
+        sees = subst SeeWords joined (front on b run i c.1 done a behind more.sees);
         run =
-            ap (λ l. stretch l (done.cycles + moments_cycles rest.moments) (Halted more.price e)) (append_assoc first es (takes more.last_taken))
+            ap (λ l. stretch l (done.cycles + moments_cycles rest.moments) (Halted more.price e))
+            (append_assoc first es (looks_and_takes more.last_seen more.last_taken))
             ∙ ap (after_effects first done.cycles) more.run
-            ∙ ap (λ o. continued o (going step (suc (length rest.moments)))) (sym (goes on b run i c.1 done a));
+            ∙ ap (λ o. continued o (going step (suc (length rest.moments)))) (sym (goes on b run i c.1 done a behind more.sees))
+            ∙ ap (λ l. going step (suc (suc (length rest.moments))) (outside_with l b)) joined;
       }
 
   -- the program halts in a charge, to which charges lead from a board and its history
@@ -101,8 +133,7 @@ module _ (on : PlacedProgram) where
     pub at : Reached on b first there before
     pub start : MachineBoard
     pub is_powered : on.program.IsPoweredUp start
-    pub fram : start.fram ≡ (outside_of there).fram
-    pub inputs : start.inputs ≡ (outside_of there).inputs
+    pub from : IsPoweredFrom (outside_of there) start
     pub steps : ℕ
     pub price : ℕ
     pub halts : (going step steps start).status ≡ Halted price e
@@ -119,11 +150,15 @@ module _ (on : PlacedProgram) where
     abbrev stopped : RunOutcome
     stopped = run_outcome ms (Stopped e) end
 
-    abbrev start : MachineBoard
-    start = begun on t h at.ready d.start ok
-
     halted : HaltsBehind (powered t d.start) ms e
     halted = charge_halts d.measure d.amount (powered t d.start) stopped (running on t h at.ready d.start ok) one e refl
+
+    -- it takes the looks of its moments, and of the instruction at which it halts
+    abbrev looks : List Look
+    looks = looks_in ms ++ halted.last_seen
+
+    abbrev start : MachineBoard
+    start = begun on t h at.ready d.start ok looks halted.sees
 
     abbrev steps : ℕ
     steps = suc (length ms)
@@ -132,9 +167,9 @@ module _ (on : PlacedProgram) where
     same =
         let k = behind_boot h in
         let P : History → Type 0 = λ j. SameDones j (observe on.marks (going step steps start).effects k) in
-        let Q : List Effect → Type 0 = λ es. SameDones (observe on.marks (moments_effects ms) k) (observe on.marks es k) in
+        let Q : List Effect → Type 0 = λ es. SameDones (observe on.marks (all_outside_effects ms) k) (observe on.marks es k) in
         subst P (sym (instructions_observed on.marks ms k (charge_instructs d.measure d.amount (powered t d.start) stopped one)))
-        (subst Q (ap (λ q. q.effects) halted.run) (taken_more on.marks (moments_effects ms) halted.last_taken k))
+        (subst Q (ap (λ q. q.effects) halted.run) (taken_more on.marks (all_outside_effects ms) halted.last_seen halted.last_taken k))
 
     stops_behind : StopsBehind b first h (power_up_of t d.start ∷ ms) e
     stops_behind = record {
@@ -143,9 +178,8 @@ module _ (on : PlacedProgram) where
         before = h;
         at = at;
         start = start;
-        is_powered = is_powered on t h at.ready d.start ok;
-        fram = same_fram on t h at.ready d.start ok;
-        inputs = same_inputs on t h at.ready d.start ok;
+        is_powered = is_powered on t h at.ready d.start ok looks halted.sees;
+        from = is_powered_from on t h at.ready d.start ok looks halted.sees;
         steps = steps;
         price = halted.price;
         halts = sym (ap (λ q. q.status) halted.run);

@@ -15,8 +15,8 @@ use Rattle.machine_effects.specs.Runs.{last_board}
 use Rattle.code_forms.specs.Placed.{placed, words_of, AreInstructions, LeavesCode}
 use Rattle.crash_rules.specs.Model.{IsElsewhere, Marks}
 use Rattle.crash_rules.specs.History.{History, observe, behind_boot}
-use Rattle.crash_rules.specs.Runs.{Program, Charge, Charged}
-use Rattle.run_charges.specs.View.{outside_of, outside_effects, Follows, AreMoments}
+use Rattle.crash_rules.specs.Runs.{Program, Charge, IsPoweredFrom, Charged}
+use Rattle.run_charges.specs.View.{outside_with, outside_effects, looks_in, Follows, AreMoments}
 
 -- charges begin with any words that a power-up may leave
 abbrev pub ArePowerStates : List BoardCharge → Type 0
@@ -82,10 +82,10 @@ abbrev pub observed : Marks → List Moment → History → History
 observed marks [] k = k
 observed marks (m ∷ ms) k = observed marks ms (behind_moment marks m k)
 
--- charges as the crash theorem has them: the machine that a power-up left, and how many steps were made
+-- charges as the crash theorem has them: the machine that a power-up left, with the looks that the charge takes, and how many steps were made
 abbrev pub charges_of : List ChargeFront → List Charge
 charges_of [] = []
-charges_of (c ∷ cs) = record { powered = outside_of (board_powered c); steps = length c.instructions } ∷ charges_of cs
+charges_of (c ∷ cs) = record { powered = outside_with (looks_in c.instructions) (board_powered c); steps = length c.instructions } ∷ charges_of cs
 
 -- a program that is instructions placed in FRAM from p on, and which boards a power-up leaves where the reset vector is its entry
 pub record IsPlacedProgram (c : Program) (p : ℕ) (is : List Instr) (entry : ℕ) : Type 0 where
@@ -104,5 +104,4 @@ pub record LeavesProgram (p n : ℕ) (r : MachineStretch) : Type 0 where
 -- wherever charges of a program lead, the steps of a further one are such
 abbrev pub AlwaysLeaves : Program → ℕ → ℕ → Marks → MachineBoard → History → Type 0
 AlwaysLeaves c p n marks s h = (charges : List Charge) (t : MachineBoard) (k : History) → Charged c marks s h charges t k
-    → (q : MachineBoard) → c.IsPoweredUp q → q.fram ≡ t.fram → q.inputs ≡ t.inputs
-    → (m : ℕ) → LeavesProgram p n (going c.step m q)
+    → (q : MachineBoard) → c.IsPoweredUp q → IsPoweredFrom t q → (m : ℕ) → LeavesProgram p n (going c.step m q)

@@ -1,26 +1,51 @@
 -- What a program is told of the board on which it runs and of what the board does, and how moments follow one another. Now that is all of
 -- the board but the port EVENT and the events that come: they arise at the boundary behind a step, in the moment itself, and a program's
--- instructions leave them alone. What is to run on a board beside its program, or to reach it between two steps, is said here.
-use Rattle.std.specs.Prelude.{◌≡◌, List, [], ◌∷◌, Ok}
+-- instructions leave them alone. What its instructions see of HEAD and the ring they are told by looks, each by the board in front of it. What
+-- is to run on a board beside its program, or to reach it between two steps, is said here.
+use Rattle.std.specs.Prelude.{◌≡◌, List, [], ◌∷◌, ◌++◌, Ok}
 use Rattle.msp_isa.specs.declared.instructions.Instr.{Instr}
 use Rattle.fram_board.specs.declared.board.NextStep.TheVariants as next_step
 use Rattle.fram_board.specs.declared.board.Stepped.{Stepped}
 use Rattle.fram_board.specs.Board.{BoardValue, PowerState, executed, IsNextInstruction}
 use Rattle.fram_board.specs.Steps.{IsPowerState}
 use Rattle.fram_board.specs.Effects.{Effect}
-use Rattle.fram_board.specs.Run.{PowerUp, Moment, moment_of, power_up_of}
+use Rattle.fram_board.specs.Run.{Action, PowerUp, Execute, Moment, moment_of, power_up_of}
+use Rattle.machine_effects.specs.Inputs.{Look, look_effects}
 use Rattle.machine_effects.specs.Machine.{MachineBoard}
-use Rattle.machine_effects.specs.View.{machine_of, IsWhole, IsOfWords}
+use Rattle.machine_effects.specs.View.{machine_of, machine_with, seen_at_pc, IsWhole, IsOfWords}
 pub use Rattle.machine_effects.specs.View.{IsMachines}
 use Rattle.machine_effects.specs.Runs.{action_effects}
 
--- the machine that a board is to its program
+-- the machine that a board is to its program, which is to see these of the ring
+abbrev pub outside_with : List Look → BoardValue → MachineBoard
+outside_with looks b = machine_with looks b
+
+-- one that is to see nothing of it
 abbrev pub outside_of : BoardValue → MachineBoard
 outside_of b = machine_of b
 
--- what a moment does to it
+-- what an action on a board sees of the ring
+abbrev pub looks_by : Action → BoardValue → List Look
+looks_by PowerUp before = []
+looks_by (Execute kind done offered) before = seen_at_pc before
+
+-- what a moment sees of it
+abbrev pub outside_looks : Moment → List Look
+outside_looks m = looks_by m.action m.before
+
+-- what moments see of it, in order
+abbrev pub looks_in : List Moment → List Look
+looks_in [] = []
+looks_in (m ∷ ms) = outside_looks m ++ looks_in ms
+
+-- what a moment does to it: its look, and what it does on the board
 abbrev pub outside_effects : Moment → List Effect
-outside_effects m = action_effects m.action m.before m.after
+outside_effects m = look_effects (outside_looks m) ++ action_effects m.action m.before m.after
+
+-- what moments do to it, in order
+abbrev pub all_outside_effects : List Moment → List Effect
+all_outside_effects [] = []
+all_outside_effects (m ∷ ms) = outside_effects m ++ all_outside_effects ms
 
 -- the next moment begins on the board that the last one left, but for what came from outside in between: nothing
 pub record Follows (left next : BoardValue) : Type 0 where

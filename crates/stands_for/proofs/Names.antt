@@ -13,8 +13,9 @@ pub use Rattle.memory_map.specs.event_places.Places.{tail_place, count_place, se
 pub use Rattle.memory_map.specs.declared.words.RuntimeWord.TheVariants.{Base, CurrentTask, EmitCount, Gate, ListLength, NextTask, SentBase, Version}
 -- the board
 pub use Rattle.fram_board.specs.Effects.{Effect, Offered, Outside, Store, Take}
-pub use Rattle.machine_effects.proofs.Interface.{each_store-append, put_other, put_same, readings_taken-append, world_after-append}
-pub use Rattle.machine_effects.specs.World.{EachStore, World, accepted_after, fram_after, put, readings_taken, received, world_after, world_after_one}
+pub use Rattle.machine_effects.proofs.Interface.{each_store-append, put_other, put_same, none_taken_through, world_after-append}
+pub use Rattle.machine_effects.specs.Inputs.{inputs_taken, no_inputs}
+pub use Rattle.machine_effects.specs.World.{EachStore, World, accepted_after, fram_after, put, received, world_after, world_after_one}
 pub use Rattle.runtime_effects.proofs.Interface.{entries_alike, sends_store, where_leaves, where_stores, where_takes}
 pub use Rattle.runtime_effects.specs.Places.{CopyPair, entries_from, entry_bytes, listed}
 pub use Rattle.runtime_effects.specs.Stages.{cleared, clearing_if, commit_closed, commit_effects, copied_home, copied_in, counting_effects, emits_sent}

@@ -1,7 +1,7 @@
 -- An attempt's start keeps a world undecided, and leaves an attempt that has started.
 use Rattle.stands_for.proofs.Names.{◌≡◌, ℕ, zero, suc, ◌+◌, ◌*◌, ◌<◌, ◌≤◌, List, [], ◌∷◌, ◌++◌, refl, sym, ap, ◌∙◌, subst, ⊎_elim, inl, inr, arith, ◌==◌, ◌%◌}
 use Rattle.stands_for.proofs.Names.{Bool, true, false, cases_eq, Effect, Store, Take, Outside, World, put, world_after_one, world_after, fram_after}
-use Rattle.stands_for.proofs.Names.{readings_taken, EachStore, readings_taken-append, world_after-append, each_store-append, put_same, put_other, CopyPair}
+use Rattle.stands_for.proofs.Names.{inputs_taken, no_inputs, EachStore, none_taken_through, world_after-append, each_store-append, put_same, put_other, CopyPair}
 use Rattle.stands_for.proofs.Names.{is_at_end, clearing_if, cleared, counting_effects, opening_effects, copied_in, start_effects, HoldsThroughout, IsElsewhere}
 use Rattle.stands_for.proofs.Names.{world_fram, holds-append, ProgramPlaces, StateView, IsSharedWord, IsAmong, ArePrivate, VersionsWithin, UndecidedAt}
 use Rattle.stands_for.proofs.Names.{StartedAt, IsStartStore, StartContract, MemoryMap, word_place, CurrentTask, Gate, ListLength, EmitCount, Base, Version}
@@ -24,17 +24,17 @@ elsewhere_same address (Store a w ∷ es) f h = elsewhere_same address es (put f
 elsewhere_same address (Take w ∷ es) f h = elsewhere_same address es f h.1
 elsewhere_same address (Outside o ∷ es) f h = elsewhere_same address es f h.1
 
-cleared_takes : (n p : ℕ) → readings_taken (cleared n p) ≡ []
+cleared_takes : (n p : ℕ) → inputs_taken (cleared n p) ≡ no_inputs
 cleared_takes zero p = refl
 cleared_takes (suc n) p = cleared_takes n (p + 2)
 
-clearing_takes : (m : MemoryMap) (b : Bool) → readings_taken (clearing_if m b) ≡ []
+clearing_takes : (m : MemoryMap) (b : Bool) → inputs_taken (clearing_if m b) ≡ no_inputs
 clearing_takes m true =
     let c = cleared m.versions.words m.versions.address in
-    readings_taken-append c (Store (word_place m Version) 0 ∷ []) ∙ ap (λ z. z ++ []) (cleared_takes m.versions.words m.versions.address)
+    none_taken_through c (Store (word_place m Version) 0 ∷ []) (cleared_takes m.versions.words m.versions.address) refl
 clearing_takes m false = refl
 
-copied_in_takes : (ps : List CopyPair) (f : ℕ → ℕ) → readings_taken (copied_in ps f) ≡ []
+copied_in_takes : (ps : List CopyPair) (f : ℕ → ℕ) → inputs_taken (copied_in ps f) ≡ no_inputs
 copied_in_takes [] f = refl
 copied_in_takes (p ∷ ps) f = copied_in_takes ps (put f p.copy (f p.home))
 
@@ -356,16 +356,15 @@ module _ {St : Type 0} (l : ProgramPlaces) (apart : AreApart l.map) (v : StateVi
         each_store-append (IsStartStore l) (opening_effects l.map f) _ (opening_so f)
         (copied_in_so task (privates task) (fram_after (opening_effects l.map f) f) (laid task))
 
-    start_takes : (f : ℕ → ℕ) → readings_taken (start_effects l.map privates f) ≡ []
+    start_takes : (f : ℕ → ℕ) → inputs_taken (start_effects l.map privates f) ≡ no_inputs
     start_takes f =
         let op = opening_effects l.map f in
         let rest = copied_in (privates (f (word_place l.map CurrentTask))) (fram_after op f) in
         let b = is_at_end l.map f in
         let c = clearing_if l.map b in
         let more = counting_effects l.map (fram_after c f) in
-        readings_taken-append op rest ∙ ap (λ z. z ++ readings_taken rest)
-        (readings_taken-append c more ∙ ap (λ z. z ++ readings_taken more) (clearing_takes l.map b) ∙ where_takes l.map.runtime.events count_place 0)
-        ∙ copied_in_takes (privates (f (word_place l.map CurrentTask))) (fram_after op f)
+        none_taken_through op rest (none_taken_through c more (clearing_takes l.map b) (where_takes l.map.runtime.events count_place 0))
+        (copied_in_takes (privates (f (word_place l.map CurrentTask))) (fram_after op f))
 
     -- the start of the state's task is the one that CUR names
     there : (s : St) (x : World) → UndecidedAt l v s x → Starts s (privates (x.fram (word_place l.map CurrentTask))) x

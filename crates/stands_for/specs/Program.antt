@@ -4,7 +4,8 @@ use Rattle.memory_map.specs.MemoryMap.{word_place}
 use Rattle.memory_map.specs.Places.{end_of}
 use Rattle.memory_map.specs.declared.words.RuntimeWord.TheVariants.{CurrentTask, Gate, ListLength, EmitCount}
 use Rattle.fram_board.specs.Effects.{Effect}
-use Rattle.machine_effects.specs.World.{World, world_after, fram_after, readings_taken, EachStore}
+use Rattle.machine_effects.specs.World.{World, world_after, fram_after, EachStore}
+use Rattle.machine_effects.specs.Inputs.{inputs_taken, no_inputs}
 use Rattle.runtime_effects.specs.Places.{CopyPair}
 use Rattle.runtime_effects.specs.Stages.{commit_effects, start_effects}
 use Rattle.runtime_effects.specs.Needs.{CanCommit, IsEventWord}
@@ -52,10 +53,10 @@ pub record IsStartStore (l : ProgramPlaces) (a w : ℕ) : Type 0 where
   pub list_length : a ≡ word_place l.map ListLength → w ≡ 0
   pub emit_count : a ≡ word_place l.map EmitCount → w ≡ 0
 
--- what the start owes, where these are the private scalars of each task: it takes no reading, stores to the runtime's places and the
+-- what the start owes, where these are the private scalars of each task: it takes nothing of what is ready, stores to the runtime's places and the
 -- copies alone, keeps CUR, keeps the world undecided throughout, and leaves an attempt that has started
 pub record StartContract {St : Type 0} (l : ProgramPlaces) (v : StateView St) (privates : ℕ → List CopyPair) (start : (ℕ → ℕ) → List Effect) : Type 0 where
-  pub takes_none : (f : ℕ → ℕ) → readings_taken (start f) ≡ []
+  pub takes_none : (f : ℕ → ℕ) → inputs_taken (start f) ≡ no_inputs
   pub stores : (f : ℕ → ℕ) → EachStore (IsStartStore l) (start f)
   pub keeps_task : (f : ℕ → ℕ) → fram_after (start f) f (word_place l.map CurrentTask) ≡ f (word_place l.map CurrentTask)
   pub undecided : (s : St) (x : World) → UndecidedAt l v s x → HoldsThroughout (UndecidedAt l v s) (start x.fram) x
