@@ -3,6 +3,7 @@
 use Rattle.std.specs.Prelude.{ℕ, zero, suc, ◌+◌, ◌-◌, ◌*◌, ◌%◌, ◌≡◌, ◌≢◌, ◌<◌, ◌≤◌, ◌||◌, Bool, true, false, nat_eq, max}
 use Rattle.machine_effects.specs.address_space.Limits.{stack_top, HasStackRoom}
 use Rattle.machine_effects.specs.alp_words.Words.{IsWord}
+use Rattle.machine_effects.specs.Machine.{stack_start}
 use Rattle.array_versions.specs.declared.program.ArrayPlace.{ArrayPlace}
 use Rattle.array_versions.specs.declared.program.ListPlace.{ListPlace}
 use Rattle.array_versions.specs.declared.operations.LongOperation.{LongOperation}
@@ -244,3 +245,15 @@ pub record IsWhole (p : Program) : Type 0 where
   pub low_locals : LocalsBelow locals p
   pub loops_count : LoopsCount p
   pub ways : EachWay room p (λ q. ⊥) start
+
+-- a place for the stack of a whole program: below its locals in RAM, with room for its words
+pub record IsStackOf (base : ℕ) (p : Program) (whole : IsWhole p) : Type 0 where
+  pub even : base % 2 ≡ 0
+  pub start : base ≤ stack_start
+  pub low : base ≤ stack_base whole.locals
+  pub fits : HasStackRoom base whole.room
+
+-- a whole program whose stack may begin where that of compiled code does
+pub record FitsTheStack (p : Program) : Type 0 where
+  pub whole : IsWhole p
+  pub stack : IsStackOf stack_start p whole

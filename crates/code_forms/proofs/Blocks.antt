@@ -6,19 +6,19 @@ use Rattle.std.proofs.lemmas.Bool.Decides.{nat_tests}
 use Rattle.std.proofs.lemmas.Option.{same_Some}
 use Rattle.machine_effects.specs.msp_step.declared.machine.Stop.{Stop}
 use Rattle.machine_effects.specs.msp_step.declared.machine.Stop.TheVariants as stop
-use Rattle.machine_effects.specs.msp_step.Effect.{status_with}
 use Rattle.machine_effects.specs.fram_board.Effects.{Effect}
 use Rattle.machine_effects.specs.Going.{Goes, Stops, Status, At, Halted, stretch, after_effects, continued, going, Leads}
-use Rattle.machine_effects.specs.Machine.{MachineBoard, MachineStretch, Code, step_with, exec, undisturbed, astray}
+use Rattle.machine_effects.specs.Machine.{MachineBoard, MachineStretch, Code, step_with, exec, undisturbed}
 use Rattle.machine_effects.proofs.Interface.{stay, one_step, join, join_stall, stall, after_after, after_nothing}
 use Rattle.code_forms.specs.Forms.{WorkRegister, Core, CoreOutcome, CoreStretch, board_of, outcome_of_core, source_read, Target, ToRegister, ToFram, ToRam}
 use Rattle.code_forms.specs.Forms.{source_effects, behind_source}
 use Rattle.code_forms.specs.Forms.{ToIndexed, ToPointed, ToOutnum, ToOutdata, target_written, Form, Move, Calculate, Compare, Update, Push, Modify, SetStack}
-use Rattle.code_forms.specs.Forms.{Sense, Jump, Skip, Branch, BranchIndexed, SkipBy, instruction_of, form_bytes, sensed, form_step, FormNeeds}
+use Rattle.code_forms.specs.Forms.{EnableInterrupts, Sense, Jump, Skip, Branch, BranchIndexed, SkipBy, instruction_of, form_bytes, sensed, form_step, FormNeeds}
 use Rattle.code_forms.specs.Code.{Stands, forms_bytes, IsStraight, AreStraight, forms_run, OfNext, FormsNeed, IsTidy, IsAtForm, OfState, StepsAreForms}
 use Rattle.code_forms.specs.Code.{Comes, Runs, Starves}
 use Rattle.code_forms.specs.Laws.{StraightCodeLeads}
 use Rattle.code_forms.proofs.Forms.{form_does}
+use Rattle.code_forms.proofs.Rules.{undisturbed_form}
 
 -- the first part stands where both do
 pub stands_front : (code : Code) (p : ℕ) (a b : List Form) → Stands code p (a ++ b) → Stands code p a
@@ -91,6 +91,7 @@ goes_to (Compare x a) u h = refl
 goes_to (Push x) u h = refl
 goes_to (Update op x a) u h = refl
 goes_to (SetStack n) u h = refl
+goes_to EnableInterrupts u h = refl
 goes_to (Modify t b) u h = refl
 goes_to (Sense b) u h = sensed_at u.inputs.readings b u
 goes_to (Jump c o) u h = elim h [ ]
@@ -145,37 +146,13 @@ pub comes_on : {code : Code} {es fs : List Effect} {n k c d : ℕ} {u : Core} {P
     → ((t : Core) → P t → Comes code fs k d t Q) → Comes code (es ++ fs) (n + k) (c + d) u Q
 comes_on a f = comes_then a (f a.end a.holds)
 
--- the CPU accepts no interrupt where SR has flags alone
-flags_quiet : (n z c v : Bool) → let sr = status_with 0 (record { n = n; z = z; c = c; v = v }) in ((sr / 16 % 2 == 0) && (sr / 8 % 2 == 1)) ≡ false
-flags_quiet true true true true = refl
-flags_quiet true true true false = refl
-flags_quiet true true false true = refl
-flags_quiet true true false false = refl
-flags_quiet true false true true = refl
-flags_quiet true false true false = refl
-flags_quiet true false false true = refl
-flags_quiet true false false false = refl
-flags_quiet false true true true = refl
-flags_quiet false true true false = refl
-flags_quiet false true false true = refl
-flags_quiet false true false false = refl
-flags_quiet false false true true = refl
-flags_quiet false false true false = refl
-flags_quiet false false false true = refl
-flags_quiet false false false false = refl
-
-undisturbed_core : (s : MachineBoard) (o : CoreOutcome) → undisturbed s (outcome_of_core o) ≡ outcome_of_core o
-undisturbed_core s (Goes es c t) =
-    ap (λ b. if b then Stops [] 0 (astray s) else Goes es c (board_of t)) (flags_quiet t.flags.n t.flags.z t.flags.c t.flags.v)
-undisturbed_core s (Stops es price e) = refl
-
 module _ (code : Code) (tidy : IsTidy code) where
   -- one form
   pub does : (m : Form) (u : Core) → code u.pc ≡ Some (instruction_of m) → FormNeeds m u → exec code (board_of u) ≡ outcome_of_core (form_step m u)
   does m u h k =
-      ap (λ o. undisturbed (board_of u) (step_with o (board_of u))) h
-      ∙ ap (undisturbed (board_of u)) (form_does m u (tidy u.pc (instruction_of m) h) k)
-      ∙ undisturbed_core (board_of u) (form_step m u)
+      ap (λ o. undisturbed o (board_of u) (step_with o (board_of u))) h
+      ∙ ap (undisturbed (Some (instruction_of m)) (board_of u)) (form_does m u (tidy u.pc (instruction_of m) h) k)
+      ∙ undisturbed_form m u k
 
   block_on : (ms : List Form) (p k : ℕ) (o : CoreOutcome) → OfNext o (IsAt p) → OfNext o (FormsNeed ms)
       → ((t : Core) → t.pc ≡ p → FormsNeed ms t → going (exec code) (length ms + k) (board_of t) ≡ carry (forms_run ms t)

@@ -34,7 +34,7 @@ use Rattle.machine_effects.specs.Going.{Goes, Stops, step_behind}
 use Rattle.machine_effects.specs.msp_step.declared.machine.Stop.TheVariants as stop
 use Rattle.machine_effects.specs.msp_isa.declared.instructions.Instr.{Instr}
 use Rattle.machine_effects.specs.Inputs.{Look, first_look, other_looks, look_effects}
-use Rattle.machine_effects.specs.Machine.{MachineOutcome, MachineBus, machine_bus, machine_outcome, step_with, word_address, is_readable, IsPlace, IsRam}
+use Rattle.machine_effects.specs.Machine.{MachineOutcome, MachineBus, machine_bus, machine_outcome, step_with, word_address, is_readable, IsPlace, IsRam, stack_start}
 use Rattle.machine_effects.specs.Machine.{looks_there, source_looks, machine_executed, executed_looking, code_executed}
 use Rattle.code_forms.specs.Forms.{WorkRegister, work_number, index_of, Core, register_file, board_of, outcome_of_core, Source, Register, Number, Constant}
 use Rattle.code_forms.specs.Forms.{Fram, Ram, Pointed, PointedNext, Indexed, Popped, Head, Slot}
@@ -42,10 +42,10 @@ use Rattle.code_forms.specs.Forms.{source_operand, source_bytes, source_value, s
 use Rattle.code_forms.specs.Forms.{Target, ToRegister, ToFram, ToRam, ToIndexed, ToPointed, ToOutnum, ToOutdata, target_operand, target_bytes, target_written}
 use Rattle.code_forms.specs.Forms.{TargetNeeds, Move, Calculate, Compare, Update, Push, Modify, SetStack, Sense, Jump, Skip, Branch, BranchIndexed}
 use Rattle.code_forms.specs.Forms.{SkipBy, instruction_of, flags_after, calculated, sensed, form_step, FormNeeds, IsNotMov, HasPushRoom, IsCodeAddress, IsSlot}
-use Rattle.code_forms.specs.Forms.{Modification, modified}
+use Rattle.code_forms.specs.Forms.{EnableInterrupts, Modification, modified}
 use Rattle.instruction_forms.specs.declared.kinds.Modification.TheVariants as change
 use Rattle.code_forms.specs.Laws.{FormsDoAsInstructions}
-use Rattle.code_forms.proofs.Registers.{set_pc, set_sp, set_work, get_work, high, number, set_flags, flags_back, is_on, no_port}
+use Rattle.code_forms.proofs.Registers.{set_pc, set_sp, set_work, get_work, high, number, set_flags, flags_back, enable, is_on, no_port}
 
 -- the bus of an instruction that began with SP here, and sees this of the ring
 abbrev inside : ℕ → Option Look → Core → MachineBus
@@ -84,7 +84,7 @@ ring_of (Indexed b x) u = None
 ring_of Popped u = None
 
 abbrev regs_in : Core → ℕ → Registers
-regs_in u p = register_file p u.sp u.flags u.work
+regs_in u p = register_file p u.sp u.enabled u.flags u.work
 
 -- a word of memory is read, and the bus stays
 is_word_fram : (a : ℕ) → IsPlace a → is_word a ≡ true
@@ -157,10 +157,10 @@ read_slot s look a e h = let t = slot_tests s.floor a h in rw (t.0, t.1.0, e, t.
 -- the source operand, with PC behind the operation word
 module _ (u : Core) (p : ℕ) where
   got : (b : WorkRegister) → regs_in u p (index_number (index_of b)) ≡ u.work (work_number b)
-  got b = ap (regs_in u p) (number b) ∙ get_work p u.sp (work_number b) u.flags u.work (high b)
+  got b = ap (regs_in u p) (number b) ∙ get_work p u.sp (work_number b) u.enabled u.flags u.work (high b)
 
-  up : (b : WorkRegister) (v : ℕ) → with_register (regs_in u p) (index_number (index_of b)) v ≡ register_file p u.sp u.flags (put u.work (work_number b) v)
-  up b v = ap (λ n. with_register (regs_in u p) n v) (number b) ∙ set_work p u.sp (work_number b) v u.flags u.work (high b)
+  up : (b : WorkRegister) (v : ℕ) → with_register (regs_in u p) (index_number (index_of b)) v ≡ register_file p u.sp u.enabled u.flags (put u.work (work_number b) v)
+  up b v = ap (λ n. with_register (regs_in u p) n v) (number b) ∙ set_work p u.sp (work_number b) v u.enabled u.flags u.work (high b)
 
   -- a word of the ring
   from_head : (looks : List Look)
@@ -190,9 +190,9 @@ module _ (u : Core) (p : ℕ) where
       let e : word_sum (u.work (work_number b)) x ≡ u.work (work_number b) + x = let hi = h.high in omega arith in
       rw (got b, e, read_fram (inside u.sp None u) (u.work (work_number b) + x) h) refl
   from_source Popped h =
-      let v = h.even in let l = h.high in
+      let v = h.0.even in let l = h.0.high in
       let e : word_sum u.sp 2 / 2 * 2 ≡ u.sp + 2 = omega arith in
-      rw (read_ram (inside u.sp None u) u.sp h (omega arith), set_sp p u.sp (word_sum u.sp 2) (u.sp + 2) u.flags u.work e) refl
+      rw (read_ram (inside u.sp None u) u.sp h.0 (omega arith), set_sp p u.sp (word_sum u.sp 2) (u.sp + 2) u.enabled u.flags u.work e) refl
   from_source Head h = from_head u.inputs.looks
   from_source (Slot b) h = from_slot u.inputs.looks b h
 
@@ -302,11 +302,11 @@ two op x d u c h =
     (2 + source_bytes x + 2 * length (destination_row d).extension) = omega (arith, l, s.0, s.1) in
     let t = source_read x u in
     rw (
-      set_pc u.pc u.sp (word_sum u.pc 2) (u.pc + 2) u.flags u.work a,
+      set_pc u.pc u.sp (word_sum u.pc 2) (u.pc + 2) u.enabled u.flags u.work a,
       from_source u (u.pc + 2) x h,
       set_pc (u.pc + 2) t.sp
           (word_sum (ext_of x u) (2 * length (destination_row d).extension)) (u.pc + (2 + source_bytes x + 2 * length (destination_row d).extension))
-          t.flags t.work b,
+          t.enabled t.flags t.work b,
     ) refl
 
 pub to_length : (y : Target) → 2 * length (destination_row (target_operand y)).extension ≡ target_bytes y
@@ -361,7 +361,7 @@ on_two : (op : TwoOp) (x : Source) (d : Dst) (u : Core) → IsCodeAddress u.pc �
 unfolding effect
 on_two op x d u c h =
     let i = instr.Two op Word (source_operand x) d in
-    let e = is_on u.pc u.sp u.flags u.work in
+    let e = is_on u.pc u.sp u.enabled u.flags u.work in
     ap (λ b. if b then Stops [] 0 stop.Off else code_executed (board_of u) i) e
     ∙ code_begun x u i h refl
     ∙ rw (two op x d u c h, read_same x u h) refl
@@ -393,12 +393,12 @@ reads Bis n = refl
 reads Xor n = refl
 reads And n = refl
 
-with_new : (o : Option Flags) (t : Core) (p : ℕ) → with_flags (regs_in t p) o ≡ register_file p t.sp (flags_after o t.flags) t.work
+with_new : (o : Option Flags) (t : Core) (p : ℕ) → with_flags (regs_in t p) o ≡ register_file p t.sp t.enabled (flags_after o t.flags) t.work
 with_new None t p = refl
-with_new (Some g) t p = set_flags p t.sp t.flags g t.work
+with_new (Some g) t p = set_flags p t.sp t.enabled t.flags g t.work
 
 ends : (w : Bool) (b : WorkRegister) (o : Operated) (pc c floor : ℕ) (ring : Option Look) (t : Core) →
-    machine_outcome pc c (finish w machine_bus (register_file t.pc t.sp (flags_after o.flags t.flags) t.work) Word
+    machine_outcome pc c (finish w machine_bus (register_file t.pc t.sp t.enabled (flags_after o.flags t.flags) t.work) Word
     (destination_location (regs_in t t.pc) 0 (target_operand (ToRegister b))) o.value (inside floor ring t))
     ≡ Goes [] c (board_of (record t { flags = flags_after o.flags t.flags; work = if w then put t.work (work_number b) o.value else t.work }))
 ends true b o pc c floor ring t = rw (up (record t { flags = flags_after o.flags t.flags }) t.pc b o.value) refl
@@ -409,7 +409,7 @@ calculated_half : (op : TwoOp) (v ext pc c floor : ℕ) (ring : Option Look) (b 
     (regs_in t t.pc) (inside floor ring t)) ≡ outcome_of_core (Goes [] c (calculated op b (operated op Word (t.work (work_number b)) v t.flags) t))
 calculated_half op v ext pc c floor ring b t n =
     let o = operated op Word (t.work (work_number b)) v t.flags in
-    rw (n, got t t.pc b, flags_back t.flags, with_new o.flags t t.pc) (ends (writes_destination op) b o pc c floor ring t)
+    rw (n, got t t.pc b, flags_back t.enabled t.flags, with_new o.flags t t.pc) (ends (writes_destination op) b o pc c floor ring t)
 
 read_flags : (x : Source) (u : Core) → (source_read x u).flags ≡ u.flags
 read_flags (Register b) u = refl
@@ -443,7 +443,7 @@ compared_half : (v a ext pc c floor : ℕ) (ring : Option Look) (t : Core) → I
     → machine_outcome pc c (after_source machine_bus Cmp Word (destination_location (regs_in t t.pc) ext (dst.Absolute a)) v (regs_in t t.pc)
     (inside floor ring t)) ≡ outcome_of_core (Goes [] c (record t { flags = flags_after (operated Cmp Word (t.fram a) v t.flags).flags t.flags }))
 compared_half v a ext pc c floor ring t h =
-    rw (read_fram (inside floor ring t) a h, set_flags t.pc t.sp t.flags (difference_of Word (t.fram a) v true).1 t.work) refl
+    rw (read_fram (inside floor ring t) a h, set_flags t.pc t.sp t.enabled t.flags (difference_of Word (t.fram a) v true).1 t.work) refl
 
 read_memory : (x : Source) (u : Core) → (source_read x u).fram ≡ u.fram
 read_memory (Register b) u = refl
@@ -477,7 +477,7 @@ updated_half : (op : TwoOp) (v a ext pc c floor : ℕ) (ring : Option Look) (t :
 updated_half op v a ext pc c floor ring t n m h =
     let w = is_word_fram a h in let l = low_fram a h in let f = no_ram_fram a h in let g = even_fram a h in
     let o = operated op Word (t.fram a) v t.flags in
-    rw (n, read_fram (inside floor ring t) a h, flags_back t.flags, with_new o.flags t t.pc, m, w, l, f, g) refl
+    rw (n, read_fram (inside floor ring t) a h, flags_back t.enabled t.flags, with_new o.flags t t.pc, m, w, l, f, g) refl
 
 updates : (op : TwoOp) (x : Source) (a : ℕ) (u : Core) → IsCodeAddress u.pc → FormNeeds (Update op x a) u
     → step_with (Some (instruction_of (Update op x a))) (board_of u) ≡ outcome_of_core (form_step (Update op x a) u)
@@ -502,10 +502,10 @@ push_half x u c h =
     let t = source_read x u in
     let next : ℕ × Registers → MachineBus → Access MachineBus (Registers × Option Written) =
     λ y l. pushed machine_bus Word y.0 (with_register y.1 0 (ext_of x u)) l in
-    ap (λ q. then_do (source machine_bus q Word (source_operand x) (begun x u)) next) (set_pc u.pc u.sp (word_sum u.pc 2) (u.pc + 2) u.flags u.work a)
+    ap (λ q. then_do (source machine_bus q Word (source_operand x) (begun x u)) next) (set_pc u.pc u.sp (word_sum u.pc 2) (u.pc + 2) u.enabled u.flags u.work a)
     ∙ ap (λ y. then_do y next) (from_source u (u.pc + 2) x h)
     ∙ ap (λ r. pushed machine_bus Word (source_value x u) r (begun x u))
-    (set_pc (u.pc + 2) t.sp (ext_of x u) (u.pc + (2 + source_bytes x)) t.flags t.work p)
+    (set_pc (u.pc + 2) t.sp (ext_of x u) (u.pc + (2 + source_bytes x)) t.enabled t.flags t.work p)
     ∙ ap (λ l. pushed machine_bus Word (source_value x u) (regs_in t (u.pc + (2 + source_bytes x))) l) (sym (read_same x u h))
 
 pushed_at : (v pc c floor : ℕ) (ring : Option Look) (t : Core) → HasPushRoom t.sp
@@ -517,13 +517,13 @@ pushed_at v pc c floor ring t h =
     let word = is_word_ram (t.sp - 2) k in let below = low_ram (t.sp - 2) k in let ram = is_ram_ram (t.sp - 2) k in let g = even_ram (t.sp - 2) k in
     let l : word_sum t.sp 0xFFFE ≡ t.sp - 2 = omega arith in
     let m : (t.sp - 2) / 2 * 2 ≡ t.sp - 2 = omega arith in
-    rw (l, set_sp t.pc t.sp (t.sp - 2) (t.sp - 2) t.flags t.work m, word, below, ram, g) refl
+    rw (l, set_sp t.pc t.sp (t.sp - 2) (t.sp - 2) t.enabled t.flags t.work m, word, below, ram, g) refl
 
 pushes : (x : Source) (u : Core) → IsCodeAddress u.pc → FormNeeds (Push x) u
     → step_with (Some (instruction_of (Push x))) (board_of u) ≡ outcome_of_core (form_step (Push x) u)
 unfolding effect
 pushes x u c h =
-    let on = is_on u.pc u.sp u.flags u.work in
+    let on = is_on u.pc u.sp u.enabled u.flags u.work in
     let t : Core = record (source_read x u) { pc = u.pc + (2 + source_bytes x) } in
     ap (λ b. if b then Stops [] 0 stop.Off else code_executed (board_of u) (instruction_of (Push x))) on
     ∙ code_begun x u (instruction_of (Push x)) h.0 refl
@@ -532,28 +532,34 @@ pushes x u c h =
     ∙ ap (λ es. Goes es (cycles_of (instruction_of (Push x)))
     (board_of (record t { sp = t.sp - 2; ram = put t.ram (t.sp - 2) (source_value x u) }))) (append-nil (source_effects x u))
 
-sets_stack : (n : ℕ) (u : Core) → IsCodeAddress u.pc → n % 2 ≡ 0
+sets_stack : (n : ℕ) (u : Core) → IsCodeAddress u.pc → n ≡ stack_start
     → step_with (Some (instruction_of (SetStack n))) (board_of u) ≡ outcome_of_core (form_step (SetStack n) u)
 sets_stack n u c h =
-    let e : n / 2 * 2 ≡ n = omega arith in
+    let e : n / 2 * 2 ≡ n = omega (arith, h) in
     on_two Mov (Number n) (dst.Reg (reg.Index index.Sp)) u c tt
-    ∙ rw (set_sp (u.pc + 4) u.sp n n u.flags u.work e) refl
+    ∙ rw (set_sp (u.pc + 4) u.sp n n u.enabled u.flags u.work e) refl
+
+enables : (u : Core) → IsCodeAddress u.pc
+    → step_with (Some (instruction_of EnableInterrupts)) (board_of u) ≡ outcome_of_core (form_step EnableInterrupts u)
+enables u c =
+    on_two Bis (Constant konst.Eight) (dst.Reg reg.Sr) u c tt
+    ∙ rw (enable (u.pc + 2) u.sp u.enabled u.flags u.work) refl
 
 sense_on : (b : WorkRegister) (u : Core) (ws : List ℕ) → IsCodeAddress u.pc
     → let v : Core = record u { inputs = record u.inputs { readings = ws } } in
     step_with (Some (instruction_of (Sense b))) (board_of v) ≡ outcome_of_core (sensed ws b v)
 unfolding effect
-sense_on b u [] c = let on = is_on u.pc u.sp u.flags u.work in rw on refl
+sense_on b u [] c = let on = is_on u.pc u.sp u.enabled u.flags u.work in rw on refl
 sense_on b u (w ∷ ws) c =
     let even = c.even in let high = c.high in
-    let on = is_on u.pc u.sp u.flags u.work in
+    let on = is_on u.pc u.sp u.enabled u.flags u.work in
     let a : word_sum u.pc 2 / 2 * 2 ≡ u.pc + 2 = omega arith in
     let p : word_sum (word_sum (word_sum u.pc 2) 2) 0 / 2 * 2 ≡ u.pc + 4 = omega arith in
     rw (
       on,
-      set_pc u.pc u.sp (word_sum u.pc 2) (u.pc + 2) u.flags u.work a,
+      set_pc u.pc u.sp (word_sum u.pc 2) (u.pc + 2) u.enabled u.flags u.work a,
       set_pc (u.pc + 2) u.sp (word_sum (word_sum (word_sum u.pc 2) 2) 0)
-          (u.pc + 4) u.flags u.work p,
+          (u.pc + 4) u.enabled u.flags u.work p,
       up u (u.pc + 4) b w,
     ) refl
 
@@ -576,14 +582,14 @@ jumps : (c : Condition) (o : ℕ) (u : Core) → IsCodeAddress u.pc
 unfolding effect
 jumps k o u c =
     let even = c.even in let high = c.high in
-    let on = is_on u.pc u.sp u.flags u.work in
+    let on = is_on u.pc u.sp u.enabled u.flags u.work in
     let n : word_sum u.pc 2 ≡ u.pc + 2 = omega arith in
     let t = if is_met k u.flags then word_sum (u.pc + 2) (distance o) else u.pc + 2 in
     rw (
       on,
-      flags_back u.flags,
+      flags_back u.enabled u.flags,
       n,
-      set_pc u.pc u.sp t t u.flags u.work (jump_even (is_met k u.flags) (u.pc + 2) (distance o) (omega arith)
+      set_pc u.pc u.sp t t u.enabled u.flags u.work (jump_even (is_met k u.flags) (u.pc + 2) (distance o) (omega arith)
           (distance_even o)),
     ) refl
 
@@ -594,14 +600,14 @@ skips n u c h =
     let sum = sum_of Word (u.pc + 4) n false in
     let e : sum.0 / 2 * 2 ≡ sum.0 = omega arith in
     on_two Add (Number n) (dst.Reg reg.Pc) u c tt
-    ∙ rw (set_flags (u.pc + 4) u.sp u.flags sum.1 u.work, set_pc (u.pc + 4) u.sp sum.0 sum.0 sum.1 u.work e) refl
+    ∙ rw (set_flags (u.pc + 4) u.sp u.enabled u.flags sum.1 u.work, set_pc (u.pc + 4) u.sp sum.0 sum.0 u.enabled sum.1 u.work e) refl
 
 branches : (a : ℕ) (u : Core) → IsCodeAddress u.pc → a % 2 ≡ 0
     → step_with (Some (instruction_of (Branch a))) (board_of u) ≡ outcome_of_core (form_step (Branch a) u)
 branches a u c h =
     let e : a / 2 * 2 ≡ a = omega arith in
     on_two Mov (Number a) (dst.Reg reg.Pc) u c tt
-    ∙ rw (set_pc (u.pc + 4) u.sp a a u.flags u.work e) refl
+    ∙ rw (set_pc (u.pc + 4) u.sp a a u.enabled u.flags u.work e) refl
 
 branches_indexed : (b : WorkRegister) (x : ℕ) (u : Core) → IsCodeAddress u.pc → FormNeeds (BranchIndexed b x) u
     → step_with (Some (instruction_of (BranchIndexed b x))) (board_of u) ≡ outcome_of_core (form_step (BranchIndexed b x) u)
@@ -610,7 +616,7 @@ branches_indexed b x u c h =
     let even = h.1 in
     let e : a / 2 * 2 ≡ a = omega arith in
     on_two Mov (Indexed b x) (dst.Reg reg.Pc) u c h.0
-    ∙ rw (set_pc (u.pc + 4) u.sp a a u.flags u.work e) refl
+    ∙ rw (set_pc (u.pc + 4) u.sp a a u.enabled u.flags u.work e) refl
 
 skips_by : (b : WorkRegister) (u : Core) → IsCodeAddress u.pc → u.work (work_number b) % 2 ≡ 0
     → step_with (Some (instruction_of (SkipBy b))) (board_of u) ≡ outcome_of_core (form_step (SkipBy b) u)
@@ -619,13 +625,13 @@ skips_by b u c h =
     let sum = sum_of Word (u.pc + 2) (u.work (work_number b)) false in
     let e : sum.0 / 2 * 2 ≡ sum.0 = omega arith in
     on_two Add (Register b) (dst.Reg reg.Pc) u c tt
-    ∙ rw (set_flags (u.pc + 2) u.sp u.flags sum.1 u.work, set_pc (u.pc + 2) u.sp sum.0 sum.0 sum.1 u.work e) refl
+    ∙ rw (set_flags (u.pc + 2) u.sp u.enabled u.flags sum.1 u.work, set_pc (u.pc + 2) u.sp sum.0 sum.0 u.enabled sum.1 u.work e) refl
 
 -- an operation on one register
 modified_half : (f : Width → ℕ → Flags → Operated) (b : WorkRegister) (u : Core) → IsCodeAddress u.pc
     → read_modify_write machine_bus f Word (mode.Reg (source_register.Index (index_of b))) (regs_in u u.pc) (inside u.sp None u) ≡
     (let o = f Word (u.work (work_number b)) u.flags in Completed (
-      register_file (u.pc + 2) u.sp (flags_after o.flags u.flags)
+      register_file (u.pc + 2) u.sp u.enabled (flags_after o.flags u.flags)
           (put u.work (work_number b) o.value),
       None,
     ) (inside u.sp None u))
@@ -640,17 +646,17 @@ modified_half f b u c =
     let last : Registers → ℕ → Access MachineBus (Registers × Option Written) = λ r v. written_back machine_bus f Word l v r (inside u.sp None u) in
     let ends : Flags → Access MachineBus (Registers × Option Written) = λ g. store machine_bus
     (with_flags (regs_in u (u.pc + 2)) (f Word (u.work (work_number b)) g).flags) Word l (f Word (u.work (work_number b)) g).value (inside u.sp None u) in
-    ap next (set_pc u.pc u.sp (word_sum u.pc 2) (u.pc + 2) u.flags u.work a)
+    ap next (set_pc u.pc u.sp (word_sum u.pc 2) (u.pc + 2) u.enabled u.flags u.work a)
     ∙ ap (λ v. last (with_register (regs_in u (u.pc + 2)) 0 (word_sum (word_sum u.pc 2) 0)) v) (got u (u.pc + 2) b)
-    ∙ ap (λ r. last r (u.work (work_number b))) (set_pc (u.pc + 2) u.sp (word_sum (word_sum u.pc 2) 0) (u.pc + 2) u.flags u.work d)
-    ∙ ap ends (flags_back u.flags)
+    ∙ ap (λ r. last r (u.work (work_number b))) (set_pc (u.pc + 2) u.sp (word_sum (word_sum u.pc 2) 0) (u.pc + 2) u.enabled u.flags u.work d)
+    ∙ ap ends (flags_back u.enabled u.flags)
     ∙ ap (λ r. store machine_bus r Word l o.value (inside u.sp None u)) (with_new o.flags u (u.pc + 2))
     ∙ ap (λ r. Completed (r, None) (inside u.sp None u)) (up (record u { flags = flags_after o.flags u.flags }) (u.pc + 2) b o.value)
 
 modified_effect : (m : Modification) (b : WorkRegister) (u : Core) → IsCodeAddress u.pc
     → effect machine_bus (instruction_of (Modify m b)) (regs_in u u.pc) (inside u.sp None u) ≡
     (let o = modified m (u.work (work_number b)) u.flags in Completed
-    (register_file (u.pc + 2) u.sp (flags_after o.flags u.flags) (put u.work (work_number b) o.value), None) (inside u.sp None u))
+    (register_file (u.pc + 2) u.sp u.enabled (flags_after o.flags u.flags) (put u.work (work_number b) o.value), None) (inside u.sp None u))
 unfolding effect
 modified_effect change.Rra b u c = modified_half shifted b u c
 modified_effect change.Rrc b u c = modified_half rotated b u c
@@ -672,7 +678,7 @@ modified_blind change.Sxt b = refl
 modifies : (m : Modification) (b : WorkRegister) (u : Core) → IsCodeAddress u.pc
     → step_with (Some (instruction_of (Modify m b))) (board_of u) ≡ outcome_of_core (form_step (Modify m b) u)
 modifies m b u c =
-    let on = is_on u.pc u.sp u.flags u.work in
+    let on = is_on u.pc u.sp u.enabled u.flags u.work in
     rw (on, modified_blind m b, modified_effect m b u c, modified_cycles m b) refl
 
 -- each form
@@ -684,6 +690,7 @@ form_does (Update op x a) u c h = updates op x a u c h
 form_does (Push x) u c h = pushes x u c h
 form_does (Modify m b) u c h = modifies m b u c
 form_does (SetStack n) u c h = sets_stack n u c h
+form_does EnableInterrupts u c h = enables u c
 form_does (Sense b) u c h = senses b u c
 form_does (Jump k o) u c h = jumps k o u c
 form_does (Skip n) u c h = skips n u c h

@@ -7,7 +7,7 @@ use Rattle.machine_effects.specs.Machine.{Code, MachineBoard}
 use Rattle.code_forms.specs.Forms.{Core, Source, Register, Number, Constant, Fram, Ram, Pointed, PointedNext, Indexed, Popped, Head, Slot, SourceNeeds}
 use Rattle.code_forms.specs.Forms.{source_ram}
 use Rattle.code_forms.specs.Forms.{Form, Move, Calculate, Compare, Update, Push, Modify, SetStack, Sense, Jump, Skip, Branch, BranchIndexed, SkipBy, FormNeeds}
-use Rattle.code_forms.specs.Forms.{ram_read}
+use Rattle.code_forms.specs.Forms.{EnableInterrupts, ram_read}
 use Rattle.code_forms.specs.Code.{IsAtForm, OfState}
 use Rattle.code_forms.specs.Laws.{ReadsFromSp, FormsReadFromSp}
 
@@ -32,6 +32,7 @@ form_from_sp (Update op x b) u a h e = source_from_sp x u a h.2 e
 form_from_sp (Push x) u a h e = source_from_sp x u a h.0 e
 form_from_sp (Modify m b) u a h e = absurd (cc)
 form_from_sp (SetStack n) u a h e = absurd (cc)
+form_from_sp EnableInterrupts u a h e = absurd (cc)
 form_from_sp (Sense b) u a h e = absurd (cc)
 form_from_sp (Jump c o) u a h e = absurd (cc)
 form_from_sp (Skip n) u a h e = absurd (cc)

@@ -8,7 +8,7 @@ use Rattle.instruction_forms.specs.declared.kinds.Modification.TheVariants as ch
 use Rattle.machine_effects.specs.msp_step.declared.machine.Stop.{Stop}
 use Rattle.machine_effects.specs.msp_step.declared.machine.Stop.TheVariants as stop
 use Rattle.machine_effects.specs.msp_step.Effect.{word_sum}
-use Rattle.machine_effects.specs.msp_step.Step.{off_bit, is_interruptible, FetchedAt, IsStopped, IsCurrentInstruction}
+use Rattle.machine_effects.specs.msp_step.Step.{off_bit, FetchedAt, IsStopped, IsCurrentInstruction}
 use Rattle.machine_effects.proofs.msp_step.Interface.{same_current, not_stopped}
 use Rattle.machine_effects.specs.fram_board.Bus.{is_word, is_ram}
 use Rattle.machine_effects.specs.fram_board.Effects.{Effect, Store, Take, Outside}
@@ -16,13 +16,13 @@ use Rattle.machine_effects.specs.World.{put, fram_after_one, fram_after, OfStore
 use Rattle.machine_effects.specs.Going.{Goes, Stops}
 use Rattle.machine_effects.specs.Machine.{MachineBoard, MachineOutcome, machine_bus, machine_opened, machine_fetched}
 use Rattle.machine_effects.specs.Machine.{code_executed}
-use Rattle.machine_effects.specs.Machine.{IsLookingStep, NoInstruction, Executes, Code, step_with, exec, undisturbed, astray, word_address}
+use Rattle.machine_effects.specs.Machine.{IsLookingStep, NoInstruction, Executes, Code, step_with, exec, is_exposed, undisturbed, astray, word_address}
 use Rattle.code_forms.specs.Forms.{Form, Move, Calculate, Compare, Update, Push, Modify, SetStack, Sense, Jump, Skip, Branch, BranchIndexed}
-use Rattle.code_forms.specs.Forms.{SkipBy, source_operand, Target, ToRegister, target_operand, target_bytes, instruction_of, form_bytes}
+use Rattle.code_forms.specs.Forms.{EnableInterrupts, SkipBy, source_operand, Target, ToRegister, target_operand, target_bytes, instruction_of, form_bytes}
 use Rattle.code_forms.specs.Forms.{Core}
 use Rattle.code_forms.specs.Code.{Stands, forms_bytes}
 use Rattle.code_forms.specs.Placed.{placed, words_of, instructions, Holds, AreInstructions, IsOutside}
-use Rattle.code_forms.specs.Laws.{FormsStandWherePlaced, PlacedIsTidy, IsNoHole, CodeInFramSteps, CodeGoesUndisturbed}
+use Rattle.code_forms.specs.Laws.{FormsStandWherePlaced, PlacedIsTidy, IsNoHole, CodeInFramSteps}
 use Rattle.code_forms.proofs.Forms.{from_small, from_length, to_length}
 
 -- a form's length is that of its instruction's words
@@ -38,6 +38,7 @@ bytes_are (Modify change.Rra b) = refl
 bytes_are (Modify change.Swpb b) = refl
 bytes_are (Modify change.Sxt b) = refl
 bytes_are (SetStack n) = refl
+bytes_are EnableInterrupts = refl
 bytes_are (Sense b) = refl
 bytes_are (Jump c o) = refl
 bytes_are (Skip n) = refl
@@ -58,6 +59,7 @@ form_small (Update op x a) = omega (arith, from_small x)
 form_small (Push x) = omega (arith, from_small x)
 form_small (Modify m b) = omega arith
 form_small (SetStack n) = omega arith
+form_small EnableInterrupts = omega arith
 form_small (Sense b) = omega arith
 form_small (Jump c o) = omega arith
 form_small (Skip n) = omega arith
@@ -150,28 +152,14 @@ holds_stores [] f p ws s h = h
 holds_stores (e ∷ es) f p ws s h = holds_stores es (fram_after_one e f) p ws s.1 (holds_store f p ws e s.0 h)
 
 -- what isn't astray is as it is
-undisturbed_goes : (b : Bool) (s t : MachineBoard) (es : List Effect) (c : ℕ) → is_interruptible t.registers ≡ b → IsNoHole (undisturbed s (Goes es c t))
-    → undisturbed s (Goes es c t) ≡ Goes es c t
-undisturbed_goes true s t es c e hole = absurd (hole [] 0 _ _ (ap (λ b. if b then Stops [] 0 (astray s) else Goes es c t) e))
-undisturbed_goes false s t es c e hole = ap (λ b. if b then Stops [] 0 (astray s) else Goes es c t) e
+undisturbed_goes : (b : Bool) (i : Option Instr) (s t : MachineBoard) (es : List Effect) (c : ℕ) → is_exposed i s t ≡ b
+    → IsNoHole (undisturbed i s (Goes es c t)) → undisturbed i s (Goes es c t) ≡ Goes es c t
+undisturbed_goes true i s t es c e hole = absurd (hole [] 0 _ _ (ap (λ b. if b then Stops [] 0 (astray s) else Goes es c t) e))
+undisturbed_goes false i s t es c e hole = ap (λ b. if b then Stops [] 0 (astray s) else Goes es c t) e
 
-undisturbed_is : (s : MachineBoard) (o : MachineOutcome) → IsNoHole (undisturbed s o) → undisturbed s o ≡ o
-undisturbed_is s (Goes es c t) hole = undisturbed_goes (is_interruptible t.registers) s t es c refl hole
-undisturbed_is s (Stops es price e) hole = refl
-
-goes_by : (b : Bool) (s t u : MachineBoard) (es fs : List Effect) (c d : ℕ) → is_interruptible t.registers ≡ b
-    → ◌≡◌ {A = MachineOutcome} (if b then Stops [] 0 (astray s) else Goes es c t) (Goes fs d u) → is_interruptible u.registers ≡ false
-goes_by true s t u es fs c d e h = absurd cc
-goes_by false s t u es fs c d e h = let same : t ≡ u = cc in ap (λ v. is_interruptible v.registers) (sym same) ∙ e
-
-goes_on_undisturbed : (s u : MachineBoard) (o : MachineOutcome) (fs : List Effect) (d : ℕ) → undisturbed s o ≡ Goes fs d u
-    → is_interruptible u.registers ≡ false
-goes_on_undisturbed s u (Goes es c t) fs d h = goes_by (is_interruptible t.registers) s t u es fs c d refl h
-goes_on_undisturbed s u (Stops es price e) fs d h = absurd cc
-
--- where code that stays goes on, the CPU accepts no interrupt
-pub code_goes_undisturbed : CodeGoesUndisturbed
-code_goes_undisturbed code s t es c h = goes_on_undisturbed s t (step_with (code (s.registers 0)) s) es c h
+undisturbed_is : (i : Option Instr) (s : MachineBoard) (o : MachineOutcome) → IsNoHole (undisturbed i s o) → undisturbed i s o ≡ o
+undisturbed_is i s (Goes es c t) hole = undisturbed_goes (is_exposed i s t) i s t es c refl hole
+undisturbed_is i s (Stops es price e) hole = refl
 
 if_off : (n : ℕ) (o : MachineOutcome) → n ≡ 1 → Stops [] 0 stop.Off ≡ (if n == 1 then Stops [] 0 stop.Off else o)
 if_off n o e = rw e refl
@@ -217,7 +205,7 @@ module _ (p : ℕ) (is : List Instr) (are : AreInstructions is) (even : p % 2 �
   step_is : (s : MachineBoard) (o : MachineOutcome) → IsLookingStep s o → Holds s.fram p (words_of is) → IsNoHole (exec there s)
       → o ≡ exec there s
   step_is s o is_step h hole =
-      let same = undisturbed_is s (step_with (there (s.registers 0)) s) hole in
+      let same = undisturbed_is (there (s.registers 0)) s (step_with (there (s.registers 0)) s) hole in
       step_as s o is_step h (subst IsNoHole same hole) ∙ sym same
 
 -- code that stands in FRAM is executed as it stands

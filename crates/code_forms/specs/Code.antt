@@ -8,7 +8,7 @@ use Rattle.machine_effects.specs.fram_board.Effects.{Effect}
 use Rattle.machine_effects.specs.Going.{Goes, Stops, Status, At, Halted, stretch, continued, going, Leads, Stalls}
 use Rattle.machine_effects.specs.Machine.{Code, MachineBoard, exec}
 use Rattle.code_forms.specs.Forms.{Core, CoreOutcome, CoreStretch, board_of, Form, Move, Calculate, Compare, Update, Push, Modify, SetStack, Sense, Jump, Skip}
-use Rattle.code_forms.specs.Forms.{Branch, BranchIndexed, SkipBy, instruction_of, form_bytes, form_step, FormNeeds, IsCodeAddress}
+use Rattle.code_forms.specs.Forms.{EnableInterrupts, Branch, BranchIndexed, SkipBy, instruction_of, form_bytes, form_step, FormNeeds, IsCodeAddress}
 
 -- the forms stand in the code from this address on
 abbrev pub Stands : Code → ℕ → List Form → Type 0
@@ -54,6 +54,7 @@ IsStraight (Update op x a) = Unit {0}
 IsStraight (Push x) = Unit {0}
 IsStraight (Modify m b) = Unit {0}
 IsStraight (SetStack n) = Unit {0}
+IsStraight EnableInterrupts = Unit {0}
 IsStraight (Sense b) = Unit {0}
 
 -- none in any of them

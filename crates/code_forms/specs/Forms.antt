@@ -1,8 +1,8 @@
 -- The forms of instructions that the compiler and its runtime write, on a machine whose registers are told apart: what each is
 -- as an instruction, how long it is, what it needs and what it does (SLAU049 and SLAU144, CPU chapter).
-use Rattle.std.specs.Prelude.{ℕ, ◌+◌, ◌-◌, ◌%◌, ◌≡◌, ◌<◌, ◌≤◌, true, false, ◌==◌, if◌then◌else◌, List, [], ◌∷◌, ◌++◌, Option, Some, None}
+use Rattle.std.specs.Prelude.{ℕ, ◌+◌, ◌-◌, ◌%◌, ◌≡◌, ◌<◌, ◌≤◌, Bool, true, false, ◌==◌, if◌then◌else◌, List, [], ◌∷◌, ◌++◌, Option, Some, None}
 use Rattle.machine_effects.specs.address_space.Limits.{fram_end, stack_top, event_vector, HasStackRoom}
-use Rattle.machine_effects.specs.event_places.Places.{head_place, ring_place}
+use Rattle.machine_effects.specs.event_places.Places.{handler_place, head_place, ring_place}
 use Rattle.machine_effects.specs.alp_words.declared.Flags.{Flags}
 use Rattle.machine_effects.specs.alp_words.declared.Width.TheVariants.{Word}
 use Rattle.machine_effects.specs.msp_isa.declared.instructions.TwoOp.{TwoOp}
@@ -19,7 +19,7 @@ use Rattle.machine_effects.specs.World.{put}
 use Rattle.machine_effects.specs.fram_board.Effects.{Effect}
 use Rattle.machine_effects.specs.Inputs.{Inputs, first_look, other_looks, look_effects}
 use Rattle.machine_effects.specs.Going.{StepOutcome, Goes, Stops, Stretch}
-use Rattle.machine_effects.specs.Machine.{MachineBoard, MachineOutcome, IsPlace, IsRam}
+use Rattle.machine_effects.specs.Machine.{MachineBoard, MachineOutcome, IsPlace, IsRam, stack_floor, stack_start}
 pub use Rattle.instruction_forms.specs.Encoding.{index_of, source_operand, source_bytes, target_operand, target_bytes, modification_operand}
 pub use Rattle.instruction_forms.specs.Encoding.{instruction_of, form_bytes}
 pub use Rattle.instruction_forms.specs.declared.kinds.WorkRegister.{WorkRegister}
@@ -33,7 +33,7 @@ pub use Rattle.instruction_forms.specs.declared.kinds.Modification.{Modification
 use Rattle.instruction_forms.specs.declared.kinds.Modification.TheVariants as change
 pub use Rattle.instruction_forms.specs.declared.kinds.Form.{Form}
 pub use Rattle.instruction_forms.specs.declared.kinds.Form.TheVariants.{Move, Calculate, Compare, Update, Push, Modify, SetStack, Sense, Jump, Skip, Branch}
-pub use Rattle.instruction_forms.specs.declared.kinds.Form.TheVariants.{BranchIndexed, SkipBy}
+pub use Rattle.instruction_forms.specs.declared.kinds.Form.TheVariants.{EnableInterrupts, BranchIndexed, SkipBy}
 
 -- the numbers of the registers for work
 abbrev pub work_number : WorkRegister → ℕ
@@ -50,10 +50,11 @@ work_number R13 = 13
 work_number R14 = 14
 work_number R15 = 15
 
--- a machine with its registers told apart; the control bits of SR are 0
+-- a machine with its registers told apart; of the control bits of SR only GIE may be set
 pub record Core : Type 0 where
   pub pc : ℕ
   pub sp : ℕ
+  pub enabled : Bool  -- GIE: the CPU accepts interrupts
   pub flags : Flags
   pub work : ℕ → ℕ  -- by the register's number
   pub fram : ℕ → ℕ
@@ -61,13 +62,24 @@ pub record Core : Type 0 where
   pub inputs : Inputs
   pub outnum : ℕ
 
+-- SR but for its flags
+abbrev pub control : Bool → ℕ
+control enabled = if enabled then 8 else 0
+
 -- the register file of these registers
-abbrev pub register_file : ℕ → ℕ → Flags → (ℕ → ℕ) → Registers
-register_file pc sp f work = λ n. if n == 0 then pc else if n == 1 then sp else if n == 2 then status_with 0 f else if n == 3 then 0 else work n
+abbrev pub register_file : ℕ → ℕ → Bool → Flags → (ℕ → ℕ) → Registers
+register_file pc sp enabled f work = λ n.
+    if n == 0 then pc else if n == 1 then sp else if n == 2 then status_with (control enabled) f else if n == 3 then 0 else work n
 
 -- the machine
 abbrev pub board_of : Core → MachineBoard
-board_of u = record { registers = register_file u.pc u.sp u.flags u.work; fram = u.fram; ram = u.ram; inputs = u.inputs; outnum = u.outnum }
+board_of u = record {
+  registers = register_file u.pc u.sp u.enabled u.flags u.work;
+  fram = u.fram;
+  ram = u.ram;
+  inputs = u.inputs;
+  outnum = u.outnum;
+}
 
 -- no flag is set
 abbrev pub clear_flags : Flags
@@ -78,6 +90,7 @@ abbrev pub core_of : MachineBoard → Core
 core_of s = record {
   pc = s.registers 0;
   sp = s.registers 1;
+  enabled = false;
   flags = clear_flags;
   work = s.registers;
   fram = s.fram;
@@ -161,7 +174,7 @@ SourceNeeds (Ram a) u = IsRam a × (u.sp ≤ a)
 SourceNeeds (Pointed b) u = IsPlace (u.work (work_number b))
 SourceNeeds (PointedNext b) u = IsPlace (u.work (work_number b))
 SourceNeeds (Indexed b x) u = IsPlace (u.work (work_number b) + x)
-SourceNeeds Popped u = IsRam u.sp
+SourceNeeds Popped u = IsRam u.sp × (u.sp + 2 ≤ stack_start)
 SourceNeeds Head u = Unit {0}
 SourceNeeds (Slot b) u = IsSlot (u.work (work_number b) + ring_place)
 
@@ -248,6 +261,7 @@ form_step (Modify m b) u =
     let o = modified m (u.work (work_number b)) u.flags in
     Goes [] 1 (record u { pc = u.pc + 2; flags = flags_after o.flags u.flags; work = put u.work (work_number b) o.value })
 form_step (SetStack n) u = Goes [] 2 (record u { pc = u.pc + 4; sp = n })
+form_step EnableInterrupts u = Goes [] 1 (record u { pc = u.pc + 2; enabled = true })
 form_step (Sense b) u = sensed u.inputs.readings b u
 form_step (Jump c offset) u = Goes [] 2 (record u { pc = if is_met c u.flags then word_sum (u.pc + 2) (distance offset) else u.pc + 2 })
 form_step (Skip n) u =
@@ -265,6 +279,12 @@ pub record HasPushRoom (sp : ℕ) : Type 0 where
   pub room : HasStackRoom sp 1
   pub high : sp ≤ stack_top
 
+-- a handler is named, and has room in RAM below SP
+pub record IsPrepared (u : Core) : Type 0 where
+  pub vector : u.fram event_vector ≡ handler_place
+  pub low : stack_floor ≤ u.sp
+  pub high : u.sp ≤ stack_start
+
 -- an operation that reads its destination
 abbrev pub IsNotMov : TwoOp → Type 0
 IsNotMov Mov = ⊥
@@ -278,7 +298,8 @@ FormNeeds (Compare x a) u = SourceNeeds x u × IsPlace a
 FormNeeds (Update op x a) u = IsNotMov op × (writes_destination op ≡ true) × SourceNeeds x u × IsPlace a
 FormNeeds (Push x) u = SourceNeeds x u × HasPushRoom (source_read x u).sp
 FormNeeds (Modify m b) u = Unit {0}
-FormNeeds (SetStack n) u = n % 2 ≡ 0
+FormNeeds (SetStack n) u = n ≡ stack_start
+FormNeeds EnableInterrupts u = IsPrepared u
 FormNeeds (Sense b) u = Unit {0}
 FormNeeds (Jump c offset) u = Unit {0}
 FormNeeds (Skip n) u = n % 2 ≡ 0

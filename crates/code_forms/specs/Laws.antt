@@ -1,13 +1,14 @@
 -- Laws of the forms and of code that stands in FRAM.
-use Rattle.std.specs.Prelude.{◌≡◌, ◌≢◌, false, ℕ, ◌+◌, ◌*◌, ◌%◌, ◌<◌, ◌≤◌, List, [], length, Some}
-use Rattle.machine_effects.specs.address_space.Limits.{fram_first, fram_end}
+use Rattle.std.specs.Prelude.{◌≡◌, ◌≢◌, true, false, ℕ, ◌+◌, ◌*◌, ◌%◌, ◌<◌, ◌≤◌, List, [], length, Some}
+use Rattle.machine_effects.specs.address_space.Limits.{fram_first, fram_end, event_vector}
+use Rattle.machine_effects.specs.event_places.Places.{handler_place}
 use Rattle.machine_effects.specs.msp_isa.declared.instructions.Instr.{Instr}
 use Rattle.machine_effects.specs.msp_step.declared.machine.Stop.TheVariants as stop
 use Rattle.machine_effects.specs.msp_step.Step.{is_interruptible}
 use Rattle.machine_effects.specs.fram_board.Board.{PowerState}
 use Rattle.machine_effects.specs.fram_board.Effects.{Effect}
 use Rattle.machine_effects.specs.Going.{Goes, Stops, At, stretch, Leads, going}
-use Rattle.machine_effects.specs.Machine.{Code, MachineBoard, MachineOutcome, IsLookingStep, exec, step_with, machine_powered}
+use Rattle.machine_effects.specs.Machine.{Code, MachineBoard, MachineOutcome, IsLookingStep, exec, step_with, is_prepared, machine_powered}
 use Rattle.code_forms.specs.Forms.{Core, board_of, core_of, outcome_of_core, Form, instruction_of, form_step, FormNeeds, ram_read, IsCodeAddress}
 use Rattle.code_forms.specs.Code.{Stands, AreStraight, forms_run, FormsNeed, IsTidy, IsAtForm, OfState, StepsAreForms}
 use Rattle.code_forms.specs.Placed.{placed, words_of, instructions, Holds, AreInstructions}
@@ -58,6 +59,17 @@ CodeInFramSteps = (p : ℕ) (is : List Instr) (s : MachineBoard) (o : MachineOut
     → AreInstructions is → p % 2 ≡ 0 → fram_first ≤ p → p + 2 * length (words_of is) < fram_end
     → IsLookingStep s o → Holds s.fram p (words_of is) → IsNoHole (exec (placed p is) s) → o ≡ exec (placed p is) s
 
--- where code that stays goes on, the CPU accepts no interrupt
-abbrev pub CodeGoesUndisturbed : Type 0
-CodeGoesUndisturbed = (code : Code) (s t : MachineBoard) (es : List Effect) (c : ℕ) → exec code s ≡ Goes es c t → is_interruptible t.registers ≡ false
+-- where code that stays goes on and the CPU accepts interrupts, the machine is prepared for them
+abbrev pub CodeStaysPrepared : Type 0
+CodeStaysPrepared = (code : Code) (s t : MachineBoard) (es : List Effect) (c : ℕ) → exec code s ≡ Goes es c t
+    → (is_interruptible s.registers ≡ true → is_prepared s ≡ true) → is_interruptible t.registers ≡ true → is_prepared t ≡ true
+
+-- once it accepts them it does so on
+abbrev pub CodeStaysOpen : Type 0
+CodeStaysOpen = (code : Code) (s t : MachineBoard) (es : List Effect) (c : ℕ) → exec code s ≡ Goes es c t
+    → is_interruptible s.registers ≡ true → is_interruptible t.registers ≡ true
+
+-- where FRAM names no handler it never does
+abbrev pub CodeStaysClosed : Type 0
+CodeStaysClosed = (code : Code) (s t : MachineBoard) (es : List Effect) (c : ℕ) → exec code s ≡ Goes es c t
+    → s.fram event_vector ≢ handler_place → is_interruptible s.registers ≡ false → is_interruptible t.registers ≡ false

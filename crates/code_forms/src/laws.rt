@@ -1,7 +1,7 @@
 //! Laws of the forms. The functions do nothing: their contracts are the laws.
 
 ghost use Rattle.code_forms.specs.Laws.{PoweredHasACore, FormsDoAsInstructions, StraightCodeLeads, FormsReadFromSp, FormsStandWherePlaced, PlacedIsTidy};
-ghost use Rattle.code_forms.specs.Laws.{CodeInFramSteps, CodeGoesUndisturbed};
+ghost use Rattle.code_forms.specs.Laws.{CodeInFramSteps, CodeStaysPrepared, CodeStaysOpen, CodeStaysClosed};
 
 /// A machine that was powered up has SR and R3 at 0, so that its registers can be told apart.
 pub fn powered_machine_has_a_core()
@@ -33,10 +33,17 @@ pub fn placed_code_stands()
     ensures tidy { PlacedIsTidy }
 {}
 
-/// A machine whose FRAM holds instructions steps as the code that they are, where that doesn't go astray; and behind each
-/// step of such code the CPU accepts no interrupt.
-#[tactic(auto, using(crate::proofs::Placed::code_in_fram_steps, crate::proofs::Placed::code_goes_undisturbed))]
+/// A machine whose FRAM holds instructions steps as the code that they are, where that doesn't go astray.
+#[tactic(auto, using(crate::proofs::Placed::code_in_fram_steps))]
 pub fn code_in_fram_steps()
-    ensures same { CodeInFramSteps }
-    ensures undisturbed { CodeGoesUndisturbed }
+    ensures { CodeInFramSteps }
+{}
+
+/// Where the CPU accepts an interrupt behind a step of code that stays, FRAM names a handler and SP has room for it; from there on the
+/// CPU accepts interrupts behind each step. Where FRAM names no handler it accepts none.
+#[tactic(auto, using(crate::proofs::Rules::code_stays_prepared, crate::proofs::Rules::code_stays_open, crate::proofs::Rules::code_stays_closed))]
+pub fn code_keeps_the_rules_of_interrupts()
+    ensures prepared { CodeStaysPrepared }
+    ensures open { CodeStaysOpen }
+    ensures closed { CodeStaysClosed }
 {}

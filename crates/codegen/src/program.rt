@@ -10,7 +10,6 @@ ghost use Rattle.word_code.specs.Code.{block_code, code_of, step_code, steps_cod
 use crate::bounds::bounds_within;
 use crate::decisions::{code_words, emit_compares, emit_holds, emit_jump_back, emit_pass_over};
 use crate::in_place::emit_versioned_update;
-use crate::locals::{emit_stack_set, steps_locals};
 use crate::longs::emit_long;
 use crate::operations::{emit_binary, emit_unary};
 use crate::shifts::emit_shift;
@@ -263,8 +262,8 @@ fn emit_block(
 
 /// Appends the code of a program, which may stand at any address. Without memory for it the code stays as it was. A program is whole
 /// where each of its ways ends in a jump, takes no word from an empty stack and reads no local before it is assigned, and where RAM
-/// from 1C20 to 23FF has room for its locals and its stack. Locals from the ninth on stand in RAM, down from 23FE; SP is 2400 where the
-/// code is entered, and is first set below them.
+/// from 1C20 to 23FF has room for its locals and its stack. Locals from the ninth on stand in RAM, down from 23FE; where the code is
+/// entered SP stands below them, with room for the stack.
 pub fn emit(alloc: Global, program: &WordProgram, code: &mut Vec<Form>) -> Result<(), AllocError>
     requires room { words_of (program_of program.now) ≤ 0x7FFF }
     requires whole { IsWhole (program_of program.now) }
@@ -273,7 +272,6 @@ pub fn emit(alloc: Global, program: &WordProgram, code: &mut Vec<Form>) -> Resul
     ensures err { OnErr result (code.new.items ≡ code.old.items) }
 {
     let mut own = Vec::new(alloc);
-    emit_stack_set(steps_locals(&program.steps), &mut own)?;
     emit_block(alloc, &[], &program.steps, &mut own)?;
     code.extend_from_slice(&own)
 }

@@ -25,7 +25,7 @@ use Rattle.compiled_runs.specs.Laws.{CodeIsPlaced, RunsLeaveTheCode}
 use Rattle.compiled_runs.proofs.Program.{code_keeps_the_laws}
 
 pub code_is_placed : CodeIsPlaced
-code_is_placed p l f =
+code_is_placed p l f none =
     let k = linked_is_code l (lowered l p) f in
     let a = apart_of l f.rules in
     let end = k.end in
@@ -41,6 +41,7 @@ code_is_placed p l f =
         core = core_of (machine_powered s q);
         is = powered_has_a_core s q;
         pc = let half : s.fram 0xFFFE / 2 * 2 ≡ l.boot.address = omega (arith, e, even) in half;
+        named = λ some. absurd (cc (some, none));
       };
     }
 

@@ -6,7 +6,7 @@ use Rattle.fram_board.specs.Effects.{Effect, Store}
 use Rattle.machine_effects.specs.World.{World, put, fram_after, world_after, world_after_one}
 use Rattle.machine_effects.specs.Inputs.{Look, Inputs, InputsAreWords, no_inputs}
 use Rattle.machine_effects.specs.Going.{Stalls}
-use Rattle.machine_effects.specs.Machine.{Code, MachineBoard, exec}
+use Rattle.machine_effects.specs.Machine.{Code, MachineBoard, exec, stack_start}
 use Rattle.machine_effects.proofs.Interface.{join, join_stall, code_changes_by_effects, fram_after-append}
 use Rattle.code_forms.specs.Forms.{Core, board_of}
 use Rattle.code_forms.specs.Code.{Runs, Starves}
@@ -18,16 +18,16 @@ use Rattle.array_versions.specs.Laws.{EndsByEffects}
 use Rattle.array_versions.proofs.Interface.{behaves_by_effects}
 use Rattle.word_code.specs.Laws.{HasJumped, ComesTo}
 use Rattle.memory_map.specs.declared.words.RuntimeWord.TheVariants.{CurrentTask, Gate, ListLength, EmitCount, SentBase, Version}
-use Rattle.memory_map.specs.MemoryMap.{MemoryMap, word_place}
+use Rattle.memory_map.specs.MemoryMap.{MemoryMap, word_place, with_events}
 use Rattle.runtime_effects.specs.Places.{CopyPair, listed}
 use Rattle.runtime_effects.specs.Stages.{is_at_end, start_effects, commit_effects}
 use Rattle.runtime_effects.specs.Needs.{CanCommit}
-use Rattle.address_space.specs.Limits.{stack_top}
 use Rattle.runtime_code.specs.Addresses.{start_address}
 use Rattle.runtime_code.specs.Comes.{Comes, IsAt, Enters}
 use Rattle.runtime_code.proofs.Interface.{nothing as no_steps}
 use Rattle.boot_runtime.specs.Entries.{task_entries}
 use Rattle.boot_runtime.specs.Listing.{TaskEntry, entry_at, privates_in, start_steps, start_cycles}
+use Rattle.boot_runtime.specs.Laws.{NamesHandler}
 use Rattle.boot_runtime.proofs.Interface.{clearing_is_dearest}
 use Rattle.commit_runtime.specs.Listing.{commit_steps, commit_cycles}
 use Rattle.lower.specs.Lowered.{lowered}
@@ -73,7 +73,7 @@ module _ (source : Source) where
   tasks = task_entries l
 
   abbrev start_at : ℕ
-  start_at = start_address l.boot.address
+  start_at = start_address l.runtime.events l.boot.address
 
   abbrev privates : ℕ → List CopyPair
   privates = privates_in tasks
@@ -93,13 +93,20 @@ module _ (source : Source) where
     pub is : b ≡ board_of core
     pub steps : ℕ
     pub cycles : ℕ
-    pub within : cycles ≤ 6
+    pub within : cycles ≤ with_events l.runtime.events 3 + 6
     pub comes : Comes code [] steps cycles core (IsAt start_at core.fram core.inputs)
 
   from_boot : (b : MachineBoard) → IsBooting l b → b.fram (word_place l Gate) ≡ 0 → ReachesStart b
   from_boot b k z =
       let zero : k.core.fram (word_place l Gate) ≡ 0 = ap (λ s. s.fram (word_place l Gate)) (sym k.is) ∙ z in
-      record { core = k.core; is = k.is; steps = 2; cycles = 6; within = omega arith; comes = to_start l (lowered l p) r.fits are_whole k.core k.pc zero }
+      record {
+        core = k.core;
+        is = k.is;
+        steps = with_events l.runtime.events 2 + 2;
+        cycles = with_events l.runtime.events 3 + 6;
+        within = omega arith;
+        comes = to_start l (lowered l p) r.fits are_whole k.core k.pc k.named zero;
+      }
 
   from_start : (b : MachineBoard) → IsStarting l b → ReachesStart b
   from_start b k =
@@ -135,21 +142,21 @@ module _ (source : Source) where
 
   -- what a commit takes behind a boot, at most
   abbrev CommitWithin : (ℕ → ℕ) → ℕ → Type 0
-  CommitWithin f most = 9 + commit_cycles l.runtime.events (f (word_place l ListLength)) (length (listed l f)) (f (word_place l EmitCount)) ≤ most
+  CommitWithin f most = with_events l.runtime.events 3 + 9 + commit_cycles l.runtime.events (f (word_place l ListLength)) (length (listed l f)) (f (word_place l EmitCount)) ≤ most
 
   -- a pending commit, from a boot on
-  commit_from_boot : (to : State) (accepted : List ℕ) (u : Core) → u.pc ≡ l.boot.address
+  commit_from_boot : (to : State) (accepted : List ℕ) (u : Core) → u.pc ≡ l.boot.address → NamesHandler l u.fram
       → (d : m.Committing to (record { fram = u.fram; accepted = accepted })) → (most : ℕ) → CommitWithin u.fram most
       → Makes c m.delay most (program_effects (m.commit u.fram u.inputs) true) (board_of u)
-  commit_from_boot to accepted u e d most within =
+  commit_from_boot to accepted u e named d most within =
       let x : World = record { fram = u.fram; accepted = accepted } in
       let q = d.pending in
-      let a = to_commit l (lowered l p) r.fits are_whole u e q.gate (pending_can_commit (program_places p l) x r.apart q)
+      let a = to_commit l (lowered l p) r.fits are_whole u e named q.gate (pending_can_commit (program_places p l) x r.apart q)
       (q.words (word_place l SentBase)) in
       let n = u.fram (word_place l ListLength) in let ws = length (listed l u.fram) in let k = u.fram (word_place l EmitCount) in
       record {
-        steps = 3 + commit_steps l.runtime.events n ws k;
-        cycles = 9 + commit_cycles l.runtime.events n ws k;
+        steps = with_events l.runtime.events 2 + 3 + commit_steps l.runtime.events n ws k;
+        cycles = with_events l.runtime.events 3 + 9 + commit_cycles l.runtime.events n ws k;
         ends = λ t. record {
           end = board_of a.end;
           within = omega (arith, within);
@@ -167,7 +174,7 @@ module _ (source : Source) where
       let d' : m.Committing to (record { fram = u.fram; accepted = x.accepted }) =
       subst (λ g. m.Committing to (record { fram = g; accepted = x.accepted })) f d in
       subst (λ q. Makes c m.delay most (program_effects (m.commit q.fram q.inputs) true) q) (sym k.is)
-      (commit_from_boot to x.accepted u k.pc d' most (subst (λ g. CommitWithin g most) f within))
+      (commit_from_boot to x.accepted u k.pc k.named d' most (subst (λ g. CommitWithin g most) f within))
 
   -- any commit: the list and the words to send have room, and the bound has the cycles for all that has
   makes_commit : (to : State) (x : World) (b : MachineBoard) → IsBooting l b → b.fram ≡ x.fram → m.Committing to x
@@ -227,7 +234,7 @@ module _ (source : Source) where
     undecided : m.Undecided state (record { fram = core.fram; accepted = accepted })
     steps : ℕ
     cycles : ℕ
-    few : cycles ≤ 6
+    few : cycles ≤ with_events l.runtime.events 3 + 6
     comes : Comes code [] steps cycles core (IsAt start_at core.fram core.inputs)
 
   module _ (at : Attempting) where
@@ -300,7 +307,7 @@ module _ (source : Source) where
         ≤ start_cycles l.runtime.events true l.versions.words (length (privates k))
     at_most = clearing_is_dearest l.runtime.events clears l.versions.words (length (privates k))
 
-    there : Comes code es to_steps to_cycles u (Enters (entry_at tasks k).code stack_top g u.inputs)
+    there : Comes code es to_steps to_cycles u (Enters (entry_at tasks k).code stack_start g u.inputs)
     there = to_task l (lowered l p) r.fits are_whole u steps cycles comes program_named (und.is_open.words (word_place l Version))
 
     body : DoesBody l (lowered l p) r.fits are_whole there.end k g u.inputs

@@ -1,5 +1,5 @@
 -- What the code of a compiled source owes the crash theorem, and the board's runs.
-use Rattle.std.specs.Prelude.{◌≡◌, ◌<◌, ◌+◌, ℕ, List, length}
+use Rattle.std.specs.Prelude.{◌≡◌, false, ◌<◌, ◌+◌, ℕ, List, length}
 use Rattle.machine_effects.specs.World.{World}
 use Rattle.machine_effects.specs.Going.{At, going}
 use Rattle.machine_effects.specs.Machine.{MachineBoard}
@@ -31,6 +31,7 @@ use Rattle.compiled_runs.specs.Program.{source_code, IsBooting, compiled_program
 -- what is asked of a source and its layout
 pub record CanRun (p : CheckedProgram) (l : MemoryMap) : Type 0 where
   pub fits : CodeFits l (lowered l p)
+  pub no_events : l.runtime.events ≡ false
   pub count : length l.tasks ≡ length p.tasks
   pub apart : AreApart l
   pub room : HaveRoom (program_places p l)
@@ -46,7 +47,7 @@ CodeKeepsTheLaws = (p : CheckedProgram) (l : MemoryMap) → CanRun p l → Model
 
 -- it is instructions placed in FRAM, and a power-up with the boot's address in the reset vector comes to its entry
 abbrev pub CodeIsPlaced : Type 0
-CodeIsPlaced = (p : CheckedProgram) (l : MemoryMap) → CodeFits l (lowered l p)
+CodeIsPlaced = (p : CheckedProgram) (l : MemoryMap) → CodeFits l (lowered l p) → l.runtime.events ≡ false
     → IsPlacedProgram (compiled_program p l) l.boot.address (source_code p l) l.boot.address
 
 -- from a power-up with GATE 0 and VER not at its end, the fifth instruction raises VER

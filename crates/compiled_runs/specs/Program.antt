@@ -7,6 +7,7 @@ use Rattle.code_forms.specs.Placed.{placed}
 use Rattle.source_values.specs.Runs.{CheckedProgram}
 use Rattle.memory_map.specs.MemoryMap.{MemoryMap}
 use Rattle.runtime_code.specs.Addresses.{start_address}
+use Rattle.boot_runtime.specs.Laws.{NamesHandler}
 use Rattle.lower.specs.Lowered.{lowered}
 use Rattle.crash_rules.specs.Runs.{Program}
 use Rattle.linked_code.specs.Linked.{linked}
@@ -19,17 +20,18 @@ source_code p l = linked l (lowered l p)
 abbrev pub placed_code : CheckedProgram → MemoryMap → Code
 placed_code p l = placed l.boot.address (source_code p l)
 
--- a machine whose registers are told apart, at the boot
+-- a machine whose registers are told apart, at the boot, with the handler where there are events
 pub record IsBooting (l : MemoryMap) (b : MachineBoard) : Type 0 where
   pub core : Core
   pub is : b ≡ board_of core
   pub pc : core.pc ≡ l.boot.address
+  pub named : NamesHandler l core.fram
 
 -- the same, at the start of an attempt
 pub record IsStarting (l : MemoryMap) (b : MachineBoard) : Type 0 where
   pub core : Core
   pub is : b ≡ board_of core
-  pub pc : core.pc ≡ start_address l.boot.address
+  pub pc : core.pc ≡ start_address l.runtime.events l.boot.address
 
 -- the code of a source, as a program that runs
 abbrev pub compiled_program : CheckedProgram → MemoryMap → Program

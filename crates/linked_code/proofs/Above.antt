@@ -1,13 +1,13 @@
 -- No part of the code names a word of RAM below where its stack begins.
-use Rattle.std.proofs.Common.{ℕ, ◌+◌, List, [], ◌∷◌, ◌++◌, Bool, true, false, arith}
-use Rattle.boot_runtime.specs.address_space.Limits.{stack_top}
+use Rattle.std.proofs.Common.{refl, ℕ, ◌+◌, List, [], ◌∷◌, ◌++◌, Bool, true, false, arith}
+use Rattle.boot_runtime.specs.machine_effects.Machine.{stack_start}
 use Rattle.boot_runtime.specs.code_forms.Forms.{Form, Branch}
 use Rattle.boot_runtime.specs.memory_map.MemoryMap.{MemoryMap, where_events}
 use Rattle.boot_runtime.specs.runtime_code.Addresses.{start_address}
 use Rattle.boot_runtime.specs.runtime_effects.Places.{CopyPair}
 use Rattle.boot_runtime.specs.Entries.{task_entries}
 use Rattle.boot_runtime.specs.Listing.{TaskEntry, stub_bytes, stubs_address, copies_in, stub_to, stub, stubs, ladder_to, fixed_forms, boot_forms}
-use Rattle.boot_runtime.specs.Listing.{head, end_tested, clearing, counts_set, event_count_set, events_counted, dispatch}
+use Rattle.boot_runtime.specs.Listing.{interrupts_set, interrupts_enabled, head, end_tested, clearing, counts_set, event_count_set, events_counted, dispatch}
 use Rattle.commit_runtime.specs.Listing.{tail_set, events_taken, closing, commit_forms}
 use Rattle.commit_runtime.proofs.Interface.{commit_front}
 use Rattle.word_code.specs.TaskForms.{EachForm, NamesRamFrom}
@@ -15,7 +15,7 @@ use Rattle.word_code.proofs.Interface.{code_names_ram_from, each-append}
 use Rattle.linked_code.specs.Laws.{LinkedKeepsAbove}
 
 abbrev Keep : List Form → Type 0
-Keep = EachForm (NamesRamFrom stack_top)
+Keep = EachForm (NamesRamFrom stack_start)
 
 copies_keep : (xs : List CopyPair) (to : ℕ) → Keep (copies_in xs ++ (Branch to ∷ []))
 copies_keep [] to = (tt, tt)
@@ -27,7 +27,7 @@ stub_keeps to (x ∷ xs) = copies_keep (x ∷ xs) to
 
 stubs_keep : (ts : List TaskEntry) → Keep (stubs ts)
 stubs_keep [] = tt
-stubs_keep (t ∷ ts) = each-append (NamesRamFrom stack_top) (stub t) (stubs ts) (stub_keeps t.code t.privates) (stubs_keep ts)
+stubs_keep (t ∷ ts) = each-append (NamesRamFrom stack_start) (stub t) (stubs ts) (stub_keeps t.code t.privates) (stubs_keep ts)
 
 ladder_keeps : (p : ℕ) (ts : List TaskEntry) → Keep (ladder_to p ts)
 ladder_keeps p [] = tt
@@ -50,14 +50,16 @@ dispatch_keeps m = search arith
 
 fixed_keep : (m : MemoryMap) (commit : ℕ) → Keep (fixed_forms m commit)
 fixed_keep m commit =
-    each-append (NamesRamFrom stack_top) (opened m commit) (events_counted m ++ dispatch m) (opened_keeps m commit)
-    (each-append (NamesRamFrom stack_top) (events_counted m) (dispatch m) (where_keeps m.runtime.events event_count_set ((tt, tt), tt)) (dispatch_keeps m))
+    each-append (NamesRamFrom stack_start) (interrupts_enabled m) (opened m commit ++ (events_counted m ++ dispatch m))
+    (where_keeps m.runtime.events interrupts_set (refl, (tt, tt)))
+    (each-append (NamesRamFrom stack_start) (opened m commit) (events_counted m ++ dispatch m) (opened_keeps m commit)
+    (each-append (NamesRamFrom stack_start) (events_counted m) (dispatch m) (where_keeps m.runtime.events event_count_set ((tt, tt), tt)) (dispatch_keeps m)))
 
 boot_keeps : (m : MemoryMap) (commit : ℕ) (ts : List TaskEntry) (at : ℕ) → Keep (boot_forms m commit ts at)
 boot_keeps m commit ts at =
     let ladder = ladder_to (stubs_address m ts at) ts in
-    each-append (NamesRamFrom stack_top) (fixed_forms m commit) (ladder ++ stubs ts) (fixed_keep m commit)
-    (each-append (NamesRamFrom stack_top) ladder (stubs ts) (ladder_keeps (stubs_address m ts at) ts) (stubs_keep ts))
+    each-append (NamesRamFrom stack_start) (fixed_forms m commit) (ladder ++ stubs ts) (fixed_keep m commit)
+    (each-append (NamesRamFrom stack_start) ladder (stubs ts) (ladder_keeps (stubs_address m ts at) ts) (stubs_keep ts))
 
 -- the commit up to the store to TAIL, and behind it
 front_keeps : (m : MemoryMap) → Keep (commit_front m)
@@ -69,12 +71,12 @@ closing_keeps m start = search arith
 commit_keeps : (m : MemoryMap) (start : ℕ) → Keep (commit_forms m start)
 commit_keeps m start =
     let last = closing m ++ (Branch start ∷ []) in
-    each-append (NamesRamFrom stack_top) (commit_front m) (events_taken m ++ last) (front_keeps m)
-    (each-append (NamesRamFrom stack_top) (events_taken m) last (where_keeps m.runtime.events tail_set ((tt, tt), tt)) (closing_keeps m start))
+    each-append (NamesRamFrom stack_start) (commit_front m) (events_taken m ++ last) (front_keeps m)
+    (each-append (NamesRamFrom stack_start) (events_taken m) last (where_keeps m.runtime.events tail_set ((tt, tt), tt)) (closing_keeps m start))
 
 pub linked_keeps_above : LinkedKeepsAbove
 linked_keeps_above l programs = record {
   boot = boot_keeps l l.commit.address (task_entries l) l.boot.address;
-  commit = commit_keeps l (start_address l.boot.address);
+  commit = commit_keeps l (start_address l.runtime.events l.boot.address);
   tasks = λ k t p e f. code_names_ram_from p;
 }

@@ -39,7 +39,7 @@ boot_length l programs f =
 
 commit_length : (l : MemoryMap) (programs : List Program) → CodeFits l programs → part_end (commit_part l) ≤ l.code.address
 commit_length l programs f =
-    let a = commit_is_short l (start_address l.boot.address) in
+    let a = commit_is_short l (start_address l.runtime.events l.boot.address) in
     let b = code_bytes (commit_part l).forms in
     let c = f.commit in let d = (apart_of l f.rules).code in
     omega (arith, a, b, c, d)
@@ -73,7 +73,7 @@ linked_is_code l programs f =
     record {
       instructions = chained_are l.boot.address (code_parts l programs) (
         boot_is_code l l.commit.address (task_entries l) l.boot.address,
-        (commit_is_code l (start_address l.boot.address), tasks_are l.tasks programs),
+        (commit_is_code l (start_address l.runtime.events l.boot.address), tasks_are l.tasks programs),
       );
       end = e;
       tidy = placed_is_tidy (linked l programs) l.boot.address (even_of l f.rules).boot (omega (arith, e, h));

@@ -6,7 +6,7 @@ use Rattle.boot_runtime.specs.code_forms.Placed.{placed, words_of, AreInstructio
 use Rattle.word_code.specs.array_versions.Program.{Program}
 use Rattle.boot_runtime.specs.memory_map.MemoryMap.{MemoryMap, TaskPlace}
 use Rattle.boot_runtime.specs.memory_map.Places.{end_of}
-use Rattle.boot_runtime.specs.address_space.Limits.{stack_top}
+use Rattle.boot_runtime.specs.machine_effects.Machine.{stack_start}
 use Rattle.word_code.specs.array_versions.Form.{locals_of}
 use Rattle.word_code.specs.Code.{stack_base}
 use Rattle.word_code.specs.TaskForms.{EachForm, NamesRamFrom}
@@ -40,8 +40,8 @@ LinkedStands = (l : MemoryMap) (programs : List Program) → CodeFits l programs
 -- No part of the code names a word of RAM below where its stack begins: boot and commit, which have none, name no word of RAM at all, and the code of a
 -- task none below its locals. A word of RAM that is read else is at SP
 pub record PartsKeepAbove (l : MemoryMap) (programs : List Program) : Type 0 where
-  pub boot : EachForm (NamesRamFrom stack_top) (boot_part l).forms
-  pub commit : EachForm (NamesRamFrom stack_top) (commit_part l).forms
+  pub boot : EachForm (NamesRamFrom stack_start) (boot_part l).forms
+  pub commit : EachForm (NamesRamFrom stack_start) (commit_part l).forms
   pub tasks : (k : ℕ) (t : TaskPlace) (p : Program) → slice_get l.tasks k ≡ Some t → slice_get programs k ≡ Some p
       → EachForm (NamesRamFrom (stack_base (locals_of p))) (task_part t p).forms
 

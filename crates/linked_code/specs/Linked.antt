@@ -4,7 +4,7 @@ use Rattle.boot_runtime.specs.msp_isa.declared.instructions.Instr.{Instr}
 use Rattle.boot_runtime.specs.code_forms.Forms.{Form}
 use Rattle.boot_runtime.specs.code_forms.Placed.{instructions}
 use Rattle.word_code.specs.array_versions.Program.{Program, nothing}
-use Rattle.word_code.specs.array_versions.Form.{IsWhole, OfWords}
+use Rattle.word_code.specs.array_versions.Form.{FitsTheStack, OfWords}
 use Rattle.word_code.specs.array_versions.Cost.{words_of}
 use Rattle.word_code.specs.Code.{code_of}
 use Rattle.boot_runtime.specs.memory_map.MemoryMap.{MemoryMap, TaskPlace}
@@ -24,7 +24,7 @@ boot_part l = record {
 
 -- the commit
 abbrev pub commit_part : MemoryMap → CodePart
-commit_part l = record { address = l.commit.address; forms = commit_forms l (start_address l.boot.address) }
+commit_part l = record { address = l.commit.address; forms = commit_forms l (start_address l.runtime.events l.boot.address) }
 
 -- a task's code
 abbrev pub task_part : TaskPlace → Program → CodePart
@@ -63,7 +63,7 @@ pub record CodeFits (l : MemoryMap) (programs : List Program) : Type 0 where
   pub tasks : ProgramsFit l.tasks programs
   pub high : end_of l.code + 6 ≤ 0x10000
 
--- of each program code can be made
+-- of each program code can be made, and its stack has room
 pub record ProgramsAreWhole (programs : List Program) : Type 0 where
-  pub whole : (k : ℕ) → k < length programs → IsWhole (get_or programs k nothing)
+  pub whole : (k : ℕ) → k < length programs → FitsTheStack (get_or programs k nothing)
   pub of_words : (k : ℕ) → k < length programs → OfWords (get_or programs k nothing)

@@ -2,6 +2,7 @@ mod Going
 mod Worlds
 mod Inputs
 mod Logs
+mod Handler
 mod Alike
 mod Along
 mod Steps

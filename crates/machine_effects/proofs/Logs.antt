@@ -13,7 +13,7 @@ use Rattle.fram_board.specs.msp_step.Registers.{Registers}
 use Rattle.fram_board.specs.msp_step.Access.{Access, Completed, Faulted}
 use Rattle.fram_board.specs.msp_step.Reads.{HasRead, Nothing, Once, OnlyReads}
 use Rattle.fram_board.specs.msp_step.Effect.{Written}
-use Rattle.fram_board.specs.msp_step.Step.{effect, off_bit, is_interruptible}
+use Rattle.fram_board.specs.msp_step.Step.{effect, off_bit}
 use Rattle.fram_board.specs.msp_step.Laws.{AfterWrite}
 use Rattle.fram_board.proofs.msp_step.Interface.{Ends, effect_ends}
 use Rattle.fram_board.specs.msp_cycles.Cycles.{cycles_of}
@@ -27,7 +27,7 @@ use Rattle.machine_effects.specs.Machine.{MachineBus, machine_bus, machine_word,
 use Rattle.machine_effects.specs.Inputs.{Look, Inputs, first_look, other_looks, look_effects, TakesExactly}
 use Rattle.machine_effects.specs.Machine.{is_readable, word_written, looks_there, machine_executed_seeing, executed_looking, code_executed}
 use Rattle.machine_effects.specs.Machine.{machine_port_written, machine_written, MachineBoard, machine_opened_seeing, MachineOutcome, machine_outcome}
-use Rattle.machine_effects.specs.Machine.{machine_executed, NoInstruction, Executes, standing, step_with, astray, undisturbed}
+use Rattle.machine_effects.specs.Machine.{machine_executed, NoInstruction, Executes, standing, step_with, astray, is_exposed, undisturbed}
 use Rattle.machine_effects.specs.Laws.{ChangesByEffects, CodeChangesByEffects, MachineChangesByEffects}
 use Rattle.machine_effects.proofs.Worlds.{fram_after-append, readings_taken-append, looks_taken-append, taking_keeps_fram, taking_takes, taking_looks}
 use Rattle.machine_effects.proofs.Inputs.{takes_nothing, takes_look, takes_through}
@@ -303,13 +303,13 @@ undisturbed_if : (b : Bool) (s : MachineBoard) (o : MachineOutcome) → ChangesB
 undisturbed_if true s o h = (refl, (s.inputs, takes_nothing s.inputs))
 undisturbed_if false s o h = h
 
-undisturbed_changes : (s : MachineBoard) (o : MachineOutcome) → ChangesByEffects s o → ChangesByEffects s (undisturbed s o)
-undisturbed_changes s (Goes es c t) h = undisturbed_if (is_interruptible t.registers) s (Goes es c t) h
-undisturbed_changes s (Stops es price e) h = h
+undisturbed_changes : (i : Option Instr) (s : MachineBoard) (o : MachineOutcome) → ChangesByEffects s o → ChangesByEffects s (undisturbed i s o)
+undisturbed_changes i s (Goes es c t) h = undisturbed_if (is_exposed i s t) s (Goes es c t) h
+undisturbed_changes i s (Stops es price e) h = h
 
 -- code changes FRAM and inputs as its effects say
 pub code_changes_by_effects : CodeChangesByEffects
-code_changes_by_effects code s = undisturbed_changes s (step_with (code (s.registers 0)) s) (step_changes (code (s.registers 0)) s)
+code_changes_by_effects code s = undisturbed_changes (code (s.registers 0)) s (step_with (code (s.registers 0)) s) (step_changes (code (s.registers 0)) s)
 
 -- a machine changes as its effects say
 pub machine_changes_by_effects : MachineChangesByEffects

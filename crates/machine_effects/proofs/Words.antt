@@ -24,7 +24,7 @@ use Rattle.fram_board.specs.msp_step.Registers.{Registers, registers_of, with_re
 use Rattle.fram_board.specs.msp_step.Access.{BusModel, Access, Completed, Faulted}
 use Rattle.fram_board.specs.msp_step.Effect.{Written}
 use Rattle.fram_board.specs.msp_step.Step.{FetchedAt, effect, outcome_of, Outcome, StepResult, Stopped, Executed, off_bit}
-use Rattle.fram_board.specs.msp_step.Step.{is_interruptible, return_place, status_place, interrupted}
+use Rattle.fram_board.specs.msp_step.Step.{return_place, status_place, interrupted}
 use Rattle.step_laws.specs.Effects.{IsValid}
 use Rattle.step_laws.specs.Effects as laws
 use Rattle.step_laws.proofs.Interface.{stays_valid}
@@ -49,7 +49,7 @@ use Rattle.machine_effects.specs.Machine.{MachineBus, MachineBoard, MachineOutco
 use Rattle.machine_effects.specs.Machine.{is_readable, ring_read, word_read, word_written, looks_there, machine_opened_seeing, machine_executed_seeing}
 use Rattle.machine_effects.specs.Machine.{executed_looking, code_executed}
 use Rattle.machine_effects.specs.Machine.{reading_taken, machine_after_read, machine_stored, machine_port_written, machine_written, machine_opened}
-use Rattle.machine_effects.specs.Machine.{machine_outcome, machine_executed, NoInstruction, Executes, standing, step_with, astray, undisturbed}
+use Rattle.machine_effects.specs.Machine.{machine_outcome, machine_executed, NoInstruction, Executes, standing, step_with, astray, is_exposed, undisturbed}
 use Rattle.machine_effects.specs.View.{IsWhole, IsLineOfWords, IsOfWords, IsMachineOfWords}
 use Rattle.machine_effects.specs.Laws.{LeavesWords, MachineWordsStayWords, CodeWordsStayWords, WordsStayWords, StepLeavesItWhole, MachineIsOfWords}
 use Rattle.machine_effects.specs.Laws.{PowerUpKeepsWords, FreshIsWhole, AcceptanceKeepsWords, ChargeKeepsWords}
@@ -298,13 +298,13 @@ stopped_if_words : (b : Bool) (e : Stop) (o : MachineOutcome) → LeavesWords o 
 stopped_if_words true e o h = tt
 stopped_if_words false e o h = h
 
-undisturbed_words : (s : MachineBoard) (o : MachineOutcome) → LeavesWords o → LeavesWords (undisturbed s o)
-undisturbed_words s (Goes es c t) h = stopped_if_words (is_interruptible t.registers) (astray s) (Goes es c t) h
-undisturbed_words s (Stops es price e) h = tt
+undisturbed_words : (i : Option Instr) (s : MachineBoard) (o : MachineOutcome) → LeavesWords o → LeavesWords (undisturbed i s o)
+undisturbed_words i s (Goes es c t) h = stopped_if_words (is_exposed i s t) (astray s) (Goes es c t) h
+undisturbed_words i s (Stops es price e) h = tt
 
 pub code_words_stay_words : CodeWordsStayWords
 code_words_stay_words code s e h =
-    undisturbed_words s (step_with (code (s.registers 0)) s)
+    undisturbed_words (code (s.registers 0)) s (step_with (code (s.registers 0)) s)
     (stopped_if_words (off_bit s.registers == 1) stop.Off (standing (code (s.registers 0)) s) (standing_words (code (s.registers 0)) s e h))
 
 -- the board's bus

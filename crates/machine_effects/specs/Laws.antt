@@ -90,6 +90,15 @@ CodeChangesByEffects = (code : Code) (s : MachineBoard) → ChangesByEffects s (
 abbrev pub MachineChangesByEffects : Type 0
 MachineChangesByEffects = (s : MachineBoard) (o : MachineOutcome) → IsMachineStep s o → ChangesByEffects s o
 
+-- where an outcome goes on, FRAM from the handler on is as it was
+abbrev pub KeepsTheHandler : MachineBoard → MachineOutcome → Type 0
+KeepsTheHandler s (Goes es c t) = (a : ℕ) → handler_place ≤ a → t.fram a ≡ s.fram a
+KeepsTheHandler s (Stops es price stop) = Unit {0}
+
+-- a step of code that stays leaves it
+abbrev pub CodeKeepsTheHandler : Type 0
+CodeKeepsTheHandler = (code : Code) (s : MachineBoard) → KeepsTheHandler s (exec code s)
+
 -- where an outcome goes on, all are words
 abbrev pub LeavesWords : MachineOutcome → Type 0
 LeavesWords (Goes es c t) = IsMachineOfWords t

@@ -1,11 +1,11 @@
 -- The machine: the board with memory as functions of addresses, without its receiver, whose words are read off the effects,
--- and without the port EVENT, so that it accepts no interrupt. Its bus keeps a log of what an instruction does to FRAM, the
+-- and without the port EVENT, so that it accepts no interrupt itself. Its bus keeps a log of what an instruction does to FRAM, the
 -- sensor and the receiver. Its instructions, their effects and cycles are those of every bus (SLAU049 and SLAU144, CPU chapter).
 -- What a handler may change between any two instructions of a program, the machine can't depend on: its bus refuses reads of RAM
 -- below SP and of FRAM from the handler on, and writes of a byte in that RAM and of anything in that FRAM.
-use Rattle.std.specs.Prelude.{ℕ, ◌-◌, ◌%◌, ◌≡◌, ◌<◌, ◌≤◌, Bool, true, false, nat_le, nat_lt, ◌==◌, ◌&&◌, if◌then◌else◌, slice_index, List, [], ◌∷◌, ◌++◌}
-use Rattle.std.specs.Prelude.{Result, Ok, Err, Option, Some, None}
-use Rattle.fram_board.specs.address_space.Limits.{ram_first, ram_end, fram_first, reset_vector}
+use Rattle.std.specs.Prelude.{ℕ, ◌+◌, ◌-◌, ◌*◌, ◌%◌, ◌≡◌, ◌<◌, ◌≤◌, Bool, true, false, nat_le, nat_lt, ◌==◌, ◌&&◌, ◌||◌, not, if◌then◌else◌}
+use Rattle.std.specs.Prelude.{slice_index, List, [], ◌∷◌, ◌++◌, Result, Ok, Err, Option, Some, None}
+use Rattle.fram_board.specs.address_space.Limits.{ram_first, ram_end, spare_words, fram_first, event_vector, reset_vector}
 pub use Rattle.fram_board.specs.address_space.Limits.{IsFramWord as IsFram}
 use Rattle.event_places.specs.Places.{handler_place, is_ring}
 use Rattle.fram_board.specs.alp_words.declared.Width.{Width}
@@ -246,14 +246,49 @@ Code = ℕ → Option Instr
 abbrev pub astray : MachineBoard → Stop
 astray s = stop.Illegal (s.registers 0) (word_in s.fram s.ram (s.registers 0))
 
--- code that stays goes astray, too, with a step behind which the CPU would accept an interrupt
-abbrev pub undisturbed : MachineBoard → MachineOutcome → MachineOutcome
-undisturbed s (Goes es c t) = if is_interruptible t.registers then Stops [] 0 (astray s) else Goes es c t
-undisturbed s (Stops es price e) = Stops es price e
+-- ---- between two instructions of code the CPU may accept an interrupt, and a handler then runs, on the stack of the code
+
+-- the lowest SP at which that may be: below it a handler has its words
+abbrev pub stack_floor : ℕ
+stack_floor = ram_first + 2 * spare_words
+
+-- where the stack of code begins: behind it stand its other words of RAM
+abbrev pub stack_start : ℕ
+stack_start = 0x2210
+
+abbrev pub in_stack : ℕ → Bool
+in_stack sp = nat_le stack_floor sp && nat_le sp stack_start
+
+-- the machine has a handler, and SP stands where that has room
+abbrev pub is_prepared : MachineBoard → Bool
+is_prepared s = (s.fram event_vector == handler_place) && in_stack (s.registers 1)
+
+-- PUSH of a word: it writes the word to which it moves SP down
+abbrev pub pushes : Option Instr → Bool
+pushes (Some (instr.One (one.Push Word x))) = true
+pushes _ = false
+
+-- from this SP to that: it stays, or is where the stack begins, or goes up to there at most; or it goes down by a push. So no word
+-- comes to stand at SP or above that a handler may have changed
+abbrev pub keeps_stack : Option Instr → ℕ → ℕ → Bool
+keeps_stack i p q = (q == p) || ((q == stack_start) || ((nat_le p q && nat_le q stack_start) || (pushes i && ((q + 2 == p) && nat_le stack_floor q))))
+
+-- a step with this instruction from one machine to another that breaks the rules of interrupts: it lets the CPU accept them on a
+-- machine that isn't prepared; or where it accepts them, it stops that, or moves SP otherwise
+abbrev pub is_exposed : Option Instr → MachineBoard → MachineBoard → Bool
+is_exposed i s t =
+    if is_interruptible t.registers
+    then not (if is_interruptible s.registers then keeps_stack i (s.registers 1) (t.registers 1) else is_prepared t)
+    else is_interruptible s.registers
+
+-- code that stays goes astray, too, with a step that breaks them
+abbrev pub undisturbed : Option Instr → MachineBoard → MachineOutcome → MachineOutcome
+undisturbed i s (Goes es c t) = if is_exposed i s t then Stops [] 0 (astray s) else Goes es c t
+undisturbed i s (Stops es price e) = Stops es price e
 
 -- the step of a machine whose instructions come from code that stays, whatever FRAM holds
 abbrev pub exec : Code → MachineBoard → MachineOutcome
-exec code s = undisturbed s (step_with (code (s.registers 0)) s)
+exec code s = undisturbed (code (s.registers 0)) s (step_with (code (s.registers 0)) s)
 
 -- an even address in RAM
 pub record IsRam (a : ℕ) : Type 0 where

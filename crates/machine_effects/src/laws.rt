@@ -1,7 +1,7 @@
 //! Laws of the machine. The functions do nothing: their contracts are the laws.
 
 ghost use Rattle.machine_effects.specs.Laws.{BoardStepsAsMachine, MachineStepsAsBoard, LooksAsTheBoard, MachineStepsInOneWay, CodeChangesByEffects};
-ghost use Rattle.machine_effects.specs.Laws.{MachineChangesByEffects, SeenByWords, MachineIsBlind};
+ghost use Rattle.machine_effects.specs.Laws.{MachineChangesByEffects, SeenByWords, MachineIsBlind, CodeKeepsTheHandler};
 ghost use Rattle.machine_effects.specs.Laws.{MachineWordsStayWords, CodeWordsStayWords, WordsStayWords, StepLeavesItWhole, BoundaryKeepsWords};
 ghost use Rattle.machine_effects.specs.Laws.{AcceptanceKeepsWords, MachineIsOfWords, PowerUpIsTheMachines, PowerUpKeepsWords, FreshMachine, FreshIsWhole};
 ghost use Rattle.machine_effects.specs.Laws.{ChargeKeepsWords, StepAcceptsBySends, ChargeAcceptsBySends, WorldByItsParts};
@@ -45,6 +45,12 @@ pub fn machine_changes_by_effects()
 #[tactic(auto, using(crate::proofs::Logs::code_changes_by_effects))]
 pub fn code_changes_by_effects()
     ensures { CodeChangesByEffects }
+{}
+
+/// It leaves FRAM from the handler on.
+#[tactic(auto, using(crate::proofs::Handler::code_keeps_the_handler))]
+pub fn code_keeps_the_handler()
+    ensures { CodeKeepsTheHandler }
 {}
 
 /// What holds words alone holds words alone after a step: the board, the machine that it is, and code that stays.

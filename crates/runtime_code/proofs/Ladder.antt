@@ -8,10 +8,9 @@ use Rattle.code_forms.specs.alp_words.Words.{sum_of}
 use Rattle.runtime_effects.specs.fram_board.Effects.{Effect}
 use Rattle.runtime_effects.specs.machine_effects.Inputs.{Inputs}
 use Rattle.runtime_effects.specs.machine_effects.World.{fram_after}
-use Rattle.runtime_effects.specs.machine_effects.Machine.{Code, IsPlace}
+use Rattle.runtime_effects.specs.machine_effects.Machine.{Code, IsPlace, stack_start}
 use Rattle.runtime_effects.specs.memory_map.declared.words.RuntimeWord.TheVariants.{CurrentTask}
 use Rattle.runtime_effects.specs.memory_map.MemoryMap.{MemoryMap, word_place}
-use Rattle.runtime_effects.specs.address_space.Limits.{stack_top}
 use Rattle.code_forms.specs.Forms.{Core, Form, Branch, SkipBy, R4, instruction_of}
 use Rattle.code_forms.specs.Code.{Stands, IsTidy, forms_bytes}
 use Rattle.code_forms.proofs.Interface.{stands_front, stands_back, form_comes, comes_on}
@@ -85,12 +84,12 @@ pub record Deed : Type 0 where
 
 -- code does it, wherever it stands, with nothing on the stack
 abbrev pub Does : Code → List Form → Deed → Type 0
-Does code body d = (p : ℕ) (u : Core) → Stands code p body → Enters p stack_top d.memory d.inputs u
-    → Comes code d.effects d.steps d.cycles u (Enters (p + forms_bytes body) stack_top (fram_after d.effects d.memory) d.inputs)
+Does code body d = (p : ℕ) (u : Core) → Stands code p body → Enters p stack_start d.memory d.inputs u
+    → Comes code d.effects d.steps d.cycles u (Enters (p + forms_bytes body) stack_start (fram_after d.effects d.memory) d.inputs)
 
 -- and the task is entered behind it
 abbrev pub Entered : Deed → ℕ → Core → Type 0
-Entered d code u = Enters code stack_top (fram_after d.effects d.memory) d.inputs u
+Entered d code u = Enters code stack_start (fram_after d.effects d.memory) d.inputs u
 
 -- the dispatch stands at an address with the ladder right behind it, and the stubs at another
 pub record HasLadder (code : Code) (m : MemoryMap) (p q : ℕ) (ss : List Rung) : Type 0 where
@@ -106,7 +105,7 @@ module _ (code : Code) (tidy : IsTidy code) where
   -- to where the rung of the task that CUR names leads
   dispatched : (m : MemoryMap) (p q : ℕ) (ss : List Rung) (f : ℕ → ℕ) (l : Inputs) (u : Core) → HasLadder code m p q ss → IsAt p f l u
       → f (word_place m CurrentTask) < length ss
-      → Comes code [] 6 12 u (Enters (rung_at q ss (f (word_place m CurrentTask))) stack_top f l)
+      → Comes code [] 6 12 u (Enters (rung_at q ss (f (word_place m CurrentTask))) stack_start f l)
   dispatched m p q ss f l u h at named =
       let k = f (word_place m CurrentTask) in
       let s = core_at p f l u in
@@ -123,12 +122,12 @@ module _ (code : Code) (tidy : IsTidy code) where
       (straight code tidy (task_found m) s (tt, (tt, (tt, (tt, tt)))) (stands_front code p (task_found m) (SkipBy R4 ∷ []) h.dispatches)
       (refl, ((h.current, tt), ((tt, tt), ((tt, tt), tt)))) refl)
       (then_on (form_comes code tidy (SkipBy R4) found skipped [] 2 (λ v. v ≡ skipped) h.dispatches.1.1.1.1.0 (omega (arith, far)) refl refl)
-      (form_comes code tidy (Branch to) skipped (record skipped { pc = to }) [] 3 (Enters to stack_top f l)
+      (form_comes code tidy (Branch to) skipped (record skipped { pc = to }) [] 3 (Enters to stack_start f l)
       (ap code there ∙ rung_stands code ss (p + 14) q k h.rungs named) even refl (record { pc = refl; sp = refl; fram = refl; inputs = refl }))))
 
   -- from where a rung leads to the task's code, through its stub where it has one
   entered : (body : List Form) (stub to : ℕ) (d : Deed) (u : Core) → to % 2 ≡ 0 → Stands code stub (stub_with to body) → Does code body d
-      → Enters (rung_with stub to body) stack_top d.memory d.inputs u
+      → Enters (rung_with stub to body) stack_start d.memory d.inputs u
       → Comes code d.effects (d.steps + if_any (length body) 1) (d.cycles + if_any (length body) 3) u (Entered d to)
   entered [] stub to d u even h does at =
       recounted (omega arith) (omega arith) (so_ends (does to u tt at) (λ v k. record { pc = k.pc ∙ omega arith; sp = k.sp; fram = k.fram; inputs = k.inputs }))

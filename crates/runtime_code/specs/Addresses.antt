@@ -1,10 +1,19 @@
 -- Where parts of the runtime's code find each other.
-use Rattle.std.specs.Prelude.{ℕ, ◌+◌}
+use Rattle.std.specs.Prelude.{ℕ, ◌+◌, Bool}
+use Rattle.runtime_effects.specs.memory_map.MemoryMap.{with_events}
 
--- the bytes of the boot before the start of an attempt
+-- the bytes in front of the look at GATE: where there are events, SP is set there and interrupts are enabled
+abbrev pub enabling_bytes : ℕ
+enabling_bytes = 6
+
+-- the bytes of the look
 abbrev pub boot_head_bytes : ℕ
 boot_head_bytes = 10
 
--- where an attempt starts, by the address of the boot
-abbrev pub start_address : ℕ → ℕ
-start_address boot = boot + boot_head_bytes
+-- where the boot looks at GATE, by whether there are events, and by its address
+abbrev pub gate_address : Bool → ℕ → ℕ
+gate_address events boot = boot + with_events events enabling_bytes
+
+-- where an attempt starts
+abbrev pub start_address : Bool → ℕ → ℕ
+start_address events boot = gate_address events boot + boot_head_bytes

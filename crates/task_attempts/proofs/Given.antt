@@ -114,7 +114,7 @@ module _ (text : List ℕ) (p : CheckedProgram) (allow : Allow) (plans : List Ta
             let scalar = match.is_scalar v home copy width is in
             let d = scalar_declared p.shared v scalar in
             scalar_block p.shared v scalar d.0 d.1 d.2 (scalar_words width) (match.is_wide v home copy width d.0 is d.1) task.body formed;
-        whole = w.0;
+        whole = w.0.whole;
         of_words = w.1;
       }
 

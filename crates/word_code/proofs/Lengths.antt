@@ -16,7 +16,7 @@ use Rattle.word_code.proofs.Names.{read_code, stored_code, write_code, compare_f
 use Rattle.word_code.proofs.Names.{truth_code, number_source, turn_end, ram_turn_end, turns_code, waiting_behind, waiting_after, step_code, test_code}
 use Rattle.word_code.proofs.Names.{steps_code, top_number, element_at, bound_of, is_inside, block_code, code_of, rests, rest_source, indexed_update}
 use Rattle.word_code.proofs.Names.{known_update, known_index, update_at, CodeHasItsBytes, CodeHasItsWords, made_code, first_update, by_version, inside_update}
-use Rattle.word_code.proofs.Names.{max, stack_base, stack_set, step_locals, test_locals, locals_of, StepLocalsBelow, TestLocalsBelow, LocalsBelow}
+use Rattle.word_code.proofs.Names.{max, stack_base, step_locals, test_locals, locals_of, StepLocalsBelow, TestLocalsBelow, LocalsBelow}
 use Rattle.array_versions.specs.msp_step.msp_isa.Encoding.{encoding}
 use Rattle.array_versions.specs.msp_step.msp_isa.declared.instructions.TwoOp.TheVariants as op
 use Rattle.array_versions.specs.msp_step.msp_isa.declared.instructions.Condition.TheVariants as condition
@@ -252,12 +252,6 @@ module _ {k : ℕ} where
       → Takes k (flushed (below_top os) ++ ms) 0 (n + kept_bytes os)
   behind_below n os x = joined (flushed_takes (below_top os)) x (omega (arith, source_short os))
 
-  -- what sets the place of the stack
-  set_takes : Takes k (stack_set k) 0 (set_bytes k)
-  set_takes =
-      either_takes (nat_lt 8 k) (λ b. if b then 4 else 0) (made_of (SetStack (stack_base k) ∷ []) 4 (refl, tt) (omega arith))
-      (nothing_takes 0 0 (omega arith))
-
   -- steps with no word waiting in front of them, and then those that wait behind them are pushed
   block_takes : (bs : List Bound) (p : Program)
       → Takes k (steps_code bs [] p) (set_bytes (locals_of p) + kept_bytes (waiting_after [] p)) (2 * words_of p + 0)
@@ -386,7 +380,7 @@ pub inner_takes : (bs : List Bound) (p : Program) → Takes (locals_of p) (block
 inner_takes bs p = so_takes (block_fits bs p) (omega arith)
 
 pub whole_takes : (p : Program) → Takes (locals_of p) (code_of p) 0 (2 * words_of p)
-whole_takes p = joined set_takes (block_fits [] p) (omega arith)
+whole_takes p = inner_takes [] p
 
 pub code_short : (p : Program) → forms_bytes (code_of p) ≤ 2 * words_of p
 code_short p = omega (arith, (whole_takes p).bytes)

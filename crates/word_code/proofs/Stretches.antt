@@ -2,16 +2,22 @@
 use Rattle.word_code.proofs.Names.{subst, ◌≡◌, ℕ, ◌+◌, ◌≤◌, List, [], ◌++◌, Some, arith, forms_bytes, stands_front, stands_back, forms_bytes-append}
 use Rattle.word_code.proofs.Names.{Effect, Goes, Stops, At, stretch, Code, Core, Form, instruction_of, form_step, FormNeeds, Stands, AreStraight, forms_run}
 use Rattle.word_code.proofs.Names.{FormsNeed, IsTidy, Runs, Starves, stack_base, HasStackRoom}
+use Rattle.array_versions.specs.machine_effects.Machine.{stack_start}
+use Rattle.std.specs.Prelude.{◌%◌}
 use Rattle.array_versions.specs.msp_step.declared.machine.Stop.TheVariants as stop
 use Rattle.code_forms.proofs.Interface as blocks
 
--- some code, how many locals it has, and how many words its stack may take, which begins below those of them that stand in RAM
+-- some code, how many locals it has, and how many words its stack may take, and where that begins, below those of them that stand in RAM
 pub record Setting : Type 0 where
   pub code : Code
   pub tidy : IsTidy code
   pub locals : ℕ
   pub room : ℕ
-  pub roomy : HasStackRoom (stack_base locals) room
+  pub base : ℕ
+  pub even : base % 2 ≡ 0
+  pub start : base ≤ stack_start
+  pub low : base ≤ stack_base locals
+  pub roomy : HasStackRoom base room
 
 -- straight code comes to where its forms do
 module _ (z : Setting) (ms : List Form) (most : ℕ) (u t : Core) (es : List Effect) (c : ℕ) (P : Core → Type 0) where

@@ -14,7 +14,7 @@ use Rattle.word_code.proofs.Names.{spent_by_two, step_spent, spent_on, test_spen
 use Rattle.word_code.proofs.Names.{whole_ends_soundly, local_words, words_step, words, Leaves, leaves, Bound, Waiting, number_source, flushed, below_top, kept}
 use Rattle.word_code.proofs.Names.{top_to_four, entry_code, compare_form, holding, failing, size, pass_over, decision, holds_code, compares_code, truth_code}
 use Rattle.word_code.proofs.Names.{number_code, turns_code, waiting_behind, waiting_after, bound_of, step_code, test_code, steps_code, block_code}
-use Rattle.word_code.proofs.Names.{ComesTo, CodeDoesAsProgram, locals_of, stack_base, stack_set, stack_cycles, code_spent}
+use Rattle.word_code.proofs.Names.{ComesTo, CodeDoesAsProgram, code_spent}
 use Rattle.array_versions.specs.Laws.{IsStateOfWords, EndsInWords, IsSound}
 use Rattle.array_versions.specs.msp_step.msp_isa.declared.instructions.Condition.TheVariants as condition
 use Rattle.array_versions.specs.msp_step.msp_isa.declared.operands.Konst.TheVariants as konst
@@ -28,7 +28,6 @@ use Rattle.word_code.proofs.Operands.{owed, owed_kept, load_owed, Describes, dre
 use Rattle.word_code.proofs.Sides.{Aiming, compare_sides_part, compare_stays, reading_cycles, side_owed}
 use Rattle.word_code.specs.Code.{is_turned, compare_sides, compare_source}
 use Rattle.word_code.proofs.Stretches.{Setting, runs_on, nothing_run}
-use Rattle.word_code.proofs.Locals.{program_below, program_least, HasStack, stack_part}
 use Rattle.word_code.proofs.Follows.{StandsFor, Follows, FollowsEnd, OnGoesOn, more_cycles, then_hop, ends_at, guarded, reach_more, reach_way, reaches}
 use Rattle.word_code.proofs.Follows.{then_end, then_follows, reach_guarded}
 use Rattle.word_code.proofs.Parts.{constant_part, store_part, move_part, jump_part}
@@ -503,20 +502,25 @@ none_has_no_word v w e = cc
 
 -- the code does what the program does
 pub code_does_as_program : CodeDoesAsProgram
-code_does_as_program code at p u tidy h whole o entry =
-    let locals = locals_of p in
-    let few = program_least whole.locals p whole.low_locals in
-    let room = whole.fits.fits in
-    let z : Setting = record { code = code; tidy = tidy; locals = locals; room = whole.room; roomy = record { fits = omega (arith, room, few) } } in
+code_does_as_program code at base p u tidy h whole o place entry =
+    let z : Setting = record {
+      code = code;
+      tidy = tidy;
+      locals = whole.locals;
+      room = whole.room;
+      base = base;
+      even = place.even;
+      start = place.start;
+      low = place.low;
+      roomy = place.fits;
+    } in
     let s = started u.fram u.inputs in
     let b = behaviour p s in
-    let front = stack_set locals in
-    let mid = at + forms_bytes front in
-    let there : (t : Core) → HasStack mid (stack_base locals) u t → StandsFor z mid s t = λ t k. record {
-      at = k.at;
-      memory = record { depth = omega (arith, k.sp); fits = omega arith; stack = tt; vars = λ n v l q. none_has_no_word v _ q };
-      fram = k.fram;
-      inputs = k.inputs;
+    let there : StandsFor z at s u = record {
+      at = entry.pc;
+      memory = record { depth = omega (arith, entry.sp); fits = omega arith; stack = tt; vars = λ n v l q. none_has_no_word v _ q };
+      fram = refl;
+      inputs = refl;
     } in
     let r : Ready [] (EachWay whole.room p (λ q. ⊥)) s = record {
       place = start;
@@ -525,18 +529,14 @@ code_does_as_program code at p u tidy h whole o entry =
       words_in = record { stack = tt; locals = λ n v q. absurd (let q' = q in (cc)); fram = entry.fram; inputs = entry.inputs };
       bounded = tt;
     } in
-    let set : Runs code [] stack_cycles u (HasStack mid (stack_base locals) u) =
-    subst (λ n. Runs code [] stack_cycles u (HasStack (n + forms_bytes front) (stack_base locals) u)) entry.pc
-    (stack_part z locals u entry.sp (subst (λ n. Stands code n front) (sym entry.pc) (stands_front code at front (block_code [] p) h))) in
-    let body = stands_back code at front (block_code [] p) h in
     by_end z (code_spent p s) b.effects b.end
-    (then_end z (mid + forms_bytes (block_code [] p)) (spent p s) b.effects b.end set (λ t k. block_follows z [] p mid s t body
-    (λ hs. steps_follow z [] p (λ q. ⊥) [] mid s t r
-    (record { of_words = o; below = program_below locals p (omega arith); count = whole.loops_count; spares = tt }) hs (dressed z mid s t (there t k)))))
+    (block_follows z [] p at s u h
+    (λ hs. steps_follow z [] p (λ q. ⊥) [] at s u r
+    (record { of_words = o; below = whole.low_locals; count = whole.loops_count; spares = tt }) hs (dressed z at s u there)))
     (whole_ends_soundly p u.fram u.inputs whole)
   where
     by_end : (z : Setting) (most : ℕ) (es : List Effect) (e : End)
-        → FollowsEnd z (at + forms_bytes (stack_set (locals_of p)) + forms_bytes (block_code [] p)) most u es e → IsSound e → ComesTo z.code most u es e
+        → FollowsEnd z (at + forms_bytes (block_code [] p)) most u es e → IsSound e → ComesTo z.code most u es e
     by_end z most es (GoesOn w) a g = g
     by_end z most es (Jumps to w) a g = a
     by_end z most es Short a g = a

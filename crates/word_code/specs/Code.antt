@@ -59,14 +59,6 @@ local_register n = get_or local_registers n R15
 abbrev pub local_address : ℕ → ℕ
 local_address n = 0x240E - 2 * n
 
--- SP is set where the stack begins, below the locals, where some stand in RAM; else it is at the end of RAM from an attempt's start on
-abbrev pub stack_set : ℕ → List Form
-stack_set locals = if nat_lt 8 locals then SetStack (stack_base locals) ∷ [] else []
-
--- the cycles for that, at most
-abbrev pub stack_cycles : ℕ
-stack_cycles = 2
-
 -- a local as what MOV writes
 abbrev pub local_target : ℕ → Target
 local_target n = if nat_lt n 8 then ToRegister (local_register n) else ToRam (local_address n)
@@ -1008,10 +1000,10 @@ abbrev mutual
 abbrev pub block_code : List Bound → Program → List Form
 block_code bs p = steps_code bs [] p ++ flushed (waiting_after [] p)
 
--- the code of a program: the stack has its place, and then its steps
+-- the code of a program: that of its steps. The stack has its place where the code is entered
 abbrev pub code_of : Program → List Form
-code_of p = stack_set (locals_of p) ++ block_code [] p
+code_of p = block_code [] p
 
 -- its cycles from a state on, at most, on the way that the program takes
 abbrev pub code_spent : Program → WordState → ℕ
-code_spent p s = stack_cycles + spent p s
+code_spent p s = spent p s

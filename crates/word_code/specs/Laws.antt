@@ -11,14 +11,14 @@ use Rattle.code_forms.specs.Laws.{StepsReadFromSp}
 use Rattle.code_forms.specs.Placed.{words_of as instruction_words, instructions, AreInstructions}
 use Rattle.array_versions.specs.Program.{Program}
 use Rattle.array_versions.specs.Behaviour.{WordState, started, End, GoesOn, Jumps, Short, Strays, Broken, behaviour}
-use Rattle.array_versions.specs.Form.{IsWhole, OfWords}
+use Rattle.array_versions.specs.Form.{IsWhole, IsStackOf, OfWords}
 use Rattle.array_versions.specs.Cost.{words_of}
 use Rattle.word_code.specs.Code.{code_of, code_spent}
 
 -- the machine at the entry of a program's code: the stack is empty, FRAM and the inputs are words
-pub record IsEntry (at : ℕ) (u : Core) : Type 0 where
+pub record IsEntry (at base : ℕ) (u : Core) : Type 0 where
   pub pc : u.pc ≡ at
-  pub sp : u.sp ≡ 0x2400
+  pub sp : u.sp ≡ base
   pub fram : (a : ℕ) → u.fram a < 0x10000
   pub inputs : InputsAreWords u.inputs
 
@@ -37,9 +37,11 @@ ComesTo code most u es Strays = Unit {0}
 ComesTo code most u es (GoesOn s) = ⊥
 ComesTo code most u es Broken = ⊥
 
--- code in which the code of a whole program stands does what the program does, within its cycles on the way that it takes
+-- code in which the code of a whole program stands does what the program does, within its cycles on the way that it takes, wherever its
+-- stack has its place
 abbrev pub CodeDoesAsProgram : Type 0
-CodeDoesAsProgram = (code : Code) (at : ℕ) (p : Program) (u : Core) → IsTidy code → Stands code at (code_of p) → IsWhole p → OfWords p → IsEntry at u
+CodeDoesAsProgram = (code : Code) (at base : ℕ) (p : Program) (u : Core) → IsTidy code → Stands code at (code_of p) → (whole : IsWhole p) → OfWords p
+    → IsStackOf base p whole → IsEntry at base u
     → let s = started u.fram u.inputs in let b = behaviour p s in ComesTo code (code_spent p s) u b.effects b.end
 
 -- a stretch so far: its effects are a prefix of these, its cycles within so many
