@@ -4,7 +4,7 @@ use Rattle.fram_board.specs.Effects.{Effect}
 use Rattle.machine_effects.specs.Inputs.{Look, Inputs}
 use Rattle.machine_effects.specs.World.{World}
 use Rattle.cost_bound.specs.Allowance.{task_bound, uses_events, versions_of}
-use Rattle.source_values.specs.Runs.{CheckedProgram, State, Completion, completion_of, attempt_of, task_body}
+use Rattle.source_values.specs.Runs.{CheckedProgram, State, Completion, completion_of, without_answers, attempt_of, task_body}
 use Rattle.array_versions.specs.Program.{Program, nothing}
 use Rattle.array_versions.specs.Behaviour.{Behaviour, End, GoesOn, Jumps, Short as Starves, Strays, Broken, behaviour, started}
 use Rattle.memory_map.specs.declared.runtime.Logging.{Logging}
@@ -29,9 +29,9 @@ outcome_of looks s None = Short
 outcome_of looks s (Some c) =
     Ends (record { shared = c.shared; task = c.next; emitted = s.emitted ++ c.emitted }) (record { readings = c.left; looks = looks })
 
--- a state's current task, run whole on inputs; it leaves the looks as they are
+-- a state's current task, run whole on inputs; no answers are ready, and each `next_event()` is 0. It leaves the looks as they are
 abbrev pub whole_task : CheckedProgram → State → Inputs → Outcome State
-whole_task p s inputs = outcome_of inputs.looks s (completion_of (attempt_of p s.task s.shared inputs.readings))
+whole_task p s inputs = outcome_of inputs.looks s (completion_of (attempt_of p s.task s.shared (without_answers inputs.readings)))
 
 -- whether a program came to its jump
 abbrev pub has_jumped : End → Bool

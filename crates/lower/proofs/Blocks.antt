@@ -97,7 +97,7 @@ module _ (z : Scene) where
     variables = local_holds z.p i k here.m.variables here.w.fram here.w.locals low here.stands.variables;
     emitted = here.stands.emitted;
     list = here.stands.list;
-    readings = here.stands.readings;
+    inputs = here.stands.inputs;
   }
 
   write_does : (x : Variable) {n : ℕ} {count : ℕ → ℕ} (here : Start z n count) (v : ℕ) → IsTarget z.p z.written x
@@ -212,7 +212,7 @@ module _ (z : Scene) where
           emitted = emitted_emits p z.room v m.emitted f apart here.stands.emitted;
           list = same_list p z.room here.listed f (after_emit p n v (n + 1) f) (omega (arith, fits)) (emit_list p z.room n v (n + 1) f apart below)
               here.stands.list;
-          readings = here.stands.readings;
+          inputs = here.stands.inputs;
         };
         few = few_listed here;
       })
@@ -240,9 +240,9 @@ module _ (z : Scene) where
     declared = z.declared;
     Holds = λ m f l i. IsStill here m (beside_stack here f l i);
     variables = λ m f l i h. h.stands.variables;
-    readings = λ m f l i h. h.stands.readings;
+    inputs = λ m f l i h. h.stands.inputs;
     taken = λ m f l i rs h. record {
-      stands = record { variables = h.stands.variables; emitted = h.stands.emitted; list = h.stands.list; readings = refl };
+      stands = record { variables = h.stands.variables; emitted = h.stands.emitted; list = h.stands.list; inputs = (refl, h.stands.inputs.1) };
       fram = h.fram;
       emitted = h.emitted;
     };
@@ -484,7 +484,7 @@ module _ (z : Scene) where
         stands = here.stands;
         few = few_listed here;
         commits = refl;
-        readings = b.2 ∙ here.stands.readings;
+        readings = b.2 ∙ here.stands.inputs.0;
       })
 
   -- ---- loops

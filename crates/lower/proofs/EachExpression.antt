@@ -14,7 +14,8 @@ use Rattle.source_values.specs.Values.{Attempt, by_width, type_of, joined_type}
 use Rattle.array_versions.specs.Behaviour.{goes_on}
 use Rattle.lower.proofs.Addresses.{first_address}
 use Rattle.lower.proofs.Declared.{IsLong, IsKnownAs, known_as, array_known}
-use Rattle.lower.proofs.Values.{read_agrees, word_read_agrees, element_agrees, sense_agrees, binary_same, shift_same, sides_of_truth, sides_are_truth}
+use Rattle.lower.proofs.Values.{read_agrees, word_read_agrees, element_agrees, sense_agrees, answer_agrees, binary_same, shift_same, sides_of_truth}
+use Rattle.lower.proofs.Values.{sides_are_truth}
 use Rattle.lower.proofs.Values.{pair_value, truth_pushed, LoweringAgrees, by_word, by_test, SidesAgree, binary_agrees, not_agrees, unary_agrees, side_agrees}
 use Rattle.lower.proofs.Values.{Keeping, Keeps, Leaves, LeavesWord, agrees_alone, agrees_as, single, then_program, worked_agrees}
 use Rattle.lower.proofs.Updates.{joined_words}
@@ -219,7 +220,7 @@ module _ (k : Keeping) where
       (λ i. gives (word_at i.behind.variables x.variable i.value) i.behind) agrees.word
       (λ i s kept. element_agrees k w.stack i.behind s kept x.variable i.value (array_known k.shared k.p k.declared x.variable fits.0))))
   lowering_agrees t.sense m w kept fits = by_word k w (one sense) _ (sense_agrees k m w kept)
-  lowering_agrees t.next_event m w kept fits = by_word k w (one (number 0)) _ (tt, record { stack = refl; kept = kept })
+  lowering_agrees t.next_event m w kept fits = by_word k w (one (number 0)) _ (answer_agrees k m w kept)
   lowering_agrees (t.unary op e) m w kept fits =
       operand_agrees op (type_of e) w (lowering k.p e) (value_of e m) (lowering_agrees e m w kept fits)
       (lowering_agrees e m (pushed 0 (pushed 0 w)) kept fits)
@@ -281,10 +282,11 @@ module _ (k : Keeping) where
 
 -- ---- what is as it was
 
--- the variables are those of an attempt, and all but the readings left is as it was
+-- the variables are those of an attempt, and all but the readings left is as it was; no answers are left
 record IsAsBefore (m : Attempt) (w : WordState) (u : Attempt) (s : WordState) : Type 0 where
   variables : u.variables ≡ m.variables
   state : s ≡ with_stack [] (with_readings u.left w)
+  no_answers : u.answers ≡ []
 
 module _ (shared : List SharedDeclaration) (p : Places) (room : Room) (m : Attempt) (w : WordState) (apart : AreApart p room) (even : AreEven p)
     (declared : AsDeclared shared p) (held : HoldVariables p m.variables w.fram w.locals) where
@@ -303,12 +305,12 @@ module _ (shared : List SharedDeclaration) (p : Places) (room : Room) (m : Attem
     Holds = λ u f l i. IsAsBefore m w u (beside_stack f l i);
     variables = λ u f l i h. subst (λ v. HoldVariables p v f l) (sym h.variables)
         (subst (λ s. HoldVariables p m.variables s.fram s.locals) (sym h.state) held);
-    readings = λ u f l i h. ap (λ s. s.inputs.readings) h.state;
-    taken = λ u f l i rs h. record { variables = h.variables; state = ap (with_readings rs) h.state };
+    inputs = λ u f l i h. (ap (λ s. s.inputs.readings) h.state, h.no_answers);
+    taken = λ u f l i rs h. record { variables = h.variables; state = ap (with_readings rs) h.state; no_answers = h.no_answers };
   }
 
   at_first : Keeps all_kept (in_state w m) w
-  at_first = record { variables = refl; state = refl }
+  at_first = record { variables = refl; state = refl; no_answers = refl }
 
   -- so a value leaves one state alone
   one_state : (words : ℕ → List ℕ) (b : Behaviour) (o : Option Evaluated) → AgreesAt (Leaves all_kept words w.stack) b o

@@ -53,7 +53,7 @@ spot_stands {z} here s v m is ne variables =
       variables = variables;
       emitted = same_emits z.p z.room here.m.emitted f g (few_emitted here) (spot_emits z.p z.room s v f z.apart is) here.stands.emitted;
       list = same_list z.p z.room here.listed f g (omega (arith, fits)) (spot_list z.p z.room s v f z.apart is ne) here.stands.list;
-      readings = here.stands.readings;
+      inputs = here.stands.inputs;
     }
 
 -- a store to an element of array n
@@ -125,7 +125,7 @@ module _ (z : Scene) (n i v elements len : ℕ) (c : ArrayCopies) (at : IsArrayA
         stores = tt;
         stack_kept = refl;
         listed = listed;
-        stands = record { variables = past_set l; emitted = h.stands.emitted; list = h.stands.list; readings = h.stands.readings };
+        stands = record { variables = past_set l; emitted = h.stands.emitted; list = h.stands.list; inputs = h.stands.inputs };
         few = few_listed h;
       })
 
@@ -198,7 +198,7 @@ module _ (z : Scene) (n i v elements len : ℕ) (c : ArrayCopies) (at : IsArrayA
               (first_emits p z.room x v f g apart is lists.elsewhere) h.stands.emitted;
           list = first_list p listed x v f g is unmarked h.stands.list now
               (lists.pairs ∙ ap (λ l. l ++ element_pair p x ∷ []) pairs) lists.have;
-          readings = h.stands.readings;
+          inputs = h.stands.inputs;
         };
         few = λ u. subst (λ a. a ≤ most u) (sym (pushed_of u listed x)) (h.lists u);
       } in

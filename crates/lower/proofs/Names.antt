@@ -49,11 +49,12 @@ pub use Rattle.cost_bound.specs.Table.{words_column}
 pub use Rattle.path_runs.proofs.Interface.{runs_go_on_along_paths}
 pub use Rattle.path_sums.specs.Access.{is_same, summary}
 pub use Rattle.path_sums.specs.Sums.{block_sum, choice_sum, statement_sum}
-pub use Rattle.source_values.proofs.Interface.{EmitsUpTo, block_up_to, more_turns, scalar_word, statement_up_to, value_takes}
+pub use Rattle.source_values.proofs.Interface.{EmitsUpTo, block_up_to, more_turns, no_answer, scalar_word, statement_up_to, value_takes}
 pub use Rattle.source_values.specs.Statements.{Outcome, and_then, block_emits, choice_emits, if_value, run_block, run_choice, run_statement, short}
 pub use Rattle.source_values.specs.Statements.{statement_emits, to_task, with_value}
 pub use Rattle.source_values.specs.Values.{Evaluated, Variables, binary_result, binary_value, converted, gives, holds, is_settled, long_binary_value}
-pub use Rattle.source_values.specs.Values.{long_difference, long_shift_value, made_of, next_reading, reading_of, scalar_value, shift_result, shift_value}
+pub use Rattle.source_values.specs.Values.{long_difference, long_shift_value, made_of, next_answer, next_reading, reading_of, scalar_value, shift_result}
+pub use Rattle.source_values.specs.Values.{shift_value}
 pub use Rattle.source_values.specs.Values.{shifted_value, truth_word, two_words, unary_result, unary_value, value_of, with_word, word_at, ◌>>?◌}
 pub use Rattle.task_ast.proofs.Interface.{by_one_word, joined_word, width_least}
 pub use Rattle.task_ast.specs.Paths.{CheckedBlock, CheckedChoice, CheckedExpression, CheckedStatement}
@@ -102,7 +103,7 @@ pub use Rattle.array_versions.specs.declared.program.ArrayPlace.{ArrayPlace}
 pub use Rattle.array_versions.specs.declared.program.ListPlace.{ListPlace}
 pub use Rattle.array_versions.specs.declared.program.WordStep.{WordStep}
 -- this room
-pub use Rattle.lower.specs.Agreement.{Agrees, AgreesAt, AsDeclared, BlocksAgree, EndsAs, EndsAt, ExpressionsAgree, HasCopies, HoldEmits, HoldList}
+pub use Rattle.lower.specs.Agreement.{Agrees, AgreesAt, AreLeft, AsDeclared, BlocksAgree, EndsAs, EndsAt, ExpressionsAgree, HasCopies, HoldEmits, HoldList}
 pub use Rattle.lower.specs.Agreement.{HoldVariables, IsArray, IsTaskStore, IsWrittenArray, Left, LongsAgree, OnlyTakes, Scene, StandsFor, TakesAndStores}
 pub use Rattle.lower.specs.Agreement.{TestsAgree, WentOn, at_copy, at_emit_count, at_list_length, at_variable, at_version, bounds, converted_to, element_pair}
 pub use Rattle.lower.specs.Agreement.{entry_effects, in_buffer, in_list, in_state, own_word, transition_effects, truth_of}

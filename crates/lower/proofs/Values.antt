@@ -3,6 +3,7 @@ use Rattle.lower.proofs.Names.{◌≡◌, ℕ, ◌+◌, ◌*◌, ◌%◌, ◌==�
 use Rattle.lower.proofs.Names.{sym, ap, ◌∙◌, subst, arith, le-ltb, lt-ltb, ⊎_elim, if◌then◌else◌, bit_and, bit, Effect, Store, Take, Outside, cases_lt}
 use Rattle.lower.proofs.Names.{get_or_past, WordType, Int, UnaryOperator, BinaryOperator, ShiftOperator, ShortCircuitOperator, BothHold, OneHolds, Variable}
 use Rattle.lower.proofs.Names.{Shared, Local, ◌>>?◌, Variables, Evaluated, word_at, holds, unary_value, binary_value, shift_value, shifted_value, is_settled}
+use Rattle.lower.proofs.Names.{no_answer, next_answer, AreLeft, number}
 use Rattle.lower.proofs.Names.{gives, made_of, reading_of, truth_word, next_reading, Negate, Complement, BinaryOperation, Plain, And, CommonBit, unary_word}
 use Rattle.lower.proofs.Names.{binary_word, shift_word, shifted_word, compare_words, Test, Program, load, local, unary, binary, compares, fails, nothing}
 use Rattle.lower.proofs.Names.{joined, Step, sense, behind, WordState, End, GoesOn, Short, Broken, Behaviour, behind_effects, on_end, then_on, is_place}
@@ -179,7 +180,7 @@ truth_pushed c w = tested c (number_pushed 1) (number_pushed 0) w
 -- ---- what states keep of an attempt
 
 -- In a task with such declarations and places: what FRAM, the locals and the inputs hold of an attempt while expressions are evaluated. Whatever
--- it is, the variables stand there and the readings left, and it is kept where a reading is taken
+-- it is, the variables stand there and the readings left, no answers are, and it is kept where a reading is taken
 pub record Keeping : Type 1 where
   pub shared : List SharedDeclaration
   pub p : Places
@@ -189,7 +190,7 @@ pub record Keeping : Type 1 where
   pub declared : AsDeclared shared p
   pub Holds : Attempt → (ℕ → ℕ) → (ℕ → Option ℕ) → Inputs → Type 0
   pub variables : (m : Attempt) (f : ℕ → ℕ) (l : ℕ → Option ℕ) (i : Inputs) → Holds m f l i → HoldVariables p m.variables f l
-  pub readings : (m : Attempt) (f : ℕ → ℕ) (l : ℕ → Option ℕ) (i : Inputs) → Holds m f l i → i.readings ≡ m.left
+  pub inputs : (m : Attempt) (f : ℕ → ℕ) (l : ℕ → Option ℕ) (i : Inputs) → Holds m f l i → AreLeft i m
   pub taken : (m : Attempt) (f : ℕ → ℕ) (l : ℕ → Option ℕ) (i : Inputs) (rs : List ℕ) → Holds m f l i
       → Holds (record m { left = rs }) f l (record i { readings = rs })
 
@@ -265,11 +266,17 @@ module _ (k : Keeping) where
 
   pub sense_agrees : (m : Attempt) (w : WordState) → Keeps k m w → LeavesWord k w.stack (behaviour (one sense) w) (next_reading m)
   sense_agrees m w kept =
-      subst (λ rs. LeavesWord k w.stack (behaviour (one sense) w) (reading_of rs m)) (k.readings m w.fram w.locals w.inputs kept) (by w.inputs.readings)
+      subst (λ rs. LeavesWord k w.stack (behaviour (one sense) w) (reading_of rs m)) (k.inputs m w.fram w.locals w.inputs kept).0 (by w.inputs.readings)
     where
       by : (rs : List ℕ) → LeavesWord k w.stack (then_on (reading_pushed rs w) (behaviour nothing)) (reading_of rs m)
       by [] = (tt, tt)
       by (r ∷ rs) = (tt, record { stack = refl; kept = k.taken m w.fram w.locals w.inputs rs kept })
+
+  -- no answers are left, so the next one is 0
+  pub answer_agrees : (m : Attempt) (w : WordState) → Keeps k m w → LeavesWord k w.stack (behaviour (one (number 0)) w) (next_answer m)
+  answer_agrees m w kept =
+      subst (LeavesWord k w.stack (behaviour (one (number 0)) w)) (sym (no_answer m (k.inputs m w.fram w.locals w.inputs kept).1))
+      (tt, record { stack = refl; kept = kept })
 
   -- ---- elements
 

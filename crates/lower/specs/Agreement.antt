@@ -3,6 +3,7 @@
 use Rattle.std.specs.Prelude.{◌≡◌, ℕ, ◌+◌, ◌*◌, ◌/◌, ◌%◌, ◌<◌, ◌≤◌, ◌==◌, Bool, true, if◌then◌else◌, Contains, List, [], ◌∷◌, ◌++◌, length, map, Option}
 use Rattle.std.specs.Prelude.{Some, None, slice_get, slice_index, slice_index_or}
 use Rattle.fram_board.specs.Effects.{Effect, Store, Take, Outside}
+use Rattle.machine_effects.specs.Inputs.{Inputs}
 use Rattle.machine_effects.specs.World.{fram_after}
 use Rattle.task_ast.specs.declared.SharedDeclaration.{SharedDeclaration}
 use Rattle.task_ast.specs.Paths.{CheckedExpression, CheckedBlock}
@@ -97,12 +98,16 @@ pub record HoldList (p : Places) (listed : List Element) (fram : ℕ → ℕ) : 
   pub marked : (x : Element) → Contains listed x → fram (version_address p x) ≡ fram (word_place p.map Version)
   pub only_marked : (x : Element) → IsCopied p x → fram (version_address p x) ≡ fram (word_place p.map Version) → Contains listed x
 
+-- an attempt has the readings left that the inputs are, and no answers: in a program `next_event()` is the number 0
+abbrev pub AreLeft : Inputs → Attempt → Type 0
+AreLeft inputs m = (inputs.readings ≡ m.left) × (m.answers ≡ [])
+
 -- a state stands for an attempt, with these elements listed
 pub record StandsFor (p : Places) (m : Attempt) (listed : List Element) (w : WordState) : Type 0 where
   pub variables : HoldVariables p m.variables w.fram w.locals
   pub emitted : HoldEmits p m.emitted w.fram
   pub list : HoldList p listed w.fram
-  pub readings : w.inputs.readings ≡ m.left
+  pub inputs : AreLeft w.inputs m
 
 -- ---- effects
 
@@ -174,9 +179,9 @@ AgreesWithValue w b o = AgreesAt (λ x s. s ≡ valued w x) b o
 abbrev pub AgreesWithLong : WordState → Behaviour → Option Evaluated → Type 0
 AgreesWithLong w b o = AgreesAt (λ x s. s ≡ long_valued w x) b o
 
--- an attempt with the readings left that a state has
+-- an attempt with the readings left that a state has, and no answers
 abbrev pub in_state : WordState → Attempt → Attempt
-in_state w m = record m { left = w.inputs.readings }
+in_state w m = record m { left = w.inputs.readings; answers = [] }
 
 -- a value of one type as one of another
 abbrev pub converted_to : WordType → WordType → Option Evaluated → Option Evaluated

@@ -8,9 +8,9 @@ use Rattle.fram_board.specs.Board.{BoardValue}
 use Rattle.fram_board.specs.Run.{Charges, RunOutcome, BoardCharge}
 use Rattle.board_run.specs.Events.{none_accepted}
 use Rattle.board_run.specs.Report.{after_all, events_lines}
-use Rattle.source_values.specs.Runs.{CheckedProgram, State, Transition, state_after, state_behind, source_run, attempt_of}
+use Rattle.source_values.specs.Runs.{CheckedProgram, State, Transition, state_after, state_behind, source_run, without_answers, attempt_of}
 use Rattle.source_report.specs.Apart.{AreApart}
-use Rattle.source_report.specs.SourceReport.{Committed, readings_of, source_report}
+use Rattle.source_report.specs.SourceReport.{Committed, given_of, source_report}
 use Rattle.machine_effects.specs.World.{World}
 use Rattle.source_runs.specs.Tells.{spans_of, at_first, cost_of, cost_due, EachChargePays, IsEndOf, IsUninterrupted}
 use Rattle.source_runs.specs.Transitions.{HasWordsOf}
@@ -26,20 +26,20 @@ is_pending (t ∷ ts) = true
 
 -- the report of a run, as the source tells it from a state on, behind the transitions whose commit was pending at the start: none or one.
 -- It is the source's report of these and of the source's transitions from there on, on the spans of the dones, each of which one task takes
--- exactly; what became of the events that were to come, if any were: none was accepted; and how it ended, with the number of all. All else is
--- as of a run from the first state
+-- exactly, given no answers of `next_event()`; what became of the events that were to come, if any were: none was accepted; and how it ended, with
+-- the number of all. All else is as of a run from the first state
 pub record IsToldFrom (text : List ℕ) (program : CheckedProgram) (m : MapValue) (first : List Transition) (s : State) (cs : List BoardCharge)
     (b : BoardValue) (r : RunOutcome) (report : List ℕ) : Type 0 where
   pub spans : List Committed
   pub transitions : List Transition
   pub why : Reason
   pub spans_are : unread first ++ spans ≡ spans_of m (at_first m b) r.moments
-  pub source : source_run program s (map (readings_of b.readings) spans) ≡ Some transitions
+  pub source : source_run program s (map (given_of b.readings) spans) ≡ Some transitions
   pub lines : report ≡ bound_line m.bound ++ (source_report text program 1 (unread first ++ spans) (first ++ transitions)
       ++ (events_lines b.line.coming (none_accepted r.board)
       ++ end_line why (length first + length spans) r.board.receiver.accepted r.board.receiver.repeats))
   pub ending : let t = state_behind s transitions in
-      IsEndOf r.ending (attempt_of program t.task t.shared (drop (after_all (at_first m b) r.moments).since b.readings)) why
+      IsEndOf r.ending (attempt_of program t.task t.shared (without_answers (drop (after_all (at_first m b) r.moments).since b.readings))) why
   pub progress : EachChargePays m (cost_due m (cost_of program) (is_pending first)) cs b (at_first m b) r
   pub apart : AreApart 0 (length b.readings) (unread first ++ spans)
   pub words : sum_by (λ t. length t.emitted) (first ++ transitions) ≤ r.board.receiver.accepted

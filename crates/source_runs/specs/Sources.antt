@@ -5,7 +5,7 @@ use Rattle.image_map.specs.Kept.{IsMap}
 use Rattle.fram_board.specs.Board.{BoardValue}
 use Rattle.fram_board.specs.Run.{RunOutcome}
 use Rattle.source_values.specs.Statements.{short}
-use Rattle.source_values.specs.Runs.{CheckedProgram, State, Transition, EmitsFit, first_state, state_after, transition_of, attempt_of}
+use Rattle.source_values.specs.Runs.{CheckedProgram, State, Transition, EmitsFit, first_state, state_after, without_answers, transition_of, attempt_of}
 use Rattle.machine_effects.specs.World.{World}
 use Rattle.crash_rules.specs.Model.{Model, Inputs, no_inputs, Ends, Short, bound}
 use Rattle.crash_rules.specs.History.{History, first_history}
@@ -30,9 +30,9 @@ pub record IsOfSource (text : List ℕ) (program : CheckedProgram) (m : MapValue
   pub costs : model.task_cost ≡ cost_of program
   pub delay : model.delay ≡ no_delay
   pub transits : (s u : State) (inputs : Inputs) → model.task s inputs ≡ Ends u no_inputs
-      → (t : Transition) × (transition_of program s inputs.readings ≡ Some t) × (u ≡ state_after s t)
+      → (t : Transition) × (transition_of program s (without_answers inputs.readings) ≡ Some t) × (u ≡ state_after s t)
   pub is_short : (s : State) (inputs : Inputs) → model.task_number s < model.tasks → model.task s inputs ≡ Short
-      → attempt_of program s.task s.shared inputs.readings ≡ short
+      → attempt_of program s.task s.shared (without_answers inputs.readings) ≡ short
   pub rests : (s : State) (x : World) → model.Rests s x → HasWordsOf m x s
 
 -- a board that begins with a compiled source at its first state

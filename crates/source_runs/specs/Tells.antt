@@ -14,9 +14,9 @@ use Rattle.board_run.specs.Events.{none_accepted}
 use Rattle.board_run.specs.Report.{after_all, events_lines}
 use Rattle.source_values.specs.Statements.{Outcome, short}
 use Rattle.cost_bound.specs.Allowance.{task_bound, uses_events, versions_of}
-use Rattle.source_values.specs.Runs.{CheckedProgram, Transition, first_state, state_behind, source_run, task_body, attempt_of}
+use Rattle.source_values.specs.Runs.{CheckedProgram, Transition, first_state, state_behind, source_run, task_body, without_answers, attempt_of}
 use Rattle.source_report.specs.Apart.{AreApart}
-use Rattle.source_report.specs.SourceReport.{Committed, IsConsecutive, position_after, readings_of, source_report}
+use Rattle.source_report.specs.SourceReport.{Committed, IsConsecutive, position_after, given_of, source_report}
 
 -- the committed readings of the transition that an action completed, where it left this board and GATE tells of one: its span, or none
 abbrev pub spans_by : MapValue → History → Action → BoardValue → List Committed
@@ -85,20 +85,20 @@ pub record IsUninterrupted (readings : List ℕ) (since : ℕ) (spans : List Com
   pub at_last : position_after 0 spans ≡ since
 
 -- the report of a run, as the source tells it: behind the bound the source's report of the transitions on the spans of the dones,
--- each of which one task takes exactly; what became of the events that were to come, if any were: none was accepted; and how it ended,
--- with the number of transitions. The spans are in order and apart, whatever was cut off between them; the receiver accepted the words
--- that the transitions emitted, at least, and heard fewer than 2^64
+-- each of which one task takes exactly, given no answers of `next_event()`; what became of the events that were to come, if any were: none was
+-- accepted; and how it ended, with the number of transitions. The spans are in order and apart, whatever was cut off between them; the receiver
+-- accepted the words that the transitions emitted, at least, and heard fewer than 2^64
 pub record IsToldBySource (text : List ℕ) (program : CheckedProgram) (m : MapValue) (cs : List BoardCharge) (b : BoardValue) (r : RunOutcome)
     (report : List ℕ) : Type 0 where
   pub spans : List Committed
   pub transitions : List Transition
   pub why : Reason
   pub spans_are : spans ≡ spans_of m (at_first m b) r.moments
-  pub source : source_run program (first_state program) (map (readings_of b.readings) spans) ≡ Some transitions
+  pub source : source_run program (first_state program) (map (given_of b.readings) spans) ≡ Some transitions
   pub lines : report ≡ bound_line m.bound ++ (source_report text program 1 spans transitions
       ++ (events_lines b.line.coming (none_accepted r.board) ++ end_line why (length spans) r.board.receiver.accepted r.board.receiver.repeats))
   pub ending : let s = state_behind (first_state program) transitions in
-      IsEndOf r.ending (attempt_of program s.task s.shared (drop (after_all (at_first m b) r.moments).since b.readings)) why
+      IsEndOf r.ending (attempt_of program s.task s.shared (without_answers (drop (after_all (at_first m b) r.moments).since b.readings))) why
   pub progress : EachChargePays m (λ h. cost_of program h.task) cs b (at_first m b) r
   pub apart : AreApart 0 (length b.readings) spans
   pub words : sum_by (λ t. length t.emitted) transitions ≤ r.board.receiver.accepted

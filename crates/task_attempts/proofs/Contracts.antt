@@ -2,7 +2,8 @@
 use Rattle.task_attempts.proofs.Names.{◌≡◌, ℕ, ◌≤◌, List, [], ◌∷◌, ◌++◌, length, true, false, refl, sym, ap, ◌∙◌, subst, arith, append-nil, append_cancel_right}
 use Rattle.task_attempts.proofs.Names.{get_or_from_slice_get, Effect, Store, readings_taken, EachStore, InputsAreWords, inputs_taken, no_inputs}
 use Rattle.task_attempts.proofs.Names.{readings_taken-append, each_store-append, emits_of, Attempt, Outcome, to_task, short, run_block, block_emits, State}
-use Rattle.task_attempts.proofs.Names.{Completion, completion_of, attempt_of, fresh_attempt, EndsWell, TransitionComes, readings_left_over_lem, WordState, End}
+use Rattle.task_attempts.proofs.Names.{Completion, completion_of, without_answers, attempt_of, fresh_attempt, EndsWell, TransitionComes, readings_left_over_lem}
+use Rattle.task_attempts.proofs.Names.{WordState, End}
 use Rattle.task_attempts.proofs.Names.{GoesOn, Jumps, Broken, behaviour, started, behaves_by_effects, whole_ends_soundly, StoresWords, stores_words, Ends}
 use Rattle.task_attempts.proofs.Names.{program_effects, IsElsewhere, Model, AttemptContract, Decides, RunsShort, TakesAndStores, EndsAs, BlocksAgree}
 use Rattle.task_attempts.proofs.Names.{lowered_block, task_program, outcome_of, whole_task, has_jumped, effects_of, program_parts, redo_model, LeavesFor}
@@ -34,7 +35,7 @@ module _ (run : Started) where
     of_words : StoresWords es
     well : EndsWell (length p.tasks) o
     rows : HasRows (length s.shared) o
-    source : completion_of (attempt_of p s.task s.shared inputs.readings) ≡ completion_of o
+    source : completion_of (attempt_of p s.task s.shared (without_answers inputs.readings)) ≡ completion_of o
 
   off_gate : (es : List Effect) → TakesAndStores (Safe run) es → EachStore (IsElsewhere (word_place l Gate)) es
   off_gate es h = stores_each (Safe run) (IsElsewhere (word_place l Gate)) (λ a w q e. q.quiet.gate e) es h
@@ -81,11 +82,11 @@ module _ (run : Started) where
     reads = ap (λ r. r ++ m.left) (sym taken) ∙ ap (λ r. readings_taken es ++ r) (sym h.agrees.readings) ∙ h.by_effects.1.readings
 
     abbrev completion : Completion
-    completion = record { next = task; shared = m.variables.shared; emitted = m.emitted; left = m.left }
+    completion = record { next = task; shared = m.variables.shared; emitted = m.emitted; left = m.left; answers = m.answers }
 
     exact : whole_task p s (inputs_taken front) ≡ Ends (next run t) no_inputs
     exact =
-        let r = readings_left_over_lem p s.task s.shared inputs.readings completion h.source in
+        let r = readings_left_over_lem p s.task s.shared (without_answers inputs.readings) completion h.source in
         let used : r.0 ≡ readings_taken front = append_cancel_right r.0 (readings_taken front) m.left (sym r.1 ∙ sym reads) in
         ap (λ taken. whole_task p s (record { readings = taken; looks = [] })) (sym used ∙ sym (append-nil r.0)) ∙ ap (outcome_of [] s) (r.2 [])
 
@@ -146,7 +147,7 @@ module _ (run : Started) where
   program = lowered_block here code
 
   abbrev attempt : Attempt
-  attempt = fresh_attempt s.shared inputs.readings
+  attempt = fresh_attempt s.shared (without_answers inputs.readings)
 
   few_emits : block_emits code ≤ emits_of code
   few_emits = let e = emits_same code in omega (arith, e)
