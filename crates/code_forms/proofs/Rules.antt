@@ -244,7 +244,7 @@ rules_kept : (code : Code) (s t : MachineBoard) (es : List Effect) (c : ℕ) →
 rules_kept code s t es c on e = subst (λ b. is_exposed b (code.at (s.registers 0)) s t ≡ false) on (step_kept code s t es c e)
 
 stays_closed : (a b : Bool) → (a && not b) ≡ false → b ≡ false → a ≡ false
-stays_closed true b h e = subst (λ x. not x ≡ false → true ≡ false) (sym e) (λ g. g) h
+stays_closed true b h e = subst (λ x. not x ≡ false) e h
 stays_closed false b h e = refl
 
 pub code_goes_undisturbed : CodeGoesUndisturbed

@@ -18,7 +18,7 @@ use Rattle.machine_effects.specs.Machine.{MachineBoard, fram_of, ram_of}
 use Rattle.machine_effects.specs.View.{machine_with, seen_at_pc, IsMachines}
 use Rattle.machine_effects.specs.Runs.{action_effects, action_cycles, last_board}
 use Rattle.event_handler.specs.Handler.{Stage, HasHandler, instruction_at}
-use Rattle.event_handler.specs.Boundaries.{lowest_stack, IsInterrupted, IsInHandler, cycles_left}
+use Rattle.event_handler.specs.Boundaries.{IsInterrupted, IsInHandler, cycles_left}
 use Rattle.code_forms.specs.Placed.{words_of, Holds}
 use Rattle.crash_rules.specs.Model.{Marks}
 use Rattle.crash_rules.specs.History.{History, observe, behind_boot}
@@ -36,7 +36,7 @@ steady_with looks b = record (machine_with looks b) { fram = steady (fram_of b.f
 
 -- room for the handler on the stack, and the handler
 pub record IsReadyForEvents (b : BoardValue) (u : MachineBoard) : Type 0 where
-  pub low : lowest_stack ≤ u.registers 1
+  pub low : stack_floor ≤ u.registers 1
   pub high : u.registers 1 ≤ stack_top
   pub handler : HasHandler (fram_of b.fram)
 
