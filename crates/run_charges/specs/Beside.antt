@@ -2,7 +2,7 @@
 -- handler, and the charges that a front of such a run is. Between two instructions of the program a handler may write HEAD and the ring,
 -- and RAM below SP; the machine can't depend on those (machine_is_blind), and what its instructions see of the ring they take as looks.
 use Rattle.std.specs.Prelude.{◌≡◌, ℕ, ◌+◌, ◌*◌, ◌<◌, ◌≤◌, nat_le, Bool, true, false, if◌then◌else◌, List, [], ◌∷◌, ◌++◌, length, drop, Ok}
-use Rattle.address_space.specs.Limits.{stack_top}
+use Rattle.address_space.specs.Limits.{stack_floor, stack_top}
 use Rattle.event_places.specs.Places.{handler_place, is_ring}
 use Rattle.msp_isa.specs.declared.instructions.Instr.{Instr}
 use Rattle.msp_step.specs.Registers.{registers_of}
@@ -157,7 +157,7 @@ AreBeside b (m ∷ ms) = (m.before ≡ b) × IsMomentBeside b m × AreBeside m.a
 pub record StandsBeside (c : Program) (marks : Marks) (b : BoardValue) (h : History) : Type 0 where
   pub place : ℕ
   pub instructions : List Instr
-  pub placed : IsPlacedProgram c place instructions ((steady_with [] b).fram 0xFFFE)
+  pub placed : IsPlacedProgram c true place instructions ((steady_with [] b).fram 0xFFFE)
   pub high : place + 2 * length (words_of instructions) ≤ handler_place
   pub holds : Holds (steady_with [] b).fram place (words_of instructions)
   pub handler : HasHandler (fram_of b.fram)
