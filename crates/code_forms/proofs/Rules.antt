@@ -297,12 +297,12 @@ pub code_stays_prepared : CodeStaysPrepared
 code_stays_prepared code s t es c on e before now =
     let i = code.at (s.registers 0) in
     prepared_by (is_interruptible t.registers) (is_interruptible s.registers) (keeps_stack i (s.registers 1) (t.registers 1)) (is_prepared t)
-    (rules_kept code s t es c on e) now (λ open k. still_prepared i s t (vector_stays code s t es c e) (before open) k)
+    (rules_kept code s t es c on e) now (λ was k. still_prepared i s t (vector_stays code s t es c e) (before was) k)
 
 open_by : (a b x : Bool) → (if a then x else b) ≡ false → b ≡ true → a ≡ true
 open_by true b x h e = refl
 open_by false b x h e = absurd cc
 
 pub code_stays_open : CodeStaysOpen
-code_stays_open code s t es c on e open =
-    open_by (is_interruptible t.registers) (is_interruptible s.registers) _ (rules_kept code s t es c on e) open
+code_stays_open code s t es c on e was =
+    open_by (is_interruptible t.registers) (is_interruptible s.registers) _ (rules_kept code s t es c on e) was
