@@ -134,16 +134,6 @@ module _ (b : BoardValue) (u : MachineBoard) (i : Instr) (more : List Look) (who
     outcome_is : (a : Result Stepped Stop) → x.answer ≡ a → code_executed s i ≡ outcome_of_answer es (cycles_of i) a (machine_with more x.board)
     outcome_is a e = as_board ∙ ap (λ y. outcome_of_answer es (cycles_of i) y (machine_with more x.board)) e
 
-    programs : more ≡ [] → registers_of b.cpu 0 < handler_place → IsPrograms b i
-    programs none below =
-        let joined : looks_at b i ++ more ≡ looks_at b i = ap (λ l. looks_at b i ++ l) none ∙ append-nil (looks_at b i) in
-        record {
-          below = below;
-          step = ap (λ l. code_executed (machine_with l b) i) (sym joined) ∙ as_board
-              ∙ ap (λ l. machine_outcome_with (look_effects (looks_at b i)) l b x (cycles_of i)) none;
-          line = line;
-        }
-
     stopped : (e : Stop) → x.answer ≡ Err e → code_executed u i ≡ Stops es (cycles_of i) e
     stopped e a =
         stop_alike floor es (cycles_of i) e (code_executed u i)
@@ -223,11 +213,22 @@ module _ (b : BoardValue) (u : MachineBoard) (i : Instr) (more : List Look) (who
         outnum = going.same.outnum;
       }
 
+      programs : KeepsRules i u next → more ≡ [] → registers_of b.cpu 0 < handler_place → IsPrograms b i
+      programs rules none below =
+          let joined : looks_at b i ++ more ≡ looks_at b i = ap (λ l. looks_at b i ++ l) none ∙ append-nil (looks_at b i) in
+          record {
+            below = below;
+            step = ap (λ l. code_executed (machine_with l b) i) (sym joined) ∙ as_board
+                ∙ ap (λ l. machine_outcome_with (look_effects (looks_at b i)) l b x (cycles_of i)) none;
+            fram = sym (fun_ext (fram_at rules)) ∙ on_u ∙ ap (fram_after es) shows.fram;
+            line = line;
+          }
+
       made : IsMade b u i more done
-      made = record { next = next; goes = going.is; looks = ap (λ j. j.looks) going.same.inputs; shows = shows_next }
+      made = record { next = next; goes = going.is; looks = ap (λ j. j.looks) going.same.inputs; shows = shows_next; programs = programs }
 
     does_alike : DoesAlike b u i more
-    does_alike = record { programs = programs; made = made; stopped = stopped }
+    does_alike = record { line = line; made = made; stopped = stopped }
 
   does : IsBusFault (code_executed u i) ⊎ DoesAlike b u i more
   does = ⊎_elim {C = IsBusFault (code_executed u i) ⊎ DoesAlike b u i more} (λ f. inl (fault_alike floor (code_executed s i) (code_executed u i) blind f))

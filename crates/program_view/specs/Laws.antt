@@ -37,10 +37,11 @@ pub record IsMade (b : BoardValue) (u : MachineBoard) (i : Instr) (more : List L
   pub goes : code_executed u i ≡ Goes (look_effects (looks_at b i) ++ effects_of b (executed b i)) done.cycles next
   pub looks : next.inputs.looks ≡ more
   pub shows : KeepsRules i u next → Shows (at_boundary (executed b i).board) next
+  pub programs : KeepsRules i u next → more ≡ [] → registers_of b.cpu 0 < handler_place → IsPrograms b i
 
 -- an instruction does so on a board and on the machine that the board shows
 pub record DoesAlike (b : BoardValue) (u : MachineBoard) (i : Instr) (more : List Look) : Type 0 where
-  pub programs : more ≡ [] → registers_of b.cpu 0 < handler_place → IsPrograms b i
+  pub line : (executed b i).board.line ≡ b.line
   pub made : (done : Stepped) → (executed b i).answer ≡ Ok done → IsMade b u i more done
   pub stopped : (e : Stop) → (executed b i).answer ≡ Err e
       → code_executed u i ≡ Stops (look_effects (looks_at b i) ++ effects_of b (executed b i)) (cycles_of i) e

@@ -1,7 +1,7 @@
 -- What a board shows of its program's machine. Between any two instructions of the program a handler of events may run: it writes HEAD and the
 -- ring, and RAM below SP. The machine can't depend on those: its instructions are told by looks what they see of the ring, and read nothing
 -- of RAM below SP.
-use Rattle.std.specs.Prelude.{◌≡◌, ℕ, ◌%◌, ◌<◌, ◌≤◌, nat_le, Bool, true, false, if◌then◌else◌, List, [], drop}
+use Rattle.std.specs.Prelude.{◌≡◌, ℕ, ◌%◌, ◌<◌, ◌≤◌, nat_le, Bool, true, false, if◌then◌else◌, List, [], ◌++◌, drop}
 use Rattle.event_places.specs.Places.{handler_place, is_ring}
 use Rattle.msp_isa.specs.declared.instructions.Instr.{Instr}
 use Rattle.msp_cycles.specs.Cycles.{cycles_of}
@@ -9,6 +9,8 @@ use Rattle.msp_step.specs.Registers.{registers_of}
 use Rattle.msp_step.specs.Step.{is_interruptible}
 use Rattle.fram_board.specs.Board.{BoardValue, executed}
 use Rattle.fram_board.specs.Run.{StepKind, Accepting, Returning, Plain, Action, PowerUp, Execute, Moment, accepted_by}
+use Rattle.fram_board.specs.Effects.{effects_of}
+use Rattle.machine_effects.specs.World.{fram_after}
 use Rattle.machine_effects.specs.Inputs.{Look, look_effects}
 use Rattle.machine_effects.specs.Machine.{MachineBoard, fram_of, ram_of, code_executed}
 use Rattle.machine_effects.specs.View.{machine_with, looks_at, machine_outcome_with, IsWhole, IsOfWords}
@@ -55,10 +57,13 @@ steps_due (AtCode shows) = 0
 steps_due (InHandler from at shows interrupted stands) = instructions_left at
 
 -- an instruction of a board is the program's: it stands in front of the handler, and does as the machine's, which serves fewer addresses and
--- sees of the ring what the board holds there; and it leaves the events as they are
+-- sees of the ring what the board holds there; it changes FRAM by its effects, and nothing of HEAD and the ring; and it leaves the events as
+-- they are
 pub record IsPrograms (b : BoardValue) (i : Instr) : Type 0 where
   pub below : registers_of b.cpu 0 < handler_place
   pub step : code_executed (machine_with (looks_at b i) b) i ≡ machine_outcome_with (look_effects (looks_at b i)) [] b (executed b i) (cycles_of i)
+  pub fram : steady (fram_of (executed b i).board.fram)
+      ≡ fram_after (look_effects (looks_at b i) ++ effects_of b (executed b i)) (steady (fram_of b.fram))
   pub line : (executed b i).board.line ≡ b.line
 
 -- a step of this kind on a board is the handler's: an acceptance, or an instruction that stands from the handler on, where no program does
