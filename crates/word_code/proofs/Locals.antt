@@ -2,7 +2,7 @@
 use Rattle.word_code.proofs.Names.{◌≡◌, ℕ, ◌+◌, ◌≤◌, Bool, true, false, nat_lt, if◌then◌else◌, nat_tests, List, [], ◌∷◌, refl, arith, Step, Test, Program}
 use Rattle.word_code.proofs.Names.{local, set_local, update_local, truth, choose, repeat, holds, compares, both, either, fails, nothing, step, StepLocalsBelow}
 use Rattle.word_code.proofs.Names.{TestLocalsBelow, LocalsBelow, step_locals, test_locals, locals_of, Core, Form, SetStack, forms_bytes, Stands, Runs}
-use Rattle.word_code.proofs.Names.{stack_top, stack_base, stack_set, stack_cycles, FormNeeds, ◌%◌, sym, subst}
+use Rattle.word_code.proofs.Names.{stack_top, stack_base, stack_set, stack_cycles, ◌%◌}
 use Rattle.word_code.proofs.Stretches.{Setting, hop, nothing_run, dearer}
 
 -- ---- each local is below a number where the greatest is
@@ -67,7 +67,7 @@ set_by z locals true u none e sp h =
     let base = stack_base locals in
     let even : base % 2 ≡ 0 = omega arith in
     let t : Core = record u { pc = u.pc + 4; sp = base } in
-    hop z (SetStack base) 2 u t [] 2 (HasStack (u.pc + 4) base u) h.0 (subst (λ events. FormNeeds events (SetStack base) u) (sym none) even) refl (omega arith)
+    hop z (SetStack base) 2 u t [] 2 (HasStack (u.pc + 4) base u) h.0 (even, λ k. absurd (cc)) refl (omega arith)
     (record { at = refl; sp = refl; fram = refl; inputs = refl })
 set_by z locals false u none e sp h =
     let few : locals ≤ 8 = grind (arith, nat_tests) in

@@ -75,7 +75,7 @@ pub use Rattle.array_versions.specs.declared.program.ListPlace.{ListPlace}
 -- this room's own definitions
 pub use Rattle.word_code.specs.Code.{number_source, check_code, zero_code, fetch_code, element_code, emit_code, pair_code, entry_code, compare_form, holding}
 pub use Rattle.word_code.specs.Code.{failing, jump_over, decision, waiting_source, flushed, top_of, below_top, any_held, repeated, size, waiting_behind}
-pub use Rattle.word_code.specs.Code.{stack_base, stack_origin, stack_set, stack_cycles, code_spent, event_code, freeze_code}
+pub use Rattle.word_code.specs.Code.{stack_base, entry_stack, stack_set, stack_cycles, code_spent, event_code, freeze_code}
 pub use Rattle.word_code.specs.Code.{step_code, steps_code, local_address, local_target, source_from, cleared, kept, four_from, top_number, element_at, stays}
 pub use Rattle.word_code.specs.Code.{sides, right_source, top_power, two_code, power_code, five_from, top_to_four, top_to_five, two_to_registers, unary_middle}
 pub use Rattle.word_code.specs.Code.{binary_middle, plain_instruction, update_code, double, halve, right_code, shift_by, last_bit, shift_code, shift_middle}

@@ -61,8 +61,8 @@ abbrev pub local_address : ℕ → ℕ
 local_address n = 0x240E - 2 * n
 
 -- where the stack begins from an attempt's start on: with events below the room for any locals, else at the end of RAM
-abbrev pub stack_origin : Bool → ℕ
-stack_origin events = if events then stack_start else stack_top
+abbrev pub entry_stack : Bool → ℕ
+entry_stack events = if events then stack_start else stack_top
 
 -- SP is set where the stack begins below the locals, where some stand in RAM. With events it is below them from an attempt's start on
 abbrev pub stack_set : Bool → ℕ → List Form

@@ -13,12 +13,12 @@ use Rattle.array_versions.specs.Program.{Program}
 use Rattle.array_versions.specs.Behaviour.{WordState, started, End, GoesOn, Jumps, Short, Strays, Broken, behaviour}
 use Rattle.array_versions.specs.Form.{IsWhole, FitsEvents, OfWords}
 use Rattle.array_versions.specs.Cost.{words_of}
-use Rattle.word_code.specs.Code.{stack_origin, code_of, code_spent}
+use Rattle.word_code.specs.Code.{entry_stack, code_of, code_spent}
 
 -- the machine at the entry of a program's code: the stack is empty, FRAM and the inputs are words
 pub record IsEntry (events : Bool) (at : ℕ) (u : Core) : Type 0 where
   pub pc : u.pc ≡ at
-  pub sp : u.sp ≡ stack_origin events
+  pub sp : u.sp ≡ entry_stack events
   pub fram : (a : ℕ) → u.fram a < 0x10000
   pub inputs : InputsAreWords u.inputs
 
