@@ -298,14 +298,14 @@ stopped_if_words : (b : Bool) (e : Stop) (o : MachineOutcome) → LeavesWords o 
 stopped_if_words true e o h = tt
 stopped_if_words false e o h = h
 
-undisturbed_words : (i : Option Instr) (s : MachineBoard) (o : MachineOutcome) → LeavesWords o → LeavesWords (undisturbed i s o)
-undisturbed_words i s (Goes es c t) h = stopped_if_words (is_exposed i s t) (astray s) (Goes es c t) h
-undisturbed_words i s (Stops es price e) h = tt
+undisturbed_words : (events : Bool) (i : Option Instr) (s : MachineBoard) (o : MachineOutcome) → LeavesWords o → LeavesWords (undisturbed events i s o)
+undisturbed_words events i s (Goes es c t) h = stopped_if_words (is_exposed events i s t) (astray s) (Goes es c t) h
+undisturbed_words events i s (Stops es price e) h = tt
 
 pub code_words_stay_words : CodeWordsStayWords
 code_words_stay_words code s e h =
-    undisturbed_words (code (s.registers 0)) s (step_with (code (s.registers 0)) s)
-    (stopped_if_words (off_bit s.registers == 1) stop.Off (standing (code (s.registers 0)) s) (standing_words (code (s.registers 0)) s e h))
+    let i = code.at (s.registers 0) in
+    undisturbed_words code.events i s (step_with i s) (stopped_if_words (off_bit s.registers == 1) stop.Off (standing i s) (standing_words i s e h))
 
 -- the board's bus
 record ListsOfWords (s : BusState) : Type 0 where
