@@ -11,11 +11,11 @@ ghost use Rattle.boot_runtime.specs.Entries.{task_entries};
 ghost use Rattle.boot_runtime.specs.Listing.{head, end_tested, clearing_begins, clear_turn, clear_loop, version_cleared, counts_set, events_counted};
 ghost use Rattle.boot_runtime.specs.Listing.{interrupts_enabled, dispatch, fixed_forms, ladder_offset, boot_forms, boot_bytes};
 
+use address_space::STACK_START;
 pub use laws::{
     boot_is_short, boot_obeys_the_gate, start_is_made, start_stores_in_fram, starts_are_short,
     tasks_are_entered, version_is_raised,
 };
-use address_space::STACK_START;
 use memory_map::{EVENT_COUNT, Layout, RuntimeWord, STACK_TOP};
 use runtime_code::forms::Form::{
     Branch, Calculate, Compare, EnableInterrupts, Move, SetStack, SkipBy, Update,
@@ -132,7 +132,11 @@ fn push_events_counted(code: &mut Vec<Form>, layout: &Layout) -> Result<(), Allo
 fn stack_origin(layout: &Layout) -> u16
     ensures { result ≡ stack_origin layout.now.runtime.events }
 {
-    if layout.runtime().events { STACK_START } else { STACK_TOP }
+    if layout.runtime().events {
+        STACK_START
+    } else {
+        STACK_TOP
+    }
 }
 
 // SP := where the stack begins; to the branch of the task that CUR names, in a ladder of branches of four bytes that stands right behind.

@@ -67,11 +67,7 @@ pub fn steps_locals(steps: &[WordStep]) -> u16
 
 /// Appends what sets the place of the stack of a program whose locals are below a number, where some of them stand in RAM; with events nothing,
 /// since the stack has its place there.
-pub fn emit_stack_set(
-    events: bool,
-    locals: u16,
-    code: &mut Vec<Form>,
-) -> Result<(), AllocError>
+pub fn emit_stack_set(events: bool, locals: u16, code: &mut Vec<Form>) -> Result<(), AllocError>
     requires { locals ≤ 1016 }
     ensures { OnOk result (code.new.items ≡ code.old.items ++ stack_set events locals) }
 {
