@@ -52,14 +52,14 @@ forms_at code p k n ms h = first_forms code (p + forms_bytes (take k ms)) n (dro
 
 -- the one behind the first k
 pub form_at : (code : Code) (p k : ℕ) (ms : List Form) (m : Form) → Stands code p ms → slice_get ms k ≡ Some m
-    → code (p + forms_bytes (take k ms)) ≡ Some (instruction_of m)
+    → code.at (p + forms_bytes (take k ms)) ≡ Some (instruction_of m)
 form_at code p k [] m h e = absurd (cc)
 form_at code p zero (i ∷ ms) m h e =
     let o : p ≡ p + 0 = omega arith in
-    subst (λ n. code n ≡ Some (instruction_of m)) o (h.0 ∙ ap (λ i. Some (instruction_of i)) (same_Some i m e))
+    subst (λ n. code.at n ≡ Some (instruction_of m)) o (h.0 ∙ ap (λ i. Some (instruction_of i)) (same_Some i m e))
 form_at code p (suc k) (i ∷ ms) m h e =
     let o : p + form_bytes i + forms_bytes (take k ms) ≡ p + (form_bytes i + forms_bytes (take k ms)) = omega arith in
-    subst (λ n. code n ≡ Some (instruction_of m)) o (form_at code (p + form_bytes i) k ms m h.1 e)
+    subst (λ n. code.at n ≡ Some (instruction_of m)) o (form_at code (p + form_bytes i) k ms m h.1 e)
 
 abbrev IsAt : ℕ → Core → Type 0
 IsAt p t = t.pc ≡ p
@@ -148,14 +148,14 @@ comes_on a f = comes_then a (f a.end a.holds)
 
 module _ (code : Code) (tidy : IsTidy code) where
   -- one form
-  pub does : (m : Form) (u : Core) → code u.pc ≡ Some (instruction_of m) → FormNeeds m u → exec code (board_of u) ≡ outcome_of_core (form_step m u)
+  pub does : (m : Form) (u : Core) → code.at u.pc ≡ Some (instruction_of m) → FormNeeds code.events m u → exec code (board_of u) ≡ outcome_of_core (form_step m u)
   does m u h k =
-      ap (λ o. undisturbed o (board_of u) (step_with o (board_of u))) h
-      ∙ ap (undisturbed (Some (instruction_of m)) (board_of u)) (form_does m u (tidy u.pc (instruction_of m) h) k)
-      ∙ undisturbed_form m u k
+      ap (λ o. undisturbed code.events o (board_of u) (step_with o (board_of u))) h
+      ∙ ap (undisturbed code.events (Some (instruction_of m)) (board_of u)) (form_does code.events m u (tidy u.pc (instruction_of m) h) k)
+      ∙ undisturbed_form code.events m u k
 
-  block_on : (ms : List Form) (p k : ℕ) (o : CoreOutcome) → OfNext o (IsAt p) → OfNext o (FormsNeed ms)
-      → ((t : Core) → t.pc ≡ p → FormsNeed ms t → going (exec code) (length ms + k) (board_of t) ≡ carry (forms_run ms t)
+  block_on : (ms : List Form) (p k : ℕ) (o : CoreOutcome) → OfNext o (IsAt p) → OfNext o (FormsNeed code.events ms)
+      → ((t : Core) → t.pc ≡ p → FormsNeed code.events ms t → going (exec code) (length ms + k) (board_of t) ≡ carry (forms_run ms t)
       (λ v. going (exec code) k (board_of v)))
       → continued (outcome_of_core o) (going (exec code) (length ms + k)) ≡ carry (continued o (forms_run ms)) (λ v. going (exec code) k (board_of v))
   block_on ms p k (Goes fs d t) g w ih =
@@ -163,7 +163,7 @@ module _ (code : Code) (tidy : IsTidy code) where
       ∙ carry_after fs (forms_run ms t).effects d (forms_run ms t).cycles (forms_run ms t).status (λ v. going (exec code) k (board_of v))
   block_on ms p k (Stops es price x) g w ih = refl
 
-  block_all : (ms : List Form) (k : ℕ) (u : Core) → AreStraight ms → Stands code u.pc ms → FormsNeed ms u
+  block_all : (ms : List Form) (k : ℕ) (u : Core) → AreStraight ms → Stands code u.pc ms → FormsNeed code.events ms u
       → going (exec code) (length ms + k) (board_of u) ≡ carry (forms_run ms u) (λ v. going (exec code) k (board_of v))
   block_all [] k u st h w = ap (λ n. going (exec code) n (board_of u)) (zero-add k) ∙ sym (after_nothing (going (exec code) k (board_of u)))
   block_all (m ∷ ms) k u st h w =
@@ -173,23 +173,23 @@ module _ (code : Code) (tidy : IsTidy code) where
       (λ t e o. block_all ms k t st.1 (subst (λ p. Stands code p ms) (sym e) h.1) o)
 
   -- straight code ends where its forms do
-  pub block : (ms : List Form) (u t : Core) (es : List Effect) (c : ℕ) → AreStraight ms → Stands code u.pc ms → FormsNeed ms u
+  pub block : (ms : List Form) (u t : Core) (es : List Effect) (c : ℕ) → AreStraight ms → Stands code u.pc ms → FormsNeed code.events ms u
       → forms_run ms u ≡ stretch es c (At t) → Leads (exec code) (length ms) es c (board_of u) (board_of t)
   block ms u t es c st h w e = record { by = λ k. block_all ms k u st h w ∙ ap (λ r. carry r (λ v. going (exec code) k (board_of v))) e }
 
   -- what stands there is a form that has what it needs
-  at_form : (m : Form) (u : Core) → code u.pc ≡ Some (instruction_of m) → FormNeeds m u → StepsAreForms code 1 u
+  at_form : (m : Form) (u : Core) → code.at u.pc ≡ Some (instruction_of m) → FormNeeds code.events m u → StepsAreForms code 1 u
   at_form m u h w zero l = record { form = m; core = u; is = refl; stands = h; needs = w }
   at_form m u h w (suc n) l = absurd (omega (arith, l))
 
-  behind_form : (ms : List Form) (p n : ℕ) (o : CoreOutcome) → OfNext o (IsAt p) → OfNext o (FormsNeed ms)
-      → ((t : Core) → t.pc ≡ p → FormsNeed ms t → OfState (going (exec code) n (board_of t)).status (IsAtForm code))
+  behind_form : (ms : List Form) (p n : ℕ) (o : CoreOutcome) → OfNext o (IsAt p) → OfNext o (FormsNeed code.events ms)
+      → ((t : Core) → t.pc ≡ p → FormsNeed code.events ms t → OfState (going (exec code) n (board_of t)).status (IsAtForm code))
       → OfState (continued (outcome_of_core o) (going (exec code) n)).status (IsAtForm code)
   behind_form ms p n (Goes fs d t) g w ih = ih t g w
   behind_form ms p n (Stops es price x) g w ih = tt
 
   -- so is each form of straight code
-  at_forms : (ms : List Form) (u : Core) → AreStraight ms → Stands code u.pc ms → FormsNeed ms u → StepsAreForms code (length ms) u
+  at_forms : (ms : List Form) (u : Core) → AreStraight ms → Stands code u.pc ms → FormsNeed code.events ms u → StepsAreForms code (length ms) u
   at_forms [] u st h w n l = absurd (omega (arith, l))
   at_forms (m ∷ ms) u st h w zero l = at_form m u h.0 w.0 0 (omega arith)
   at_forms (m ∷ ms) u st h w (suc n) l =
@@ -198,7 +198,7 @@ module _ (code : Code) (tidy : IsTidy code) where
       (λ t e k. at_forms ms t st.1 (subst (λ p. Stands code p ms) (sym e) h.1) k n (omega (arith, l))))
 
   pub straight_comes : (ms : List Form) (u t : Core) (es : List Effect) (c : ℕ) (P : Core → Type 0) → AreStraight ms → Stands code u.pc ms
-      → FormsNeed ms u → forms_run ms u ≡ stretch es c (At t) → P t → Comes code es (length ms) c u P
+      → FormsNeed code.events ms u → forms_run ms u ≡ stretch es c (At t) → P t → Comes code es (length ms) c u P
   straight_comes ms u t es c P st h w e p = record { end = t; leads = block ms u t es c st h w e; forms = at_forms ms u st h w; holds = p }
 
   -- within so many cycles
@@ -206,7 +206,7 @@ module _ (code : Code) (tidy : IsTidy code) where
   runs_within {es} {n} {c} most a l = record { steps = n; cycles = c; within = l; comes = a }
 
   -- one form, a jump too
-  pub form_comes : (m : Form) (u t : Core) (es : List Effect) (c : ℕ) (P : Core → Type 0) → code u.pc ≡ Some (instruction_of m) → FormNeeds m u
+  pub form_comes : (m : Form) (u t : Core) (es : List Effect) (c : ℕ) (P : Core → Type 0) → code.at u.pc ≡ Some (instruction_of m) → FormNeeds code.events m u
       → form_step m u ≡ Goes es c t → P t → Comes code es 1 c u P
   form_comes m u t es c P h w e p = record {
     end = t;
@@ -215,7 +215,7 @@ module _ (code : Code) (tidy : IsTidy code) where
     holds = p;
   }
 
-  pub hop : (m : Form) (most : ℕ) (u t : Core) (es : List Effect) (c : ℕ) (P : Core → Type 0) → code u.pc ≡ Some (instruction_of m) → FormNeeds m u
+  pub hop : (m : Form) (most : ℕ) (u t : Core) (es : List Effect) (c : ℕ) (P : Core → Type 0) → code.at u.pc ≡ Some (instruction_of m) → FormNeeds code.events m u
       → form_step m u ≡ Goes es c t → c ≤ most → P t → Runs code es most u P
   hop m most u t es c P h w e l p = runs_within most (form_comes m u t es c P h w e p) l
 
@@ -242,7 +242,7 @@ module _ (code : Code) (tidy : IsTidy code) where
   then_to most more u t Q es fs a b = runs_on most more u (λ v. v ≡ t) Q es fs a (λ v e. subst (λ x. Runs code fs more x Q) (sym e) b)
 
   -- straight code that comes to a sensor with no reading left, and a stretch before such a place
-  pub starve : (m : Form) (most price : ℕ) (u : Core) (es : List Effect) → code u.pc ≡ Some (instruction_of m) → FormNeeds m u
+  pub starve : (m : Form) (most price : ℕ) (u : Core) (es : List Effect) → code.at u.pc ≡ Some (instruction_of m) → FormNeeds code.events m u
       → form_step m u ≡ Stops es price stop.NoReading → price ≤ most → Starves code es most u
   starve m most price u es h w e l =
       record {

@@ -34,7 +34,7 @@ use Rattle.machine_effects.specs.Going.{Goes, Stops, step_behind}
 use Rattle.machine_effects.specs.msp_step.declared.machine.Stop.TheVariants as stop
 use Rattle.machine_effects.specs.msp_isa.declared.instructions.Instr.{Instr}
 use Rattle.machine_effects.specs.Inputs.{Look, first_look, other_looks, look_effects}
-use Rattle.machine_effects.specs.Machine.{MachineOutcome, MachineBus, machine_bus, machine_outcome, step_with, word_address, is_readable, IsPlace, IsRam, stack_start}
+use Rattle.machine_effects.specs.Machine.{MachineOutcome, MachineBus, machine_bus, machine_outcome, step_with, word_address, is_readable, IsPlace, IsRam}
 use Rattle.machine_effects.specs.Machine.{looks_there, source_looks, machine_executed, executed_looking, code_executed}
 use Rattle.code_forms.specs.Forms.{WorkRegister, work_number, index_of, Core, register_file, board_of, outcome_of_core, Source, Register, Number, Constant}
 use Rattle.code_forms.specs.Forms.{Fram, Ram, Pointed, PointedNext, Indexed, Popped, Head, Slot}
@@ -175,7 +175,7 @@ module _ (u : Core) (p : ℕ) where
       let s = seen_by looks u in
       rw (got b, e, read_slot s (first_look looks) (u.work (work_number b) + ring_place) refl at) refl
 
-  pub from_source : (x : Source) → SourceNeeds x u
+  pub from_source : (x : Source) → SourceNeeds false x u
       → source machine_bus (regs_in u p) Word (source_operand x) (begun x u) ≡ Completed (source_value x u, regs_in (source_read x u) p) (begun x u)
   from_source (Register b) h = rw (got b) refl
   from_source (Number n) h = refl
@@ -230,7 +230,7 @@ from_small (Slot b) = (omega arith, refl)
 dest_small : (d : Dst) → length (destination_row d).extension ≤ 1
 dest_small d = grind arith
 
-read_same : (x : Source) (u : Core) → SourceNeeds x u → inside u.sp (ring_of x u) (source_read x u) ≡ begun x u
+read_same : (x : Source) (u : Core) → SourceNeeds false x u → inside u.sp (ring_of x u) (source_read x u) ≡ begun x u
 read_same (Register b) u h = refl
 read_same (Number n) u h = refl
 read_same (Constant k) u h = refl
@@ -268,7 +268,7 @@ by_test : (b : Bool) (o p : MachineOutcome) → b ≡ false → (if b then o els
 by_test true o p e = absurd cc
 by_test false o p e = refl
 
-code_begun : (x : Source) (u : Core) (i : Instr) → SourceNeeds x u → looks_there i ≡ source_looks (source_operand x)
+code_begun : (x : Source) (u : Core) (i : Instr) → SourceNeeds false x u → looks_there i ≡ source_looks (source_operand x)
     → code_executed (board_of u) i
     ≡ step_behind (source_effects x u) (machine_outcome u.pc (cycles_of i) (effect machine_bus i (regs_in u u.pc) (begun x u)))
 code_begun (Register b) u i h e = by_test (looks_there i) _ _ e ∙ none_behind _
@@ -289,7 +289,7 @@ abbrev ext_of : Source → Core → ℕ
 ext_of x u = word_sum (word_sum u.pc 2) (2 * length (source_row (source_operand x)).extension)
 
 -- an instruction with two operands, up to its destination
-pub two : (op : TwoOp) (x : Source) (d : Dst) (u : Core) → IsCodeAddress u.pc → SourceNeeds x u →
+pub two : (op : TwoOp) (x : Source) (d : Dst) (u : Core) → IsCodeAddress u.pc → SourceNeeds false x u →
     two_operand_effect machine_bus op Word (source_operand x) d (regs_in u u.pc) (begun x u) ≡
     after_source machine_bus op Word (destination_location (regs_in (source_read x u)
     (u.pc + (2 + source_bytes x + 2 * length (destination_row d).extension))) (ext_of x u) d) (source_value x u)
@@ -352,7 +352,7 @@ ok_pc ToOutnum t p h = h
 ok_pc ToOutdata t p h = h
 
 -- an instruction with two operands, where the machine is on
-on_two : (op : TwoOp) (x : Source) (d : Dst) (u : Core) → IsCodeAddress u.pc → SourceNeeds x u →
+on_two : (op : TwoOp) (x : Source) (d : Dst) (u : Core) → IsCodeAddress u.pc → SourceNeeds false x u →
     step_with (Some (instr.Two op Word (source_operand x) d)) (board_of u) ≡
     step_behind (source_effects x u) (machine_outcome u.pc (cycles_of (instr.Two op Word (source_operand x) d)) (after_source machine_bus op Word
     (destination_location (regs_in (source_read x u) (u.pc + (2 + source_bytes x + 2 * length (destination_row d).extension))) (ext_of x u) d)
@@ -366,7 +366,7 @@ on_two op x d u c h =
     ∙ code_begun x u i h refl
     ∙ rw (two op x d u c h, read_same x u h) refl
 
-moves : (x : Source) (y : Target) (u : Core) → IsCodeAddress u.pc → SourceNeeds x u → TargetNeeds y (source_read x u)
+moves : (x : Source) (y : Target) (u : Core) → IsCodeAddress u.pc → SourceNeeds false x u → TargetNeeds y (source_read x u)
     → step_with (Some (instruction_of (Move x y))) (board_of u) ≡ outcome_of_core (form_step (Move x y) u)
 moves x y u c h k =
     let n : Core = record (source_read x u) { pc = u.pc + (2 + source_bytes x + 2 * length (destination_row (target_operand y)).extension) } in
@@ -424,7 +424,7 @@ read_flags Popped u = refl
 read_flags Head u = refl
 read_flags (Slot b) u = refl
 
-calculates : (op : TwoOp) (x : Source) (b : WorkRegister) (u : Core) → IsCodeAddress u.pc → IsNotMov op → SourceNeeds x u
+calculates : (op : TwoOp) (x : Source) (b : WorkRegister) (u : Core) → IsCodeAddress u.pc → IsNotMov op → SourceNeeds false x u
     → step_with (Some (instruction_of (Calculate op x b))) (board_of u) ≡ outcome_of_core (form_step (Calculate op x b) u)
 calculates op x b u c n h =
     let t : Core = record (source_read x u) { pc = u.pc + (2 + source_bytes x) } in
@@ -458,7 +458,7 @@ read_memory Popped u = refl
 read_memory Head u = refl
 read_memory (Slot b) u = refl
 
-compares : (x : Source) (a : ℕ) (u : Core) → IsCodeAddress u.pc → SourceNeeds x u → IsPlace a
+compares : (x : Source) (a : ℕ) (u : Core) → IsCodeAddress u.pc → SourceNeeds false x u → IsPlace a
     → step_with (Some (instruction_of (Compare x a))) (board_of u) ≡ outcome_of_core (form_step (Compare x a) u)
 compares x a u c h k =
     let t : Core = record (source_read x u) { pc = u.pc + (2 + source_bytes x + 2) } in
@@ -479,7 +479,7 @@ updated_half op v a ext pc c floor ring t n m h =
     let o = operated op Word (t.fram a) v t.flags in
     rw (n, read_fram (inside floor ring t) a h, flags_back t.enabled t.flags, with_new o.flags t t.pc, m, w, l, f, g) refl
 
-updates : (op : TwoOp) (x : Source) (a : ℕ) (u : Core) → IsCodeAddress u.pc → FormNeeds (Update op x a) u
+updates : (op : TwoOp) (x : Source) (a : ℕ) (u : Core) → IsCodeAddress u.pc → FormNeeds false (Update op x a) u
     → step_with (Some (instruction_of (Update op x a))) (board_of u) ≡ outcome_of_core (form_step (Update op x a) u)
 updates op x a u c h =
     let t : Core = record (source_read x u) { pc = u.pc + (2 + source_bytes x + 2) } in
@@ -491,7 +491,7 @@ updates op x a u c h =
     ∙ ap (λ f. out f t.flags) (read_memory x u) ∙ ap (λ g. out u.fram g) (read_flags x u))
 
 -- no operand that is written
-push_half : (x : Source) (u : Core) → IsCodeAddress u.pc → SourceNeeds x u
+push_half : (x : Source) (u : Core) → IsCodeAddress u.pc → SourceNeeds false x u
     → push_effect machine_bus Word (source_operand x) (regs_in u u.pc) (begun x u) ≡ pushed machine_bus Word (source_value x u)
     (regs_in (source_read x u) (u.pc + (2 + source_bytes x))) (inside u.sp (ring_of x u) (source_read x u))
 push_half x u c h =
@@ -519,7 +519,7 @@ pushed_at v pc c floor ring t h =
     let m : (t.sp - 2) / 2 * 2 ≡ t.sp - 2 = omega arith in
     rw (l, set_sp t.pc t.sp (t.sp - 2) (t.sp - 2) t.enabled t.flags t.work m, word, below, ram, g) refl
 
-pushes : (x : Source) (u : Core) → IsCodeAddress u.pc → FormNeeds (Push x) u
+pushes : (x : Source) (u : Core) → IsCodeAddress u.pc → FormNeeds false (Push x) u
     → step_with (Some (instruction_of (Push x))) (board_of u) ≡ outcome_of_core (form_step (Push x) u)
 unfolding effect
 pushes x u c h =
@@ -532,10 +532,10 @@ pushes x u c h =
     ∙ ap (λ es. Goes es (cycles_of (instruction_of (Push x)))
     (board_of (record t { sp = t.sp - 2; ram = put t.ram (t.sp - 2) (source_value x u) }))) (append-nil (source_effects x u))
 
-sets_stack : (n : ℕ) (u : Core) → IsCodeAddress u.pc → n ≡ stack_start
+sets_stack : (n : ℕ) (u : Core) → IsCodeAddress u.pc → n % 2 ≡ 0
     → step_with (Some (instruction_of (SetStack n))) (board_of u) ≡ outcome_of_core (form_step (SetStack n) u)
 sets_stack n u c h =
-    let e : n / 2 * 2 ≡ n = omega (arith, h) in
+    let e : n / 2 * 2 ≡ n = omega arith in
     on_two Mov (Number n) (dst.Reg (reg.Index index.Sp)) u c tt
     ∙ rw (set_sp (u.pc + 4) u.sp n n u.enabled u.flags u.work e) refl
 
@@ -609,7 +609,7 @@ branches a u c h =
     on_two Mov (Number a) (dst.Reg reg.Pc) u c tt
     ∙ rw (set_pc (u.pc + 4) u.sp a a u.enabled u.flags u.work e) refl
 
-branches_indexed : (b : WorkRegister) (x : ℕ) (u : Core) → IsCodeAddress u.pc → FormNeeds (BranchIndexed b x) u
+branches_indexed : (b : WorkRegister) (x : ℕ) (u : Core) → IsCodeAddress u.pc → FormNeeds false (BranchIndexed b x) u
     → step_with (Some (instruction_of (BranchIndexed b x))) (board_of u) ≡ outcome_of_core (form_step (BranchIndexed b x) u)
 branches_indexed b x u c h =
     let a = u.fram (u.work (work_number b) + x) in
@@ -681,19 +681,33 @@ modifies m b u c =
     let on = is_on u.pc u.sp u.enabled u.flags u.work in
     rw (on, modified_blind m b, modified_effect m b u c, modified_cycles m b) refl
 
+-- what a source needs in code that may be interrupted it needs in other code
+needs_so : (events : Bool) (x : Source) (u : Core) → SourceNeeds events x u → SourceNeeds false x u
+needs_so events (Register b) u h = h
+needs_so events (Number n) u h = h
+needs_so events (Constant k) u h = h
+needs_so events (Fram a) u h = h
+needs_so events (Ram a) u h = h
+needs_so events (Pointed b) u h = h
+needs_so events (PointedNext b) u h = h
+needs_so events (Indexed b x) u h = h
+needs_so events Popped u h = (h.0, λ e. absurd cc)
+needs_so events Head u h = h
+needs_so events (Slot b) u h = h
+
 -- each form
 pub form_does : FormsDoAsInstructions
-form_does (Move x y) u c h = moves x y u c h.0 h.1
-form_does (Calculate op x b) u c h = calculates op x b u c h.0 h.1
-form_does (Compare x a) u c h = compares x a u c h.0 h.1
-form_does (Update op x a) u c h = updates op x a u c h
-form_does (Push x) u c h = pushes x u c h
-form_does (Modify m b) u c h = modifies m b u c
-form_does (SetStack n) u c h = sets_stack n u c h
-form_does EnableInterrupts u c h = enables u c
-form_does (Sense b) u c h = senses b u c
-form_does (Jump k o) u c h = jumps k o u c
-form_does (Skip n) u c h = skips n u c h
-form_does (Branch a) u c h = branches a u c h
-form_does (BranchIndexed b x) u c h = branches_indexed b x u c h
-form_does (SkipBy b) u c h = skips_by b u c h
+form_does events (Move x y) u c h = moves x y u c (needs_so events x u h.0) h.1
+form_does events (Calculate op x b) u c h = calculates op x b u c h.0 (needs_so events x u h.1)
+form_does events (Compare x a) u c h = compares x a u c (needs_so events x u h.0) h.1
+form_does events (Update op x a) u c h = updates op x a u c (h.0, h.1, needs_so events x u h.2, h.3)
+form_does events (Push x) u c h = pushes x u c (needs_so events x u h.0, h.1)
+form_does events (Modify m b) u c h = modifies m b u c
+form_does events (SetStack n) u c h = sets_stack n u c h.0
+form_does events EnableInterrupts u c h = enables u c
+form_does events (Sense b) u c h = senses b u c
+form_does events (Jump k o) u c h = jumps k o u c
+form_does events (Skip n) u c h = skips n u c h
+form_does events (Branch a) u c h = branches a u c h
+form_does events (BranchIndexed b x) u c h = branches_indexed b x u c h
+form_does events (SkipBy b) u c h = skips_by b u c h

@@ -21,7 +21,7 @@ use Rattle.code_forms.specs.Forms.{Form, Move, Calculate, Compare, Update, Push,
 use Rattle.code_forms.specs.Forms.{EnableInterrupts, SkipBy, source_operand, Target, ToRegister, target_operand, target_bytes, instruction_of, form_bytes}
 use Rattle.code_forms.specs.Forms.{Core}
 use Rattle.code_forms.specs.Code.{Stands, forms_bytes}
-use Rattle.code_forms.specs.Placed.{placed, words_of, instructions, Holds, AreInstructions, IsOutside}
+use Rattle.code_forms.specs.Placed.{placed_at, placed, words_of, instructions, Holds, AreInstructions, IsOutside}
 use Rattle.code_forms.specs.Laws.{FormsStandWherePlaced, PlacedIsTidy, IsNoHole, CodeInFramSteps}
 use Rattle.code_forms.proofs.Forms.{from_small, from_length, to_length}
 
@@ -113,13 +113,13 @@ fetched s p (w ∷ ws) e l b h =
 
 -- the instruction at an address of the list stands there
 pub placed_next : (s : MachineBoard) (is : List Instr) (p a : ℕ) (i : Instr) → AreInstructions is → p % 2 ≡ 0 → 0x4400 ≤ p
-    → p + 2 * length (words_of is) < 0x10000 → Holds s.fram p (words_of is) → placed p is a ≡ Some i
+    → p + 2 * length (words_of is) < 0x10000 → Holds s.fram p (words_of is) → placed_at p is a ≡ Some i
     → IsInstruction i × FetchedAt machine_bus (machine_opened s) a (encoding i)
 placed_next s [] p a i are e l b h q = cc
 placed_next s (j ∷ is) p a i are e l b h q =
     let long : length (words_of (j ∷ is)) ≡ length (encoding j) + length (words_of is) = length-append (encoding j) (words_of is) in
     let Is : Instr → Type 0 = λ x. IsInstruction x × FetchedAt machine_bus (machine_opened s) a (encoding x) in
-    (elim (a == p) as (λ x. (a == p) ≡ x → cond x (Some j) (placed (p + 2 * length (encoding j)) is a) ≡ Some i
+    (elim (a == p) as (λ x. (a == p) ≡ x → cond x (Some j) (placed_at (p + 2 * length (encoding j)) is a) ≡ Some i
     → IsInstruction i × FetchedAt machine_bus (machine_opened s) a (encoding i)) [
       | true ↦ λ t k.
           let at : a ≡ p = eqb-true a p t in
@@ -152,14 +152,15 @@ holds_stores [] f p ws s h = h
 holds_stores (e ∷ es) f p ws s h = holds_stores es (fram_after_one e f) p ws s.1 (holds_store f p ws e s.0 h)
 
 -- what isn't astray is as it is
-undisturbed_goes : (b : Bool) (i : Option Instr) (s t : MachineBoard) (es : List Effect) (c : ℕ) → is_exposed i s t ≡ b
-    → IsNoHole (undisturbed i s (Goes es c t)) → undisturbed i s (Goes es c t) ≡ Goes es c t
-undisturbed_goes true i s t es c e hole = absurd (hole [] 0 _ _ (ap (λ b. if b then Stops [] 0 (astray s) else Goes es c t) e))
-undisturbed_goes false i s t es c e hole = ap (λ b. if b then Stops [] 0 (astray s) else Goes es c t) e
+undisturbed_goes : (events b : Bool) (i : Option Instr) (s t : MachineBoard) (es : List Effect) (c : ℕ) → is_exposed events i s t ≡ b
+    → IsNoHole (undisturbed events i s (Goes es c t)) → undisturbed events i s (Goes es c t) ≡ Goes es c t
+undisturbed_goes events true i s t es c e hole = absurd (hole [] 0 _ _ (ap (λ b. if b then Stops [] 0 (astray s) else Goes es c t) e))
+undisturbed_goes events false i s t es c e hole = ap (λ b. if b then Stops [] 0 (astray s) else Goes es c t) e
 
-undisturbed_is : (i : Option Instr) (s : MachineBoard) (o : MachineOutcome) → IsNoHole (undisturbed i s o) → undisturbed i s o ≡ o
-undisturbed_is i s (Goes es c t) hole = undisturbed_goes (is_exposed i s t) i s t es c refl hole
-undisturbed_is i s (Stops es price e) hole = refl
+undisturbed_is : (events : Bool) (i : Option Instr) (s : MachineBoard) (o : MachineOutcome) → IsNoHole (undisturbed events i s o)
+    → undisturbed events i s o ≡ o
+undisturbed_is events i s (Goes es c t) hole = undisturbed_goes events (is_exposed events i s t) i s t es c refl hole
+undisturbed_is events i s (Stops es price e) hole = refl
 
 if_off : (n : ℕ) (o : MachineOutcome) → n ≡ 1 → Stops [] 0 stop.Off ≡ (if n == 1 then Stops [] 0 stop.Off else o)
 if_off n o e = rw e refl
@@ -168,8 +169,8 @@ if_on : (n : ℕ) (o : MachineOutcome) → n ≡ 0 → (if n == 1 then Stops [] 
 if_on n o e = rw e refl
 
 module _ (p : ℕ) (is : List Instr) (are : AreInstructions is) (even : p % 2 ≡ 0) (low : 0x4400 ≤ p) (high : p + 2 * length (words_of is) < 0x10000) where
-  abbrev there : Code
-  there = placed p is
+  abbrev there : ℕ → Option Instr
+  there = placed_at p is
 
   -- the instruction of the code is the machine's
   standing_at : (s : MachineBoard) (i : Instr) → Holds s.fram p (words_of is) → there (s.registers 0) ≡ Some i → off_bit s.registers ≡ 0
@@ -202,24 +203,24 @@ module _ (p : ℕ) (is : List Instr) (are : AreInstructions is) (even : p % 2 �
   step_as s o (Executes i c) h hole = executes_at s (there (s.registers 0)) i c h refl hole
 
   -- a step of the machine is a step of the code that stays
-  step_is : (s : MachineBoard) (o : MachineOutcome) → IsLookingStep s o → Holds s.fram p (words_of is) → IsNoHole (exec there s)
-      → o ≡ exec there s
-  step_is s o is_step h hole =
-      let same = undisturbed_is (there (s.registers 0)) s (step_with (there (s.registers 0)) s) hole in
+  step_is : (events : Bool) (s : MachineBoard) (o : MachineOutcome) → IsLookingStep s o → Holds s.fram p (words_of is)
+      → IsNoHole (exec (placed events p is) s) → o ≡ exec (placed events p is) s
+  step_is events s o is_step h hole =
+      let same = undisturbed_is events (there (s.registers 0)) s (step_with (there (s.registers 0)) s) hole in
       step_as s o is_step h (subst IsNoHole same hole) ∙ sym same
 
 -- code that stands in FRAM is executed as it stands
 pub code_in_fram_steps : CodeInFramSteps
-code_in_fram_steps p is s o are even low high is_step h hole = step_is p is are even low high s o is_step h hole
+code_in_fram_steps events p is s o are even low high is_step h hole = step_is p is are even low high events s o is_step h hole
 
 -- instructions stand at even addresses, within their bytes
-placed_within : (is : List Instr) (q : ℕ) → q % 2 ≡ 0 → (a : ℕ) (i : Instr) → placed q is a ≡ Some i
+placed_within : (is : List Instr) (q : ℕ) → q % 2 ≡ 0 → (a : ℕ) (i : Instr) → placed_at q is a ≡ Some i
     → (a % 2 ≡ 0) × (q ≤ a) × (a < q + 2 * length (words_of is))
 placed_within [] q e a i h = cc
 placed_within (j ∷ is) q e a i h =
     let long : length (words_of (j ∷ is)) ≡ length (encoding j) + length (words_of is) = length-append (encoding j) (words_of is) in
     let some = encoding_some j in
-    (elim (a == q) as (λ x. (a == q) ≡ x → cond x (Some j) (placed (q + 2 * length (encoding j)) is a) ≡ Some i → (a % 2 ≡ 0) × (q ≤ a) ×
+    (elim (a == q) as (λ x. (a == q) ≡ x → cond x (Some j) (placed_at (q + 2 * length (encoding j)) is a) ≡ Some i → (a % 2 ≡ 0) × (q ≤ a) ×
     (a < q + 2 * length (words_of (j ∷ is)))) [
       | true ↦ λ t k. let at : a ≡ q = eqb-true a q t in (omega arith, omega arith, omega (arith, long))
       | false ↦ λ t k. let r = placed_within is (q + 2 * length (encoding j)) (omega arith) a i k in let r0 = r.0 in let r1 = r.1 in let r2 = r.2 in
@@ -228,26 +229,26 @@ placed_within (j ∷ is) q e a i h =
 
 -- code that is placed is tidy
 pub placed_is_tidy : PlacedIsTidy
-placed_is_tidy is p e b a i h = let r = placed_within is p e a i h in let r0 = r.0 in let r2 = r.2 in record { even = r0; high = omega arith }
+placed_is_tidy events is p e b a i h = let r = placed_within is p e a i h in let r0 = r.0 in let r2 = r.2 in record { even = r0; high = omega arith }
 
-behind : (i : Instr) (is : List Instr) (p a : ℕ) → p < a → placed p (i ∷ is) a ≡ placed (p + 2 * length (encoding i)) is a
-behind i is p a l = ap (λ b. cond b (Some i) (placed (p + 2 * length (encoding i)) is a)) (ne_eqb a p (λ e. omega arith))
+behind : (i : Instr) (is : List Instr) (p a : ℕ) → p < a → placed_at p (i ∷ is) a ≡ placed_at (p + 2 * length (encoding i)) is a
+behind i is p a l = ap (λ b. cond b (Some i) (placed_at (p + 2 * length (encoding i)) is a)) (ne_eqb a p (λ e. omega arith))
 
-stands_behind : (ms : List Form) (q : ℕ) (i : Instr) (is : List Instr) (p : ℕ) → p < q → Stands (placed (p + 2 * length (encoding i)) is) q ms
-    → Stands (placed p (i ∷ is)) q ms
-stands_behind [] q i is p l h = tt
-stands_behind (m ∷ ms) q i is p l h = (behind i is p q l ∙ h.0, stands_behind ms (q + form_bytes m) i is p (omega arith) h.1)
+stands_behind : (events : Bool) (ms : List Form) (q : ℕ) (i : Instr) (is : List Instr) (p : ℕ) → p < q
+    → Stands (placed events (p + 2 * length (encoding i)) is) q ms → Stands (placed events p (i ∷ is)) q ms
+stands_behind events [] q i is p l h = tt
+stands_behind events (m ∷ ms) q i is p l h = (behind i is p q l ∙ h.0, stands_behind events ms (q + form_bytes m) i is p (omega arith) h.1)
 
 -- the forms stand where they are placed
 pub forms_stand : FormsStandWherePlaced
-forms_stand [] p = tt
-forms_stand (m ∷ ms) p =
+forms_stand events [] p = tt
+forms_stand events (m ∷ ms) p =
     let some = encoding_some (instruction_of m) in
     let are = bytes_are m in
     let e : p + 2 * length (encoding (instruction_of m)) ≡ p + form_bytes m = omega arith in (
-      ap (λ b. cond b (Some (instruction_of m)) (placed (p + 2 * length (encoding (instruction_of m))) (instructions ms) p)) (eq-eqb p p refl),
-      stands_behind ms (p + form_bytes m) (instruction_of m) (instructions ms) p (omega arith)
-          (subst (λ q. Stands (placed q (instructions ms)) (p + form_bytes m) ms) (sym e) (forms_stand ms (p + form_bytes m))),
+      ap (λ b. cond b (Some (instruction_of m)) (placed_at (p + 2 * length (encoding (instruction_of m))) (instructions ms) p)) (eq-eqb p p refl),
+      stands_behind events ms (p + form_bytes m) (instruction_of m) (instructions ms) p (omega arith)
+          (subst (λ q. Stands (placed events q (instructions ms)) (p + form_bytes m) ms) (sym e) (forms_stand events ms (p + form_bytes m))),
     )
 
 -- the bytes of forms behind forms

@@ -1,7 +1,7 @@
 -- The forms of instructions that the compiler and its runtime write, on a machine whose registers are told apart: what each is
 -- as an instruction, how long it is, what it needs and what it does (SLAU049 and SLAU144, CPU chapter).
 use Rattle.std.specs.Prelude.{ℕ, ◌+◌, ◌-◌, ◌%◌, ◌≡◌, ◌<◌, ◌≤◌, Bool, true, false, ◌==◌, if◌then◌else◌, List, [], ◌∷◌, ◌++◌, Option, Some, None}
-use Rattle.machine_effects.specs.address_space.Limits.{fram_end, stack_top, event_vector, HasStackRoom}
+use Rattle.machine_effects.specs.address_space.Limits.{fram_end, stack_top, stack_floor, stack_start, event_vector, HasStackRoom}
 use Rattle.machine_effects.specs.event_places.Places.{handler_place, head_place, ring_place}
 use Rattle.machine_effects.specs.alp_words.declared.Flags.{Flags}
 use Rattle.machine_effects.specs.alp_words.declared.Width.TheVariants.{Word}
@@ -19,7 +19,7 @@ use Rattle.machine_effects.specs.World.{put}
 use Rattle.machine_effects.specs.fram_board.Effects.{Effect}
 use Rattle.machine_effects.specs.Inputs.{Inputs, first_look, other_looks, look_effects}
 use Rattle.machine_effects.specs.Going.{StepOutcome, Goes, Stops, Stretch}
-use Rattle.machine_effects.specs.Machine.{MachineBoard, MachineOutcome, IsPlace, IsRam, stack_floor, stack_start}
+use Rattle.machine_effects.specs.Machine.{MachineBoard, MachineOutcome, IsPlace, IsRam}
 pub use Rattle.instruction_forms.specs.Encoding.{index_of, source_operand, source_bytes, target_operand, target_bytes, modification_operand}
 pub use Rattle.instruction_forms.specs.Encoding.{instruction_of, form_bytes}
 pub use Rattle.instruction_forms.specs.declared.kinds.WorkRegister.{WorkRegister}
@@ -164,19 +164,19 @@ pub record IsSlot (a : ℕ) : Type 0 where
   pub low : ring_place ≤ a
   pub high : a < event_vector
 
--- what it needs
-abbrev pub SourceNeeds : Source → Core → Type 0
-SourceNeeds (Register b) u = Unit {0}
-SourceNeeds (Number n) u = Unit {0}
-SourceNeeds (Constant k) u = Unit {0}
-SourceNeeds (Fram a) u = IsPlace a
-SourceNeeds (Ram a) u = IsRam a × (u.sp ≤ a)
-SourceNeeds (Pointed b) u = IsPlace (u.work (work_number b))
-SourceNeeds (PointedNext b) u = IsPlace (u.work (work_number b))
-SourceNeeds (Indexed b x) u = IsPlace (u.work (work_number b) + x)
-SourceNeeds Popped u = IsRam u.sp × (u.sp + 2 ≤ stack_start)
-SourceNeeds Head u = Unit {0}
-SourceNeeds (Slot b) u = IsSlot (u.work (work_number b) + ring_place)
+-- what it needs, in code that may take events or not
+abbrev pub SourceNeeds : Bool → Source → Core → Type 0
+SourceNeeds events (Register b) u = Unit {0}
+SourceNeeds events (Number n) u = Unit {0}
+SourceNeeds events (Constant k) u = Unit {0}
+SourceNeeds events (Fram a) u = IsPlace a
+SourceNeeds events (Ram a) u = IsRam a × (u.sp ≤ a)
+SourceNeeds events (Pointed b) u = IsPlace (u.work (work_number b))
+SourceNeeds events (PointedNext b) u = IsPlace (u.work (work_number b))
+SourceNeeds events (Indexed b x) u = IsPlace (u.work (work_number b) + x)
+SourceNeeds events Popped u = IsRam u.sp × (events ≡ true → u.sp + 2 ≤ stack_start)
+SourceNeeds events Head u = Unit {0}
+SourceNeeds events (Slot b) u = IsSlot (u.work (work_number b) + ring_place)
 
 -- the address in RAM at which it reads, if it does
 abbrev pub source_ram : Source → Core → Option ℕ
@@ -290,22 +290,22 @@ abbrev pub IsNotMov : TwoOp → Type 0
 IsNotMov Mov = ⊥
 IsNotMov _ = Unit {0}
 
--- what a form needs
-abbrev pub FormNeeds : Form → Core → Type 0
-FormNeeds (Move x y) u = SourceNeeds x u × TargetNeeds y (source_read x u)
-FormNeeds (Calculate op x b) u = IsNotMov op × SourceNeeds x u
-FormNeeds (Compare x a) u = SourceNeeds x u × IsPlace a
-FormNeeds (Update op x a) u = IsNotMov op × (writes_destination op ≡ true) × SourceNeeds x u × IsPlace a
-FormNeeds (Push x) u = SourceNeeds x u × HasPushRoom (source_read x u).sp
-FormNeeds (Modify m b) u = Unit {0}
-FormNeeds (SetStack n) u = n ≡ stack_start
-FormNeeds EnableInterrupts u = IsPrepared u
-FormNeeds (Sense b) u = Unit {0}
-FormNeeds (Jump c offset) u = Unit {0}
-FormNeeds (Skip n) u = n % 2 ≡ 0
-FormNeeds (Branch a) u = a % 2 ≡ 0
-FormNeeds (BranchIndexed b x) u = IsPlace (u.work (work_number b) + x) × (u.fram (u.work (work_number b) + x) % 2 ≡ 0)
-FormNeeds (SkipBy b) u = u.work (work_number b) % 2 ≡ 0
+-- what a form needs, in code that may take events or not
+abbrev pub FormNeeds : Bool → Form → Core → Type 0
+FormNeeds events (Move x y) u = SourceNeeds events x u × TargetNeeds y (source_read x u)
+FormNeeds events (Calculate op x b) u = IsNotMov op × SourceNeeds events x u
+FormNeeds events (Compare x a) u = SourceNeeds events x u × IsPlace a
+FormNeeds events (Update op x a) u = IsNotMov op × (writes_destination op ≡ true) × SourceNeeds events x u × IsPlace a
+FormNeeds events (Push x) u = SourceNeeds events x u × HasPushRoom (source_read x u).sp
+FormNeeds events (Modify m b) u = Unit {0}
+FormNeeds events (SetStack n) u = (n % 2 ≡ 0) × (events ≡ true → n ≡ stack_start)
+FormNeeds events EnableInterrupts u = (events ≡ true) × IsPrepared u
+FormNeeds events (Sense b) u = Unit {0}
+FormNeeds events (Jump c offset) u = Unit {0}
+FormNeeds events (Skip n) u = n % 2 ≡ 0
+FormNeeds events (Branch a) u = a % 2 ≡ 0
+FormNeeds events (BranchIndexed b x) u = IsPlace (u.work (work_number b) + x) × (u.fram (u.work (work_number b) + x) % 2 ≡ 0)
+FormNeeds events (SkipBy b) u = u.work (work_number b) % 2 ≡ 0
 
 -- the address in RAM at which a form reads, if it does
 abbrev pub ram_read : Form → Core → Option ℕ

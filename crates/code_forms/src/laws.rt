@@ -1,7 +1,7 @@
 //! Laws of the forms. The functions do nothing: their contracts are the laws.
 
 ghost use Rattle.code_forms.specs.Laws.{PoweredHasACore, FormsDoAsInstructions, StraightCodeLeads, FormsReadFromSp, FormsStandWherePlaced, PlacedIsTidy};
-ghost use Rattle.code_forms.specs.Laws.{CodeInFramSteps, CodeStaysPrepared, CodeStaysOpen, CodeStaysClosed};
+ghost use Rattle.code_forms.specs.Laws.{CodeInFramSteps, CodeGoesUndisturbed, CodeStaysPrepared, CodeStaysOpen};
 
 /// A machine that was powered up has SR and R3 at 0, so that its registers can be told apart.
 pub fn powered_machine_has_a_core()
@@ -39,11 +39,11 @@ pub fn code_in_fram_steps()
     ensures { CodeInFramSteps }
 {}
 
-/// Where the CPU accepts an interrupt behind a step of code that stays, FRAM names a handler and SP has room for it; from there on the
-/// CPU accepts interrupts behind each step. Where FRAM names no handler it accepts none.
-#[tactic(auto, using(crate::proofs::Rules::code_stays_prepared, crate::proofs::Rules::code_stays_open, crate::proofs::Rules::code_stays_closed))]
+/// Where the CPU accepts no interrupt in front of a step of code without events, it accepts none behind it. Where it accepts one behind a
+/// step of code with events, FRAM names a handler and SP has room for it; from there on the CPU accepts interrupts behind each step.
+#[tactic(auto, using(crate::proofs::Rules::code_goes_undisturbed, crate::proofs::Rules::code_stays_prepared, crate::proofs::Rules::code_stays_open))]
 pub fn code_keeps_the_rules_of_interrupts()
+    ensures undisturbed { CodeGoesUndisturbed }
     ensures prepared { CodeStaysPrepared }
     ensures open { CodeStaysOpen }
-    ensures closed { CodeStaysClosed }
 {}

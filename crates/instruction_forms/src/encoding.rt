@@ -117,11 +117,7 @@ pub fn instruction_of(form: &Form) -> Instr
             Src::Immediate(*address),
             Dst::Reg(Reg::Index(IndexRegister::Sp)),
         ),
-        Form::EnableInterrupts => two(
-            TwoOp::Bis,
-            Src::Constant(Konst::Eight),
-            Dst::Reg(Reg::Sr),
-        ),
+        Form::EnableInterrupts => two(TwoOp::Bis, Src::Constant(Konst::Eight), Dst::Reg(Reg::Sr)),
         Form::Sense(register) => two(
             TwoOp::Mov,
             Src::Operand(Operand::Absolute(SENSOR)),

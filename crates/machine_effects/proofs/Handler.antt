@@ -17,13 +17,13 @@ use Rattle.fram_board.specs.msp_cycles.Cycles.{cycles_of}
 use Rattle.fram_board.specs.msp_step.declared.machine.Stop.{Stop}
 use Rattle.fram_board.specs.msp_step.declared.machine.Stop.TheVariants as stop
 use Rattle.fram_board.specs.Bus.{is_ram, is_memory, is_word, with_byte, sensor_port, number_port, data_port}
-use Rattle.fram_board.specs.Effects.{Store, Outside, Offered}
+use Rattle.fram_board.specs.Effects.{Effect, Store, Outside, Offered}
 use Rattle.machine_effects.specs.World.{put}
-use Rattle.machine_effects.specs.Inputs.{Look}
-use Rattle.machine_effects.specs.Going.{Goes, Stops}
+use Rattle.machine_effects.specs.Inputs.{Look, first_look, other_looks, look_effects}
+use Rattle.machine_effects.specs.Going.{Goes, Stops, step_behind}
 use Rattle.machine_effects.specs.Machine.{MachineBus, machine_bus, machine_word, word_address, is_readable, reading_taken, machine_after_read, machine_stored}
 use Rattle.machine_effects.specs.Machine.{word_written, machine_port_written, machine_written, MachineBoard, machine_opened_seeing, MachineOutcome, machine_outcome}
-use Rattle.machine_effects.specs.Machine.{looks_there, machine_executed_seeing, executed_looking, code_executed, standing, step_with, astray, is_exposed, undisturbed}
+use Rattle.machine_effects.specs.Machine.{looks_there, machine_executed_seeing, machine_executed, executed_looking, standing, step_with, astray, is_exposed, undisturbed}
 use Rattle.machine_effects.specs.Laws.{KeepsTheHandler, CodeKeepsTheHandler}
 use Rattle.machine_effects.proofs.Worlds.{put_other}
 
@@ -109,15 +109,16 @@ executed_keeps ring s i =
     outcome_keeps ring s (s.registers 0) (cycles_of i) (effect machine_bus i s.registers t)
     (ends_keep t (effect machine_bus i s.registers t) (effect_ends machine_bus i s.registers t))
 
-keeps_behind_look : (more : List Look) (s : MachineBoard) (o : MachineOutcome)
-    → KeepsTheHandler (record s { inputs = record s.inputs { looks = more } }) o → KeepsTheHandler s o
-keeps_behind_look more s (Goes es c t) h = h
-keeps_behind_look more s (Stops es price x) h = tt
+keeps_behind_look : (es : List Effect) (more : List Look) (s : MachineBoard) (o : MachineOutcome)
+    → KeepsTheHandler (record s { inputs = record s.inputs { looks = more } }) o → KeepsTheHandler s (step_behind es o)
+keeps_behind_look es more s (Goes fs c t) h = h
+keeps_behind_look es more s (Stops fs price x) h = tt
 
 looking_keeps : (looks : List Look) (s : MachineBoard) (i : Instr) → KeepsTheHandler s (executed_looking looks s i)
-looking_keeps [] s i = executed_keeps None s i
-looking_keeps (look ∷ more) s i =
-    keeps_behind_look more s _ (executed_keeps (Some look) (record s { inputs = record s.inputs { looks = more } }) i)
+looking_keeps looks s i =
+    let behind : MachineBoard = record s { inputs = record s.inputs { looks = other_looks looks } } in
+    let look : Option Look = Some (first_look looks) in
+    keeps_behind_look (look_effects looks) (other_looks looks) s (machine_executed_seeing look behind i) (executed_keeps look behind i)
 
 either_keeps : (b : Bool) (s : MachineBoard) (o p : MachineOutcome) → KeepsTheHandler s o → KeepsTheHandler s p → KeepsTheHandler s (if b then o else p)
 either_keeps true s o p h k = h
@@ -125,16 +126,18 @@ either_keeps false s o p h k = k
 
 standing_keeps : (o : Option Instr) (s : MachineBoard) → KeepsTheHandler s (standing o s)
 standing_keeps None s = tt
-standing_keeps (Some i) s = either_keeps (looks_there i) s _ _ (looking_keeps s.inputs.looks s i) (executed_keeps None s i)
+standing_keeps (Some i) s = either_keeps (looks_there i) s (executed_looking s.inputs.looks s i) (machine_executed s i) (looking_keeps s.inputs.looks s i) (executed_keeps None s i)
 
 step_keeps : (i : Option Instr) (s : MachineBoard) → KeepsTheHandler s (step_with i s)
 step_keeps i s = either_keeps (off_bit s.registers == 1) s (Stops [] 0 stop.Off) (standing i s) tt (standing_keeps i s)
 
-undisturbed_keeps : (i : Option Instr) (s : MachineBoard) (o : MachineOutcome) → KeepsTheHandler s o → KeepsTheHandler s (undisturbed i s o)
-undisturbed_keeps i s (Goes es c t) h = either_keeps (is_exposed i s t) s (Stops [] 0 (astray s)) (Goes es c t) tt h
-undisturbed_keeps i s (Stops es price e) h = tt
+undisturbed_keeps : (events : Bool) (i : Option Instr) (s : MachineBoard) (o : MachineOutcome) → KeepsTheHandler s o
+    → KeepsTheHandler s (undisturbed events i s o)
+undisturbed_keeps events i s (Goes es c t) h = either_keeps (is_exposed events i s t) s (Stops [] 0 (astray s)) (Goes es c t) tt h
+undisturbed_keeps events i s (Stops es price e) h = tt
 
 -- code that stays leaves it
 pub code_keeps_the_handler : CodeKeepsTheHandler
 code_keeps_the_handler code s =
-    undisturbed_keeps (code (s.registers 0)) s (step_with (code (s.registers 0)) s) (step_keeps (code (s.registers 0)) s)
+    let i = code.at (s.registers 0) in
+    undisturbed_keeps code.events i s (step_with i s) (step_keeps i s)

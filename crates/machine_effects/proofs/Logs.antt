@@ -303,13 +303,16 @@ undisturbed_if : (b : Bool) (s : MachineBoard) (o : MachineOutcome) → ChangesB
 undisturbed_if true s o h = (refl, (s.inputs, takes_nothing s.inputs))
 undisturbed_if false s o h = h
 
-undisturbed_changes : (i : Option Instr) (s : MachineBoard) (o : MachineOutcome) → ChangesByEffects s o → ChangesByEffects s (undisturbed i s o)
-undisturbed_changes i s (Goes es c t) h = undisturbed_if (is_exposed i s t) s (Goes es c t) h
-undisturbed_changes i s (Stops es price e) h = h
+undisturbed_changes : (events : Bool) (i : Option Instr) (s : MachineBoard) (o : MachineOutcome) → ChangesByEffects s o
+    → ChangesByEffects s (undisturbed events i s o)
+undisturbed_changes events i s (Goes es c t) h = undisturbed_if (is_exposed events i s t) s (Goes es c t) h
+undisturbed_changes events i s (Stops es price e) h = h
 
 -- code changes FRAM and inputs as its effects say
 pub code_changes_by_effects : CodeChangesByEffects
-code_changes_by_effects code s = undisturbed_changes (code (s.registers 0)) s (step_with (code (s.registers 0)) s) (step_changes (code (s.registers 0)) s)
+code_changes_by_effects code s =
+    let i = code.at (s.registers 0) in
+    undisturbed_changes code.events i s (step_with i s) (step_changes i s)
 
 -- a machine changes as its effects say
 pub machine_changes_by_effects : MachineChangesByEffects

@@ -31,7 +31,7 @@ use Rattle.machine_effects.specs.Laws.{SeenByWords}
 use Rattle.machine_effects.proofs.Steps.{current_on}
 
 -- the word behind the first one, where there is one
-NextIs : List ℕ → ℕ → Type 0
+abbrev NextIs : List ℕ → ℕ → Type 0
 NextIs [] next = Unit {0}
 NextIs (w ∷ []) next = Unit {0}
 NextIs (w ∷ (x ∷ ws)) next = next ≡ x

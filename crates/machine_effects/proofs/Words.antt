@@ -89,9 +89,9 @@ all_head w ws h = h zero 0 (omega arith)
 word_small : (t : MachineBus) (a : ℕ) → OfWords t → IsWord (machine_word t a)
 word_small t a q = either_small (is_ram a) (t.ram (word_address a)) (t.fram (word_address a)) (q.ram (word_address a)) (q.fram (word_address a))
 
-first_small : (ws : List ℕ) (v : ℕ) → All (λ x. x < 0x10000) ws → first_reading ws ≡ Ok v → IsWord v
-first_small [] v h e = absurd cc
-first_small (w ∷ ws) v h e = let same : w ≡ v = cc in subst IsWord same (all_head w ws h)
+reading_small : (ws : List ℕ) (v : ℕ) → All (λ x. x < 0x10000) ws → first_reading ws ≡ Ok v → IsWord v
+reading_small [] v h e = absurd cc
+reading_small (w ∷ ws) v h e = let same : w ≡ v = cc in subst IsWord same (all_head w ws h)
 
 -- what a test leads to
 ok_on : (b : Bool) (x v : ℕ) (o : Result ℕ Refused) → IsWord x → (o ≡ Ok v → IsWord v) → (if b then Ok x else o) ≡ Ok v → IsWord v
@@ -124,7 +124,7 @@ word_read_small t a v q e =
 machine_read_small : (t : MachineBus) (a : ℕ) (w : Width) (v : ℕ) → OfWords t → machine_read t a w ≡ Ok v → IsWord v
 machine_read_small t a Word v q e =
     read_on (is_word a) v (word_read t a) _ (λ g. word_read_small t a v q g) (λ g. sensed_on (a == sensor_port) v (first_reading t.inputs.readings)
-    (λ r. first_small t.inputs.readings v q.inputs.readings r) g) e
+    (λ r. reading_small t.inputs.readings v q.inputs.readings r) g) e
 machine_read_small t a Byte v q e =
     ok_on (is_memory a && is_readable t.floor a) (byte_of (machine_word t a) a) v _ (byte_small (machine_word t a) a (word_small t a q)) (λ g. no_word v g) e
 
@@ -298,14 +298,14 @@ stopped_if_words : (b : Bool) (e : Stop) (o : MachineOutcome) → LeavesWords o 
 stopped_if_words true e o h = tt
 stopped_if_words false e o h = h
 
-undisturbed_words : (i : Option Instr) (s : MachineBoard) (o : MachineOutcome) → LeavesWords o → LeavesWords (undisturbed i s o)
-undisturbed_words i s (Goes es c t) h = stopped_if_words (is_exposed i s t) (astray s) (Goes es c t) h
-undisturbed_words i s (Stops es price e) h = tt
+undisturbed_words : (events : Bool) (i : Option Instr) (s : MachineBoard) (o : MachineOutcome) → LeavesWords o → LeavesWords (undisturbed events i s o)
+undisturbed_words events i s (Goes es c t) h = stopped_if_words (is_exposed events i s t) (astray s) (Goes es c t) h
+undisturbed_words events i s (Stops es price e) h = tt
 
 pub code_words_stay_words : CodeWordsStayWords
 code_words_stay_words code s e h =
-    undisturbed_words (code (s.registers 0)) s (step_with (code (s.registers 0)) s)
-    (stopped_if_words (off_bit s.registers == 1) stop.Off (standing (code (s.registers 0)) s) (standing_words (code (s.registers 0)) s e h))
+    let i = code.at (s.registers 0) in
+    undisturbed_words code.events i s (step_with i s) (stopped_if_words (off_bit s.registers == 1) stop.Off (standing i s) (standing_words i s e h))
 
 -- the board's bus
 record ListsOfWords (s : BusState) : Type 0 where

@@ -110,7 +110,7 @@ MachineWordsStayWords = (s : MachineBoard) (o : MachineOutcome) → IsMachineOfW
 
 -- and in code that stays, where its instructions are encoded in words
 abbrev pub CodeWordsStayWords : Type 0
-CodeWordsStayWords = (code : Code) (s : MachineBoard) → ((i : Instr) → code (s.registers 0) ≡ Some i → All (λ w. w < 0x10000) (encoding i))
+CodeWordsStayWords = (code : Code) (s : MachineBoard) → ((i : Instr) → code.at (s.registers 0) ≡ Some i → All (λ w. w < 0x10000) (encoding i))
     → IsMachineOfWords s → LeavesWords (exec code s)
 
 -- words stay words on the board

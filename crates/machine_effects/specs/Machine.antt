@@ -5,7 +5,7 @@
 -- below SP and of FRAM from the handler on, and writes of a byte in that RAM and of anything in that FRAM.
 use Rattle.std.specs.Prelude.{ℕ, ◌+◌, ◌-◌, ◌*◌, ◌%◌, ◌≡◌, ◌<◌, ◌≤◌, Bool, true, false, nat_le, nat_lt, ◌==◌, ◌&&◌, ◌||◌, not, if◌then◌else◌}
 use Rattle.std.specs.Prelude.{slice_index, List, [], ◌∷◌, ◌++◌, Result, Ok, Err, Option, Some, None}
-use Rattle.fram_board.specs.address_space.Limits.{ram_first, ram_end, spare_words, fram_first, event_vector, reset_vector}
+use Rattle.fram_board.specs.address_space.Limits.{ram_first, ram_end, stack_floor, stack_start, fram_first, event_vector, reset_vector}
 pub use Rattle.fram_board.specs.address_space.Limits.{IsFramWord as IsFram}
 use Rattle.event_places.specs.Places.{handler_place, is_ring}
 use Rattle.fram_board.specs.alp_words.declared.Width.{Width}
@@ -238,24 +238,18 @@ standing None s = Stops [] 0 (stop.Illegal (s.registers 0) (word_in s.fram s.ram
 abbrev pub step_with : Option Instr → MachineBoard → MachineOutcome
 step_with i s = if off_bit s.registers == 1 then Stops [] 0 stop.Off else standing i s
 
--- code that stays: the instruction that stands at each address
-abbrev pub Code : Type 0
-Code = ℕ → Option Instr
+-- code that stays: the instruction that stands at each address, and whether a handler of events may run between any two of them
+pub record Code : Type 0 where
+  pub at : ℕ → Option Instr
+  pub events : Bool
 
 -- where code goes astray
 abbrev pub astray : MachineBoard → Stop
 astray s = stop.Illegal (s.registers 0) (word_in s.fram s.ram (s.registers 0))
 
--- ---- between two instructions of code the CPU may accept an interrupt, and a handler then runs, on the stack of the code
+-- ---- between two instructions of code with events the CPU may accept an interrupt, and a handler then runs, on the stack of the code
 
--- the lowest SP at which that may be: below it a handler has its words
-abbrev pub stack_floor : ℕ
-stack_floor = ram_first + 2 * spare_words
-
--- where the stack of code begins: behind it stand its other words of RAM
-abbrev pub stack_start : ℕ
-stack_start = 0x2210
-
+-- SP stands where a handler has room for its words below it, and above it nothing but what the code keeps there
 abbrev pub in_stack : ℕ → Bool
 in_stack sp = nat_le stack_floor sp && nat_le sp stack_start
 
@@ -273,22 +267,27 @@ pushes _ = false
 abbrev pub keeps_stack : Option Instr → ℕ → ℕ → Bool
 keeps_stack i p q = (q == p) || ((q == stack_start) || ((nat_le p q && nat_le q stack_start) || (pushes i && ((q + 2 == p) && nat_le stack_floor q))))
 
--- a step with this instruction from one machine to another that breaks the rules of interrupts: it lets the CPU accept them on a
--- machine that isn't prepared; or where it accepts them, it stops that, or moves SP otherwise
-abbrev pub is_exposed : Option Instr → MachineBoard → MachineBoard → Bool
-is_exposed i s t =
+-- a step with this instruction from one machine to another, of code that may be interrupted, breaks the rules of interrupts: it lets
+-- the CPU accept them on a machine that isn't prepared; or where it accepts them, it stops that, or moves SP otherwise
+abbrev pub breaks_rules : Option Instr → MachineBoard → MachineBoard → Bool
+breaks_rules i s t =
     if is_interruptible t.registers
     then not (if is_interruptible s.registers then keeps_stack i (s.registers 1) (t.registers 1) else is_prepared t)
     else is_interruptible s.registers
 
--- code that stays goes astray, too, with a step that breaks them
-abbrev pub undisturbed : Option Instr → MachineBoard → MachineOutcome → MachineOutcome
-undisturbed i s (Goes es c t) = if is_exposed i s t then Stops [] 0 (astray s) else Goes es c t
-undisturbed i s (Stops es price e) = Stops es price e
+-- a step that code may not make: with events one that breaks the rules, without them one that lets the CPU accept interrupts
+abbrev pub is_exposed : Bool → Option Instr → MachineBoard → MachineBoard → Bool
+is_exposed true i s t = breaks_rules i s t
+is_exposed false i s t = is_interruptible t.registers && not (is_interruptible s.registers)
+
+-- code that stays goes astray, too, with such a step
+abbrev pub undisturbed : Bool → Option Instr → MachineBoard → MachineOutcome → MachineOutcome
+undisturbed events i s (Goes es c t) = if is_exposed events i s t then Stops [] 0 (astray s) else Goes es c t
+undisturbed events i s (Stops es price e) = Stops es price e
 
 -- the step of a machine whose instructions come from code that stays, whatever FRAM holds
 abbrev pub exec : Code → MachineBoard → MachineOutcome
-exec code s = undisturbed (code (s.registers 0)) s (step_with (code (s.registers 0)) s)
+exec code s = undisturbed code.events (code.at (s.registers 0)) s (step_with (code.at (s.registers 0)) s)
 
 -- an even address in RAM
 pub record IsRam (a : ℕ) : Type 0 where

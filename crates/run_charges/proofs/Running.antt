@@ -31,14 +31,14 @@ use Rattle.run_charges.specs.Charges.{IsInstruction, AreInstructionMoments, IsPl
 use Rattle.run_charges.proofs.View.{no_gap}
 use Rattle.run_charges.proofs.Moments.{told, same_step, front_sees, nothing_seen, whole_after, words_after, fram_changed}
 
--- a program in FRAM, with the marks of its runs: where it stands, and the entry in the reset vector
+-- a program without events in FRAM, with the marks of its runs: where it stands, and the entry in the reset vector
 pub record PlacedProgram : Type 1 where
   pub program : Program
   pub marks : Marks
   pub place : ℕ
   pub instructions : List Instr
   pub entry : ℕ
-  pub is : IsPlacedProgram program place instructions entry
+  pub is : IsPlacedProgram program false place instructions entry
 
 module _ (on : PlacedProgram) where
   abbrev step : MachineBoard → MachineOutcome
@@ -59,7 +59,7 @@ module _ (on : PlacedProgram) where
     pub leaves : (looks : List Look) → SeeWords looks → (n : ℕ) → Leaves (going step n (outside_with looks b))
 
   -- a step that leaves the code isn't astray, and each access is served
-  no_hole : (s : MachineBoard) → Leaves (going step 1 s) → IsNoHole (exec (placed on.place on.instructions) s)
+  no_hole : (s : MachineBoard) → Leaves (going step 1 s) → IsNoHole (exec (placed false on.place on.instructions) s)
   no_hole s l es price pc word e =
       l.stands price pc word (ap (λ o. (continued o (going step 0)).status) (ap (λ f. f s) on.is.steps ∙ e))
 
@@ -98,7 +98,7 @@ module _ (on : PlacedProgram) where
     pub program_steps : (looks : List Look) → SeeWords looks → (o : MachineOutcome) → IsLookingStep (outside_with looks b) o → o ≡ step (outside_with looks b)
     program_steps looks see o is =
         let s = outside_with looks b in
-        code_in_fram_steps on.place on.instructions s o on.is.instructions on.is.even on.is.low on.is.high is run.holds
+        code_in_fram_steps false on.place on.instructions s o on.is.instructions on.is.even on.is.low on.is.high is run.holds
         (no_hole s (run.leaves looks see 1))
         ∙ ap (λ f. f s) (sym on.is.steps)
 
@@ -154,8 +154,8 @@ module _ (on : PlacedProgram) where
         runs_on = record {
           whole = whole_after b run.whole i done current answer own;
           words = words_after b run.whole i done current answer own run.words;
-          quiet = code_goes_undisturbed (placed on.place on.instructions) here (outside_of next) es done.cycles
-              (ap (λ f. f here) (sym on.is.steps) ∙ goes [] nothing_seen);
+          quiet = code_goes_undisturbed (placed false on.place on.instructions) here (outside_of next) es done.cycles refl
+              (ap (λ f. f here) (sym on.is.steps) ∙ goes [] nothing_seen) run.quiet;
           holds = subst (λ (g : ℕ → ℕ). Holds g on.place code_words) (sym fram)
               (holds_stores es (outside_of b).fram on.place code_words
               (first_stores here (outside_of next) es done.cycles (goes [] nothing_seen) (run.leaves (seen_at_pc b ++ []) (front [] nothing_seen) 1))

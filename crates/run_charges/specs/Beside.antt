@@ -2,7 +2,7 @@
 -- handler, and the charges that a front of such a run is. Between two instructions of the program a handler may write HEAD and the ring,
 -- and RAM below SP; the machine can't depend on those (machine_is_blind), and what its instructions see of the ring they take as looks.
 use Rattle.std.specs.Prelude.{◌≡◌, ℕ, ◌+◌, ◌*◌, ◌<◌, ◌≤◌, nat_le, Bool, true, false, if◌then◌else◌, List, [], ◌∷◌, ◌++◌, length, drop, Ok}
-use Rattle.address_space.specs.Limits.{stack_top}
+use Rattle.address_space.specs.Limits.{stack_floor, stack_top}
 use Rattle.event_places.specs.Places.{handler_place, is_ring}
 use Rattle.msp_isa.specs.declared.instructions.Instr.{Instr}
 use Rattle.msp_step.specs.Registers.{registers_of}
@@ -18,7 +18,7 @@ use Rattle.machine_effects.specs.Machine.{MachineBoard, fram_of, ram_of}
 use Rattle.machine_effects.specs.View.{machine_with, seen_at_pc, IsMachines}
 use Rattle.machine_effects.specs.Runs.{action_effects, action_cycles, last_board}
 use Rattle.event_handler.specs.Handler.{Stage, HasHandler, instruction_at}
-use Rattle.event_handler.specs.Boundaries.{lowest_stack, IsInterrupted, IsInHandler, cycles_left}
+use Rattle.event_handler.specs.Boundaries.{IsInterrupted, IsInHandler, cycles_left}
 use Rattle.code_forms.specs.Placed.{words_of, Holds}
 use Rattle.crash_rules.specs.Model.{Marks}
 use Rattle.crash_rules.specs.History.{History, observe, behind_boot}
@@ -36,7 +36,7 @@ steady_with looks b = record (machine_with looks b) { fram = steady (fram_of b.f
 
 -- room for the handler on the stack, and the handler
 pub record IsReadyForEvents (b : BoardValue) (u : MachineBoard) : Type 0 where
-  pub low : lowest_stack ≤ u.registers 1
+  pub low : stack_floor ≤ u.registers 1
   pub high : u.registers 1 ≤ stack_top
   pub handler : HasHandler (fram_of b.fram)
 
@@ -157,7 +157,7 @@ AreBeside b (m ∷ ms) = (m.before ≡ b) × IsMomentBeside b m × AreBeside m.a
 pub record StandsBeside (c : Program) (marks : Marks) (b : BoardValue) (h : History) : Type 0 where
   pub place : ℕ
   pub instructions : List Instr
-  pub placed : IsPlacedProgram c place instructions ((steady_with [] b).fram 0xFFFE)
+  pub placed : IsPlacedProgram c true place instructions ((steady_with [] b).fram 0xFFFE)
   pub high : place + 2 * length (words_of instructions) ≤ handler_place
   pub holds : Holds (steady_with [] b).fram place (words_of instructions)
   pub handler : HasHandler (fram_of b.fram)

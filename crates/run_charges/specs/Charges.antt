@@ -1,5 +1,5 @@
 -- The charges of a board's run as charges of the machine.
-use Rattle.std.specs.Prelude.{◌≡◌, ℕ, ◌+◌, ◌*◌, ◌%◌, ◌<◌, ◌≤◌, List, [], ◌∷◌, ◌++◌, length, All}
+use Rattle.std.specs.Prelude.{◌≡◌, Bool, ℕ, ◌+◌, ◌*◌, ◌%◌, ◌<◌, ◌≤◌, List, [], ◌∷◌, ◌++◌, length, All}
 use Rattle.address_space.specs.Limits.{fram_first, fram_end, reset_vector}
 use Rattle.msp_isa.specs.declared.instructions.Instr.{Instr}
 use Rattle.fram_board.specs.Board.{BoardValue, PowerState, powered}
@@ -87,13 +87,14 @@ abbrev pub charges_of : List ChargeFront → List Charge
 charges_of [] = []
 charges_of (c ∷ cs) = record { powered = outside_with (looks_in c.instructions) (board_powered c); steps = length c.instructions } ∷ charges_of cs
 
--- a program that is instructions placed in FRAM from p on, and which boards a power-up leaves where the reset vector is its entry
-pub record IsPlacedProgram (c : Program) (p : ℕ) (is : List Instr) (entry : ℕ) : Type 0 where
+-- a program that is instructions placed in FRAM from p on, which may take events or not, and which boards a power-up leaves where the reset
+-- vector is its entry
+pub record IsPlacedProgram (c : Program) (events : Bool) (p : ℕ) (is : List Instr) (entry : ℕ) : Type 0 where
   pub instructions : AreInstructions is
   pub even : p % 2 ≡ 0
   pub low : fram_first ≤ p
   pub high : p + 2 * length (words_of is) < fram_end
-  pub steps : c.step ≡ exec (placed p is)
+  pub steps : c.step ≡ exec (placed events p is)
   pub powers : (s : MachineBoard) (q : PowerState) → IsMachineOfWords s → IsPowerState q → s.fram reset_vector ≡ entry → c.IsPoweredUp (machine_powered s q)
 
 -- steps that store on none of so many words from p on, nor on the reset vector, never go astray, and whose accesses are served

@@ -1,5 +1,5 @@
 -- Laws that join a board's run, the machine, and the charges of the crash theorem.
-use Rattle.std.specs.Prelude.{◌≡◌, ℕ, List, ◌++◌, length}
+use Rattle.std.specs.Prelude.{◌≡◌, false, ℕ, List, ◌++◌, length}
 use Rattle.msp_isa.specs.declared.instructions.Instr.{Instr}
 use Rattle.fram_board.specs.Board.{BoardValue}
 use Rattle.fram_board.specs.Run.{BoardCharge, Moment, RunOutcome, Run}
@@ -40,12 +40,12 @@ pub record IsChargedBy (c : Program) (marks : Marks) (b : BoardValue) (h : Histo
   pub front : IsOfCharges b ms
   pub charged : Charged c marks (outside_of b) h (charges_of front.charges) (outside_of (board_behind_all b front.charges)) (observed marks ms h)
 
--- a program stands in FRAM, and wherever its charges lead a further one leaves it and the reset vector as they are, never goes astray, and
+-- a program without events stands in FRAM, and wherever its charges lead a further one leaves it and the reset vector as they are, never goes astray, and
 -- has each access served
 pub record StandsIn (c : Program) (marks : Marks) (b : BoardValue) (h : History) : Type 0 where
   pub place : ℕ
   pub instructions : List Instr
-  pub placed : IsPlacedProgram c place instructions ((outside_of b).fram 0xFFFE)
+  pub placed : IsPlacedProgram c false place instructions ((outside_of b).fram 0xFFFE)
   pub holds : Holds (outside_of b).fram place (words_of instructions)
   pub leaves : AlwaysLeaves c place (length (words_of instructions)) marks (outside_of b) h
 
