@@ -1,9 +1,8 @@
 -- What a program must have so that code can be made of it: each way through it, with conditions free and loops with their turns,
 -- ends in a jump, takes no word from an empty stack, and reads no local before it is assigned; and there is room.
 use Rattle.std.specs.Prelude.{ℕ, zero, suc, ◌+◌, ◌-◌, ◌*◌, ◌%◌, ◌≡◌, ◌≢◌, ◌<◌, ◌≤◌, ◌||◌, Bool, true, false, nat_eq, max}
-use Rattle.machine_effects.specs.address_space.Limits.{stack_top, HasStackRoom}
+use Rattle.machine_effects.specs.address_space.Limits.{stack_top, stack_start, HasStackRoom}
 use Rattle.machine_effects.specs.alp_words.Words.{IsWord}
-use Rattle.machine_effects.specs.Machine.{stack_start}
 use Rattle.array_versions.specs.declared.program.ArrayPlace.{ArrayPlace}
 use Rattle.array_versions.specs.declared.program.ListPlace.{ListPlace}
 use Rattle.array_versions.specs.declared.operations.LongOperation.{LongOperation}
@@ -246,14 +245,12 @@ pub record IsWhole (p : Program) : Type 0 where
   pub loops_count : LoopsCount p
   pub ways : EachWay room p (λ q. ⊥) start
 
--- a place for the stack of a whole program: below its locals in RAM, with room for its words
-pub record IsStackOf (base : ℕ) (p : Program) (whole : IsWhole p) : Type 0 where
-  pub even : base % 2 ≡ 0
-  pub start : base ≤ stack_start
-  pub low : base ≤ stack_base whole.locals
-  pub fits : HasStackRoom base whole.room
+-- it has room for a stack that begins where that of a source with events does: below its locals in RAM
+pub record FitsEvents (p : Program) (whole : IsWhole p) : Type 0 where
+  pub low : stack_start ≤ stack_base whole.locals
+  pub room : HasStackRoom stack_start whole.room
 
--- a whole program whose stack may begin where that of compiled code does
+-- a whole program whose stack has that room
 pub record FitsTheStack (p : Program) : Type 0 where
   pub whole : IsWhole p
-  pub stack : IsStackOf stack_start p whole
+  pub fits : FitsEvents p whole

@@ -15,7 +15,7 @@ use Rattle.runtime_code.specs.code_forms.Forms.{Core, Form, Branch}
 use Rattle.runtime_code.specs.code_forms.Code.{Stands, IsTidy, forms_bytes}
 use Rattle.runtime_code.proofs.code_forms.Interface.{stands_front, stands_back, forms_at, forms_behind}
 use Rattle.runtime_code.specs.runtime_effects.Stages.{opening_effects, copied_in}
-use Rattle.runtime_code.specs.Addresses.{gate_address}
+use Rattle.runtime_code.specs.Addresses.{gate_address, stack_origin}
 use Rattle.runtime_code.specs.Comes.{Comes, IsAt}
 use Rattle.runtime_code.specs.Counted.{if_any}
 use Rattle.runtime_code.specs.Ladder.{ladder, all_stubs}
@@ -35,14 +35,14 @@ gate_is_not_one : (n : ℕ) → n < 0x10000 → n ≢ 1 → ((n + 65534 + 1) % 6
 gate_is_not_one n l h = grind (arith, nat_tests, l, h)
 
 -- SP is set, and the CPU accepts interrupts, where there are events
-enables : (code : Code) → IsTidy code → (events : Bool) (p : ℕ) (f : ℕ → ℕ) (l : Inputs) (u : Core) → (events ≡ true → f event_vector ≡ handler_place)
-    → Stands code p (where_events events interrupts_set) → IsAt p f l u
+enables : (code : Code) → IsTidy code → (events : Bool) (p : ℕ) (f : ℕ → ℕ) (l : Inputs) (u : Core) → code.events ≡ events
+    → (events ≡ true → f event_vector ≡ handler_place) → Stands code p (where_events events interrupts_set) → IsAt p f l u
     → Comes code [] (with_events events 2) (with_events events 3) u (IsAt (gate_address events p) f l)
-enables code tidy true p f l u named h at =
+enables code tidy true p f l u taken named h at =
     from_there u at (ends (straight code tidy interrupts_set (core_at p f l u) (tt, (tt, tt)) h
-    (refl, (record { vector = named refl; low = omega arith; high = omega arith }, tt)) refl)
+    ((refl, λ e. refl), ((taken, record { vector = named refl; low = omega arith; high = omega arith }), tt)) refl)
     (record { pc = omega arith; fram = refl; inputs = refl }))
-enables code tidy false p f l u named h at =
+enables code tidy false p f l u taken named h at =
     let e : p ≡ p + 0 = omega arith in nothing code u (IsAt (p + 0) f l) (subst (λ n. IsAt n f l u) e at)
 
 -- a number below the end isn't the end
@@ -89,7 +89,7 @@ module _ (code : Code) (m : MemoryMap) (commit : ℕ) (tasks : List TaskEntry) (
   -- where there are events interrupts are enabled in front of it
   enabled : u.pc ≡ at → NamesHandler m fram → Comes code [] (with_events events 2) (with_events events 3) u (IsAt gate_at fram inputs)
   enabled e named =
-      enables code boot.tidy events at fram inputs u named
+      enables code boot.tidy events at fram inputs u boot.events named
       (stands_front code at (interrupts_enabled m) from_gate
       (subst (Stands code at) (append_assoc (interrupts_enabled m) (gated_forms m commit) ladder_and_stubs) boot.stands))
       (record { pc = e; fram = refl; inputs = refl })
@@ -100,7 +100,7 @@ module _ (code : Code) (m : MemoryMap) (commit : ℕ) (tasks : List TaskEntry) (
   commits e named one =
       comes_on (enabled e named) (λ w j. comes_on (looked w one j)
       (λ v k. form_comes code boot.tidy (Branch commit) v (record v { pc = commit }) [] 3 (IsAt commit fram inputs)
-      (ap code (k.pc ∙ omega arith) ∙ gated.1.1.0) boot.even_commit refl (record { pc = refl; fram = k.fram; inputs = k.inputs })))
+      (ap code.at (k.pc ∙ omega arith) ∙ gated.1.1.0) boot.even_commit refl (record { pc = refl; fram = k.fram; inputs = k.inputs })))
 
   attempts : u.pc ≡ at → NamesHandler m fram → fram (word_place m Gate) < 0x10000 → fram (word_place m Gate) ≢ 1
       → Comes code [] (with_events events 2 + 2) (with_events events 3 + 6) u (IsAt (gate_at + 10) fram inputs)
@@ -143,6 +143,7 @@ module _ (code : Code) (m : MemoryMap) (commit : ℕ) (tasks : List TaskEntry) (
         even = omega (arith, even, sixes, fours, sum);
         each = are_rungs tasks boot.entered;
         current = boot.places.words CurrentTask;
+        events = boot.events;
       }
 
 pub pending_commit_is_found : PendingCommitIsFound
@@ -174,7 +175,7 @@ start_is_made code m commit tasks at u boot e named word =
     (λ v j. to_task code boot.tidy m (dispatch_at code m commit tasks at boot u) (stubs_address m tasks at) (map rung_for tasks)
     (rung_for t) (copying t.privates g u.inputs) v
     (laddered code m commit tasks at boot u) j
-    (omega (arith, named, stays, count)) is (copies_done code boot.tidy t.privates g u.inputs entered.privates)))
+    (omega (arith, named, stays, count)) is (copies_done code boot.tidy (stack_origin m.runtime.events) t.privates g u.inputs entered.privates)))
     (λ v h. record { pc = h.pc; sp = h.sp; fram = h.fram ∙ sym (fram_after-append os cs f); inputs = h.inputs }))
 
 -- GATE, VER against its end, and the store to VER

@@ -2,7 +2,7 @@
 use Rattle.std.specs.Prelude.{◌≡◌, ◌≢◌, ℕ, ◌+◌, ◌*◌, ◌%◌, ◌<◌, Bool, true, false, List, [], length, All, ◌≤◌, ◌∷◌}
 use Rattle.runtime_code.specs.fram_board.Effects.{Store}
 use Rattle.runtime_code.specs.machine_effects.World.{put, fram_after, EachStore}
-use Rattle.runtime_code.specs.machine_effects.Machine.{Code, IsPlace, stack_start}
+use Rattle.runtime_code.specs.machine_effects.Machine.{Code, IsPlace}
 use Rattle.runtime_code.specs.code_forms.Forms.{Core}
 use Rattle.runtime_code.specs.code_forms.Code.{Stands, IsTidy}
 use Rattle.runtime_code.specs.code_forms.Placed.{instructions, words_of, AreInstructions}
@@ -13,7 +13,7 @@ use Rattle.runtime_code.specs.runtime_effects.Stages.{is_at_end, start_effects}
 use Rattle.runtime_code.specs.runtime_effects.Needs.{AreInFram, KeepsTask, ArePairWords}
 use Rattle.memory_map.specs.address_space.Limits.{event_vector}
 use Rattle.memory_map.specs.event_places.Places.{handler_place}
-use Rattle.runtime_code.specs.Addresses.{start_address}
+use Rattle.runtime_code.specs.Addresses.{start_address, stack_origin}
 use Rattle.runtime_code.specs.Comes.{Comes, IsAt, Enters}
 use Rattle.memory_map.specs.Places.{IsLaidOut}
 use Rattle.privatise.specs.Sizes.{own_boot_words}
@@ -25,9 +25,10 @@ pub record IsEntered (t : TaskEntry) : Type 0 where
   pub privates : All ArePairWords t.privates
   pub even : t.code % 2 ≡ 0
 
--- the boot's code stands at an address, above it room
+-- the boot's code stands at an address, above it room, in code that takes events where the map's runtime does
 pub record IsBoot (code : Code) (m : MemoryMap) (commit : ℕ) (tasks : List TaskEntry) (at : ℕ) : Type 0 where
   pub tidy : IsTidy code
+  pub events : code.events ≡ m.runtime.events
   pub places : AreInFram m
   pub task : KeepsTask m
   pub even_commit : commit % 2 ≡ 0
@@ -64,7 +65,7 @@ StartIsMade = (code : Code) (m : MemoryMap) (commit : ℕ) (tasks : List TaskEnt
     let es = start_effects m (privates_in tasks) u.fram in
     let events = m.runtime.events in
     Comes code es (start_steps events clears m.versions.words (length t.privates)) (start_cycles events clears m.versions.words (length t.privates)) u
-    (Enters t.code stack_start (fram_after es u.fram) u.inputs)
+    (Enters t.code (stack_origin events) (fram_after es u.fram) u.inputs)
 
 -- from the boot's address on, whatever the registers: where GATE isn't 1 and VER isn't at its end, the fifth instruction raises VER, the
 -- seventh where there are events, and is the first that stores

@@ -4,7 +4,7 @@ use Rattle.runtime_code.specs.msp_isa.declared.instructions.TwoOp.TheVariants.{A
 use Rattle.runtime_code.specs.msp_isa.declared.instructions.Condition.TheVariants.{NotEqual}
 use Rattle.runtime_code.specs.msp_isa.declared.operands.Konst.TheVariants.{Zero, One, Two, MinusOne}
 use Rattle.runtime_code.specs.code_forms.Forms.{Form, Move, Calculate, Compare, Update, SetStack, EnableInterrupts, Branch, R4, R5}
-use Rattle.runtime_code.specs.machine_effects.Machine.{stack_start}
+use Rattle.memory_map.specs.address_space.Limits.{stack_start}
 use Rattle.runtime_code.specs.code_forms.Forms.{Number, Constant, Fram, ToRegister, ToFram, ToPointed}
 use Rattle.memory_map.specs.declared.words.RuntimeWord.TheVariants.{Gate, ListLength, EmitCount, Version}
 use Rattle.memory_map.specs.MemoryMap.{MemoryMap, word_place, where_events, with_events}

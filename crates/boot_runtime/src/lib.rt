@@ -6,15 +6,17 @@ mod laws;
 mod stubs;
 
 ghost use Rattle.std.specs.Prelude.{◌≡◌, ◌+◌, ◌<◌, ◌++◌, ℕ, IfOk, OnOk};
+ghost use Rattle.runtime_code.specs.Addresses.{stack_origin};
 ghost use Rattle.boot_runtime.specs.Entries.{task_entries};
 ghost use Rattle.boot_runtime.specs.Listing.{head, end_tested, clearing_begins, clear_turn, clear_loop, version_cleared, counts_set, events_counted};
 ghost use Rattle.boot_runtime.specs.Listing.{interrupts_enabled, dispatch, fixed_forms, ladder_offset, boot_forms, boot_bytes};
 
+use address_space::STACK_START;
 pub use laws::{
     boot_is_short, boot_obeys_the_gate, start_is_made, start_stores_in_fram, starts_are_short,
     tasks_are_entered, version_is_raised,
 };
-use memory_map::{EVENT_COUNT, Layout, RuntimeWord};
+use memory_map::{EVENT_COUNT, Layout, RuntimeWord, STACK_TOP};
 use runtime_code::forms::Form::{
     Branch, Calculate, Compare, EnableInterrupts, Move, SetStack, SkipBy, Update,
 };
@@ -25,9 +27,6 @@ use runtime_code::forms::{Condition, Form, Konst, TwoOp, jump};
 use runtime_code::{loop_begin, loop_end};
 use std::alloc::{AllocError, Global};
 use stubs::{push_ladder, push_stubs};
-
-/// Where the stack of each task begins: below the room for the locals that stand in RAM, 248 words.
-pub const STACK_START: u16 = 0x2210;
 
 // The bytes of the code before the ladder.
 fn ladder_offset(layout: &Layout) -> u16
@@ -129,13 +128,24 @@ fn push_events_counted(code: &mut Vec<Form>, layout: &Layout) -> Result<(), Allo
     Ok(())
 }
 
+// Where the stack begins: where there are events below the room for any locals.
+fn stack_origin(layout: &Layout) -> u16
+    ensures { result ≡ stack_origin layout.now.runtime.events }
+{
+    if layout.runtime().events {
+        STACK_START
+    } else {
+        STACK_TOP
+    }
+}
+
 // SP := where the stack begins; to the branch of the task that CUR names, in a ladder of branches of four bytes that stands right behind.
 fn dispatch(layout: &Layout) -> [Form; 5]
     ensures { result ≡ dispatch layout.now }
 {
     let current_task = Fram(layout.word_place(RuntimeWord::CurrentTask));
     [
-        SetStack(STACK_START),
+        SetStack(stack_origin(layout)),
         Move(current_task, ToRegister(R4)),
         Calculate(TwoOp::Add, Register(R4), R4),
         Calculate(TwoOp::Add, Register(R4), R4),

@@ -5,6 +5,7 @@ mod bounds;
 mod decisions;
 mod forms;
 mod in_place;
+mod locals;
 mod longs;
 mod operations;
 mod program;

@@ -5,12 +5,12 @@ use Rattle.std.proofs.lemmas.List.Elements.{All-drop}
 use Rattle.machine_effects.specs.fram_board.Effects.{Effect, Store}
 use Rattle.machine_effects.specs.World.{World, world_after, fram_after, readings_taken, looks_taken, IsPrefix, EachStore}
 use Rattle.machine_effects.specs.Inputs.{Look, SeeWords}
-use Rattle.machine_effects.proofs.Interface.{world_after-append, looks_taken-append}
-use Rattle.crash_rules.specs.Model.{Model, ModelLaws, Outcome, Ends, Short, ProgramEffects, program_effects, IsWord, IsElsewhere}
-use Rattle.crash_rules.specs.Model.{Inputs, InputsAreWords, inputs_behind, inputs_taken, no_inputs, with_commit, attempt_from, script, Decides, RunsShort}
-use Rattle.crash_rules.specs.Model.{AttemptContract, CommitKeeps}
+use Rattle.machine_effects.proofs.Interface.{world_after-append, readings_taken-append}
+use Rattle.crash_rules.specs.Model.{Model, ModelLaws, Given, nothing_given, given_by, answers_in, Ends, Short, ProgramEffects, program_effects, IsWord}
+use Rattle.crash_rules.specs.Model.{IsElsewhere, Inputs, InputsAreWords, inputs_behind, with_commit, attempt_from, script, Decides, RunsShort}
+use Rattle.crash_rules.specs.Model.{AttemptContract, Comes, Lacks, CommitKeeps}
 use Rattle.crash_rules.specs.History.{Done, History, with_effect, behind_decide, behind_done, observe_one, observe, behind_boot, inputs_from}
-use Rattle.crash_rules.specs.History.{decided_inputs, done_inputs}
+use Rattle.crash_rules.specs.History.{decided_given, done_given}
 use Rattle.crash_rules.specs.Laws.{Origin, Resting, Pending, SourceRun, HasNoSpan, Reaches, IsPending, IsSettled, Transits, Phase, UndecidedPhase, DecidedPhase}
 use Rattle.crash_rules.specs.Laws.{CommittingPhase, StandsFor, IsOfScript, IsLawful, IsShort, AreConsecutive, TaskCosts, CoversTasks}
 use Rattle.crash_rules.proofs.Lists.{world_fram, each_prefix, holds_prefix, holds_end, prefix_cases, prefix_one, nothing_first, range_of}
@@ -30,13 +30,13 @@ pub record Setting (St : Type 0) : Type 1 where
 module _ {St : Type 0} (given : Setting St) where
   open given use {model as m, laws, readings, words, origin}
 
-  run_more : (s t u : St) (ds : List Done) (d : Done) → SourceRun m readings s ds t → m.task t (done_inputs readings d) ≡ Ends u no_inputs → m.Rests u d.world
+  run_more : (s t u : St) (ds : List Done) (d : Done) → SourceRun m readings s ds t → m.task t (done_given readings d) ≡ Ends u nothing_given → m.Rests u d.world
       → SourceRun m readings s (ds ++ d ∷ []) u
-  run_more s t u [] d h e r = (u, ap (λ x. m.task x (done_inputs readings d)) (sym h) ∙ e, r, refl)
+  run_more s t u [] d h e r = (u, ap (λ x. m.task x (done_given readings d)) (sym h) ∙ e, r, refl)
   run_more s t u (c ∷ ds) d h e r = (h.0, h.1, h.2, run_more h.0 t u ds d h.3 e r)
 
   -- one transition more
-  reaches_more : (o : Origin St) (ds : List Done) (s next : St) (d : Done) → Reaches m readings o ds s → Transits m o ds (done_inputs readings d) s next
+  reaches_more : (o : Origin St) (ds : List Done) (s next : St) (d : Done) → Reaches m readings o ds s → Transits m o ds (done_given readings d) s next
       → m.Rests next d.world → Reaches m readings o (ds ++ d ∷ []) next
   reaches_more (Resting a) ds s next d h t r = run_more a s next ds d h t r
   reaches_more (Pending a) [] s next d h t r = absurd t
@@ -44,7 +44,7 @@ module _ {St : Type 0} (given : Setting St) where
 
   -- the first one, of the commit that was pending at the start
   reaches_first : (o : Origin St) (ds : List Done) (s : St) (d : Done) → Reaches m readings o ds s → IsPending o ds
-      → HasNoSpan d.span_from d.span_to d.looks → m.Rests s d.world → Reaches m readings o (ds ++ d ∷ []) s
+      → HasNoSpan d.span_from d.span_to d.answers → m.Rests s d.world → Reaches m readings o (ds ++ d ∷ []) s
   reaches_first (Resting a) ds s d h p n r = absurd p
   reaches_first (Pending a) [] s d h p n r = (n, subst (λ u. m.Rests u d.world) h r, h)
   reaches_first (Pending a) (c ∷ ds) s d h p n r = absurd p
@@ -55,7 +55,7 @@ module _ {St : Type 0} (given : Setting St) where
   settled_more (Pending a) (c ∷ ds) d = tt
 
   -- where nothing is pending, transitions are the task's
-  transits_task : (o : Origin St) (ds : List Done) (rs : Inputs) (s next : St) → IsSettled o ds → m.task s rs ≡ Ends next no_inputs → Transits m o ds rs s next
+  transits_task : (o : Origin St) (ds : List Done) (rs : Given) (s next : St) → IsSettled o ds → m.task s rs ≡ Ends next nothing_given → Transits m o ds rs s next
   transits_task (Resting a) ds rs s next k e = e
   transits_task (Pending a) [] rs s next k e = absurd k
   transits_task (Pending a) (c ∷ ds) rs s next k e = e
@@ -70,7 +70,7 @@ module _ {St : Type 0} (given : Setting St) where
 
   -- the done at the end of a history that was decided
   abbrev pub done_of : History → World → Done
-  done_of v x = record { span_from = v.span_from; span_to = v.span_to; looks = v.looks; world = x }
+  done_of v x = record { span_from = v.span_from; span_to = v.span_to; answers = v.answers; world = x }
 
   -- from v to k no done came, or one, at which no reading more was taken
   pub data Grows (v k : History) : Type 0 where
@@ -134,7 +134,7 @@ module _ {St : Type 0} (given : Setting St) where
 
   -- behind a decide
   due_decided : (v : History) (s next : St) → Reaches m readings origin v.completed s → v.decided ≡ true
-      → Transits m origin v.completed (decided_inputs readings v) s next → m.Decided s next v.world → IsDue v s next (m.Decided s next)
+      → Transits m origin v.completed (decided_given readings v) s next → m.Decided s next v.world → IsDue v s next (m.Decided s next)
   due_decided v s next reached g t d =
       record {
         decided = g;
@@ -148,7 +148,7 @@ module _ {St : Type 0} (given : Setting St) where
 
   -- at the start of the run
   due_first : (v : History) (to : St) → Reaches m readings origin v.completed to → v.decided ≡ true → IsPending origin v.completed
-      → HasNoSpan v.span_from v.span_to v.looks → m.Committing to v.world → IsDue v to to (m.Committing to)
+      → HasNoSpan v.span_from v.span_to v.answers → m.Committing to v.world → IsDue v to to (m.Committing to)
   due_first v to reached g p n d =
       record {
         decided = g;
@@ -291,8 +291,8 @@ module _ {St : Type 0} (given : Setting St) where
     pub holds : m.Undecided state h.world
     pub ready : h.booted ≡ false → m.Settled state h.world
 
-  module _ (h : History) (looks : List Look) (u : AtUndecided h) (next : St) (left : Inputs) (r : ProgramEffects)
-      (c : Decides m u.state next left (inputs_at h looks) h.world r) where
+  module _ (h : History) (looks : List Look) (u : AtUndecided h) (next : St) (r : ProgramEffects)
+      (c : Decides m u.state next (inputs_at h looks) h.world r) where
     abbrev s : St
     s = u.state
 
@@ -304,7 +304,7 @@ module _ {St : Type 0} (given : Setting St) where
 
     -- the history behind the decide
     abbrev at_gate : History
-    at_gate = behind_decide (with_effect (Store m.marks.gate 1) (with_effects c.before h))
+    at_gate = behind_decide m.marks (with_effect (Store m.marks.gate 1) (with_effects c.before h))
 
     chose : observe m.marks to_gate h ≡ at_gate
     chose =
@@ -320,18 +320,19 @@ module _ {St : Type 0} (given : Setting St) where
     taken_there : at_gate.taken ≡ h.taken + length (readings_taken c.before)
     taken_there = omega arith
 
-    looks_there : at_gate.looks ≡ looks_taken c.before
-    looks_there =
-        ap (λ l. looks_taken ((l ++ c.before) ++ Store m.marks.gate 1 ∷ [])) pt.none
-        ∙ looks_taken-append c.before (Store m.marks.gate 1 ∷ []) ∙ append-nil (looks_taken c.before)
+    answers_there : at_gate.answers ≡ answers_in m.marks to_gate
+    answers_there = ap (λ l. answers_in m.marks ((l ++ c.before) ++ Store m.marks.gate 1 ∷ [])) pt.none
 
-    transits : Transits m origin h.completed (decided_inputs readings at_gate) s next
+    transits : Transits m origin h.completed (decided_given readings at_gate) s next
     transits =
-        let reads : readings_taken c.before ++ left.readings ≡ drop h.since readings = c.reads.readings
+        let reads : readings_taken c.before ++ c.left.readings ≡ drop h.since readings = c.reads.readings
         ∙ ap (λ n. drop n readings) (sym pt.since) in
         let to : at_gate.taken ≡ h.since + length (readings_taken c.before) = taken_there ∙ ap (λ n. n + length (readings_taken c.before)) (sym pt.since) in
-        let taken = range_of readings (readings_taken c.before) left.readings h.since at_gate.taken reads to in
-        let same : decided_inputs readings at_gate ≡ inputs_taken c.before = λ i. record { readings = taken i; looks = looks_there i } in
+        let taken = range_of readings (readings_taken c.before) c.left.readings h.since at_gate.taken reads to in
+        let whole : readings_taken to_gate ≡ readings_taken c.before =
+        readings_taken-append c.before (Store m.marks.gate 1 ∷ []) ∙ append-nil (readings_taken c.before) in
+        let read = taken ∙ sym whole in
+        let same : decided_given readings at_gate ≡ given_by m.marks to_gate = λ i. record { readings = read i; answers = answers_there i } in
         transits_task origin h.completed _ s next u.settled (ap (m.task s) same ∙ c.exact)
 
     gate_due : IsDue at_gate s next (m.Decided s next)
@@ -407,29 +408,29 @@ module _ {St : Type 0} (given : Setting St) where
         subst (λ q. Next h (observe m.marks (with_commit m h.world.fram (inputs_at h looks) q).effects h)) (sym c.is) all
 
   -- an attempt that runs short, and that comes to no end
-  pub short_effects : (s : St) (f : ℕ → ℕ) (inputs : Inputs) (x : World) (r : ProgramEffects) → RunsShort m s x r
+  pub short_effects : (s : St) (f : ℕ → ℕ) (inputs : Inputs) (x : World) (r : ProgramEffects) → RunsShort m s inputs x r
       → (with_commit m f inputs r).effects ≡ r.effects
   short_effects s f inputs x r c =
       ap (λ b. r.effects ++ cond b (m.commit (fram_after r.effects f) (inputs_behind r.effects inputs)) []) c.is ∙ append-nil r.effects
 
-  short_part : (h : History) (u : AtUndecided h) (r : ProgramEffects) (es : List Effect) → RunsShort m u.state h.world r → IsPrefix es r.effects
-      → MayGoOn h es → Cut h (observe m.marks es h)
-  short_part h u r es c p go =
+  short_part : (h : History) (looks : List Look) (u : AtUndecided h) (r : ProgramEffects) (es : List Effect)
+      → RunsShort m u.state (inputs_at h looks) h.world r → IsPrefix es r.effects → MayGoOn h es → Cut h (observe m.marks es h)
+  short_part h looks u r es c p go =
       quiet_cut u.state h es (each_prefix (IsElsewhere m.marks.gate) es r.effects p c.elsewhere) (point_lawful h u.point).world go u.reached
       (UndecidedPhase u.undecided u.settled (holds_prefix (m.Undecided u.state) es r.effects h.world p c.undecided))
 
-  attempt_part : (h : History) (looks : List Look) (u : AtUndecided h) (es : List Effect) (a : Outcome St) (r : ProgramEffects)
-      → AttemptContract m u.state (inputs_at h looks) h.world a r → IsPrefix es (with_commit m h.world.fram (inputs_at h looks) r).effects → MayGoOn h es
+  attempt_part : (h : History) (looks : List Look) (u : AtUndecided h) (es : List Effect) (r : ProgramEffects)
+      → AttemptContract m u.state (inputs_at h looks) h.world r → IsPrefix es (with_commit m h.world.fram (inputs_at h looks) r).effects → MayGoOn h es
       → Cut h (observe m.marks es h)
-  attempt_part h looks u es (Ends next left) r c p go = decides_part h looks u next left r c es p go
-  attempt_part h looks u es Short r c p go =
-      short_part h u r es c (subst (IsPrefix es) (short_effects u.state h.world.fram (inputs_at h looks) h.world r c) p) go
+  attempt_part h looks u es r (Comes next c) p go = decides_part h looks u next r c es p go
+  attempt_part h looks u es r (Lacks c) p go =
+      short_part h looks u r es c (subst (IsPrefix es) (short_effects u.state h.world.fram (inputs_at h looks) h.world r c) p) go
 
-  attempt_whole : (h : History) (looks : List Look) (u : AtUndecided h) (a : Outcome St) (r : ProgramEffects)
-      → AttemptContract m u.state (inputs_at h looks) h.world a r → r.ends ≡ true
+  attempt_whole : (h : History) (looks : List Look) (u : AtUndecided h) (r : ProgramEffects)
+      → AttemptContract m u.state (inputs_at h looks) h.world r → r.ends ≡ true
       → Next h (observe m.marks (with_commit m h.world.fram (inputs_at h looks) r).effects h)
-  attempt_whole h looks u (Ends next left) r c e = decides_whole h looks u next left r c
-  attempt_whole h looks u Short r c e = absurd (cc (c.is, e))
+  attempt_whole h looks u r (Comes next c) e = decides_whole h looks u next r c
+  attempt_whole h looks u r (Lacks c) e = absurd (cc (c.is, e))
 
   -- whose commit is due: that of the task of the state of the last done; or one that was pending at the start
   pub data CommitOf (h : History) : Type 0 where
@@ -437,7 +438,7 @@ module _ {St : Type 0} (given : Setting St) where
     OfStart : IsPending origin h.completed → CommitOf h
 
   -- where nothing is pending
-  transits_settled : (o : Origin St) (ds : List Done) (rs : Inputs) (s next : St) → Transits m o ds rs s next → IsSettled o ds
+  transits_settled : (o : Origin St) (ds : List Done) (rs : Given) (s next : St) → Transits m o ds rs s next → IsSettled o ds
   transits_settled (Resting a) ds rs s next t = tt
   transits_settled (Pending a) [] rs s next t = absurd t
   transits_settled (Pending a) (c ∷ ds) rs s next t = tt
@@ -474,7 +475,7 @@ module _ {St : Type 0} (given : Setting St) where
           inl (record { point = p; state = s; reached = r; undecided = d; settled = k; holds = u; ready = λ z. (w z).settled })
       by_phase s r (DecidedPhase next d t u) w =
           inr (at_commit h s next (m.Decided s next)
-          (OfTask s next r (transits_settled origin h.completed (decided_inputs readings h) s next t) u)
+          (OfTask s next r (transits_settled origin h.completed (decided_given readings h) s next t) u)
           (due_decided h s next r d t u) (λ z. (w z).undecided))
       by_phase s r (CommittingPhase d p n u) w = inr (at_commit h s s (m.Committing s) (OfStart p) (due_first h s r d p n u) (λ z. (w z).undecided))
 
@@ -502,17 +503,17 @@ module _ {St : Type 0} (given : Setting St) where
 
   -- behind a boot as behind a done an attempt keeps the contract
   pub owed_from : (booted : Bool) (s : St) (x : World) (inputs : Inputs) → InputsAreWords inputs → m.Undecided s x
-      → (booted ≡ false → m.Settled s x) → AttemptContract m s inputs x (m.task s inputs) (attempt_from m booted x.fram inputs)
+      → (booted ≡ false → m.Settled s x) → AttemptContract m s inputs x (attempt_from m booted x.fram inputs)
   owed_from false s x inputs ws u k = laws.attempts s x inputs ws (k refl)
   owed_from true s x inputs ws u k =
       let r = laws.recovers s x u in
       let rec : List Effect = m.recover x.fram in
       let y : World = world_after rec x in
-      in_front m s x inputs rec (m.task s inputs) (m.attempt (fram_after rec x.fram) inputs) r.stays
-      (subst (λ f. AttemptContract m s inputs y (m.task s inputs) (m.attempt f inputs)) (world_fram rec x) (laws.attempts s y inputs ws r.settled))
+      in_front m s x inputs rec (m.attempt (fram_after rec x.fram) inputs) r.stays
+      (subst (λ f. AttemptContract m s inputs y (m.attempt f inputs)) (world_fram rec x) (laws.attempts s y inputs ws r.settled))
 
   owed : (h : History) (looks : List Look) → SeeWords looks → (u : AtUndecided h)
-      → AttemptContract m u.state (inputs_at h looks) h.world (m.task u.state (inputs_at h looks)) (attempt_at h looks)
+      → AttemptContract m u.state (inputs_at h looks) h.world (attempt_at h looks)
   owed h looks see u = owed_from h.booted u.state h.world (inputs_at h looks) (words_left h looks see) u.holds u.ready
 
   pub script_u : (h : History) (looks : List Look) (u : AtUndecided h)
@@ -548,7 +549,7 @@ module _ {St : Type 0} (given : Setting St) where
   point_part h looks es see p pre first =
       let go = may_go_on h looks es p pre first in
       ⊎_elim
-      (λ u. attempt_part h looks u es _ _ (owed h looks see u) (subst (λ q. IsPrefix es q.effects) (script_u h looks u) pre) go)
+      (λ u. attempt_part h looks u es _ (owed h looks see u) (subst (λ q. IsPrefix es q.effects) (script_u h looks u) pre) go)
       (λ d.
       let k = d.part (inputs_at h looks) es (subst (λ q. IsPrefix es q.effects) (script_d h looks d) pre) (point_lawful h p).world go in
       record { lawful = k.lawful; spans = stayed_spans h _ k d.decided })
@@ -572,7 +573,7 @@ module _ {St : Type 0} (given : Setting St) where
       ⊎_elim
       (λ u.
       let is = script_u h looks u in
-      subst (λ q. Next h (observe m.marks q.effects h)) (sym is) (attempt_whole h looks u _ _ (owed h looks see u)
+      subst (λ q. Next h (observe m.marks q.effects h)) (sym is) (attempt_whole h looks u _ (owed h looks see u)
       (subst (λ q. q.ends ≡ true) is e)))
       (λ d.
       let w = d.whole (inputs_at h looks) in
@@ -605,15 +606,19 @@ module _ {St : Type 0} (given : Setting St) where
     pub undecided : h.decided ≡ false
     pub short : IsShort m readings stands.state h
 
-  short_by : (h : History) (looks : List Look) (u : AtUndecided h) (a : Outcome St) (r : ProgramEffects) → m.task u.state (inputs_at h looks) ≡ a
-      → AttemptContract m u.state (inputs_at h looks) h.world a r → r.ends ≡ false → TakesFirst (with_commit m h.world.fram (inputs_at h looks) r).effects looks
+  short_by : (h : History) (looks : List Look) (u : AtUndecided h) (r : ProgramEffects)
+      → AttemptContract m u.state (inputs_at h looks) h.world r → r.ends ≡ false
       → EndsShort (observe m.marks (with_commit m h.world.fram (inputs_at h looks) r).effects h)
-  short_by h looks u (Ends next left) r e c lacking first = absurd (cc (ap (λ q. q.ends) c.is, lacking))
-  short_by h looks u Short r e c lacking first =
+  short_by h looks u r (Comes next c) lacking = absurd (cc (ap (λ q. q.ends) c.is, lacking))
+  short_by h looks u r (Lacks c) lacking =
       let made : (with_commit m h.world.fram (inputs_at h looks) r).effects ≡ r.effects =
       short_effects u.state h.world.fram (inputs_at h looks) h.world r c in
-      let seen : looks_taken (h.effects ++ r.effects) ++ first.0 ≡ looks =
-      ap (λ l. looks_taken (l ++ r.effects) ++ first.0) u.point.none ∙ ap (λ l. looks_taken l ++ first.0) (sym made) ∙ first.1 in
+      let since : drop h.since readings ≡ drop h.taken readings = ap (λ n. drop n readings) u.point.since in
+      let answers : answers_in m.marks (h.effects ++ r.effects) ≡ answers_in m.marks r.effects =
+      ap (λ l. answers_in m.marks (l ++ r.effects)) u.point.none in
+      let given : ◌≡◌ {A = Given} (record { readings = drop h.since readings; answers = answers_in m.marks (h.effects ++ r.effects) })
+      (record { readings = drop h.taken readings; answers = answers_in m.marks r.effects }) =
+      λ i. record { readings = since i; answers = answers i } in
       let k : EndsShort (with_effects r.effects h) =
       record {
         stands = record {
@@ -622,24 +627,20 @@ module _ {St : Type 0} (given : Setting St) where
           phase = UndecidedPhase u.undecided u.settled (holds_end (m.Undecided u.state) r.effects h.world c.undecided);
         };
         undecided = u.undecided;
-        short = record {
-          left = first.0;
-          short = ap (λ l. m.task u.state (inputs_from readings h.since l)) seen ∙ ap (λ n. m.task u.state (inputs_from readings n looks)) u.point.since ∙ e;
-        };
+        short = ap (m.task u.state) given ∙ c.short;
       } in
       let is : observe m.marks (with_commit m h.world.fram (inputs_at h looks) r).effects h ≡ with_effects r.effects h =
       ap (λ l. observe m.marks l h) made ∙ observe_quiet m.marks r.effects h c.elsewhere in
       subst EndsShort (sym is) k
 
   pub point_short : (h : History) (looks : List Look) → SeeWords looks → Point h → (script_at h looks).ends ≡ false
-      → TakesFirst (script_at h looks).effects looks → EndsShort (observe m.marks (script_at h looks).effects h)
-  point_short h looks see p lacking first =
+      → EndsShort (observe m.marks (script_at h looks).effects h)
+  point_short h looks see p lacking =
       ⊎_elim
       (λ u.
       let is = script_u h looks u in
       subst (λ q. EndsShort (observe m.marks q.effects h)) (sym is)
-      (short_by h looks u _ (attempt_at h looks) refl (owed h looks see u) (subst (λ q. q.ends ≡ false) is lacking)
-      (subst (λ q. TakesFirst q.effects looks) is first)))
+      (short_by h looks u (attempt_at h looks) (owed h looks see u) (subst (λ q. q.ends ≡ false) is lacking)))
       (λ d. absurd (cc (ap (λ q. q.ends) (script_d h looks d), lacking)))
       (phase_of h p)
 

@@ -11,7 +11,7 @@ use Rattle.machine_effects.specs.Going.{At, Halted, stretch, after_effects, goin
 use Rattle.machine_effects.specs.Inputs.{Look, SeeWords}
 use Rattle.machine_effects.specs.Machine.{MachineBoard}
 use Rattle.machine_effects.proofs.Interface.{world_after-append, each_store-append, left_by_taking, left_are_words}
-use Rattle.crash_rules.specs.Model.{Outcome, Ends, Short, AttemptContract, ProgramEffects, program_effects, bound, greatest}
+use Rattle.crash_rules.specs.Model.{AttemptContract, Comes, Lacks, ProgramEffects, program_effects, bound, greatest}
 use Rattle.crash_rules.specs.Model.{Inputs, InputsAreWords, inputs_behind, with_commit, attempt_from}
 use Rattle.crash_rules.specs.History.{History, Done, observe, inputs_from}
 use Rattle.crash_rules.specs.Runs.{Program, AtEntry, Makes, ProgramLaws}
@@ -367,8 +367,7 @@ module _ {St : Type 0} (given : Setting St) (c : Program) (code : ProgramLaws gi
       let i : n + 1 + k ≡ k + (n + 1) = omega arith in
       let there : going c.step k b ≡ stretch es mk.cycles (Halted st.price stop.NoReading) = sym (halts c.step k (n + 1) b price e x)
       ∙ ap (λ j. going c.step j b) (sym i) ∙ stalls_end c.step n es mk.cycles b st.price stop.NoReading st.stalls k in
-      let first : TakesFirst given es b.inputs.looks = subst (λ q. TakesFirst given q.effects b.inputs.looks) there (takes_first k b) in
-      let sh = point_short given h b.inputs.looks t.see t.point lacking first in
+      let sh = point_short given h b.inputs.looks t.see t.point lacking in
       let status : Halted price e ≡ Halted st.price stop.NoReading = sym x ∙ ap (λ q. q.status) there in
       let reason : e ≡ stop.NoReading = cc status in
       record {
@@ -389,9 +388,9 @@ module _ {St : Type 0} (given : Setting St) (c : Program) (code : ProgramLaws gi
   -- where each recovery, each attempt and each commit stores only so, any number of steps does
   module _ (P : ℕ → ℕ → Type 0) (scripts : ScriptsStore m P) where
     -- an attempt with its commit stores so
-    attempt_stores : (s : St) (x : World) (inputs : Inputs) (a : Outcome St) (r : ProgramEffects) → AttemptContract m s inputs x a r
+    attempt_stores : (s : St) (x : World) (inputs : Inputs) (r : ProgramEffects) → AttemptContract m s inputs x r
         → EachStore P r.effects → EachStore P (with_commit m x.fram inputs r).effects
-    attempt_stores s x inputs (Ends next left) r k q =
+    attempt_stores s x inputs r (Comes next k) q =
         let es = k.before ++ Store m.marks.gate 1 ∷ [] in
         let y = world_after_one (Store m.marks.gate 1) (world_after k.before x) in
         let fr : fram_after es x.fram ≡ y.fram = sym (world_fram es x) ∙ ap (λ z. z.fram) (world_after-append k.before (Store m.marks.gate 1 ∷ []) x) in
@@ -402,7 +401,7 @@ module _ {St : Type 0} (given : Setting St) (c : Program) (code : ProgramLaws gi
         let both : EachStore P (with_commit m x.fram inputs (program_effects es true)).effects =
         each_store-append P es (m.commit (fram_after es x.fram) rest) q2 committed in
         subst (λ p. EachStore P (with_commit m x.fram inputs p).effects) (sym k.is) both
-    attempt_stores s x inputs Short r k q = subst (EachStore P) (sym (short_effects given s x.fram inputs x r k)) q
+    attempt_stores s x inputs r (Lacks k) q = subst (EachStore P) (sym (short_effects given s x.fram inputs x r k)) q
 
     -- an attempt behind a boot or a done does
     attempt_from_stores : (booted : Bool) (s : St) (x : World) (inputs : Inputs) → InputsAreWords inputs → m.Undecided s x
@@ -420,7 +419,7 @@ module _ {St : Type 0} (given : Setting St) (c : Program) (code : ProgramLaws gi
         let ws = words_left given h looks see in
         ⊎_elim
         (λ u. subst (λ q. EachStore P q.effects) (sym (script_u given h looks u))
-        (attempt_stores u.state h.world i (m.task u.state i) (attempt_from m h.booted h.world.fram i)
+        (attempt_stores u.state h.world i (attempt_from m h.booted h.world.fram i)
         (owed_from given h.booted u.state h.world i ws u.holds u.ready)
         (attempt_from_stores h.booted u.state h.world i ws u.holds u.ready)))
         (λ d. subst (λ q. EachStore P q.effects) (sym (script_d given h looks d)) (scripts.commits d.to h.world i d.holds))

@@ -7,7 +7,7 @@ use Rattle.machine_effects.specs.Going.{Halted, going}
 use Rattle.machine_effects.specs.Inputs.{Look, SeeWords}
 use Rattle.machine_effects.specs.Machine.{MachineBoard}
 use Rattle.crash_rules.specs.Model.{Model, ModelLaws, Marks, IsWord, IsBetween, bound}
-use Rattle.crash_rules.specs.History.{Done, History, observe, behind_boot, first_history, decided_inputs}
+use Rattle.crash_rules.specs.History.{Done, History, observe, behind_boot, first_history, decided_given}
 use Rattle.crash_rules.specs.Runs.{Program, ProgramLaws, Charge, IsPoweredFrom, Charged}
 use Rattle.crash_rules.specs.Laws.{Origin, Resting, Pending, Reaches, IsPending, IsSettled, Transits, Phase, UndecidedPhase, DecidedPhase, CommittingPhase}
 use Rattle.crash_rules.specs.Laws.{StandsFor, IsLawful, Matches, Begins, HasRun, PowersUpBehind, AcceptedDecided, AcceptedWords, AreConsecutive, CrashTheorem}
@@ -126,7 +126,7 @@ never_lost {St} m laws readings origin h l d = by_phase l.stands.state l.stands.
 
 -- the words accepted in a commit, behind a decide and at the start of a run
 accepted_decided : {St : Type 0} (m : Model St) (readings : List ℕ) (h : History) (s next : St) (o : Origin St) (ds : List Done)
-    → Transits m o ds (decided_inputs readings h) s next → IsBetween (m.emitted s) (m.emitted next) h.world.accepted → AcceptedDecided m readings o ds h s
+    → Transits m o ds (decided_given readings h) s next → IsBetween (m.emitted s) (m.emitted next) h.world.accepted → AcceptedDecided m readings o ds h s
 accepted_decided m readings h s next (Resting a) ds t b = (next, t, b)
 accepted_decided m readings h s next (Pending a) [] t b = absurd t
 accepted_decided m readings h s next (Pending a) (d ∷ ds) t b = (next, t, b)
@@ -182,7 +182,7 @@ pending_sends {St} m c laws code readings to t h run none =
     by_phase : (z : St) → z ≡ to → Phase m readings (Pending to) z h → IsBetween x.accepted (m.emitted to) h.world.accepted
     by_phase z e (UndecidedPhase u k w) = absurd (subst (IsSettled (Pending to)) none k)
     by_phase z e (DecidedPhase next u q w) =
-        absurd (subst (λ ds. Transits m (Pending to) ds (decided_inputs readings h) z next) none q)
+        absurd (subst (λ ds. Transits m (Pending to) ds (decided_given readings h) z next) none q)
     by_phase z e (CommittingPhase u p n w) = between (laws.committing_words to h.world (subst (λ y. m.Committing y h.world) e w))
 
 first_undecided : {St : Type 0} (m : Model St) → ModelLaws m → (readings : List ℕ) (s0 : St) (x : World)

@@ -7,8 +7,9 @@ use Rattle.machine_effects.specs.World.{World, world_after, looks_taken, IsPrefi
 use Rattle.machine_effects.specs.Inputs.{Look}
 use Rattle.machine_effects.specs.Going.{At, Halted, going}
 use Rattle.machine_effects.specs.Machine.{MachineBoard}
-use Rattle.crash_rules.specs.Model.{Model, ModelLaws, Ends, Short, IsWord, IsBetween, Inputs, no_inputs, InputsAreWords, bound, script}
-use Rattle.crash_rules.specs.History.{Done, History, observe, behind_boot, first_history, inputs_from, decided_inputs, done_inputs}
+use Rattle.crash_rules.specs.Model.{Model, ModelLaws, Given, nothing_given, Ends, Short, IsWord, IsBetween, Inputs, InputsAreWords, bound, script}
+use Rattle.crash_rules.specs.History.{Done, History, observe, behind_boot, first_history, inputs_from, decided_given, done_given}
+use Rattle.crash_rules.specs.History.{given_since}
 use Rattle.crash_rules.specs.Runs.{Program, ProgramLaws, Charge, IsPoweredFrom, Charged, IsSpentFrom}
 
 -- how a run begins: at a state, or with a commit that is pending, and the state that it leaves
@@ -17,21 +18,21 @@ pub data Origin (St : Type 0) : Type 0 where
   Pending : (to : St) → Origin St
 
 -- the source's run on these dones, from a state to a state: a whole task for each, which takes exactly the done's committed
--- readings and looks; behind the done the world rests at the task's state
+-- readings and answers; behind the done the world rests at the task's state
 abbrev pub SourceRun : {St : Type 0} → Model St → List ℕ → St → List Done → St → Type 0
 SourceRun m readings s [] t = t ≡ s
-SourceRun {St} m readings s (d ∷ ds) t = (u : St) × (m.task s (done_inputs readings d) ≡ Ends u no_inputs) × m.Rests u d.world × SourceRun m readings u ds t
+SourceRun {St} m readings s (d ∷ ds) t = (u : St) × (m.task s (done_given readings d) ≡ Ends u nothing_given) × m.Rests u d.world × SourceRun m readings u ds t
 
--- a commit that was pending at the start has no readings of its own, and no looks
-abbrev pub HasNoSpan : ℕ → ℕ → List Look → Type 0
-HasNoSpan from to looks = (from ≡ 0) × (to ≡ 0) × (looks ≡ [])
+-- a commit that was pending at the start has no readings of its own, and no answers
+abbrev pub HasNoSpan : ℕ → ℕ → List ℕ → Type 0
+HasNoSpan from to answers = (from ≡ 0) × (to ≡ 0) × (answers ≡ [])
 
 -- the state of the last done: that of the source's run. Behind a pending commit the run goes on from the state that this leaves, which
 -- is the state before its done too
 abbrev pub Reaches : {St : Type 0} → Model St → List ℕ → Origin St → List Done → St → Type 0
 Reaches m readings (Resting s) ds t = SourceRun m readings s ds t
 Reaches m readings (Pending to) [] t = t ≡ to
-Reaches m readings (Pending to) (d ∷ ds) t = HasNoSpan d.span_from d.span_to d.looks × m.Rests to d.world × SourceRun m readings to ds t
+Reaches m readings (Pending to) (d ∷ ds) t = HasNoSpan d.span_from d.span_to d.answers × m.Rests to d.world × SourceRun m readings to ds t
 
 -- the commit that was pending at the start isn't done yet
 abbrev pub IsPending : {St : Type 0} → Origin St → List Done → Type 0
@@ -45,19 +46,19 @@ IsSettled (Resting s) ds = Unit {0}
 IsSettled (Pending to) [] = ⊥
 IsSettled (Pending to) (d ∷ ds) = Unit {0}
 
--- the transition to come leads from s to this next state by the task on these inputs, once nothing is pending
-abbrev pub Transits : {St : Type 0} → Model St → Origin St → List Done → Inputs → St → St → Type 0
-Transits m (Resting o) ds inputs s next = m.task s inputs ≡ Ends next no_inputs
-Transits m (Pending to) [] inputs s next = ⊥
-Transits m (Pending to) (d ∷ ds) inputs s next = m.task s inputs ≡ Ends next no_inputs
+-- the transition to come leads from s to this next state by the task on what it was given, once nothing is pending
+abbrev pub Transits : {St : Type 0} → Model St → Origin St → List Done → Given → St → St → Type 0
+Transits m (Resting o) ds given s next = m.task s given ≡ Ends next nothing_given
+Transits m (Pending to) [] given s next = ⊥
+Transits m (Pending to) (d ∷ ds) given s next = m.task s given ≡ Ends next nothing_given
 
--- the world is undecided at the state of the last done, or decided from it to what the task gives on the readings of the decide; or the
+-- the world is undecided at the state of the last done, or decided from it to what the task gives on the readings and answers of the decide; or the
 -- commit that was pending at the start isn't done, and leaves the state
 pub data Phase {St : Type 0} (m : Model St) (readings : List ℕ) (origin : Origin St) (s : St) (h : History) : Type 0 where
   UndecidedPhase : h.decided ≡ false → IsSettled origin h.completed → m.Undecided s h.world → Phase m readings origin s h
-  DecidedPhase : (next : St) → h.decided ≡ true → Transits m origin h.completed (decided_inputs readings h) s next → m.Decided s next h.world
+  DecidedPhase : (next : St) → h.decided ≡ true → Transits m origin h.completed (decided_given readings h) s next → m.Decided s next h.world
       → Phase m readings origin s h
-  CommittingPhase : h.decided ≡ true → IsPending origin h.completed → HasNoSpan h.span_from h.span_to h.looks → m.Committing s h.world
+  CommittingPhase : h.decided ≡ true → IsPending origin h.completed → HasNoSpan h.span_from h.span_to h.answers → m.Committing s h.world
       → Phase m readings origin s h
 
 -- a history stands for a run of the source
@@ -129,10 +130,9 @@ abbrev pub CrashTheorem : {St : Type 0} → Model St → Program → Type 0
 CrashTheorem {St} m c = ModelLaws m → ProgramLaws m c → (readings : List ℕ) (origin : Origin St) (t : MachineBoard) (h : History)
     → HasRun m c readings origin t h → IsLawful m readings origin h × Matches readings t h
 
--- the source is short at the state of the last done, on the readings from the last boot or done on and the looks since then, with some behind them
-pub record IsShort {St : Type 0} (m : Model St) (readings : List ℕ) (s : St) (h : History) : Type 0 where
-  pub left : List Look
-  pub short : m.task s (inputs_from readings h.since (looks_taken h.effects ++ left)) ≡ Short
+-- the source is short at the state of the last done, on the readings from the last boot or done on and the answers since then
+abbrev pub IsShort : {St : Type 0} → Model St → List ℕ → St → History → Type 0
+IsShort m readings s h = m.task s (given_since m.marks readings h) ≡ Short
 
 -- a machine stops for want of a reading alone, and there the source is short too
 abbrev pub StopsShort : {St : Type 0} → Model St → Program → Type 0
@@ -152,7 +152,7 @@ NeverLost {St} m = ModelLaws m → (readings : List ℕ) (origin : Origin St) (h
 abbrev pub AcceptedDecided : {St : Type 0} → Model St → List ℕ → Origin St → List Done → History → St → Type 0
 AcceptedDecided m readings (Pending to) [] h s = IsBetween [] (m.emitted s) h.world.accepted
 AcceptedDecided {St} m readings origin ds h s =
-    (next : St) × Transits m origin ds (decided_inputs readings h) s next × IsBetween (m.emitted s) (m.emitted next) h.world.accepted
+    (next : St) × Transits m origin ds (decided_given readings h) s next × IsBetween (m.emitted s) (m.emitted next) h.world.accepted
 
 -- the accepted words are those of the state of the last done; between a decide and its done, these with some of the task's words
 -- behind them

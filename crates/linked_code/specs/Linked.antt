@@ -1,8 +1,9 @@
 -- The code of a compiled source: boot, commit and tasks as one list of instructions, which stands at the boot's place.
-use Rattle.std.specs.Prelude.{ℕ, ◌+◌, ◌*◌, ◌<◌, ◌≤◌, List, [], ◌∷◌, length, get_or}
+use Rattle.std.specs.Prelude.{ℕ, ◌+◌, ◌*◌, ◌<◌, ◌≤◌, Bool, List, [], ◌∷◌, length, get_or}
 use Rattle.boot_runtime.specs.msp_isa.declared.instructions.Instr.{Instr}
 use Rattle.boot_runtime.specs.code_forms.Forms.{Form}
-use Rattle.boot_runtime.specs.code_forms.Placed.{instructions}
+use Rattle.boot_runtime.specs.code_forms.Placed.{placed, instructions}
+use Rattle.boot_runtime.specs.machine_effects.Machine.{Code}
 use Rattle.word_code.specs.array_versions.Program.{Program, nothing}
 use Rattle.word_code.specs.array_versions.Form.{FitsTheStack, OfWords}
 use Rattle.word_code.specs.array_versions.Cost.{words_of}
@@ -26,19 +27,19 @@ boot_part l = record {
 abbrev pub commit_part : MemoryMap → CodePart
 commit_part l = record { address = l.commit.address; forms = commit_forms l (start_address l.runtime.events l.boot.address) }
 
--- a task's code
-abbrev pub task_part : TaskPlace → Program → CodePart
-task_part t p = record { address = t.code.address; forms = code_of p }
+-- a task's code, by whether there are events
+abbrev pub task_part : Bool → TaskPlace → Program → CodePart
+task_part events t p = record { address = t.code.address; forms = code_of events p }
 
 -- the code of tasks, each with its program
-abbrev pub task_parts : List TaskPlace → List Program → List CodePart
-task_parts [] programs = []
-task_parts (t ∷ ts) [] = []
-task_parts (t ∷ ts) (p ∷ ps) = task_part t p ∷ task_parts ts ps
+abbrev pub task_parts : Bool → List TaskPlace → List Program → List CodePart
+task_parts events [] programs = []
+task_parts events (t ∷ ts) [] = []
+task_parts events (t ∷ ts) (p ∷ ps) = task_part events t p ∷ task_parts events ts ps
 
 -- all parts
 abbrev pub code_parts : MemoryMap → List Program → List CodePart
-code_parts l programs = boot_part l ∷ commit_part l ∷ task_parts l.tasks programs
+code_parts l programs = boot_part l ∷ commit_part l ∷ task_parts l.runtime.events l.tasks programs
 
 -- the whole code as forms
 abbrev pub linked_forms : MemoryMap → List Program → List Form
@@ -47,6 +48,10 @@ linked_forms l programs = chained l.boot.address (code_parts l programs)
 -- the whole code
 abbrev pub linked : MemoryMap → List Program → List Instr
 linked l programs = instructions (linked_forms l programs)
+
+-- as it stands in FRAM: where there are events a handler may run between any two of its instructions
+abbrev pub linked_code : MemoryMap → List Program → Code
+linked_code l programs = placed l.runtime.events l.boot.address (linked l programs)
 
 -- each program has the room that its task has
 abbrev pub ProgramsFit : List TaskPlace → List Program → Type 0

@@ -16,7 +16,7 @@ use Rattle.word_code.proofs.Names.{read_code, stored_code, write_code, compare_f
 use Rattle.word_code.proofs.Names.{truth_code, number_source, turn_end, ram_turn_end, turns_code, waiting_behind, waiting_after, step_code, test_code}
 use Rattle.word_code.proofs.Names.{steps_code, top_number, element_at, bound_of, is_inside, block_code, code_of, rests, rest_source, indexed_update}
 use Rattle.word_code.proofs.Names.{known_update, known_index, update_at, CodeHasItsBytes, CodeHasItsWords, made_code, first_update, by_version, inside_update}
-use Rattle.word_code.proofs.Names.{max, stack_base, step_locals, test_locals, locals_of, StepLocalsBelow, TestLocalsBelow, LocalsBelow}
+use Rattle.word_code.proofs.Names.{max, stack_base, stack_set, step_locals, test_locals, locals_of, StepLocalsBelow, TestLocalsBelow, LocalsBelow}
 use Rattle.array_versions.specs.msp_step.msp_isa.Encoding.{encoding}
 use Rattle.array_versions.specs.msp_step.msp_isa.declared.instructions.TwoOp.TheVariants as op
 use Rattle.array_versions.specs.msp_step.msp_isa.declared.instructions.Condition.TheVariants as condition
@@ -252,6 +252,13 @@ module _ {k : ℕ} where
       → Takes k (flushed (below_top os) ++ ms) 0 (n + kept_bytes os)
   behind_below n os x = joined (flushed_takes (below_top os)) x (omega (arith, source_short os))
 
+  -- what sets the place of the stack
+  set_takes : (events : Bool) → Takes k (stack_set events k) 0 (set_bytes k)
+  set_takes true = nothing_takes 0 (set_bytes k) (omega arith)
+  set_takes false =
+      either_takes (nat_lt 8 k) (λ b. if b then 4 else 0) (made_of (SetStack (stack_base k) ∷ []) 4 (refl, tt) (omega arith))
+      (nothing_takes 0 0 (omega arith))
+
   -- steps with no word waiting in front of them, and then those that wait behind them are pushed
   block_takes : (bs : List Bound) (p : Program)
       → Takes k (steps_code bs [] p) (set_bytes (locals_of p) + kept_bytes (waiting_after [] p)) (2 * words_of p + 0)
@@ -379,11 +386,11 @@ block_fits bs p = let k = locals_of p in block_takes bs p (steps_takes bs p [] (
 pub inner_takes : (bs : List Bound) (p : Program) → Takes (locals_of p) (block_code bs p) 0 (2 * words_of p)
 inner_takes bs p = so_takes (block_fits bs p) (omega arith)
 
-pub whole_takes : (p : Program) → Takes (locals_of p) (code_of p) 0 (2 * words_of p)
-whole_takes p = inner_takes [] p
+pub whole_takes : (events : Bool) (p : Program) → Takes (locals_of p) (code_of events p) 0 (2 * words_of p)
+whole_takes events p = joined (set_takes events) (block_fits [] p) (omega arith)
 
-pub code_short : (p : Program) → forms_bytes (code_of p) ≤ 2 * words_of p
-code_short p = omega (arith, (whole_takes p).bytes)
+pub code_short : (events : Bool) (p : Program) → forms_bytes (code_of events p) ≤ 2 * words_of p
+code_short events p = omega (arith, (whole_takes events p).bytes)
 
 instructions_length : (ms : List Form) → 2 * length (instruction_words (instructions ms)) ≡ forms_bytes ms
 instructions_length [] = refl
@@ -391,7 +398,7 @@ instructions_length (m ∷ ms) =
     omega (arith, bytes_are m, instructions_length ms, length-append (encoding (instruction_of m)) (instruction_words (instructions ms)))
 
 pub code_has_its_bytes : CodeHasItsBytes
-code_has_its_bytes p = code_short p
+code_has_its_bytes events p = code_short events p
 
 pub code_has_its_words : CodeHasItsWords
-code_has_its_words p = omega (arith, code_short p, instructions_length (code_of p))
+code_has_its_words events p = omega (arith, code_short events p, instructions_length (code_of events p))

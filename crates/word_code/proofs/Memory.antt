@@ -1,8 +1,7 @@
 -- The stack and the locals: the first eight in registers, the others in RAM, above the stack.
 use Rattle.word_code.proofs.Names.{◌≡◌, ℕ, zero, suc, ◌+◌, ◌-◌, ◌*◌, ◌<◌, ◌≤◌, List, [], ◌∷◌, length, get_or, Option, Some, refl, sym, ap, ◌∙◌, subst, arith}
 use Rattle.word_code.proofs.Names.{Bool, true, false, nat_eq, nat_lt, eq-eqb, ne_eqb, if◌then◌else◌, nat_tests, same_Some, put, IsPlace, IsRam}
-use Rattle.word_code.proofs.Names.{put_same, put_other, work_number, HasPushRoom, is_place, assigned, local_register, local_address, eqb-true}
-use Rattle.array_versions.specs.machine_effects.Machine.{stack_start}
+use Rattle.word_code.proofs.Names.{stack_start, put_same, put_other, work_number, HasPushRoom, is_place, assigned, local_register, local_address, eqb-true}
 use Rattle.word_code.proofs.Stretches.{Setting}
 pub use Rattle.array_versions.specs.alp_words.Words.{AreWords, HoldsWords}
 
@@ -87,14 +86,14 @@ module _ (z : Setting) where
   pop_memory m = record { depth = omega (arith, m.depth); fits = omega (arith, m.fits); stack = m.stack.1; vars = m.vars }
 
   pub pop_needs : {sp v : ℕ} {ram : ℕ → ℕ} {words vs : List ℕ} {ls : ℕ → Option ℕ} → Memory z sp ram words (v ∷ vs) ls
-      → IsRam sp × (sp + 2 ≤ stack_start)
+      → IsRam sp × (z.code.events ≡ true → sp + 2 ≤ stack_start)
   pop_needs m =
-      let d = m.depth in let f = m.fits in let r = z.roomy.fits in let e = z.even in let s = z.start in
-      (record { even = omega arith; low = omega arith; high = omega arith }, omega arith)
+      let d = m.depth in let f = m.fits in let r = z.roomy.fits in let e = z.even in let b = z.low in
+      (record { even = omega arith; low = omega arith; high = omega arith }, λ h. let s = z.start h in omega arith)
 
   pub push_needs : {sp : ℕ} {ram : ℕ → ℕ} {words vs : List ℕ} {ls : ℕ → Option ℕ} → Memory z sp ram words vs ls → length vs < z.room → HasPushRoom sp
   push_needs m l =
-      let d = m.depth in let r = z.roomy.fits in let e = z.even in let s = z.start in
+      let d = m.depth in let r = z.roomy.fits in let e = z.even in let b = z.low in
       record { even = omega arith; room = record { fits = omega arith }; high = omega arith }
 
   pub local_needs : (n : ℕ) → nat_lt n 8 ≡ false → n < z.locals → IsRam (local_address n)

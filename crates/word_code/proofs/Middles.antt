@@ -19,8 +19,8 @@ plain_needs Add = (tt, refl)
 plain_needs _ = (tt, refl)
 
 -- an operation reads these words in a register and from a source, and the machine is left so
-pub record IsRead (x : Source) (b : WorkRegister) (l r : ℕ) (t s : Core) : Type 0 where
-  pub needs : SourceNeeds x t
+pub record IsRead (events : Bool) (x : Source) (b : WorkRegister) (l r : ℕ) (t s : Core) : Type 0 where
+  pub needs : SourceNeeds events x t
   pub still : source_read x t ≡ s
   pub left : s.work (work_number b) ≡ l
   pub right : source_value x t ≡ r
@@ -29,8 +29,8 @@ module _ (z : Setting) where
   module _ (o : TwoOp) (x : Source) (b : WorkRegister) (c : ℕ) where
     -- an operation on a register: its value is written or not, and its flags are
     pub calculate : {l r : ℕ} {t : Core} (s : Core) (writes : Bool) (P : Core → Type 0) → IsNotMov o
-        → writes_destination o ≡ writes → source_cycles to_register (source_operand x) ≤ c → z.code t.pc ≡ Some (instruction_of (Calculate o x b))
-        → IsRead x b l r t s → (let does = operated o Word l r t.flags in P (record s {
+        → writes_destination o ≡ writes → source_cycles to_register (source_operand x) ≤ c → z.code.at t.pc ≡ Some (instruction_of (Calculate o x b))
+        → IsRead z.code.events x b l r t s → (let does = operated o Word l r t.flags in P (record s {
           pc = t.pc + (2 + source_bytes x);
           flags = flags_after does.flags s.flags;
           work = if writes then put s.work (work_number b) does.value else s.work;
@@ -47,8 +47,8 @@ module _ (z : Setting) where
   module _ (o : PlainOperation) (x : Source) (b : WorkRegister) (c : ℕ) where
     -- what an operation makes of the two is written
     pub plain_step : {l r : ℕ} {t : Core} (s : Core) (P : Core → Type 0) → l < 0x10000
-        → r < 0x10000 → source_cycles to_register (source_operand x) ≤ c → z.code t.pc ≡ Some (instruction_of (Calculate (plain_instruction o) x b))
-        → IsRead x b l r t s → ((f : Flags) → P (record s {
+        → r < 0x10000 → source_cycles to_register (source_operand x) ≤ c → z.code.at t.pc ≡ Some (instruction_of (Calculate (plain_instruction o) x b))
+        → IsRead z.code.events x b l r t s → ((f : Flags) → P (record s {
           pc = t.pc + (2 + source_bytes x);
           flags = f;
           work = put s.work (work_number b) (plain_word o l r);

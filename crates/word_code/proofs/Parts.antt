@@ -57,7 +57,7 @@ module _ (z : Setting) where
       let price = cycles_of (instruction_of m) in
       let after : ℕ → Core = λ y. record t { pc = u.pc + (2 + source_bytes s + 2); fram = put t.fram a y } in
       guarded z (is_place a) end most u (goes_on (Store a v ∷ []) (stored a v (with_stack vs w))) (λ g.
-      hop z m most u (after v) (Store a v ∷ []) price _ (ap z.code k.at ∙ h.0) (k.needs, place_is a g)
+      hop z m most u (after v) (Store a v ∷ []) price _ (ap z.code.at k.at ∙ h.0) (k.needs, place_is a g)
       (ap (λ y. Goes (Store a y ∷ []) price (after y)) k.value) l
       (record { at = to; memory = i.memory; fram = ap (λ f. put f a v) i.fram; inputs = i.inputs }))
 
@@ -88,7 +88,7 @@ module _ (z : Setting) where
       let to : u.pc + (2 + source_bytes s + 2) ≡ pc + forms_bytes (m ∷ []) = omega (arith, k.at) in
       let price = cycles_of (instruction_of m) in
       let after : ℕ → Core = λ y. record t { pc = u.pc + (2 + source_bytes s + 2); fram = put t.fram a y } in
-      hop z m (store_cycles x) u (after v) (Store a v ∷ []) price _ (ap z.code k.at ∙ h.0) (k.needs, place_is a g)
+      hop z m (store_cycles x) u (after v) (Store a v ∷ []) price _ (ap z.code.at k.at ∙ h.0) (k.needs, place_is a g)
       (ap (λ y. Goes (Store a y ∷ []) price (after y)) k.value) (store_price x)
       (record {
         rest = d.rest;
@@ -117,7 +117,7 @@ module _ (z : Setting) where
       let price = cycles_of (instruction_of m) in
       let to : u.pc + (2 + source_bytes s + 0) ≡ pc + forms_bytes (m ∷ []) = omega (arith, k.at) in
       let after : ℕ → Core = λ y. record t { pc = u.pc + (2 + source_bytes s + 0); work = put t.work r y } in
-      hop z m most u (after v) [] price _ (ap z.code k.at ∙ h.0) (k.needs, tt) (ap (λ y. Goes [] price (after y)) k.value) price_is.0
+      hop z m most u (after v) [] price _ (ap z.code.at k.at ∙ h.0) (k.needs, tt) (ap (λ y. Goes [] price (after y)) k.value) price_is.0
       (record { at = to; memory = set_register z t.sp n v t.ram t.work vs w.locals e i.memory; fram = i.fram; inputs = i.inputs })
   set_by false s most n v pc vs w u e lt price_is h k =
       let m = Move s (ToRam (local_address n)) in
@@ -126,7 +126,7 @@ module _ (z : Setting) where
       let price = cycles_of (instruction_of m) in
       let to : u.pc + (2 + source_bytes s + 2) ≡ pc + forms_bytes (m ∷ []) = omega (arith, k.at) in
       let after : ℕ → Core = λ y. record t { pc = u.pc + (2 + source_bytes s + 2); ram = put t.ram (local_address n) y } in
-      hop z m most u (after v) [] price _ (ap z.code k.at ∙ h.0) (k.needs, local_needs z n e lt) (ap (λ y. Goes [] price (after y)) k.value) price_is.1
+      hop z m most u (after v) [] price _ (ap z.code.at k.at ∙ h.0) (k.needs, local_needs z n e lt) (ap (λ y. Goes [] price (after y)) k.value) price_is.1
       (record { at = to; memory = set_ram z t.sp n v t.ram (local_words t.work) vs w.locals e lt i.memory; fram = i.fram; inputs = i.inputs })
 
   pub set_part : (x : Option Waiting) (n v pc : ℕ) (vs : List ℕ) (w : WordState) (u : Core) → n < z.locals
@@ -156,5 +156,5 @@ module _ (z : Setting) where
       → Follows z (pc + 4) 3 u (jumped to w)
   jump_part to pc w u ev h i =
       subst (λ b. Follows z (pc + 4) 3 u (if b then behaves [] (Jumps to w) else broken)) (sym (eq-eqb (to % 2) 0 ev))
-      (hop z (Branch to) 3 u (record u { pc = to }) [] 3 (HasJumped to w) (ap z.code i.at ∙ h.0) ev refl (omega arith)
+      (hop z (Branch to) 3 u (record u { pc = to }) [] 3 (HasJumped to w) (ap z.code.at i.at ∙ h.0) ev refl (omega arith)
       (record { pc = refl; fram = i.fram; inputs = i.inputs }))

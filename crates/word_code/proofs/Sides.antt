@@ -55,7 +55,7 @@ kept_words six g = g 5 ∷ ((if six then g 6 else 0) ∷ local_words g)
 -- on each machine with this FRAM and these of its registers' words a source gives this word
 pub record Gives (keeps : (ℕ → ℕ) → List ℕ) (x : Source) (v : ℕ) (f : ℕ → ℕ) (ws : List ℕ) : Type 0 where
   pub word : (s : Core) → s.fram ≡ f → keeps s.work ≡ ws → source_value x s ≡ v
-  pub needs : (s : Core) → SourceNeeds x s
+  pub needs : (events : Bool) (s : Core) → SourceNeeds events x s
   pub still : (s : Core) → source_read x s ≡ s
 
 abbrev pub GivesOn : Bool → Source → ℕ → (ℕ → ℕ) → (ℕ → ℕ) → Type 0
@@ -67,7 +67,7 @@ pub record Aiming (six : Bool) (x : Source) (k v : ℕ) (f g : ℕ → ℕ) : Ty
   pub gives : GivesOn six x v f g
 
 five_gives : (six : Bool) (v : ℕ) (f g : ℕ → ℕ) → g 5 ≡ v → GivesOn six (Register R5) v f g
-five_gives six v f g e = record { word = λ s a l. ap (λ ws. get_or ws 0 0) l ∙ e; needs = λ s. tt; still = λ s. refl }
+five_gives six v f g e = record { word = λ s a l. ap (λ ws. get_or ws 0 0) l ∙ e; needs = λ events s. tt; still = λ s. refl }
 
 -- it stays where it waits, in R6 too where this is said
 abbrev pub lies : Bool → Option Waiting → Bool
@@ -97,7 +97,7 @@ pub waiting_gives : (keeps : (ℕ → ℕ) → List ℕ) (six : Bool) (most : �
 waiting_gives keeps six most locals o v t b h q same =
     record {
       word = λ s a l. let k = same s l in word_same six most locals o s t b h a k.0 k.1 ∙ q;
-      needs = λ s. source_needs most locals o s h;
+      needs = λ events s. source_needs events most locals o s h;
       still = λ s. source_still o s;
     }
 
@@ -115,9 +115,9 @@ kept_same six f g h =
     ∷ other 15 (omega arith) k ∷ []))
 
 -- an operation on a register reads what a source gives
-pub is_read : (six : Bool) (x : Source) (b : WorkRegister) (k v : ℕ) (f : ℕ → ℕ) (t : Core) → t.fram ≡ f → t.work (work_number b) ≡ k → GivesOn six x v f t.work
-    → IsRead x b k v t t
-is_read six x b k v f t e l g = record { needs = g.needs t; still = g.still t; left = l; right = g.word t e refl }
+pub is_read : {events : Bool} (six : Bool) (x : Source) (b : WorkRegister) (k v : ℕ) (f : ℕ → ℕ) (t : Core) → t.fram ≡ f → t.work (work_number b) ≡ k
+    → GivesOn six x v f t.work → IsRead events x b k v t t
+is_read {events} six x b k v f t e l g = record { needs = g.needs events t; still = g.still t; left = l; right = g.word t e refl }
 
 module _ (z : Setting) where
   -- the right side to where it is read
