@@ -9,18 +9,18 @@ use Rattle.fram_board.specs.Steps.{IsPowerState}
 use Rattle.fram_board.specs.Effects.{Effect}
 use Rattle.fram_board.specs.Run.{Moment, moment_of, word_list, accepted_by, accepted_words, BoardCharge, RunOutcome}
 use Rattle.machine_effects.specs.World.{accepted_after}
-use Rattle.machine_effects.specs.View.{IsWhole, IsOfWords, IsMachines}
+use Rattle.machine_effects.specs.View.{IsWhole, IsOfWords}
 use Rattle.machine_effects.specs.Runs.{last_board}
 use Rattle.machine_effects.proofs.Interface.{world_by_its_parts, power_up_keeps_words}
 use Rattle.crash_rules.specs.Model.{Marks}
 use Rattle.crash_rules.specs.History.{History, behind_boot}
 use Rattle.crash_rules.proofs.Interface.{observed_world, observed_taken}
-use Rattle.run_charges.specs.View.{Follows, IsMomentFrom, PowersUp, Instructs, AreMoments}
+use Rattle.run_charges.specs.View.{IsPrograms, IsServed, Follows, IsMomentFrom, PowersUp, Instructs, Serves, AreMoments}
 use Rattle.run_charges.specs.Charges.{behind_moment, observed}
-use Rattle.run_charges.specs.Laws.{IsPlainRun}
+use Rattle.run_charges.specs.Laws.{IsProgramRun}
 use Rattle.run_charges.proofs.View.{follows_keeps}
 use Rattle.run_charges.proofs.Moments.{front_moments, told, whole_after, words_after, words_accepted}
-use Rattle.run_charges.proofs.Moments.{words_counted, readings_counted}
+use Rattle.run_charges.proofs.Moments.{words_counted, readings_counted, served_unseen}
 
 -- the words accepted and the readings taken are a board's
 pub record Counts (b : BoardValue) (h : History) (ws : List ℕ) : Type 0 where
@@ -51,7 +51,7 @@ module _ (marks : Marks) where
       subst P (sym (append-nil ws)) (record { whole = up.0; words = up.1; accepted = k.accepted; count = k.count; taken = k.taken })
 
   instruction_counts : (b : BoardValue) (h : History) (ws : List ℕ) (i : Instr) (done : Stepped) → Counts b h ws → IsNextInstruction b i
-      → (executed b i).answer ≡ Ok done → IsMachines b i
+      → (executed b i).answer ≡ Ok done → IsPrograms b i
       → Counts (at_boundary (executed b i).board) (behind_moment marks (moment_of b (next_step.Instruction i) done) h) (ws ++ word_list done.accepted)
   instruction_counts b h ws i done k c a own =
       let es : List Effect = told b k.whole i done c a own in
@@ -64,6 +64,19 @@ module _ (marks : Marks) where
         taken = observed_taken marks es h ∙ readings_counted b k.whole i done c a own h k.taken;
       }
 
+  served_counts : (b : BoardValue) (h : History) (ws : List ℕ) (m : Moment) → Counts b h ws → IsServed b m
+      → Counts m.after (behind_moment marks m h) (ws ++ accepted_by m.action)
+  served_counts b h ws m k served =
+      let unseen = served_unseen marks m h served.handlers in
+      let none : ws ++ accepted_by m.action ≡ ws = ap (λ l. ws ++ l) served.accepts_none ∙ append-nil ws in
+      record {
+        whole = served.whole;
+        words = served.words;
+        accepted = ap (λ (j : History). j.world.accepted) unseen ∙ k.accepted ∙ sym none;
+        count = ap (λ (l : List ℕ). length l % 0x10000) none ∙ k.count ∙ ap next_number (sym served.rest.receiver);
+        taken = ap (λ (j : History). j.taken) unseen ∙ k.taken ∙ sym served.rest.taken;
+      }
+
   moment_counts : (b : BoardValue) (h : History) (ws : List ℕ) (m : Moment) → Counts b h ws → IsMomentFrom b m
       → Counts m.after (behind_moment marks m h) (ws ++ accepted_by m.action)
   moment_counts b h ws m k (PowersUp p ok e) =
@@ -72,6 +85,9 @@ module _ (marks : Marks) where
   moment_counts b h ws m k (Instructs i done c a own e) =
       let P : Moment → Type 0 = λ y. Counts y.after (behind_moment marks y h) (ws ++ accepted_by y.action) in
       subst P (sym e) (instruction_counts b h ws i done k c a own)
+  moment_counts b h ws m k (Serves n done a served e) =
+      let P : Moment → Type 0 = λ y. Counts y.after (behind_moment marks y h) (ws ++ accepted_by y.action) in
+      subst P (sym e) (served_counts b h ws (moment_of b n done) k served)
 
   pub moments_count : (b : BoardValue) (h : History) (ws : List ℕ) (ms : List Moment) → Counts b h ws → AreMoments b ms
       → Counts (last_board b ms) (observed marks ms h) (ws ++ accepted_words ms)
@@ -83,7 +99,7 @@ module _ (marks : Marks) where
       subst P (append_assoc ws (accepted_by m.action) (accepted_words ms)) (moments_count m.after j (ws ++ accepted_by m.action) ms one all.2)
 
   -- from a board whose receiver takes its first word next
-  pub front_counts : (cs : List BoardCharge) (b : BoardValue) (r : RunOutcome) (h : History) → IsPlainRun cs b r → h.world.accepted ≡ []
+  pub front_counts : (cs : List BoardCharge) (b : BoardValue) (r : RunOutcome) (h : History) → IsProgramRun cs b r → h.world.accepted ≡ []
       → next_number b.receiver ≡ 0 → h.taken ≡ b.taken → (ms rest : List Moment) → r.moments ≡ ms ++ rest
       → Counts (last_board b ms) (observed marks ms h) (accepted_words ms)
   front_counts cs b r h run none count taken ms rest e =

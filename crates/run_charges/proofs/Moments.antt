@@ -2,6 +2,7 @@
 use Rattle.std.proofs.Common.{◌≡◌, ◌==◌, ◌≤◌, ◌+◌, ◌-◌, ◌%◌, ℕ, suc, refl, sym, ap, ◌∙◌, subst, arith, Bool, true, false, if◌then◌else◌, List, [], ◌∷◌, ◌++◌}
 use Rattle.std.proofs.Common.{ap₂, length, length-append, Option, Some, None, Ok}
 use Rattle.std.proofs.lemmas.List.Elements.{All-cons}
+use Rattle.std.proofs.lemmas.Bool.Decides.{nat_tests}
 use Rattle.msp_isa.specs.declared.instructions.Instr.{Instr}
 use Rattle.msp_cycles.specs.Cycles.{cycles_of}
 use Rattle.msp_step.specs.Registers.{Registers, registers_of}
@@ -17,7 +18,7 @@ use Rattle.fram_board.specs.Board.{offered_to}
 use Rattle.fram_board.specs.Saved.{TakesNextBehind}
 use Rattle.fram_board.specs.Steps.{IsPowerState}
 use Rattle.fram_board.specs.Effects.{Effect, Store, Take, Outside, OutsideEffect, Offered, Looked, sends_of, effects_of, heard}
-use Rattle.fram_board.specs.Run.{Measure, price, Moment, moment_of, Charges, RunOutcome}
+use Rattle.fram_board.specs.Run.{Measure, price, Action, PowerUp, Execute, Moment, moment_of, Charges, RunOutcome}
 use Rattle.fram_board.specs.Run.{ChargeRun}
 use Rattle.fram_board.specs.Run.{Spent, NoInstruction, TooDear, Refused, BoardCharge, word_list}
 use Rattle.fram_board.specs.Run as run
@@ -27,16 +28,17 @@ use Rattle.machine_effects.specs.Inputs.{Look, SeeWords, look_effects}
 use Rattle.machine_effects.specs.Going.{Goes, Stops, step_behind}
 use Rattle.machine_effects.specs.Machine.{MachineBus, MachineBoard, MachineOutcome, word_address, machine_bus, machine_opened_seeing, machine_outcome}
 use Rattle.machine_effects.specs.Machine.{machine_executed_seeing, machine_executed, looks_there, executed_looking, code_executed}
-use Rattle.machine_effects.specs.View.{machine_of, machine_with, looks_at, seen_at_pc, IsWhole, IsOfWords, outcome_of_answer, IsMachines}
-use Rattle.machine_effects.specs.Laws.{ChangesByEffects}
-use Rattle.machine_effects.specs.Runs.{last_board}
-use Rattle.machine_effects.proofs.Interface.{takes, written_effects, LoggedBy, effect_logged, code_changes, seen_by_words}
+use Rattle.machine_effects.specs.View.{machine_of, machine_with, looks_at, seen_at_pc, IsWhole, IsOfWords, outcome_of_answer}
+use Rattle.machine_effects.specs.Runs.{action_effects, last_board}
+use Rattle.machine_effects.proofs.Interface.{takes, written_effects, LoggedBy, effect_logged, seen_by_words, power_up_keeps_words}
 use Rattle.machine_effects.proofs.Interface.{step_leaves_it_whole, words_stay_words, boundary_whole, boundary_words, told_effects, step_accepts_by_sends}
 use Rattle.crash_rules.specs.Model.{Marks}
-use Rattle.crash_rules.specs.History.{History}
+use Rattle.crash_rules.specs.History.{History, observe}
 use Rattle.crash_rules.proofs.Interface.{observed_taken, events_of_instructions}
-use Rattle.run_charges.specs.View.{outside_of, outside_effects, AreMoments}
-use Rattle.run_charges.specs.Charges.{ArePowerStates, AreInstructionMoments}
+use Rattle.program_view.specs.View.{is_handlers_action}
+use Rattle.program_view.proofs.Interface.{kind_is}
+use Rattle.run_charges.specs.View.{outside_of, is_handlers, IsPrograms, looks_by, outside_effects, IsMomentFrom, PowersUp, Instructs, Serves, AreMoments}
+use Rattle.run_charges.specs.Charges.{ArePowerStates, AreInstructionMoments, behind_action, behind_moment}
 
 -- the board behind the moments of a charge that is spent
 pub charge_last : (m : Measure) (left : ℕ) (b : BoardValue) (r : RunOutcome) → ChargeRun m left b r → r.ending ≡ Charges → last_board b r.moments ≡ r.board
@@ -188,9 +190,9 @@ front_sees false look more w see = see
 at_most : (t n k : ℕ) → t ≤ n → n ≡ k → t ≤ k
 at_most t n k h e = omega arith
 
--- what an instruction does that is made, as the machine does
+-- what an instruction of the program does that is made, as the machine does
 module _ (b : BoardValue) (whole : IsWhole b) (i : Instr) (done : Stepped) (current : IsNextInstruction b i) (answer : (executed b i).answer ≡ Ok done)
-    (own : IsMachines b i) where
+    (own : IsPrograms b i) where
   -- the board at the boundary behind it
   abbrev pub after : BoardValue
   after = at_boundary (executed b i).board
@@ -202,23 +204,26 @@ module _ (b : BoardValue) (whole : IsWhole b) (i : Instr) (done : Stepped) (curr
   abbrev pub told : List Effect
   told = outside_effects moment
 
+  -- it isn't the handler's
+  pub not_handlers : is_handlers moment ≡ false
+  not_handlers = kind_is i b ∙ (let l = own.below in grind (arith, nat_tests))
+
+  told_plain : told ≡ look_effects (seen_at_pc b) ++ action_effects moment.action b after
+  told_plain = ap {B = List Effect} (λ c. if c then [] else look_effects (seen_at_pc b) ++ action_effects moment.action b after) not_handlers
+
   -- behind the effect of its look
   seen : seen_at_pc b ≡ looks_at b i
   seen = seen_by_words b i whole current
 
-  told_same : told ≡ look_effects (looks_at b i) ++ effects_of b (executed b i)
-  told_same = ap₂ (λ l es. look_effects l ++ es) seen (told_effects b i done answer)
+  pub told_same : told ≡ look_effects (looks_at b i) ++ effects_of b (executed b i)
+  told_same = told_plain ∙ ap₂ (λ l es. look_effects l ++ es) seen (told_effects b i done answer)
 
-  -- it is a step of the machine, whatever is to be seen later
-  pub same_step : (more : List Look) → SeeWords more → code_executed (machine_with (seen_at_pc b ++ more) b) i ≡ Goes told done.cycles (machine_with more after)
-  same_step more see =
-      ap (λ l. code_executed (machine_with (l ++ more) b) i) seen
-      ∙ own.step more see
-      ∙ ap (λ y. outcome_of_answer (look_effects (looks_at b i) ++ effects_of b (executed b i)) (cycles_of i) y (machine_with more after)) answer
-      ∙ ap (λ es. Goes es done.cycles (machine_with more after)) (sym told_same)
-
-  step : code_executed (machine_with (seen_at_pc b ++ []) b) i ≡ Goes told done.cycles (machine_of after)
-  step = same_step [] nothing_seen
+  -- it is a step of the machine
+  step : code_executed (machine_with (looks_at b i) b) i ≡ Goes told done.cycles (machine_of after)
+  step =
+      own.step
+      ∙ ap (λ y. outcome_of_answer (look_effects (looks_at b i) ++ effects_of b (executed b i)) (cycles_of i) y (machine_of after)) answer
+      ∙ ap (λ es. Goes es done.cycles (machine_of after)) (sym told_same)
 
   is_step : IsStep b (executed b i)
   is_step = (execution board_bus i (registers_of b.cpu) (opened b), Executed i current, refl)
@@ -233,17 +238,18 @@ module _ (b : BoardValue) (whole : IsWhole b) (i : Instr) (done : Stepped) (curr
 
   -- FRAM changes as what is told says
   pub fram_changed : (outside_of after).fram ≡ fram_after told (outside_of b).fram
-  fram_changed =
-      let s = machine_with (seen_at_pc b ++ []) b in
-      let P : MachineOutcome → Type 0 = λ o. ChangesByEffects s o in (subst P step (code_changes s i)).0
+  fram_changed = own.fram ∙ ap (λ es. fram_after es (outside_of b).fram) (sym told_same)
 
   -- an instruction writes once
   pub one_write : OneWrite told
-  one_write = one_by_look (looks_there i) (machine_with (seen_at_pc b ++ []) b) i told done.cycles (machine_of after) step
+  one_write = one_by_look (looks_there i) (machine_with (looks_at b i) b) i told done.cycles (machine_of after) step
 
   -- the word that is accepted
   pub words_accepted : (ws : List ℕ) → TakesNextBehind ws b.receiver → accepted_after told ws ≡ ws ++ word_list done.accepted
-  words_accepted ws len = look_accepts (seen_at_pc b) _ ws ∙ step_accepts_by_sends b (next_step.Instruction i) done ws len answer
+  words_accepted ws len =
+      ap (λ es. accepted_after es ws) told_plain
+      ∙ look_accepts (seen_at_pc b) (action_effects moment.action b after) ws
+      ∙ step_accepts_by_sends b (next_step.Instruction i) done ws len answer
 
   -- the accepted words are counted
   pub words_counted : (ws : List ℕ) → TakesNextBehind ws b.receiver → TakesNextBehind (accepted_after told ws) after.receiver
@@ -263,8 +269,32 @@ module _ (b : BoardValue) (whole : IsWhole b) (i : Instr) (done : Stepped) (curr
   readings_counted k e =
       let made = step_makes_its_effects b (executed b i) whole.board is_step in
       let room = at_most after.taken (length after.readings) (length b.readings) whole_after.board.taken (ap length made.readings) in
-      let any : Marks = record { gate = 0 } in
+      let any : Marks = record { gate = 0; answer = None } in
       let event = events_of_instructions any b (executed b i) k e made.from room in
       let count = observed_taken any (effects_of b (executed b i)) k in
       ap (λ es. k.taken + length (readings_taken es)) told_same
       ∙ ap (λ l. k.taken + length l) (look_takes_none (looks_at b i) (effects_of b (executed b i))) ∙ sym count ∙ event.taken
+
+-- what a moment of the handler's does: nothing
+pub served_tells_none : (m : Moment) → is_handlers m ≡ true → outside_effects m ≡ []
+served_tells_none m h =
+    ap {B = List Effect} (λ c. if c then [] else look_effects (looks_by m.action m.before) ++ action_effects m.action m.before m.after) h
+
+-- and nothing is to be observed of it
+action_unseen : (marks : Marks) (a : Action) (before : BoardValue) (es : List Effect) (k : History) → is_handlers_action a before ≡ true → es ≡ []
+    → behind_action marks a es k ≡ k
+action_unseen marks PowerUp before es k h e = absurd cc
+action_unseen marks (Execute kind done offered) before es k h e = ap (λ l. observe marks l k) e
+
+pub served_unseen : (marks : Marks) (m : Moment) (k : History) → is_handlers m ≡ true → behind_moment marks m k ≡ k
+served_unseen marks m k h = action_unseen marks m.action m.before (outside_effects m) k h (served_tells_none m h)
+
+-- a moment leaves a whole board, and words
+pub moment_whole : (b : BoardValue) (m : Moment) → IsWhole b → IsOfWords b → IsMomentFrom b m → IsWhole m.after × IsOfWords m.after
+moment_whole b m whole words (PowersUp p ok e) =
+    let P : Moment → Type 0 = λ y. IsWhole y.after × IsOfWords y.after in subst P (sym e) (power_up_keeps_words b p whole words ok)
+moment_whole b m whole words (Instructs i done c a own e) =
+    let P : Moment → Type 0 = λ y. IsWhole y.after × IsOfWords y.after in
+    subst P (sym e) (whole_after b whole i done c a own, words_after b whole i done c a own words)
+moment_whole b m whole words (Serves n done a served e) =
+    let P : Moment → Type 0 = λ y. IsWhole y.after × IsOfWords y.after in subst P (sym e) (served.whole, served.words)
