@@ -44,7 +44,6 @@ one_part b c m ms follows (Instructs i done at a own e) one rest =
       moments = (one.0, one.1, rest.moments);
       follow = rest.follow;
     }
-
 one_part b c m ms follows (Serves n done at served e) one rest =
     record {
       before = m ∷ rest.before;

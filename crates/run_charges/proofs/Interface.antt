@@ -6,6 +6,8 @@ pub use Rattle.run_charges.proofs.View.{Keeps, follows_keeps, no_gap}
 pub use Rattle.run_charges.proofs.Moments.{charge_last, charge_instructs, first_start, other_starts, are_behind, front_moments}
 pub use Rattle.run_charges.proofs.Moments.{AtMostOne, NoWrite, AStore, AnOutside, OneWrite, told, whole_after, words_after}
 pub use Rattle.run_charges.proofs.Moments.{nothing_seen, fram_changed, one_write, words_accepted, words_counted, readings_stay, readings_counted}
+-- The handler's moments do nothing to the program.
+pub use Rattle.run_charges.proofs.Moments.{not_handlers, served_tells_none, served_unseen, moment_whole}
 -- Each front of a plain run is one by its moments alone.
 pub use Rattle.run_charges.proofs.Charges.{run_front}
 -- A board on which a program runs that stands in FRAM.
