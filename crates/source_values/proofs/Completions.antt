@@ -1,8 +1,9 @@
--- Whole tasks and the readings that they take.
-use Rattle.std.proofs.Common.{◌≡◌, ℕ, ◌++◌, ap, sym, ◌∙◌, Some}
+-- Whole tasks, and the readings and the answers that they take.
+use Rattle.std.proofs.Common.{◌≡◌, ℕ, ◌++◌, ap, sym, ◌∙◌, subst, Some}
 use Rattle.source_values.specs.Statements.{Attempt, Outcome, goes_on, to_task, short}
 use Rattle.source_values.specs.Runs.{attempt_of, fresh_attempt, task_body, Completion, completion_of}
-use Rattle.source_values.specs.Laws.{ReadingsLeftOver}
+use Rattle.source_values.specs.Values.{AreTaken}
+use Rattle.source_values.specs.Laws.{ReadingsLeftOver, AnswersLeftOver}
 use Rattle.source_values.proofs.Uses.{block_uses}
 
 -- what outlives a task at a transition
@@ -37,4 +38,15 @@ readings_left_over_lem program task shared given c e =
       λ others. ap completion_of (uses.same others)
           ∙ ap (λ (c : Completion). Some (record c { left = others })) t.completion,
       λ none. ap (λ (c : Completion). c.answers) (sym t.completion) ∙ uses.no_answers none,
+    )
+
+-- and with any answers
+pub answers_left_over_lem : AnswersLeftOver
+answers_left_over_lem program task shared given c e =
+    let t = to_task_of (attempt_of program task shared given) c e in
+    let uses = block_uses (task_body program task) (fresh_attempt shared given) (to_task c.next t.state) t.is tt in (
+      uses.answered,
+      subst (λ (d : Completion). AreTaken given.answers uses.answered d.answers) t.completion uses.answers,
+      λ others. ap completion_of (uses.same_answered others)
+          ∙ ap (λ (c : Completion). Some (record c { answers = others })) t.completion,
     )

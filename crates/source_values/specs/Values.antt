@@ -1,6 +1,6 @@
 -- The values of expressions: C's arithmetic on numbers of 16 bits, and of 32 bits where the type is long, and the rules of the language
 -- where C leaves one open.
-use Rattle.std.specs.Prelude.{ℕ, ◌^◌, ◌+◌, ◌-◌, ◌*◌, ◌/◌, ◌%◌, List, [], ◌∷◌, Bool, not, ◌==◌, nat_le, nat_lt, bit_and, bit_or, bit_xor, if◌then◌else◌}
+use Rattle.std.specs.Prelude.{◌≡◌, ℕ, ◌^◌, ◌+◌, ◌-◌, ◌*◌, ◌/◌, ◌%◌, List, [], ◌∷◌, Bool, not, ◌==◌, nat_le, nat_lt, bit_and, bit_or, bit_xor, if◌then◌else◌}
 use Rattle.std.specs.Prelude.{Option, Some, None}
 use Rattle.std.specs.Prelude.{slice_index, slice_index_or, slice_set, drop}
 pub use Rattle.task_ast.specs.alp_text.Sequence.{◌>>?◌}
@@ -194,6 +194,11 @@ next_reading s = reading_of s.left s
 -- the next answer, with those behind it left; 0 where none is left
 abbrev pub next_answer : Attempt → Option Evaluated
 next_answer s = gives (slice_index s.answers 0) (record s { answers = drop 1 s.answers })
+
+-- these are taken from a list of answers one after another, 0 behind its last, and leave this of it
+abbrev pub AreTaken : List ℕ → List ℕ → List ℕ → Type 0
+AreTaken given [] left = left ≡ given
+AreTaken given (a ∷ taken) left = (a ≡ slice_index given 0) × AreTaken (drop 1 given) taken left
 
 -- a condition as a number: 1 where it holds, else 0
 abbrev pub truth_word : ℕ → ℕ

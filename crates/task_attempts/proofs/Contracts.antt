@@ -1,11 +1,12 @@
 -- The program of a task decides, or is short exactly where the task is, and stores before the code.
 use Rattle.task_attempts.proofs.Names.{◌≡◌, ℕ, ◌≤◌, List, [], ◌∷◌, ◌++◌, length, true, false, refl, sym, ap, ◌∙◌, subst, arith, append-nil, append_cancel_right}
-use Rattle.task_attempts.proofs.Names.{get_or_from_slice_get, Effect, Store, readings_taken, EachStore, InputsAreWords, inputs_taken, no_inputs}
+use Rattle.task_attempts.proofs.Names.{get_or_from_slice_get, Effect, Store, readings_taken, EachStore, InputsAreWords}
+use Rattle.task_attempts.proofs.Names.{looks_taken, looks_taken-append, answer_place, answers_in, given_by, nothing_given}
 use Rattle.task_attempts.proofs.Names.{readings_taken-append, each_store-append, emits_of, Attempt, Outcome, to_task, short, run_block, block_emits, State}
 use Rattle.task_attempts.proofs.Names.{Completion, completion_of, without_answers, attempt_of, fresh_attempt, EndsWell, TransitionComes, readings_left_over_lem}
 use Rattle.task_attempts.proofs.Names.{WordState, End}
 use Rattle.task_attempts.proofs.Names.{GoesOn, Jumps, Broken, behaviour, started, behaves_by_effects, whole_ends_soundly, StoresWords, stores_words, Ends}
-use Rattle.task_attempts.proofs.Names.{program_effects, IsElsewhere, Model, AttemptContract, Decides, RunsShort, TakesAndStores, EndsAs, BlocksAgree}
+use Rattle.task_attempts.proofs.Names.{program_effects, IsElsewhere, Model, AttemptContract, Comes, Lacks, Decides, RunsShort, TakesAndStores, EndsAs, BlocksAgree}
 use Rattle.task_attempts.proofs.Names.{lowered_block, task_program, outcome_of, whole_task, has_jumped, effects_of, program_parts, redo_model, LeavesFor}
 use Rattle.task_attempts.proofs.Names.{inl, IsBelowCode, Gate, word_place}
 use Rattle.array_versions.specs.Program.{Program}
@@ -13,7 +14,7 @@ use Rattle.array_versions.specs.Behaviour.{Short as Starves}
 use Rattle.array_versions.specs.Laws.{EndsByEffects, IsSound}
 use Rattle.source_meaning.proofs.Interface.{emits_same}
 use Rattle.task_attempts.proofs.Rows.{HasRows, block_rows}
-use Rattle.task_attempts.proofs.Quiet.{stores_each, stores_as, quiet_through}
+use Rattle.task_attempts.proofs.Quiet.{stores_each, stores_as, quiet_through, none_answered}
 use Rattle.task_attempts.proofs.Tasks.{body_is, program_is}
 use Rattle.task_attempts.proofs.Stores.{Safe, StoresOf, task_safe, emits_fit}
 use Rattle.task_attempts.proofs.Starts.{held_attempt, held_runs, attempt_stands}
@@ -37,6 +38,12 @@ module _ (run : Started) where
     rows : HasRows (length s.shared) o
     source : completion_of (attempt_of p s.task s.shared (without_answers inputs.readings)) ≡ completion_of o
 
+  -- no store is to ANS
+  off_answer : (es : List Effect) → TakesAndStores (Safe run) es → EachStore (IsElsewhere answer_place) es
+  off_answer es h =
+      let apart = given.apart in
+      stores_each (Safe run) (IsElsewhere answer_place) (λ a w q e. let below = q.below in omega (arith, apart, below, e)) es h
+
   off_gate : (es : List Effect) → TakesAndStores (Safe run) es → EachStore (IsElsewhere (word_place l Gate)) es
   off_gate es h = stores_each (Safe run) (IsElsewhere (word_place l Gate)) (λ a w q e. q.quiet.gate e) es h
 
@@ -57,11 +64,15 @@ module _ (run : Started) where
     safe_short : TakesAndStores (Safe run) es
     safe_short = stores_as (StoresOf run) (Safe run) (task_safe run) es h.agrees h.of_words
 
-    runs_short : RunsShort model s x (program_effects es false)
+    answers_none : answers_in model.marks es ≡ []
+    answers_none = none_answered l es (off_answer es safe_short)
+
+    runs_short : RunsShort model s inputs x (program_effects es false)
     runs_short = record {
       is = refl;
       elsewhere = off_gate es safe_short;
       undecided = quiet_through sites view s ver es x (quiet_of run es safe_short h.of_words) (quiet_start run);
+      short = ap (λ answers. whole_task p s (record { readings = inputs.readings; answers = answers })) answers_none ∙ ap (outcome_of s) h.source;
     }
 
   -- ---- a transition
@@ -84,18 +95,38 @@ module _ (run : Started) where
     abbrev completion : Completion
     completion = record { next = task; shared = m.variables.shared; emitted = m.emitted; left = m.left; answers = m.answers }
 
-    exact : whole_task p s (inputs_taken front) ≡ Ends (next run t) no_inputs
+    -- and see what these see
+    looks : looks_taken front ++ end.inputs.looks ≡ inputs.looks
+    looks =
+        ap (λ l. l ++ end.inputs.looks) (sym (append-nil (looks_taken front)) ∙ sym (looks_taken-append front (Store (word_place l Gate) 1 ∷ []))
+        ∙ sym (ap looks_taken (effects_are run t)))
+        ∙ h.by_effects.1.looks
+
+    -- the effects with the last store
+    abbrev whole : List Effect
+    whole = front ++ Store (word_place l Gate) 1 ∷ []
+
+    answers_none : answers_in model.marks whole ≡ []
+    answers_none =
+        let apart = given.apart in
+        none_answered l whole (each_store-append (IsElsewhere answer_place) front (Store (word_place l Gate) 1 ∷ [])
+        (off_answer front (safe_before run t)) ((λ e. omega (arith, apart, e)), tt))
+
+    exact : whole_task p s (given_by model.marks whole) ≡ Ends (next run t) nothing_given
     exact =
         let r = readings_left_over_lem p s.task s.shared (without_answers inputs.readings) completion h.source in
         let used : r.0 ≡ readings_taken front = append_cancel_right r.0 (readings_taken front) m.left (sym r.1 ∙ sym reads) in
-        ap (λ taken. whole_task p s (record { readings = taken; looks = [] })) (sym used ∙ sym (append-nil r.0)) ∙ ap (outcome_of [] s) (r.2 [])
+        let read : readings_taken whole ≡ r.0 ++ [] = sym (ap readings_taken (effects_are run t)) ∙ taken ∙ sym used ∙ sym (append-nil r.0) in
+        (λ j. whole_task p s (record { readings = read j; answers = answers_none j })) ∙ ap (outcome_of s) (r.2 [])
+        ∙ ap (λ answers. Ends (next run t) (record { readings = []; answers = answers })) (r.3 refl)
 
-    decides : Decides model s (next run t) (record { readings = m.left; looks = inputs.looks }) inputs x (program_effects es true)
+    decides : Decides model s (next run t) inputs x (program_effects es true)
     decides = record {
       before = front;
+      left = record { readings = m.left; looks = end.inputs.looks };
       is = ap (λ e. program_effects e true) (effects_are run t);
       elsewhere = off_gate front (safe_before run t);
-      reads = record { readings = reads; seen = []; looks = refl };
+      reads = record { readings = reads; looks = looks };
       undecided = quiet_through sites view s ver front x (quiet_before run t) (quiet_start run);
       decided = decided run t;
       exact = exact;
@@ -119,12 +150,11 @@ module _ (run : Started) where
 
   -- ---- each end
 
-  keeps : (es : List Effect) (e : End) (o : Outcome) → Meets es e o → AttemptContract model s inputs x (outcome_of inputs.looks s (completion_of o))
-      (program_effects es (has_jumped e))
+  keeps : (es : List Effect) (e : End) (o : Outcome) → Meets es e o → AttemptContract model s inputs x (program_effects es (has_jumped e))
   keeps es (GoesOn t) o h = absurd h.sound
   keeps es Broken o h = absurd h.sound
-  keeps es (Jumps to t) (to_task task m) h = decides es to t task m h
-  keeps es Starves short h = runs_short es h
+  keeps es (Jumps to end) (to_task task m) h = Comes (next run (t es to end task m h)) (decides es to end task m h)
+  keeps es Starves short h = Lacks (runs_short es h)
   keeps es _ _ h = absurd h.agrees
 
   stores_before_code : (es : List Effect) (e : End) (o : Outcome) → Meets es e o → EachStore (IsBelowCode l) es
@@ -177,14 +207,11 @@ module _ (run : Started) where
       }
 
   pub program_keeps : BlocksAgree → InputsAreWords inputs
-      → AttemptContract model s inputs x (whole_task p s inputs) ((program_parts p l).body s.task x.fram inputs)
+      → AttemptContract model s inputs x ((program_parts p l).body s.task x.fram inputs)
   program_keeps agree small =
       let b = behaviour program (started x.fram inputs) in
-      let k = keeps b.effects b.end (run_block code attempt) (meets agree small) in
-      subst (λ q. AttemptContract model s inputs x (whole_task p s inputs) (effects_of (behaviour q (started x.fram inputs))))
-      (sym (program_is p l given s.task i))
-      (subst (λ c. AttemptContract model s inputs x (outcome_of inputs.looks s (completion_of (run_block c attempt))) (effects_of b))
-      (sym (body_is p l given s.task i)) k)
+      subst (λ q. AttemptContract model s inputs x (effects_of (behaviour q (started x.fram inputs)))) (sym (program_is p l given s.task i))
+      (keeps b.effects b.end (run_block code attempt) (meets agree small))
 
   pub program_stores : BlocksAgree → InputsAreWords inputs → EachStore (IsBelowCode l) ((program_parts p l).body s.task x.fram inputs).effects
   program_stores agree small =

@@ -11,6 +11,7 @@ pub use Rattle.std.specs.Prelude.{Contains, IsSomeAnd, nat_lt, option_map, slice
 -- the machine
 pub use Rattle.memory_map.proofs.Interface.{IsPlaceOfScalar, apart_of, privates_few, scalar_home, scalar_place, words_scalar}
 pub use Rattle.memory_map.specs.MemoryMap.{MemoryMap, TaskPlace, word_place}
+pub use Rattle.memory_map.specs.event_places.Places.{answer_place}
 pub use Rattle.memory_map.specs.Places.{HasItsPlace, end_of, home_region, scalar_words}
 pub use Rattle.memory_map.specs.Spots.{Element, IsCopied, IsElement, IsScalarWord, IsSpot, IsWordOf, Places, Spot, address_of, copy, copy_address, copy_in}
 pub use Rattle.memory_map.specs.Spots.{element_address, element_in, home_in, places_of, private_words, scalar, scalar_address, spot_address, version_address}
@@ -23,14 +24,16 @@ pub use Rattle.memory_map.specs.declared.words.RuntimeWord.TheVariants.{Base, Cu
 -- the board
 pub use Rattle.fram_board.specs.Effects.{Effect, Outside, Store, Take}
 pub use Rattle.machine_effects.proofs.Interface.{each_store-append, each_store-back, each_store-front, fram_after-append, put_at, put_other, put_same}
-pub use Rattle.machine_effects.proofs.Interface.{readings_taken-append, world_after-append}
+pub use Rattle.machine_effects.proofs.Interface.{looks_taken-append, readings_taken-append, world_after-append}
 pub use Rattle.machine_effects.specs.Inputs.{Inputs, InputsAreWords, inputs_taken, no_inputs}
-pub use Rattle.machine_effects.specs.World.{EachStore, World, fram_after, put, readings_taken, world_after, world_after_one}
+pub use Rattle.machine_effects.specs.World.{EachStore, World, fram_after, looks_taken, put, readings_taken, world_after, world_after_one}
 pub use Rattle.runtime_effects.proofs.Interface.{entries_alike, scalar_pairs_count}
 pub use Rattle.runtime_effects.specs.Places.{CopyPair, entries_from, listed, run_pairs, scalar_pairs}
 pub use Rattle.crash_rules.proofs.Interface.{world_fram}
-pub use Rattle.crash_rules.specs.Model.{AttemptContract, Decides, Ends, HoldsThroughout, IsElsewhere, Model, ModelLaws, RunsShort, program_effects}
+pub use Rattle.crash_rules.specs.Model.{AttemptContract, Comes, Decides, Ends, HoldsThroughout, IsElsewhere, Lacks, Model, ModelLaws}
+pub use Rattle.crash_rules.specs.Model.{RunsShort, answers_at, answers_in, given_by, nothing_given, program_effects, words_stored}
 pub use Rattle.stands_for.proofs.Interface.{each_weaker, keeps_the_laws, numbered_starts, put_either, put_words}
+pub use Rattle.stands_for.specs.Program.{answer_word}
 pub use Rattle.stands_for.specs.Layout.{ArePrivate, HaveRoom, IsAmong, IsCopyWord, IsSharedWord, ProgramPlaces, StateView}
 pub use Rattle.stands_for.specs.StandsFor.{CopiesHome, DecidedFrom, EntriesHaveWords, SendsAndCloses, StartedAt, UndecidedAt, VersionsWithin}
 -- sources

@@ -2,7 +2,8 @@
 use Rattle.task_attempts.proofs.Names.{◌≡◌, ℕ, ◌+◌, ◌*◌, ◌<◌, ◌≤◌, List, [], ◌∷◌, ◌⊎◌, true, refl, sym, ◌∙◌, subst, ⊎_elim, inl, inr, arith, cases_eq, Effect}
 use Rattle.task_attempts.proofs.Names.{Store, Take, Outside, World, put, world_after_one, world_after, fram_after, EachStore, put_other, HoldsThroughout}
 use Rattle.task_attempts.proofs.Names.{ProgramPlaces, StateView, IsSharedWord, VersionsWithin, UndecidedAt, put_either, put_words, TakesAndStores, word_place}
-use Rattle.task_attempts.proofs.Names.{CurrentTask, Gate, Base, Version}
+use Rattle.task_attempts.proofs.Names.{CurrentTask, Gate, Base, Version, MemoryMap, IsElsewhere, answer_place, answer_word, answers_at, words_stored}
+use Rattle.task_attempts.proofs.Names.{Bool, false, Some, None, ap, ne_eqb, if◌then◌else◌}
 
 -- a store of a word to none of the words that an undecided world at this task speaks of, and to a version word of no more than VER, which
 -- is this number
@@ -96,6 +97,21 @@ stores_each P Q f [] h = tt
 stores_each P Q f (Store a w ∷ es) h = (f a w h.0, stores_each P Q f es h.1)
 stores_each P Q f (Take r ∷ es) h = (tt, stores_each P Q f es h)
 stores_each P Q f (Outside o ∷ es) h = absurd h
+
+-- stores elsewhere store no answer
+pub none_answered : (l : MemoryMap) (es : List Effect) → EachStore (IsElsewhere answer_place) es → answers_at (answer_word l) es ≡ []
+none_answered l es h = by l.runtime.events
+  where
+    none : (es : List Effect) → EachStore (IsElsewhere answer_place) es → words_stored answer_place es ≡ []
+    none [] h = refl
+    none (Store a w ∷ es) h =
+        ap (λ b. if b then w ∷ words_stored answer_place es else words_stored answer_place es) (ne_eqb a answer_place h.0) ∙ none es h.1
+    none (Take r ∷ es) h = none es h.1
+    none (Outside o ∷ es) h = none es h.1
+
+    by : (events : Bool) → answers_at (if events then Some answer_place else None) es ≡ []
+    by true = none es h
+    by false = refl
 
 -- stores of no more than a number to an address leave no more there
 pub stays_within : (P : ℕ → ℕ → Type 0) (address most : ℕ) → ((w : ℕ) → P address w → w ≤ most) → (es : List Effect) (f : ℕ → ℕ) → TakesAndStores P es
