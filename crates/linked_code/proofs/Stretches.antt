@@ -15,7 +15,7 @@ use Rattle.word_code.proofs.Interface.{code_does_as_program}
 use Rattle.boot_runtime.specs.runtime_effects.Places.{listed}
 use Rattle.boot_runtime.specs.runtime_effects.Stages.{is_at_end, start_effects, commit_effects}
 use Rattle.boot_runtime.specs.runtime_effects.Needs.{CanCommit}
-use Rattle.boot_runtime.specs.runtime_code.Addresses.{start_address, enabling_bytes, stack_origin}
+use Rattle.boot_runtime.specs.runtime_code.Addresses.{start_address, stack_origin}
 use Rattle.boot_runtime.specs.runtime_code.Comes.{Comes, IsAt, Enters}
 use Rattle.boot_runtime.proofs.runtime_code.Interface.{with_events_even, comes_on, core_at, from_there, places_are_in_fram, opening_keeps_task}
 use Rattle.boot_runtime.specs.Entries.{entry_of, task_entries}
@@ -179,7 +179,7 @@ module _ (l : MemoryMap) (programs : List Program) (fits : CodeFits l programs) 
   commit_there v f inputs h can word =
       let c = fits.commit in let d = (apart_of l fits.rules).code in let k = (apart_of l fits.rules).high in
       let even = (even_of l fits.rules).boot in
-      let enabling = with_events_even l.runtime.events enabling_bytes refl in
+      let enabling = with_events_even l.runtime.events 6 refl in
       from_there v h (commit_is_made code l l.commit.address start_at (core_at l.commit.address f inputs v) is_linked.tidy is_boot.places
       (omega (arith, c, d, k)) (omega (arith, even, enabling)) parts.commit refl can word)
 
