@@ -4,4 +4,5 @@ mod Counted
 mod Charges
 mod Rules
 mod Running
+mod Reaching
 pub use Rattle.code_forms.proofs as code_forms
