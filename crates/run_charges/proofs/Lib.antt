@@ -5,4 +5,5 @@ mod Charges
 mod Rules
 mod Running
 mod Reaching
+mod Programs
 pub use Rattle.code_forms.proofs as code_forms

@@ -9,17 +9,19 @@ use Rattle.fram_board.specs.declared.board.NextStep.TheVariants as next_step
 use Rattle.fram_board.specs.declared.board.Stepped.{Stepped}
 use Rattle.fram_board.specs.Board.{BoardValue, executed, IsNextInstruction}
 use Rattle.fram_board.specs.Effects.{Effect}
-use Rattle.fram_board.specs.Run.{Moment, moment_of}
+use Rattle.fram_board.specs.Run.{Action, PowerUp, Execute, Moment, moment_of}
 use Rattle.machine_effects.specs.Going.{At, Status, Stretch, stretch, after_effects, going}
-use Rattle.machine_effects.specs.Inputs.{Look}
-use Rattle.machine_effects.specs.Machine.{MachineBoard, MachineOutcome, MachineStretch}
+use Rattle.machine_effects.specs.Inputs.{Look, SeeWords}
+use Rattle.machine_effects.specs.Machine.{MachineBoard, MachineOutcome, MachineStretch, fram_of}
 use Rattle.machine_effects.specs.View.{IsWhole, IsOfWords}
+use Rattle.machine_effects.specs.World.{fram_after}
 use Rattle.machine_effects.specs.Runs.{action_cycles, last_board}
+use Rattle.machine_effects.proofs.Interface.{machine_is_of_words, fram_after-append}
 use Rattle.program_view.specs.View.{StandsAs, AtCode, InHandler, cycles_due, steps_due}
 use Rattle.program_view.proofs.Interface.{handlers_go_on, handler_is_high}
-use Rattle.run_charges.specs.View.{is_handlers, outside_looks, looks_in, outside_effects, all_outside_effects, IsMomentFrom, PowersUp, Instructs, Serves, AreMoments}
+use Rattle.run_charges.specs.View.{outside_of, is_handlers, looks_by, outside_looks, looks_in, outside_effects, all_outside_effects, IsMomentFrom, PowersUp, Instructs, Serves, AreMoments}
 use Rattle.run_charges.specs.Charges.{IsInstruction, AreInstructionMoments, program_steps, program_cycles, handler_steps, handler_cycles, accepts_in, acceptances}
-use Rattle.run_charges.proofs.Moments.{whole_behind, served_effects}
+use Rattle.run_charges.proofs.Moments.{whole_behind, served_effects, front_sees, IsPowerOrStep, IsPower, IsStepped, moment_is}
 use Rattle.run_charges.proofs.Running.{PlacedProgram, Machine, relooked, Leads, Turn, looks_of, program_turn, turn_leads, leads_on}
 
 if_add : (c : Bool) (n k : ℕ) → (if c then n + k else k) ≡ (if c then n else 0) + k
@@ -35,6 +37,51 @@ joined : (h : Bool) (es fs : List Effect) (c d : ℕ) (t : MachineBoard) → (h 
     → ◌≡◌ {A = MachineStretch} (if h then stretch fs d (At t) else after_effects es c (stretch fs d (At t))) (stretch (es ++ fs) (if h then d else c + d) (At t))
 joined true es fs c d t none = ap (λ l. stretch (l ++ fs) d (At t)) (sym (none refl))
 joined false es fs c d t none = refl
+
+-- a moment on a board of words sees words
+moment_sees : (b : BoardValue) (m : Moment) (more : List Look) → IsOfWords b → m.before ≡ b → SeeWords more → SeeWords (outside_looks m ++ more)
+moment_sees b m more words at see = by (is_handlers m) m.action
+  where
+    small : (a : ℕ) → fram_of m.before.fram a < 0x10000
+    small = (machine_is_of_words m.before (subst IsOfWords (sym at) words)).fram
+
+    by : (h : Bool) (a : Action) → SeeWords ((if h then [] else looks_by a m.before) ++ more)
+    by true a = see
+    by false PowerUp = see
+    by false (Execute kind done offered) = front_sees _ (fram_of m.before.fram) more small see
+
+before_is : (b : BoardValue) (m : Moment) → IsMomentFrom b m → m.before ≡ b
+before_is b m (PowersUp p ok e) = ap (λ (y : Moment). y.before) e
+before_is b m (Instructs i done c a own e) = ap (λ (y : Moment). y.before) e
+before_is b m (Serves n done next a served e) = ap (λ (y : Moment). y.before) e
+
+-- so do moments
+pub looks_see : (b : BoardValue) (ms : List Moment) → IsWhole b → IsOfWords b → AreMoments b ms → (more : List Look) → SeeWords more
+    → SeeWords (looks_in ms ++ more)
+looks_see b [] whole words are more see = see
+looks_see b (m ∷ ms) whole words are more see =
+    let words_there = subst IsOfWords (sym are.0.same) words in
+    let behind = whole_behind m.before m (subst IsWhole (sym are.0.same) whole) words_there are.1 in
+    subst SeeWords (sym (append_assoc (outside_looks m) (looks_in ms) more))
+    (moment_sees m.before m (looks_in ms ++ more) words_there refl (looks_see m.after ms behind.0 behind.1 are.2 more see))
+
+one_fram : (b : BoardValue) (m : Moment) → IsPowerOrStep b m → (outside_of m.after).fram ≡ fram_after (outside_effects m) (outside_of b).fram
+one_fram b m (IsPower p ok e) =
+    let P : Moment → Type 0 = λ y. (outside_of y.after).fram ≡ fram_after (outside_effects y) (outside_of b).fram in subst P (sym e) refl
+one_fram b m (IsStepped s) = s.fram
+
+-- FRAM changes as moments tell
+pub fram_all : (b : BoardValue) (ms : List Moment) → IsWhole b → IsOfWords b → AreMoments b ms
+    → (outside_of (last_board b ms)).fram ≡ fram_after (all_outside_effects ms) (outside_of b).fram
+fram_all b [] whole words are = refl
+fram_all b (m ∷ ms) whole words are =
+    let whole_there = subst IsWhole (sym are.0.same) whole in
+    let words_there = subst IsOfWords (sym are.0.same) words in
+    let behind = whole_behind m.before m whole_there words_there are.1 in
+    let one = one_fram m.before m (moment_is m.before m whole_there words_there are.1) in
+    fram_all m.after ms behind.0 behind.1 are.2
+    ∙ ap (fram_after (all_outside_effects ms)) (one ∙ ap (λ (y : BoardValue). fram_after (outside_effects m) (outside_of y).fram) are.0.same)
+    ∙ sym (fram_after-append (outside_effects m) (all_outside_effects ms) (outside_of b).fram)
 
 module _ (on : PlacedProgram) where
   abbrev step : MachineBoard → MachineOutcome
