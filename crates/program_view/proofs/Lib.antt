@@ -1,0 +1,8 @@
+mod Steady
+mod Blind
+mod Pushes
+mod Shown
+mod Handler
+pub mod Interface
+pub use Rattle.machine_effects.proofs as machine_effects
+pub use Rattle.event_handler.proofs as event_handler
