@@ -1,6 +1,4 @@
 mod Steady
-mod Blind
-mod Pushes
 mod Shown
 mod Handler
 pub mod Interface

@@ -6,26 +6,29 @@ use Rattle.std.proofs.lemmas.Bool.{and_parts, cases_lt}
 use Rattle.std.proofs.lemmas.Bool.Decides.{nat_tests}
 use Rattle.address_space.specs.Limits.{stack_floor, stack_start}
 use Rattle.event_places.specs.Places.{handler_place, is_ring}
+use Rattle.fram_board.specs.alp_words.declared.Width.TheVariants.{Word, Byte}
+use Rattle.msp_isa.specs.declared.instructions.OneOp.{OneOp}
+use Rattle.msp_isa.specs.declared.instructions.OneOp.TheVariants as one
 use Rattle.msp_isa.specs.declared.instructions.Instr.{Instr}
+use Rattle.msp_isa.specs.declared.instructions.Instr.TheVariants as instr
 use Rattle.msp_cycles.specs.Cycles.{cycles_of}
 use Rattle.msp_step.specs.declared.machine.Stop.{Stop}
 use Rattle.msp_step.specs.Registers.{registers_of}
 use Rattle.msp_step.specs.Step.{is_interruptible}
 use Rattle.fram_board.specs.declared.board.Stepped.{Stepped}
-use Rattle.fram_board.specs.Board.{BoardValue, BoardOutcome, executed, at_boundary}
+use Rattle.fram_board.specs.Board.{BoardValue, BoardOutcome, executed, at_boundary, IsNextInstruction}
 use Rattle.fram_board.specs.Effects.{Effect, effects_of}
 use Rattle.machine_effects.specs.World.{fram_after}
 use Rattle.machine_effects.specs.Inputs.{Look, look_effects}
 use Rattle.machine_effects.specs.Going.{Goes, Stops}
-use Rattle.machine_effects.specs.Machine.{MachineBoard, MachineOutcome, code_executed, fram_of, ram_of, in_stack, keeps_stack, pushes}
+use Rattle.machine_effects.specs.Machine.{MachineBoard, MachineOutcome, code_executed, fram_of, ram_of, in_stack, keeps_stack, pushes, IsRam}
 use Rattle.machine_effects.specs.View.{machine_with, looks_at, outcome_of_answer, machine_outcome_with, IsWhole, IsFault, IsBusFault}
-use Rattle.machine_effects.specs.Laws.{ChangesByEffects}
-use Rattle.machine_effects.proofs.Interface.{looks_as_the_board, code_changes}
+use Rattle.machine_effects.specs.Laws.{IsSameFrom, AreSameFrom, ChangesByEffects, HaveSameTop, KeepsTheHandler}
+use Rattle.machine_effects.proofs.Interface.{looks_as_the_board, code_changes, standing_keeps, machine_is_blind, pushes_alike}
+use Rattle.machine_effects.proofs.Interface.{executed_is_step, step_leaves_it_whole, boundary_whole}
 use Rattle.program_view.specs.View.{steady, shown_from, Shows, IsPrograms}
 use Rattle.program_view.specs.Laws.{KeepsItsStack, KeepsRules, IsMade, DoesAlike, InstructionsAreThePrograms}
 use Rattle.program_view.proofs.Steady.{steady_low, steady_off, left_alike}
-use Rattle.program_view.proofs.Blind.{IsSameFrom, AreSameFrom, machine_is_blind}
-use Rattle.program_view.proofs.Pushes.{SameAtStack, pushes_alike}
 
 -- what an outcome is that is the same as one that goes on, or as a stop
 record IsGoing (floor : ℕ) (es : List Effect) (c : ℕ) (s : MachineBoard) (p : MachineOutcome) : Type 0 where
@@ -53,10 +56,28 @@ same_next floor o p es fs c d s t e f h =
     let all : AreSameFrom floor (Goes es c s) (Goes fs d t) =
     subst (λ (y : MachineOutcome). AreSameFrom floor (Goes es c s) y) f (subst (λ (y : MachineOutcome). AreSameFrom floor y p) e h) in all.2
 
-same_at_stack : (o p : MachineOutcome) (es fs : List Effect) (c d : ℕ) (s t : MachineBoard) → o ≡ Goes es c s → p ≡ Goes fs d t → SameAtStack o p
-    → SameAtStack (Goes es c s) (Goes fs d t)
-same_at_stack o p es fs c d s t e f h =
-    subst (λ (y : MachineOutcome). SameAtStack (Goes es c s) y) f (subst (λ (y : MachineOutcome). SameAtStack y p) e h)
+same_top : (o p : MachineOutcome) (es fs : List Effect) (c d : ℕ) (s t : MachineBoard) → o ≡ Goes es c s → p ≡ Goes fs d t → HaveSameTop o p
+    → HaveSameTop (Goes es c s) (Goes fs d t)
+same_top o p es fs c d s t e f h =
+    subst (λ (y : MachineOutcome). HaveSameTop (Goes es c s) y) f (subst (λ (y : MachineOutcome). HaveSameTop y p) e h)
+
+-- an instruction that pushes a word pushes the same one
+one_pushes : (floor : ℕ) (o : OneOp) (s t : MachineBoard) → pushes (Some (instr.One o)) ≡ true → floor ≤ s.registers 1 → IsSameFrom floor s t
+    → HaveSameTop (code_executed s (instr.One o)) (code_executed t (instr.One o))
+one_pushes floor (one.Push Word x) s t p low h = pushes_alike floor x s t low h
+one_pushes floor (one.Push Byte x) s t p low h = absurd cc
+one_pushes floor (one.Call x) s t p low h = absurd cc
+one_pushes floor (one.Rrc w x) s t p low h = absurd cc
+one_pushes floor (one.Rra w x) s t p low h = absurd cc
+one_pushes floor (one.Swpb x) s t p low h = absurd cc
+one_pushes floor (one.Sxt x) s t p low h = absurd cc
+
+pushes_same : (floor : ℕ) (i : Instr) (s t : MachineBoard) → pushes (Some i) ≡ true → floor ≤ s.registers 1 → IsSameFrom floor s t
+    → HaveSameTop (code_executed s i) (code_executed t i)
+pushes_same floor (instr.Two op w x d) s t p low h = absurd cc
+pushes_same floor (instr.One o) s t p low h = one_pushes floor o s t p low h
+pushes_same floor (instr.Jump c o) s t p low h = absurd cc
+pushes_same floor instr.Reti s t p low h = absurd cc
 
 either_word : (c : Bool) (x y : ℕ) → (c ≡ true → x ≡ 0) → (c ≡ false → x ≡ y) → x ≡ (if c then 0 else y)
 either_word true x y h k = h refl
@@ -94,7 +115,8 @@ from_by : (c : Bool) (sp : ℕ) → (if c then sp else 0) ≤ sp
 from_by true sp = omega arith
 from_by false sp = omega arith
 
-module _ (b : BoardValue) (u : MachineBoard) (i : Instr) (more : List Look) (whole : IsWhole b) (shows : Shows b u) (looks : u.inputs.looks ≡ looks_at b i ++ more) where
+module _ (b : BoardValue) (u : MachineBoard) (i : Instr) (more : List Look) (whole : IsWhole b) (shows : Shows b u) (current : IsNextInstruction b i)
+    (looks : u.inputs.looks ≡ looks_at b i ++ more) where
   abbrev x : BoardOutcome
   x = executed b i
 
@@ -161,17 +183,20 @@ module _ (b : BoardValue) (u : MachineBoard) (i : Instr) (more : List Look) (who
       on_s : t.fram ≡ fram_after es s.fram
       on_s = (subst (λ (o : MachineOutcome). ChangesByEffects s o) on_board (code_changes s i)).0
 
-      off_ring : (rules : KeepsRules i u next) (a : ℕ) → is_ring a ≡ false → handler_place ≤ a → next.fram a ≡ t.fram a
-      off_ring rules a off high =
-          let here : u.fram a ≡ s.fram a = ap (λ f. f a) shows.fram ∙ steady_off (fram_of b.fram) a off in
-          let left : fram_after es u.fram a ≡ u.fram a = ap (λ f. f a) (sym on_u) ∙ rules.fram a high in
-          rules.fram a high ∙ here ∙ sym (left_alike es u.fram s.fram a here left) ∙ ap (λ f. f a) (sym on_s)
+      keeps : (a : ℕ) → handler_place ≤ a → next.fram a ≡ u.fram a
+      keeps = subst (λ (o : MachineOutcome). KeepsTheHandler u o) going.is (standing_keeps (Some i) u)
 
-      fram_at : (rules : KeepsRules i u next) (a : ℕ) → next.fram a ≡ steady (fram_of after.fram) a
-      fram_at rules a =
+      off_ring : (a : ℕ) → is_ring a ≡ false → handler_place ≤ a → next.fram a ≡ t.fram a
+      off_ring a off high =
+          let here : u.fram a ≡ s.fram a = ap (λ f. f a) shows.fram ∙ steady_off (fram_of b.fram) a off in
+          let left : fram_after es u.fram a ≡ u.fram a = ap (λ f. f a) (sym on_u) ∙ keeps a high in
+          keeps a high ∙ here ∙ sym (left_alike es u.fram s.fram a here left) ∙ ap (λ f. f a) (sym on_s)
+
+      fram_at : (a : ℕ) → next.fram a ≡ steady (fram_of after.fram) a
+      fram_at a =
           either_word (is_ring a) (next.fram a) (fram_of after.fram a)
-          (λ r. rules.fram a (ring_high a r) ∙ ap (λ f. f a) shows.fram ∙ ap (λ (c : Bool). if c then 0 else fram_of b.fram a) r)
-          (λ off. ⊎_elim (λ l. going.same.fram a l) (λ h. off_ring rules a off h) (low_or_high a))
+          (λ r. keeps a (ring_high a r) ∙ ap (λ f. f a) shows.fram ∙ ap (λ (c : Bool). if c then 0 else fram_of b.fram a) r)
+          (λ off. ⊎_elim (λ l. going.same.fram a l) (λ h. off_ring a off h) (low_or_high a))
         where
           ring_high : (a : ℕ) → is_ring a ≡ true → handler_place ≤ a
           ring_high a r = grind (arith, nat_tests)
@@ -179,35 +204,51 @@ module _ (b : BoardValue) (u : MachineBoard) (i : Instr) (more : List Look) (who
           low_or_high : (a : ℕ) → (a < handler_place) ⊎ (handler_place ≤ a)
           low_or_high a = cases_lt a handler_place
 
-      -- RAM from SP up, wherever that moves
-      ram_moved : floor ≡ u.registers 1 → IsSameFrom (s.registers 1) s u → KeepsItsStack i u next
-          → StackMoves i (u.registers 1) (next.registers 1) → (a : ℕ) → a % 2 ≡ 0 → next.registers 1 ≤ a → next.ram a ≡ ram_of after.ram a
-      ram_moved is from stack (Up l) a even above = going.same.ram a even (omega (arith, is, l, above))
-      ram_moved is from stack (Down p e f) a even above =
-          let moved : next.registers 1 ≡ t.registers 1 = ap (λ r. r 1) going.same.registers in
-          let inside = leb-true (u.registers 1) stack_start (and_parts (nat_le stack_floor (u.registers 1)) (nat_le (u.registers 1) stack_start) stack.in_stack).1 in
-          let there = same_at_stack (code_executed s i) (code_executed u i) es es done.cycles done.cycles t next on_board going.is
-          (pushes_alike i s u p from) (omega (arith, moved, f)) (omega (arith, moved, inside, e)) in
-          let sp_even = there.0 in
-          ⊎_elim (λ at. ap next.ram (at ∙ moved) ∙ there.1 ∙ ap (ram_of after.ram) (sym (at ∙ moved)))
-          (λ further. going.same.ram a even (omega (arith, is, e, further)))
-          (even_from (next.registers 1) a (omega (arith, moved, sp_even)) even above)
+      moved : next.registers 1 ≡ t.registers 1
+      moved = ap (λ r. r 1) going.same.registers
 
-      ram_behind : KeepsRules i u next → (c : Bool) → is_interruptible u.registers ≡ c → (a : ℕ) → a % 2 ≡ 0 → shown_from next ≤ a → next.ram a ≡ ram_of after.ram a
-      ram_behind rules false closed a even above =
+      -- SP is even
+      sp_even : next.registers 1 % 2 ≡ 0
+      sp_even =
+          let behind = boundary_whole x.board (step_leaves_it_whole b x whole (executed_is_step b i current)) in
+          subst (λ (n : ℕ). n % 2 ≡ 0) (sym moved) behind.registers.even_sp
+
+      -- the word that a push leaves at SP
+      same_there : pushes (Some i) ≡ true → stack_floor ≤ next.registers 1 → next.registers 1 ≤ stack_start
+          → next.ram (next.registers 1) ≡ ram_of after.ram (next.registers 1)
+      same_there p l h =
+          let is_ram : IsRam (t.registers 1) = record {
+            even = subst (λ (n : ℕ). n % 2 ≡ 0) moved sp_even;
+            low = omega (arith, moved, l);
+            high = omega (arith, moved, h);
+          } in
+          let top : HaveSameTop (Goes es done.cycles t) (Goes es done.cycles next) =
+          same_top (code_executed s i) (code_executed u i) es es done.cycles done.cycles t next on_board going.is (pushes_same floor i s u p low same) in
+          ap next.ram moved ∙ top is_ram ∙ ap (ram_of after.ram) (sym moved)
+
+      -- RAM from SP up, wherever that moves
+      ram_moved : floor ≡ u.registers 1 → KeepsItsStack i u next → StackMoves i (u.registers 1) (next.registers 1) → (a : ℕ) → next.registers 1 ≤ a
+          → a % 2 ≡ 0 → next.ram a ≡ ram_of after.ram a
+      ram_moved is stack (Up l) a above even = going.same.ram a (omega (arith, is, l, above)) even
+      ram_moved is stack (Down p e f) a above even =
+          let inside = leb-true (u.registers 1) stack_start (and_parts (nat_le stack_floor (u.registers 1)) (nat_le (u.registers 1) stack_start) stack.in_stack).1 in
+          ⊎_elim (λ at. ap next.ram at ∙ same_there p f (omega (arith, inside, e)) ∙ ap (ram_of after.ram) (sym at))
+          (λ further. going.same.ram a (omega (arith, is, e, further)) even) (even_from (next.registers 1) a sp_even even above)
+
+      ram_behind : KeepsRules i u next → (c : Bool) → is_interruptible u.registers ≡ c → (a : ℕ) → shown_from next ≤ a → a % 2 ≡ 0 → next.ram a ≡ ram_of after.ram a
+      ram_behind rules false closed a above even =
           let is : floor ≡ 0 = ap (λ (d : Bool). if d then u.registers 1 else 0) closed in
-          going.same.ram a even (omega (arith, is))
-      ram_behind rules true accepts a even above =
+          going.same.ram a (omega (arith, is)) even
+      ram_behind rules true accepts a above even =
           let is : floor ≡ u.registers 1 = ap (λ (d : Bool). if d then u.registers 1 else 0) accepts in
-          let stack = rules.stack accepts in
+          let stack = rules accepts in
           let end : shown_from next ≡ next.registers 1 = ap (λ (d : Bool). if d then next.registers 1 else 0) stack.accepts in
-          let from : IsSameFrom (s.registers 1) s u = subst (λ n. IsSameFrom n s u) (is ∙ sp) same in
-          ram_moved is from stack (stack_moves i (u.registers 1) (next.registers 1) stack.in_stack stack.stack) a even (omega (arith, end, above))
+          ram_moved is stack (stack_moves i (u.registers 1) (next.registers 1) stack.in_stack stack.stack) a (omega (arith, end, above)) even
 
       shows_next : KeepsRules i u next → Shows after next
       shows_next rules = record {
         registers = going.same.registers;
-        fram = fun_ext (fram_at rules);
+        fram = fun_ext fram_at;
         ram = ram_behind rules (is_interruptible u.registers) refl;
         readings = ap (λ j. j.readings) going.same.inputs;
         outnum = going.same.outnum;
@@ -220,7 +261,7 @@ module _ (b : BoardValue) (u : MachineBoard) (i : Instr) (more : List Look) (who
             below = below;
             step = ap (λ l. code_executed (machine_with l b) i) (sym joined) ∙ as_board
                 ∙ ap (λ l. machine_outcome_with (look_effects (looks_at b i)) l b x (cycles_of i)) none;
-            fram = sym (fun_ext (fram_at rules)) ∙ on_u ∙ ap (fram_after es) shows.fram;
+            fram = sym (fun_ext fram_at) ∙ on_u ∙ ap (fram_after es) shows.fram;
             line = line;
           }
 
@@ -235,4 +276,4 @@ module _ (b : BoardValue) (u : MachineBoard) (i : Instr) (more : List Look) (who
       (λ o. inr (does_alike o.0 o.1)) (looks_as_the_board b i more whole)
 
 pub instructions_are_the_programs : InstructionsAreThePrograms
-instructions_are_the_programs b u i more whole shows looks = does b u i more whole shows looks
+instructions_are_the_programs b u i more whole shows current looks = does b u i more whole shows current looks

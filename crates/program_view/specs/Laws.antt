@@ -1,5 +1,5 @@
 -- Laws of a board and its program's machine.
-use Rattle.std.specs.Prelude.{◌≡◌, ℕ, ◌+◌, ◌≤◌, ◌<◌, ◌⊎◌, true, false, List, [], ◌++◌, Some, Ok, Err}
+use Rattle.std.specs.Prelude.{◌≡◌, ◌+◌, ◌≤◌, ◌<◌, ◌⊎◌, true, false, List, [], ◌++◌, Some, Ok, Err}
 use Rattle.event_places.specs.Places.{handler_place}
 use Rattle.msp_isa.specs.declared.instructions.Instr.{Instr}
 use Rattle.msp_cycles.specs.Cycles.{cycles_of}
@@ -25,10 +25,9 @@ pub record KeepsItsStack (i : Instr) (u next : MachineBoard) : Type 0 where
   pub in_stack : in_stack (u.registers 1) ≡ true
   pub stack : keeps_stack (Some i) (u.registers 1) (next.registers 1) ≡ true
 
--- a step keeps the rules of interrupts: it leaves FRAM from the handler on, and SP moves so
-pub record KeepsRules (i : Instr) (u next : MachineBoard) : Type 0 where
-  pub fram : (a : ℕ) → handler_place ≤ a → next.fram a ≡ u.fram a
-  pub stack : is_interruptible u.registers ≡ true → KeepsItsStack i u next
+-- a step keeps the rules of interrupts: once the CPU accepts them it does so on, and SP moves so
+abbrev pub KeepsRules : Instr → MachineBoard → MachineBoard → Type 0
+KeepsRules i u next = is_interruptible u.registers ≡ true → KeepsItsStack i u next
 
 -- an instruction that is made does on the board's machine as on the board, behind its look, and leaves a machine that is to see these next;
 -- where it keeps the rules of interrupts, the board shows it
@@ -48,7 +47,7 @@ pub record DoesAlike (b : BoardValue) (u : MachineBoard) (i : Instr) (more : Lis
 
 -- or the machine ends by a bus fault
 abbrev pub InstructionsAreThePrograms : Type 0
-InstructionsAreThePrograms = (b : BoardValue) (u : MachineBoard) (i : Instr) (more : List Look) → IsWhole b → Shows b u
+InstructionsAreThePrograms = (b : BoardValue) (u : MachineBoard) (i : Instr) (more : List Look) → IsWhole b → Shows b u → IsNextInstruction b i
     → u.inputs.looks ≡ looks_at b i ++ more → IsBusFault (code_executed u i) ⊎ DoesAlike b u i more
 
 -- an acceptance is made, in six cycles; it is the handler's, and the board then stands as the program's machine at the handler's first instruction

@@ -37,7 +37,7 @@ shown_from u = if is_interruptible u.registers then u.registers 1 else 0
 pub record Shows (b : BoardValue) (u : MachineBoard) : Type 0 where
   pub registers : u.registers ≡ registers_of b.cpu
   pub fram : u.fram ≡ steady (fram_of b.fram)
-  pub ram : (a : ℕ) → a % 2 ≡ 0 → shown_from u ≤ a → u.ram a ≡ ram_of b.ram a
+  pub ram : (a : ℕ) → shown_from u ≤ a → a % 2 ≡ 0 → u.ram a ≡ ram_of b.ram a
   pub readings : u.inputs.readings ≡ drop b.taken b.readings
   pub outnum : u.outnum ≡ b.outnum
 
