@@ -70,6 +70,14 @@ base_at_rest m words number sound rests =
     let r = runtime_of m.words words in
     eqb-true r.base number (sym (ap (base_by r number) (ne_eqb r.gate 1 rests)) ∙ (rules_of m words number sound).base)
 
+-- and its ring keeps the rule
+pub ring_at_rest : (m : MapValue) (words : List ℕ) (number : ℕ) → state.IsSound m words number → (word_in words m.words.gate ≡ 1 → ⊥)
+    → is_ring_at m.ring words false ≡ true
+ring_at_rest m words number sound rests =
+    let r = runtime_of m.words words in
+    let P : Bool → Type 0 = λ pending. is_ring_at m.ring words pending ≡ true in
+    subst P (ne_eqb r.gate 1 rests) (rules_of m words number sound).ring
+
 -- a state: the words of its FRAM, the number that its receiver takes next, and the words that this accepted before
 pub record Saved : Type 0 where
   pub words : List ℕ

@@ -24,7 +24,8 @@ use Rattle.memory_map.specs.MemoryMap.{MemoryMap}
 use Rattle.compiled_model.specs.View.{state_in}
 use Rattle.compiled_model.specs.Parts.{compiled_model}
 use Rattle.image_laws.specs.Compiled.{IsCompiled}
-use Rattle.image_reports.specs.Resumed.{IsToldOnward, world_with}
+use Rattle.image_reports.specs.ImageLaw.{world_with}
+use Rattle.image_reports.specs.Resumed.{IsToldOnward}
 
 -- the world of a state whose receiver accepted these words before
 abbrev pub world_of : State → List ℕ → World
