@@ -2,7 +2,7 @@
 -- effects since the last boot or done, what the board stands for, the words accepted, the counts, the code that is fetched, what became of
 -- the events, how it ends, and its report. Where the source takes events a handler runs between any two instructions of the code: it is the
 -- image's, and what holds of the code is said of what happens outside it.
-use Rattle.std.specs.Prelude.{◌≡◌, ◌≢◌, ℕ, ◌+◌, ◌*◌, ◌^◌, ◌%◌, ◌<◌, ◌≤◌, true, false, if◌then◌else◌, List, ◌∷◌, ◌++◌, length, Option, Some, None}
+use Rattle.std.specs.Prelude.{◌≡◌, ◌≢◌, ℕ, ◌+◌, ◌*◌, ◌^◌, ◌%◌, ◌<◌, ◌≤◌, true, false, if◌then◌else◌, List, [], ◌∷◌, ◌++◌, length, Option, Some, None}
 use Rattle.address_space.specs.Limits.{stack_floor, stack_top}
 use Rattle.event_places.specs.Places.{answer_place, handler_place}
 use Rattle.msp_isa.specs.declared.instructions.Instr.{Instr}
@@ -39,7 +39,7 @@ use Rattle.memory_map.specs.MemoryMap.{MemoryMap, word_place}
 use Rattle.crash_rules.specs.Model.{Marks, CommitContract}
 use Rattle.crash_rules.specs.History.{History, first_history}
 use Rattle.crash_rules.specs.Laws.{Resting, StandsFor, FollowsScript, AcceptedWords}
-use Rattle.run_charges.specs.View.{outside_of}
+use Rattle.program_view.specs.View.{steady, outside_of}
 use Rattle.run_charges.specs.Charges.{ArePowerStates, AreInstructionMoments, observed, program_steps}
 use Rattle.memory_map.specs.Laws.{AreApart}
 use Rattle.compiled_model.specs.Parts.{compiled_model, start_of as start_due}
@@ -53,9 +53,13 @@ use Rattle.image_laws.specs.Laws.{fresh_world}
 abbrev pub runtime_marks : MemoryMap → Marks
 runtime_marks l = record { gate = word_place l Gate; answer = if l.runtime.events then Some answer_place else None }
 
+-- the world of words of FRAM whose receiver accepted these before: HEAD and the ring are no part of it, which the handler alone writes
+abbrev pub world_with : List ℕ → List ℕ → World
+world_with words accepted = record { fram = steady (fram_of words); accepted = accepted }
+
 -- what is read off the effects of a run's moments, behind them, where an image's fresh board began it
 abbrev pub known_behind : MemoryMap → ImageValue → List Moment → History
-known_behind l image ms = observed (runtime_marks l) ms (first_history (runtime_marks l) (fresh_world image))
+known_behind l image ms = observed (runtime_marks l) ms (first_history (runtime_marks l) (world_with image.words []))
 
 -- what is known behind these moments is of the board behind them: its FRAM but for HEAD and the ring, the words that its receiver accepted, in
 -- order, and how many readings were taken

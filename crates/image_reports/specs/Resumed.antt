@@ -1,7 +1,8 @@
 -- What holds of each run of an accepted source's image that goes on from a saved state, on the board itself, beside what holds from its
 -- fresh board.
 use Rattle.std.specs.Prelude.{◌≡◌, ℕ, ◌^◌, ◌%◌, ◌<◌, ◌≤◌, ◌==◌, ◌&&◌, nat_le, nat_lt, Bool, true, false, if◌then◌else◌, List, [], ◌++◌, length, All}
-use Rattle.event_places.specs.Places.{tail_place, handler_place}
+use Rattle.event_places.specs.Places.{tail_place, handler_place, is_ring}
+use Rattle.machine_effects.specs.Machine.{fram_of}
 use Rattle.msp_step.specs.declared.machine.Stop.{Stop}
 use Rattle.msp_step.specs.declared.machine.Stop.TheVariants as stop
 use Rattle.address_space.specs.Limits.{fram_words}
@@ -15,7 +16,6 @@ use Rattle.board_run.specs.History.{start_of}
 use Rattle.board_run.specs.Events.{NeverReads, hand_after, head_of, no_hand}
 use Rattle.board_run.specs.Report.{report_of}
 use Rattle.machine_effects.specs.World.{World, world_after}
-use Rattle.machine_effects.specs.Machine.{fram_of}
 use Rattle.machine_effects.specs.View.{IsWhole}
 use Rattle.machine_effects.specs.Runs.{last_board}
 use Rattle.cost_bound.specs.declared.allowance.Allow.{Allow}
@@ -31,7 +31,7 @@ use Rattle.runtime_effects.specs.Stages.{commit_effects}
 use Rattle.crash_rules.specs.Model.{IsBetween}
 use Rattle.crash_rules.specs.History.{History, first_history}
 use Rattle.crash_rules.specs.Laws.{Origin, Resting, Pending, StandsFor, FollowsScript, AcceptedWords}
-use Rattle.run_charges.specs.View.{steady, outside_of}
+use Rattle.program_view.specs.View.{outside_of}
 use Rattle.run_charges.specs.Charges.{ArePowerStates, observed}
 use Rattle.stands_for.specs.StandsFor.{IsSound}
 use Rattle.compiled_model.specs.Places.{program_places}
@@ -41,12 +41,7 @@ use Rattle.compiled_bounds.specs.Laws.{KeepsCapacities}
 use Rattle.model_runs.specs.Events.{words_between}
 use Rattle.model_runs.specs.Runs.{IsShort, all_amounts}
 use Rattle.image_laws.specs.Compiled.{IsCompiled}
-use Rattle.image_laws.specs.Laws.{fresh_world}
-use Rattle.image_reports.specs.ImageLaw.{runtime_marks, VersionsBelow, KeepsCode, StepsOn, EventsHold, HasRoom, RaisesVersion, StaysOpen, LosesInHand}
-
--- the world of words of FRAM whose receiver accepted these before: HEAD and the ring are no part of it, which the handler alone writes
-abbrev pub world_with : List ℕ → List ℕ → World
-world_with words accepted = record { fram = steady (fram_of words); accepted = accepted }
+use Rattle.image_reports.specs.ImageLaw.{runtime_marks, world_with, VersionsBelow, KeepsCode, StepsOn, EventsHold, HasRoom, RaisesVersion, StaysOpen, LosesInHand}
 
 -- a world from which a run of an image may go on: the code, the vectors and the handler are the image's, the runtime's counts keep to their
 -- capacities, and it is sound
@@ -123,6 +118,9 @@ pub record IsResumedRun (text : List ℕ) (p : CheckedProgram) (allow : Allow) (
       → (e ≡ stop.NoReading) × IsShort (compiled_model p l) b.readings (origin_of l x) (known_from l x r.moments)
   -- where the source takes no events nothing is read of EVENT, by the step that stopped it neither
   pub unheard : l.runtime.events ≡ false → NeverReads r
+  -- and nothing stores where HEAD and the ring would be
+  pub ringless : l.runtime.events ≡ false → (ms rest : List Moment) → r.moments ≡ ms ++ rest → (a : ℕ) → is_ring a ≡ true
+      → fram_of (last_board b ms).fram a ≡ fram_of b.fram a
   -- where it does, the handler may begin between any two of a charge's instructions but the first
   pub opens : l.runtime.events ≡ true → StaysOpen r.moments
   -- and an event that it has in hand is lost where power fails, or the ring is full
@@ -139,7 +137,7 @@ pub record IsResumedRun (text : List ℕ) (p : CheckedProgram) (allow : Allow) (
 -- the fresh world of an accepted text's image belongs to it
 abbrev pub ImagesBelong : Type 0
 ImagesBelong = (text : List ℕ) (p : CheckedProgram) (allow : Allow) (image : ImageValue) → IsAcceptedText text p allow
-    → (c : IsCompiled text p allow image) → BelongsTo p c.layout image (fresh_world image)
+    → (c : IsCompiled text p allow image) → BelongsTo p c.layout image (world_with image.words [])
 
 -- the run of each state that belongs to the image of an accepted text is such, under every list of charges, from every state that each
 -- power-up may leave, and on all readings and events that a board may hold
