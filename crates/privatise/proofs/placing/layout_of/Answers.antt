@@ -3,6 +3,7 @@ use Rattle.std.proofs.lemmas.List.{length-map}
 use Rattle.task_ast.specs.View.{task_of, program_of}
 use Rattle.cost_bound.specs.Allowance.{is_written, use_events}
 use Rattle.memory_map.specs.MemoryMap.{lone_redo}
+use Rattle.memory_map.specs.View.{map_with}
 use Rattle.privatise.specs.Layouts.{IsLayout}
 use Rattle.privatise.proofs.Sums.{plain_small}
 use Rattle.privatise.proofs.Whole.{AreWritten, even_starts, sizes_fit, room, code_small, code_room, scalars_placed, tasks_moved, laid_out, whole}
