@@ -525,12 +525,14 @@ unfolding effect
 pushes x u c h =
     let on = is_on u.pc u.sp u.enabled u.flags u.work in
     let t : Core = record (source_read x u) { pc = u.pc + (2 + source_bytes x) } in
+    let cycles = cycles_of (instruction_of (Push x)) in
+    let after : Core = record t { sp = t.sp - 2; ram = put t.ram (t.sp - 2) (source_value x u) } in
+    let made : machine_outcome u.pc cycles (effect machine_bus (instruction_of (Push x)) (regs_in u u.pc) (begun x u)) ≡ Goes [] cycles (board_of after) =
+    rw (push_half x u c h.0) (pushed_at (source_value x u) u.pc cycles u.sp (ring_of x u) t h.1) in
     ap (λ b. if b then Stops [] 0 stop.Off else code_executed (board_of u) (instruction_of (Push x))) on
     ∙ code_begun x u (instruction_of (Push x)) h.0 refl
-    ∙ ap (step_behind (source_effects x u))
-    (rw (push_half x u c h.0) (pushed_at (source_value x u) u.pc (cycles_of (instruction_of (Push x))) u.sp (ring_of x u) t h.1))
-    ∙ ap (λ es. Goes es (cycles_of (instruction_of (Push x)))
-    (board_of (record t { sp = t.sp - 2; ram = put t.ram (t.sp - 2) (source_value x u) }))) (append-nil (source_effects x u))
+    ∙ ap (step_behind (source_effects x u)) made
+    ∙ ap (λ es. Goes es cycles (board_of after)) (append-nil (source_effects x u))
 
 sets_stack : (n : ℕ) (u : Core) → IsCodeAddress u.pc → n % 2 ≡ 0
     → step_with (Some (instruction_of (SetStack n))) (board_of u) ≡ outcome_of_core (form_step (SetStack n) u)

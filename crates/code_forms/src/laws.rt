@@ -27,7 +27,6 @@ pub fn forms_read_from_sp()
 {}
 
 /// Forms stand where they are placed, at even addresses with room behind them.
-#[tactic(auto, using(crate::proofs::Placed::forms_stand, crate::proofs::Placed::placed_is_tidy))]
 pub fn placed_code_stands()
     ensures stands { FormsStandWherePlaced }
     ensures tidy { PlacedIsTidy }
@@ -41,7 +40,6 @@ pub fn code_in_fram_steps()
 
 /// Where the CPU accepts no interrupt in front of a step of code without events, it accepts none behind it. Where it accepts one behind a
 /// step of code with events, FRAM names a handler and SP has room for it; from there on the CPU accepts interrupts behind each step.
-#[tactic(auto, using(crate::proofs::Rules::code_goes_undisturbed, crate::proofs::Rules::code_stays_prepared, crate::proofs::Rules::code_stays_open))]
 pub fn code_keeps_the_rules_of_interrupts()
     ensures undisturbed { CodeGoesUndisturbed }
     ensures prepared { CodeStaysPrepared }

@@ -15,6 +15,7 @@ use Rattle.linked_code.specs.Rooms.{PrivatesAreCounted}
 use Rattle.array_versions.specs.Program.{Program}
 use Rattle.array_versions.specs.Behaviour.{WordState, End, GoesOn, Jumps, Short, Strays, Broken, behaviour, started}
 use Rattle.array_versions.specs.Cost.{spent}
+use Rattle.word_code.specs.Code.{stack_cycles}
 use Rattle.privatise.specs.Layouts.{IsLayout}
 use Rattle.lower.proofs.Interface.{program_at, blocks_keep_to_cycles}
 use Rattle.runtime_effects.proofs.Interface.{scalar_pairs_count}
@@ -29,7 +30,7 @@ use Rattle.runtime_code.proofs.Interface.{if_any_most, with_events_most}
 use Rattle.compiled_model.specs.Parts.{task_program}
 use Rattle.compiled_model.specs.Needs.{whole_cycles}
 use Rattle.compiled_bounds.specs.Laws.{TasksKeepToTheBound}
-use Rattle.memory_map.specs.MemoryMap.{MemoryMap, TaskPlace}
+use Rattle.memory_map.specs.MemoryMap.{MemoryMap, TaskPlace, with_events}
 use Rattle.memory_map.specs.Spots.{places_of, private_words}
 use Rattle.compiled_bounds.proofs.Bounds.{bound_is_the_sources}
 use Rattle.compiled_bounds.proofs.Commits.{commit_within_bound}
@@ -42,9 +43,9 @@ entries_cost l layout Short = omega arith
 entries_cost l layout Strays = omega arith
 entries_cost l layout Broken = omega arith
 
--- a boot, a start with the clearing of versions and the copies of private words, the body, the entries, and the commit
+-- a boot, a start with the clearing of versions and the copies of private words, the place of the stack, the body, the entries, and the commit
 all_within : (events : Bool) (v1 v2 privates scalars body price list emits : ℕ) → v1 ≡ v2 → privates ≤ scalars → body ≤ price + 26 * privates
-    → with_events events 3 + 9 + start_cycles events true v1 privates + body + commit_cycles events list list emits
+    → with_events events 3 + 9 + start_cycles events true v1 privates + (stack_cycles + body) + commit_cycles events list list emits
     ≤ 400 + 12 * v2 + 72 * scalars + price + 40 * list + 40 * emits
 all_within events v1 v2 privates scalars body price list emits v e b =
     let boot = with_events_most events 3 in let start = with_events_most events 4 in let commit = with_events_most events 6 in

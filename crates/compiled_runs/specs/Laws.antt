@@ -48,7 +48,7 @@ CodeKeepsTheLaws = (p : CheckedProgram) (l : MemoryMap) → CanRun p l → Model
 -- it is instructions placed in FRAM, and a power-up with the boot's address in the reset vector comes to its entry
 abbrev pub CodeIsPlaced : Type 0
 CodeIsPlaced = (p : CheckedProgram) (l : MemoryMap) → CodeFits l (lowered l p) → l.runtime.events ≡ false
-    → IsPlacedProgram (compiled_program p l) l.boot.address (source_code p l) l.boot.address
+    → IsPlacedProgram (compiled_program p l) l.runtime.events l.boot.address (source_code p l) l.boot.address
 
 -- from a power-up with GATE 0 and VER not at its end, the fifth instruction raises VER
 abbrev pub PowerUpsRaiseVersion : Type 0

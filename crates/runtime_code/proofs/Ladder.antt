@@ -111,7 +111,7 @@ origin_is_even false = refl
 
 origin_is_start : (events : Bool) → events ≡ true → stack_origin events ≡ stack_start
 origin_is_start true e = refl
-origin_is_start false e = absurd (cc)
+origin_is_start false e = absurd (cc (e))
 
 module _ (code : Code) (tidy : IsTidy code) where
   -- to where the rung of the task that CUR names leads

@@ -37,7 +37,7 @@ block_whole p shared b words even formed =
           loops_count = sound.1;
           ways = task_way p words shared even b formed.statements (safe_paths b formed.assigned) formed.ends;
         };
-        stack = record { even = refl; start = omega arith; low = omega arith; fits = record { fits = omega arith } };
+        fits = record { low = omega arith; room = record { fits = omega arith } };
       },
       sound.2,
     )

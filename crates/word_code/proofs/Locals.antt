@@ -67,7 +67,7 @@ set_by z locals true u none e sp h =
     let base = stack_base locals in
     let even : base % 2 ≡ 0 = omega arith in
     let t : Core = record u { pc = u.pc + 4; sp = base } in
-    hop z (SetStack base) 2 u t [] 2 (HasStack (u.pc + 4) base u) h.0 (even, λ k. absurd (cc)) refl (omega arith)
+    hop z (SetStack base) 2 u t [] 2 (HasStack (u.pc + 4) base u) h.0 (even, λ k. absurd (cc (k, none))) refl (omega arith)
     (record { at = refl; sp = refl; fram = refl; inputs = refl })
 set_by z locals false u none e sp h =
     let few : locals ≤ 8 = grind (arith, nat_tests) in

@@ -574,7 +574,7 @@ code_does_as_program code at p u tidy h whole fits o entry = by code.events refl
           room = whole.room;
           base = stack_base locals;
           even = omega arith;
-          start = λ k. absurd (let none = e in cc);
+          start = λ k. absurd (cc (k, e));
           low = omega arith;
           roomy = record { fits = omega (arith, room, few) };
         } in
