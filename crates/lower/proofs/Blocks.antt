@@ -131,10 +131,10 @@ module _ (z : Scene) where
       → DoesFrom here (then_on (local_updated op (i % 65536) v o here.w) (behaviour nothing))
       (λ m. goes_on (source.assigned m (Local i) 0 (plain_word op (word_at m.variables (Local i) 0) v)))
   local_updated_does op i v None here few is others = tt
-  local_updated_does op i v (Some u) here few is =
+  local_updated_does op i v (Some u) here few is others =
       let P : ℕ → Type 0 = λ x. DoesFrom here (behaviour (one (write_step z.p (Local i))) (pushed (plain_word op u v) here.w))
       (λ m. goes_on (source.assigned m (Local i) 0 (plain_word op x v))) in
-      subst P (sym (is u refl)) (write_does (Local i) here (plain_word op u v) few)
+      subst P (sym (is u refl)) (write_does (Local i) here (plain_word op u v) few) others
 
   update_does : (op : PlainOperation) (x : Variable) {n : ℕ} {count : ℕ → ℕ} (here : Start z n count) (v : ℕ) → IsTarget z.p z.written x
       → DoesFrom here (behaviour (one (update_step z.p op x)) (pushed v here.w))

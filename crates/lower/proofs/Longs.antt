@@ -157,7 +157,7 @@ module _ (k : Keeping) where
       → LeavesWord k w.stack (truth_pushed (value_test (as_long q)) w) (truth_by o)
   any_bit_holds w q o h =
       let bits = behind q (binary (Plain plain.Or)) in
-      subst (LeavesWord k w.stack (truth_pushed (holds_test bits) w)) (any_bit_is_truth o) (by_word k w bits _ (any_bit w q o h)).test
+      subst (LeavesWord k w.stack (truth_pushed (holds_test bits) w)) (any_bit_is_truth o) (by_word k w bits (made_by both_words o) (any_bit w q o h)).test
 
   -- one word as a long
   widened_agrees : (of : WordType) → IsOneWord of → (w : WordState) (q : Program) (o : Answering) → LeavesWord k w.stack (behaviour q w) o

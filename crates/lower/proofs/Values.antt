@@ -5,7 +5,7 @@ use Rattle.lower.proofs.Names.{get_or_past, WordType, Int, UnaryOperator, Binary
 use Rattle.lower.proofs.Names.{Shared, Local, ◌>>?◌, Variables, Evaluated, word_at, holds, unary_value, binary_value, shift_value, shifted_value, is_settled}
 use Rattle.lower.proofs.Names.{next_answer, next_event, Looked, Offered, Look, first_look, other_looks, look_effects, event_pushed, none_answered}
 use Rattle.lower.proofs.Names.{word_answered, with_looks, event_index, head_place, slot_place, answer_place, count_place, put, put_other, program_end}
-use Rattle.lower.proofs.Names.{append-nil, append_assoc, inl, inr, Answering, answered_by, by_answers, made_by, answers_told, IsAnswerStore}
+use Rattle.lower.proofs.Names.{converted, append-nil, append_assoc, inl, inr, Answering, answered_by, by_answers, made_by, answers_told, IsAnswerStore}
 use Rattle.lower.proofs.Names.{gives, made_of, reading_of, truth_word, next_reading, Negate, Complement, BinaryOperation, Plain, And, CommonBit, unary_word}
 use Rattle.lower.proofs.Names.{binary_word, shift_word, shifted_word, compare_words, Test, Program, load, local, unary, binary, compares, fails, nothing}
 use Rattle.lower.proofs.Names.{joined, Step, sense, behind, WordState, End, GoesOn, Short, Broken, Behaviour, behind_effects, on_end, then_on, is_place}
@@ -343,7 +343,7 @@ module _ (k : Keeping) where
   local_agrees : (o : Option ℕ) (v : ℕ) (m : Attempt) (w : WordState) → Keeps k m w → ((u : ℕ) → o ≡ Some u → v ≡ u)
       → LeavesWord k w.stack (then_on (local_pushed o w) (behaviour nothing)) (by_answers m (gives v))
   local_agrees None v m w kept h others = (tt, tt)
-  local_agrees (Some u) v m w kept h = is_left single w.stack v m (pushed u w) kept (ap (λ x. x ∷ w.stack) (sym (h u refl)))
+  local_agrees (Some u) v m w kept h others = is_left single w.stack v m (pushed u w) kept (ap (λ x. x ∷ w.stack) (sym (h u refl))) others
 
   load_agrees : (a v : ℕ) (m : Attempt) (w : WordState) → Keeps k m w → is_place a ≡ true → w.fram a ≡ v
       → LeavesWord k w.stack (behaviour (one (load a)) w) (by_answers m (gives v))

@@ -102,9 +102,9 @@ pub record HoldList (p : Places) (listed : List Element) (fram : ℕ → ℕ) : 
   pub only_marked : (x : Element) → IsCopied p x → fram (version_address p x) ≡ fram (word_place p.map Version) → Contains listed x
 
 -- a state holds the variables, the emitted words and the readings that are left, with these elements listed
-pub record Holds (p : Places) (variables : Variables) (emitted left : List ℕ) (listed : List Element) (w : WordState) : Type 0 where
-  pub variables : HoldVariables p variables w.fram w.locals
-  pub emitted : HoldEmits p emitted w.fram
+pub record Holds (p : Places) (m : Variables) (words left : List ℕ) (listed : List Element) (w : WordState) : Type 0 where
+  pub variables : HoldVariables p m w.fram w.locals
+  pub emitted : HoldEmits p words w.fram
   pub list : HoldList p listed w.fram
   pub readings : w.inputs.readings ≡ left
 

@@ -1,8 +1,8 @@
-use Rattle.std.proofs.Common.{◌∙◌, ap, map, subst, sym}
+use Rattle.std.proofs.Common.{◌∙◌, Bool, ap, map, subst, sym}
 use Rattle.std.proofs.lemmas.List.{length-map}
 use Rattle.task_ast.specs.View.{task_of, program_of}
 use Rattle.cost_bound.specs.Allowance.{is_written, use_events}
-use Rattle.memory_map.specs.MemoryMap.{lone_redo}
+use Rattle.memory_map.specs.MemoryMap.{MemoryMap, lone_redo}
 use Rattle.memory_map.specs.View.{map_with}
 use Rattle.privatise.specs.Layouts.{IsLayout}
 use Rattle.privatise.proofs.Sums.{plain_small}
@@ -98,6 +98,6 @@ returns c =
       }) c.in_ok-layouts.ensures;
     }) in
     let events = c.uses_events.ensures ∙ ap (λ ts. use_events (map task_of ts)) c.as_slice-tasks.ensures.value in
-    let made = λ used. map_with (record lone_redo { events = used }) c.regions_of-regions.result c.in_ok-variables.variables.items
+    let made : Bool → MemoryMap = λ used. map_with (record lone_redo { events = used }) c.regions_of-regions.result c.in_ok-variables.variables.items
     c.in_ok-layouts.layouts.items in
     subst (IsLayout (program_of c.args.source.now) c.args.allow.now c.args.plan.now) (sym (c.new.ensures ∙ ap made events)) is
