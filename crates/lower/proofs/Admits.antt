@@ -42,9 +42,10 @@ module _ (events : Bool) where
     admits_choice : (c : CheckedChoice) → IsFree (conditions_price events_column c + blocks_price events_column c) → AdmitsChoice events c
     admits_choice t.nothing h = tt
     admits_choice (t.otherwise block) h = admits_block block (part _ _ (λ e. omega (arith, e)) h)
-    admits_choice (t.test e block more) h =
-        (admits_expression e (part _ _ (λ e. omega (arith, e)) h),
-        (admits_block block (part _ _ (λ e. omega (arith, e)) h), admits_choice more (part _ _ (λ e. omega (arith, e)) h)))
+    admits_choice (t.test e block more) h = (
+      admits_expression e (part _ _ (λ e. omega (arith, e)) h),
+      (admits_block block (part _ _ (λ e. omega (arith, e)) h), admits_choice more (part _ _ (λ e. omega (arith, e)) h)),
+    )
 
     admits_block : (b : CheckedBlock) → IsFree (block_price events_column b) → AdmitsBlock events b
     admits_block t.end h = tt
