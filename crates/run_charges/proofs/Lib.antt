@@ -6,4 +6,7 @@ mod Rules
 mod Running
 mod Reaching
 mod Programs
+mod Spent
+mod Stopped
+mod Fronts
 pub use Rattle.code_forms.proofs as code_forms

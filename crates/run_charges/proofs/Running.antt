@@ -265,7 +265,7 @@ module _ (on : PlacedProgram) where
         → Turn b more u due left (next_step.Instruction (instruction_at at))
     IsProgram : (i : Instr) → IsNextInstruction b i → Shows b u → IsCode b u i → DoesAlike b u i more → Turn b more u due left (next_step.Instruction i)
 
-  sees_of : (b : BoardValue) → IsOfWords b → (n : NextStep) (more : List Look) → SeeWords more → SeeWords (looks_of b n ++ more)
+  pub sees_of : (b : BoardValue) → IsOfWords b → (n : NextStep) (more : List Look) → SeeWords more → SeeWords (looks_of b n ++ more)
   sees_of b words n more see =
       sees_if (is_handlers_step (kind_of n) b) (seen_at_pc b) more (front_sees _ (fram_of b.fram) more (machine_is_of_words b words).fram see) see
 
