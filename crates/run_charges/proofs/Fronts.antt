@@ -8,13 +8,14 @@ use Rattle.crash_rules.specs.History.{History, behind_boot}
 use Rattle.crash_rules.specs.Runs.{Program}
 use Rattle.run_charges.specs.View.{outside_of, PowersUp, AreMoments}
 use Rattle.run_charges.specs.Charges.{ArePowerStates, observed}
-use Rattle.run_charges.specs.Laws.{IsRunOfWords, IsProgramRun, StandsIn, ProgramsRun, FrontsAreCharged}
+use Rattle.run_charges.specs.Laws.{IsRunOfWords, IsProgramRun, StandsIn, ProgramsRun, ProgramsRunAlone, FrontsAreCharged}
 use Rattle.run_charges.proofs.View.{no_gap}
 use Rattle.run_charges.proofs.Moments.{charge_last, first_start, other_starts, are-append}
 use Rattle.run_charges.proofs.Charges.{run_front}
 use Rattle.run_charges.proofs.Running.{PlacedProgram, charge_moments}
 use Rattle.run_charges.proofs.Programs.{Ready, running, front_charged}
 use Rattle.run_charges.proofs.Spent.{spent_moments, spent_ready}
+use Rattle.run_charges.proofs.Accepting.{run_alone}
 
 module _ (on : PlacedProgram) where
   run_moments : (cs : List BoardCharge) (b : BoardValue) (h : History) (r : RunOutcome) → Ready on b h → ArePowerStates cs → Run cs b r
@@ -72,3 +73,8 @@ pub fronts_are_charged : (c : Program) → FrontsAreCharged c
 fronts_are_charged c cs b r ms rest run e marks h stands =
     front_charged (placed_program c marks b h stands) b h (ready_there c marks b h stands cs r run) ms
     (run_front cs b r ms rest (programs_run c cs b r run marks h stands) e)
+
+-- without events it runs alone
+pub programs_run_alone : (c : Program) → ProgramsRunAlone c
+programs_run_alone c cs b r run marks h stands off =
+    run_alone (placed_program c marks b h stands) off cs b h r (ready_there c marks b h stands cs r run) run.starts run.run

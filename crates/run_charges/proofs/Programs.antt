@@ -55,7 +55,7 @@ last-append b [] ns = refl
 last-append b (m ∷ ms) ns = last-append m.after ms ns
 
 -- and behind those of charges
-last_behind : (b : BoardValue) (fs : List ChargeFront) → last_board b (moments_of fs) ≡ board_behind_all b fs
+pub last_behind : (b : BoardValue) (fs : List ChargeFront) → last_board b (moments_of fs) ≡ board_behind_all b fs
 last_behind b [] = refl
 last_behind b (f ∷ fs) = last-append (board_powered f) f.instructions (moments_of fs) ∙ last_behind (board_behind f) fs
 

@@ -1,6 +1,6 @@
 -- A charge that is spent is spent by the program too, but for what the handler took.
-use Rattle.std.proofs.Common.{◌≡◌, ℕ, suc, ◌+◌, ◌-◌, ◌*◌, ◌≤◌, ◌<◌, ◌⊎◌, refl, sym, ap, ◌∙◌, subst, arith, inl, inr, ⊎_elim, List, [], ◌∷◌, ◌++◌, length}
-use Rattle.std.proofs.Common.{if◌then◌else◌, Bool, true, false, not, Option, Some, None, Result, Ok, Err}
+use Rattle.std.proofs.Common.{◌≡◌, ℕ, suc, ◌+◌, ◌-◌, ◌*◌, ◌≤◌, ◌<◌, ◌⊎◌, refl, sym, ap, ◌∙◌, subst, arith, inl, inr, ⊎_elim, List, [], ◌∷◌, ◌++◌}
+use Rattle.std.proofs.Common.{if◌then◌else◌, Bool, true, false, not, Option, Some, None, Ok, Err}
 use Rattle.msp_isa.specs.declared.instructions.Instr.{Instr}
 use Rattle.msp_cycles.specs.Cycles.{cycles_of}
 use Rattle.msp_step.specs.declared.machine.Stop.{Stop}
@@ -12,30 +12,29 @@ use Rattle.fram_board.specs.declared.board.NextStep.{NextStep}
 use Rattle.fram_board.specs.declared.board.NextStep.TheVariants as next_step
 use Rattle.fram_board.specs.declared.board.Stepped.{Stepped}
 use Rattle.fram_board.specs.Bus.{BusState, is_word, with_word}
-use Rattle.fram_board.specs.Board.{BoardValue, powered, opened, answer_of, acceptance, acceptance_on, acceptance_made, acceptance_refused, performed, at_boundary}
-use Rattle.fram_board.specs.Board.{step_cycles, is_accepting, IsNextInstruction, IsNextStep}
+use Rattle.fram_board.specs.Board.{BoardValue, powered, opened, answer_of, acceptance, acceptance_made, acceptance_refused, performed, at_boundary}
+use Rattle.fram_board.specs.Board.{step_cycles, is_accepting, IsNextStep}
 use Rattle.fram_board.specs.Steps.{IsPowerState}
 use Rattle.fram_board.specs.Run.{Cycles, Instructions, Moment, moment_of, Charges, RunOutcome, run_outcome, BoardCharge}
 use Rattle.fram_board.specs.Run.{ChargeRun, Spent, NoInstruction, TooDear, Refused, Executed}
 use Rattle.machine_effects.specs.Inputs.{Look, first_look, other_looks, look_effects}
-use Rattle.machine_effects.specs.Going.{Goes, Stops, step_behind, At, stretch, going}
+use Rattle.machine_effects.specs.Going.{Goes, Stops, step_behind, At, going}
 use Rattle.machine_effects.specs.Machine.{MachineBus, MachineBoard, MachineOutcome, machine_outcome, machine_bus, machine_opened_seeing}
 use Rattle.machine_effects.specs.Machine.{machine_executed_seeing, machine_executed, looks_there, executed_looking, code_executed}
 use Rattle.machine_effects.proofs.Interface.{told_cycles}
 use Rattle.machine_effects.specs.Runs.{action_cycles, last_board}
 use Rattle.fram_board.specs.Effects.{Effect}
-use Rattle.event_handler.specs.Handler.{Stage, instruction_at}
-use Rattle.event_handler.specs.Boundaries.{cycles_left}
-use Rattle.program_view.specs.View.{StandsAs, AtCode, InHandler, cycles_due, steps_due}
+use Rattle.event_handler.specs.Handler.{instruction_at}
+use Rattle.program_view.specs.View.{StandsAs, AtCode, InHandler, cycles_due}
 use Rattle.program_view.proofs.Interface.{handlers_go_on}
 use Rattle.machine_effects.proofs.msp_step.Interface.{same_current}
 use Rattle.fram_board.specs.Bus.{board_bus}
 use Rattle.crash_rules.specs.History.{History, observe, behind_boot}
-use Rattle.crash_rules.specs.Runs.{Charge, Charged, IsSpent, Spends}
-use Rattle.run_charges.specs.View.{outside_of, is_handlers, looks_in, all_outside_effects, AreMoments}
+use Rattle.crash_rules.specs.Runs.{Charge, IsSpent, Spends}
+use Rattle.run_charges.specs.View.{outside_of, is_handlers, AreMoments}
 use Rattle.run_charges.specs.Charges.{AreInstructionMoments, observed, program_steps, program_cycles, handler_steps, handler_cycles, acceptances, events_met}
 use Rattle.run_charges.proofs.Moments.{charge_last, charge_instructs}
-use Rattle.run_charges.proofs.Running.{PlacedProgram, Machine, Running, is_code, runs_on, charge_moments}
+use Rattle.run_charges.proofs.Running.{PlacedProgram, is_code, charge_moments}
 use Rattle.run_charges.proofs.Reaching.{Reach}
 use Rattle.run_charges.proofs.Programs.{Ready, running, first, starts, reach, end_fram, end_readings, made, seen, ready_behind, charged_once, Reached, charged_like, charged_join}
 

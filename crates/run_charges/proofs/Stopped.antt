@@ -1,5 +1,5 @@
 -- The charge in which a run stops.
-use Rattle.std.proofs.Common.{◌≡◌, ℕ, zero, suc, ◌+◌, ◌-◌, refl, sym, ap, ◌∙◌, subst, arith, List, [], ◌∷◌, ◌++◌, append_assoc, append-nil, map, Err}
+use Rattle.std.proofs.Common.{◌≡◌, ℕ, ◌+◌, ◌-◌, refl, sym, ap, ◌∙◌, subst, List, [], ◌∷◌, ◌++◌, append-nil, map, Err}
 use Rattle.msp_cycles.specs.Cycles.{cycles_of}
 use Rattle.msp_step.specs.declared.machine.Stop.{Stop}
 use Rattle.fram_board.specs.declared.board.NextStep.{NextStep}
@@ -9,7 +9,7 @@ use Rattle.fram_board.specs.Effects.{Effect, Take, effects_of}
 use Rattle.fram_board.specs.Run.{Measure, price, Moment, moment_of, Stopped, RunOutcome, run_outcome, BoardCharge, Run, Over, Next, Last, power_up_of}
 use Rattle.fram_board.specs.Run.{ChargeRun, Spent, NoInstruction, TooDear, Refused, Executed}
 use Rattle.machine_effects.specs.World.{EachStore}
-use Rattle.machine_effects.specs.Going.{Goes, Stops, At, Halted, Stretch, stretch, after_effects, continued, going}
+use Rattle.machine_effects.specs.Going.{Stops, At, Halted, stretch, after_effects, continued, going}
 use Rattle.machine_effects.specs.Machine.{MachineBoard, MachineOutcome, MachineStretch}
 use Rattle.machine_effects.specs.Inputs.{Look, SeeWords, look_effects}
 use Rattle.machine_effects.specs.View.{looks_at}
