@@ -4,7 +4,7 @@ use Rattle.std.proofs.Common.{List, [], ◌∷◌, ◌++◌, append-nil, slice_i
 use Rattle.std.proofs.lemmas.Bool.Decides.{nat_tests}
 use Rattle.image_map.specs.declared.parts.RingPlaces.{RingPlaces}
 use Rattle.image_map.specs.MapValue.{MapValue, IsFramWord, IsRing}
-use Rattle.image_text.specs.ImageValue.{place_of}
+use Rattle.fram_board.specs.image_text.ImageValue.{place_of}
 use Rattle.fram_board.specs.declared.board.Stepped.{Stepped}
 use Rattle.fram_board.specs.Bus.{is_fram}
 use Rattle.fram_board.specs.Board.{BoardValue}
