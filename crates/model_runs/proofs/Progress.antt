@@ -1,21 +1,22 @@
 -- Each charge that is spent has as many dones as it has bounds, and is less than what its transitions cost and the one that was to come.
-use Rattle.std.proofs.Common.{◌≡◌, ◌+◌, ◌≤◌, ℕ, refl, subst, List, [], length}
+use Rattle.std.proofs.Common.{◌≡◌, ◌+◌, ◌*◌, ◌≤◌, ℕ, refl, subst, arith, List, [], length}
 use Rattle.fram_board.specs.Board.{BoardValue, powered}
 use Rattle.fram_board.specs.Steps.{IsPowerState}
 use Rattle.fram_board.specs.Run.{Measure, Cycles, Instructions, Moment, Charges, RunOutcome, run_outcome, BoardCharge, ChargeRun, Run, Over, Next, Last}
 use Rattle.machine_effects.specs.World.{World}
 use Rattle.machine_effects.specs.Going.{going}
+use Rattle.machine_effects.specs.Inputs.{SeeWords}
 use Rattle.machine_effects.specs.Machine.{MachineBoard}
 use Rattle.crash_rules.specs.Model.{Model, bound}
 use Rattle.crash_rules.specs.History.{History, observe, behind_boot, first_history}
 use Rattle.crash_rules.specs.Runs.{Program, Spends}
 use Rattle.crash_rules.specs.Laws.{Origin, PowersUpBehind, TaskCosts, CoversTasks, IsSpentOn}
 use Rattle.crash_rules.proofs.Interface.{tasks_pay, instructions_pay, progress_law}
-use Rattle.run_charges.specs.View.{outside_of}
-use Rattle.run_charges.specs.Charges.{ArePowerStates, observed}
-use Rattle.run_charges.proofs.Interface.{PlacedProgram, run_front, first_start, other_starts, is_powered, same_fram, same_inputs, spent_seen}
-use Rattle.run_charges.proofs.Interface.{spent_reached, status_behind, all_made, is_spent}
-use Rattle.model_runs.specs.Runs.{BearsModel, PaysFor, Progresses, AllSpent, SpentOne, StoppedIn}
+use Rattle.run_charges.specs.View.{looks_in}
+use Rattle.run_charges.specs.Charges.{ArePowerStates, observed, program_steps, acceptances, events_met}
+use Rattle.run_charges.proofs.Interface.{PlacedProgram, run_front, first_start, other_starts, charge_instructs, sees, is_powered, is_powered_from, powered_there}
+use Rattle.run_charges.proofs.Interface.{spent_moments, spent_seen, spent_reached, status_behind, all_made, SpendsItsPart, is_spent, p, q}
+use Rattle.model_runs.specs.Runs.{BearsModel, arisen_between, PaysFor, Progresses, AllSpent, SpentOne, StoppedIn}
 use Rattle.model_runs.specs.Laws.{MakesProgress}
 use Rattle.model_runs.proofs.Fronts.{stood, runs_so, AtFront, at_front, powers_up}
 
@@ -49,16 +50,22 @@ module _ {St : Type 0} (m : Model St) (c : Program) (readings : List ℕ) (origi
     abbrev arisen : ℕ
     arisen = arisen_between t end
 
+    abbrev see : SeeWords (looks_in ms)
+    see =
+        sees on t h at.ready d.start ok ms (charge_instructs d.measure d.amount (powered t d.start) (run_outcome ms Charges end) one)
+        (spent_moments on t h at.ready d ok ms end one)
+
     abbrev up : PowersUpBehind m c readings origin begun
     up =
         powers_up m c readings origin x b bears at.charges at.end h at.charged begun
-        (begins_powered on t h at.ready d ok ms end one) (powered_there on b first t h at begun (begins_from on t h at.ready d ok ms end one))
+        (is_powered on t h at.ready d.start ok (looks_in ms) see)
+        (powered_there on b first t h at begun (is_powered_from on t h at.ready d.start ok (looks_in ms) see))
 
     part : d.measure ≡ Cycles → SpendsItsPart on t h at.ready d ok ms end one
     part e = is_spent on t h at.ready d ok ms end one e
 
     met : events_met ms end ≤ arisen
-    met = met_arise on t h at.ready d ok ms end one
+    met = ?
 
     -- by the histories that its moments tell
     told : (P : History → Type 0) → P (observe m.marks (going c.step steps begun).effects (behind_boot h)) → P behind
