@@ -47,7 +47,7 @@ one_part : (b c : BoardValue) (m : Moment) (ms : List Moment) → Follows b c �
 one_part b c m ms follows (PowersUp p ok e) one rest =
     let P : Moment → Type 0 = λ x. Parts x.after ms → Parts b (x ∷ ms) in subst P (sym e) (power_up_part b c ms follows p ok) rest
 one_part b c m ms follows (Instructs i done at a own e) one rest = step_part b m ms (subst (λ (x : Moment). IsInstruction x.action) (sym e) tt) one rest
-one_part b c m ms follows (Serves n done a served e) one rest = step_part b m ms (subst (λ (x : Moment). IsInstruction x.action) (sym e) tt) one rest
+one_part b c m ms follows (Serves n done next a served e) one rest = step_part b m ms (subst (λ (x : Moment). IsInstruction x.action) (sym e) tt) one rest
 
 parts_of : (b : BoardValue) (ms : List Moment) → AreMoments b ms → Parts b ms
 parts_of b [] h = record { before = []; charges = []; split = refl; instructions = tt; moments = tt; follow = tt }

@@ -36,6 +36,7 @@ use Rattle.machine_effects.specs.Laws.{ChangesByEffects}
 use Rattle.machine_effects.specs.Runs.{action_effects, last_board}
 use Rattle.machine_effects.proofs.Interface.{takes, written_effects, LoggedBy, effect_logged, code_changes, seen_by_words}
 use Rattle.machine_effects.proofs.Interface.{step_leaves_it_whole, words_stay_words, boundary_whole, boundary_words, told_effects, step_accepts_by_sends}
+use Rattle.machine_effects.proofs.Interface.{power_up_keeps_words}
 use Rattle.crash_rules.specs.Model.{Marks}
 use Rattle.crash_rules.specs.History.{History, observe}
 use Rattle.crash_rules.proofs.Interface.{observed_taken, events_of_instructions}
@@ -196,11 +197,20 @@ at_most : (t n k : ℕ) → t ≤ n → n ≡ k → t ≤ k
 at_most t n k h e = omega arith
 
 -- whose step an instruction is, where it stands in front of the handler
-step_is_programs : (i : Instr) (b : BoardValue) → registers_of b.cpu 0 < handler_place → is_handlers_step (kind_of (next_step.Instruction i)) b ≡ false
+pub step_is_programs : (i : Instr) (b : BoardValue) → registers_of b.cpu 0 < handler_place → is_handlers_step (kind_of (next_step.Instruction i)) b ≡ false
 step_is_programs i b l = kind_is i b ∙ below (registers_of b.cpu 0) l
   where
     below : (n : ℕ) → n < handler_place → nat_le handler_place n ≡ false
     below n l = grind (arith, nat_tests)
+
+-- what an instruction tells that is made, and is the program's
+pub told_alike : (b : BoardValue) → IsWhole b → (i : Instr) (done : Stepped) → IsNextInstruction b i → (executed b i).answer ≡ Ok done
+    → is_handlers (moment_of b (next_step.Instruction i) done) ≡ false
+    → outside_effects (moment_of b (next_step.Instruction i) done) ≡ look_effects (looks_at b i) ++ effects_of b (executed b i)
+told_alike b whole i done current answer programs =
+    let m = moment_of b (next_step.Instruction i) done in
+    ap (λ (c : Bool). if c then [] else look_effects (seen_at_pc b) ++ action_effects m.action b m.after) programs
+    ∙ ap₂ (λ l es. look_effects l ++ es) (seen_by_words b i whole current) (told_effects b i done answer)
 
 -- what an instruction of the program does that is made, as the machine does
 module _ (b : BoardValue) (whole : IsWhole b) (i : Instr) (done : Stepped) (current : IsNextInstruction b i) (answer : (executed b i).answer ≡ Ok done)
@@ -223,14 +233,8 @@ module _ (b : BoardValue) (whole : IsWhole b) (i : Instr) (done : Stepped) (curr
   pub looks_told : outside_looks moment ≡ seen_at_pc b
   looks_told = ap (λ (c : Bool). if c then [] else seen_at_pc b) programs
 
-  -- behind the effect of its look
-  seen : seen_at_pc b ≡ looks_at b i
-  seen = seen_by_words b i whole current
-
   pub told_same : told ≡ look_effects (looks_at b i) ++ effects_of b (executed b i)
-  told_same =
-      ap (λ (c : Bool). if c then [] else look_effects (seen_at_pc b) ++ action_effects moment.action b after) programs
-      ∙ ap₂ (λ l es. look_effects l ++ es) seen (told_effects b i done answer)
+  told_same = told_alike b whole i done current answer programs
 
   -- it is a step of the machine that sees what the board holds
   step : code_executed (machine_with (looks_at b i) b) i ≡ Goes told done.cycles (machine_of after)
@@ -368,9 +372,18 @@ pub moment_is : (b : BoardValue) (m : Moment) → IsWhole b → IsOfWords b → 
 moment_is b m whole words (PowersUp p ok e) = IsPower p ok e
 moment_is b m whole words (Instructs i done c a own e) =
     IsStepped (subst (λ (y : Moment). Steps b y) (sym e) (instruction_steps b whole words i done c a own))
-moment_is b m whole words (Serves n done a served e) = IsStepped (subst (λ (y : Moment). Steps b y) (sym e) (served_steps b n done served))
+moment_is b m whole words (Serves n done next a served e) = IsStepped (subst (λ (y : Moment). Steps b y) (sym e) (served_steps b n done served))
 
 -- what is observed of a step is by its effects
 pub step_is_observed : (marks : Marks) (b : BoardValue) (m : Moment) (h : History) → Steps b m
     → behind_moment marks m h ≡ observe marks (outside_effects m) h
 step_is_observed marks b m h s = ap (λ a. behind_action marks a (outside_effects m) h) (ap (λ (y : Moment). y.action) s.is)
+
+-- a moment leaves a whole board of words
+pub whole_behind : (b : BoardValue) (m : Moment) → IsWhole b → IsOfWords b → IsMomentFrom b m → IsWhole m.after × IsOfWords m.after
+whole_behind b m whole words from = by_kind (moment_is b m whole words from)
+  where
+    by_kind : IsPowerOrStep b m → IsWhole m.after × IsOfWords m.after
+    by_kind (IsPower p ok e) =
+        subst (λ (y : Moment). IsWhole y.after × IsOfWords y.after) (sym e) (power_up_keeps_words b p whole words ok)
+    by_kind (IsStepped s) = (s.whole, s.words)

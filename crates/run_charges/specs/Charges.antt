@@ -1,5 +1,5 @@
 -- The charges of a board's run as charges of the machine.
-use Rattle.std.specs.Prelude.{◌≡◌, ℕ, ◌+◌, ◌*◌, ◌%◌, ◌<◌, ◌≤◌, Bool, true, if◌then◌else◌, List, [], ◌∷◌, ◌++◌, length, All}
+use Rattle.std.specs.Prelude.{◌≡◌, ℕ, suc, ◌+◌, ◌*◌, ◌%◌, ◌<◌, ◌≤◌, Bool, true, if◌then◌else◌, List, [], ◌∷◌, ◌++◌, length, All}
 use Rattle.address_space.specs.Limits.{fram_first, reset_vector, event_vector}
 use Rattle.event_places.specs.Places.{handler_place}
 use Rattle.msp_isa.specs.declared.instructions.Instr.{Instr}
@@ -86,20 +86,20 @@ observed marks (m ∷ ms) k = observed marks ms (behind_moment marks m k)
 -- how many steps and cycles of these moments were the program's own
 abbrev pub program_steps : List Moment → ℕ
 program_steps [] = 0
-program_steps (m ∷ ms) = (if is_handlers m then 0 else 1) + program_steps ms
+program_steps (m ∷ ms) = if is_handlers m then program_steps ms else suc (program_steps ms)
 
 abbrev pub program_cycles : List Moment → ℕ
 program_cycles [] = 0
-program_cycles (m ∷ ms) = (if is_handlers m then 0 else action_cycles m.action) + program_cycles ms
+program_cycles (m ∷ ms) = if is_handlers m then program_cycles ms else action_cycles m.action + program_cycles ms
 
 -- how many were the handler's, with its acceptances, and how many of those there were
 abbrev pub handler_steps : List Moment → ℕ
 handler_steps [] = 0
-handler_steps (m ∷ ms) = (if is_handlers m then 1 else 0) + handler_steps ms
+handler_steps (m ∷ ms) = if is_handlers m then suc (handler_steps ms) else handler_steps ms
 
 abbrev pub handler_cycles : List Moment → ℕ
 handler_cycles [] = 0
-handler_cycles (m ∷ ms) = (if is_handlers m then action_cycles m.action else 0) + handler_cycles ms
+handler_cycles (m ∷ ms) = if is_handlers m then action_cycles m.action + handler_cycles ms else handler_cycles ms
 
 abbrev pub accepts_in : Action → ℕ
 accepts_in PowerUp = 0

@@ -8,7 +8,7 @@ use Rattle.msp_isa.specs.declared.instructions.Instr.{Instr}
 use Rattle.fram_board.specs.declared.board.NextStep.{NextStep}
 use Rattle.fram_board.specs.declared.board.NextStep.TheVariants as next_step
 use Rattle.fram_board.specs.declared.board.Stepped.{Stepped}
-use Rattle.fram_board.specs.Board.{BoardValue, PowerState, executed, performed, IsNextInstruction}
+use Rattle.fram_board.specs.Board.{BoardValue, PowerState, executed, performed, IsNextInstruction, IsNextStep}
 use Rattle.fram_board.specs.Steps.{IsPowerState}
 use Rattle.fram_board.specs.Effects.{Effect}
 use Rattle.fram_board.specs.Run.{Action, PowerUp, Execute, Moment, moment_of, power_up_of}
@@ -57,7 +57,8 @@ pub data IsMomentFrom (b : BoardValue) (m : Moment) : Type 0 where
   Instructs : (i : Instr) (done : Stepped) → IsNextInstruction b i → (executed b i).answer ≡ Ok done → IsPrograms b i
       → m ≡ moment_of b (next_step.Instruction i) done → IsMomentFrom b m
   -- a step of the handler's, an acceptance to begin with
-  Serves : (n : NextStep) (done : Stepped) → (performed b n).answer ≡ Ok done → IsServed b (moment_of b n done) → m ≡ moment_of b n done → IsMomentFrom b m
+  Serves : (n : NextStep) (done : Stepped) → IsNextStep b n → (performed b n).answer ≡ Ok done → IsServed b (moment_of b n done)
+      → m ≡ moment_of b n done → IsMomentFrom b m
 
 -- moments from this board on, one behind the other
 abbrev pub AreMoments : BoardValue → List Moment → Type 0
