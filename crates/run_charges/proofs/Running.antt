@@ -109,6 +109,19 @@ module _ (on : PlacedProgram) where
     pub holds : Holds u.fram on.place code_words
     pub leaves : (n : ℕ) → Leaves (going step n u)
 
+  -- one that is to see the same
+  abbrev pub relooked : (b : BoardValue) (looks more : List Look) → looks ≡ more → Machine b looks → Machine b more
+  relooked b looks more e x = record {
+    u = x.u;
+    looks = x.looks ∙ e;
+    stands = x.stands;
+    quiet = x.quiet;
+    handler = x.handler;
+    prepared = x.prepared;
+    holds = x.holds;
+    leaves = x.leaves;
+  }
+
   -- what holds of a board while the program runs on it
   pub record Running (b : BoardValue) : Type 0 where
     pub whole : IsWhole b
@@ -259,7 +272,7 @@ module _ (on : PlacedProgram) where
   -- on a board with its machine
   module _ (b : BoardValue) (whole : IsWhole b) (words : IsOfWords b) (more : List Look) where
     -- where the program stands
-    program_turn : (i : Instr) → (x : Machine b (looks_of b (next_step.Instruction i) ++ more)) → (shows : Shows b x.u) → IsNextInstruction b i
+    pub program_turn : (i : Instr) → (x : Machine b (looks_of b (next_step.Instruction i) ++ more)) → (shows : Shows b x.u) → IsNextInstruction b i
         → Turn b more x.u 0 0 (next_step.Instruction i)
     program_turn i x shows current =
         let c = is_code b x.u shows x.holds (x.leaves 1) whole i current in
@@ -427,7 +440,7 @@ module _ (on : PlacedProgram) where
 
   -- any step that is made
   module _ (b : BoardValue) (whole : IsWhole b) (words : IsOfWords b) (more : List Look) where
-    turn_leads : (n : NextStep) (done : Stepped) → (performed b n).answer ≡ Ok done → (x : Machine b (looks_of b n ++ more))
+    pub turn_leads : (n : NextStep) (done : Stepped) → (performed b n).answer ≡ Ok done → (x : Machine b (looks_of b n ++ more))
         → Turn b more x.u (cycles_due x.stands) (steps_due x.stands) n → Leads b (moment_of b n done) more x
     turn_leads _ done answer x (IsAcceptance begins) =
         let same : begins.done ≡ done = cc (sym begins.made ∙ answer) in
