@@ -9,8 +9,8 @@ use Rattle.msp_step.specs.Registers.{registers_of}
 use Rattle.msp_step.specs.Step.{is_interruptible}
 use Rattle.fram_board.specs.Board.{BoardValue, executed}
 use Rattle.fram_board.specs.Run.{StepKind, Accepting, Returning, Plain, Action, PowerUp, Execute, Moment, accepted_by}
-use Rattle.fram_board.specs.Effects.{effects_of}
-use Rattle.machine_effects.specs.World.{fram_after}
+use Rattle.fram_board.specs.Effects.{Effect, store_at, effects_of}
+use Rattle.machine_effects.specs.World.{fram_after, EachStore}
 use Rattle.machine_effects.specs.Inputs.{Look, look_effects}
 use Rattle.machine_effects.specs.Machine.{MachineBoard, fram_of, ram_of, code_executed}
 use Rattle.machine_effects.specs.View.{machine_with, looks_at, machine_outcome_with, IsWhole, IsOfWords}
@@ -80,11 +80,17 @@ is_handlers_action (Execute kind done offered) before = is_handlers_step kind be
 abbrev pub is_handlers : Moment → Bool
 is_handlers m = is_handlers_action m.action m.before
 
+-- the store to FRAM of an action that left this board
+abbrev pub stored_by : Action → BoardValue → List Effect
+stored_by PowerUp after = []
+stored_by (Execute kind done offered) after = store_at done.wrote after.fram
+
 -- what a handler's moment leaves of a board: all that the program is told of, but for registers and RAM, which are back as they were when the
 -- handler returns
 pub record IsServed (b : BoardValue) (m : Moment) : Type 0 where
   pub handlers : is_handlers m ≡ true
   pub accepts_none : accepted_by m.action ≡ []
+  pub stores : EachStore (λ a w. handler_place ≤ a) (stored_by m.action m.after)
   pub whole : IsWhole m.after
   pub words : IsOfWords m.after
   pub fram : steady (fram_of m.after.fram) ≡ steady (fram_of b.fram)
