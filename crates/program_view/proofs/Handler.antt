@@ -1,6 +1,11 @@
 -- From an acceptance to its return the handler leaves the program's machine as it is.
+<<<<<<< HEAD
 use Rattle.std.proofs.Common.{◌≡◌, ◌≤◌, if◌then◌else◌, not, nat_le, arith, ℕ, refl, sym, ◌∙◌, ap, ap₂, subst, Bool, true, false, List, [], ◌++◌, length}
 use Rattle.std.proofs.Common.{Option, Some, None, Result, Ok, Err, drop}
+=======
+use Rattle.std.proofs.Common.{◌≡◌, ◌≤◌, if◌then◌else◌, nat_le, arith, ℕ, refl, sym, ◌∙◌, ap, ap₂, subst, Bool, true, [], length}
+use Rattle.std.proofs.Common.{Option, Some, None, Result, Ok, Err, drop, leb-true}
+>>>>>>> cc481407f835cca328a1cc26632c37fdc128633b
 use Rattle.std.proofs.lemmas.Bool.{and_parts}
 use Rattle.event_places.specs.Places.{handler_place}
 use Rattle.msp_isa.specs.declared.instructions.Instr.{Instr}
@@ -258,3 +263,10 @@ pub stands_readings : (b : BoardValue) (u : MachineBoard) → StandsAs b u → u
 stands_readings b u (AtCode shows) = shows.readings
 stands_readings b u (InHandler from at shows interrupted inside) =
     shows.readings ∙ ap₂ (λ n l. drop n l) (sym inside.rest.taken) (sym inside.rest.readings)
+
+-- in the handler PC stands from there on
+pub handler_is_high : (from : BoardValue) (at : Stage) (b : BoardValue) → IsInHandler from at b → handler_place ≤ registers_of b.cpu 0
+handler_is_high from at b inside =
+    let l = leb-true handler_place (place_at at) (place_high at) in
+    let e = inside.pc in
+    omega (arith, l, e)
