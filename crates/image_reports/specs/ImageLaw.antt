@@ -2,9 +2,8 @@
 -- effects since the last boot or done, what the board stands for, the words accepted, the counts, the code that is fetched, what became of
 -- the events, how it ends, and its report. Where the source takes events a handler runs between any two instructions of the code: it is the
 -- image's, and what holds of the code is said of what happens outside it.
-use Rattle.std.specs.Prelude.{◌≡◌, ◌≢◌, ℕ, ◌+◌, ◌*◌, ◌^◌, ◌%◌, ◌<◌, ◌≤◌, true, false, if◌then◌else◌, List, [], ◌∷◌, ◌++◌, length, Option, Some, None}
+use Rattle.std.specs.Prelude.{◌≡◌, ◌≢◌, ℕ, ◌+◌, ◌*◌, ◌^◌, ◌%◌, ◌<◌, ◌≤◌, true, false, List, [], ◌∷◌, ◌++◌, length}
 use Rattle.address_space.specs.Limits.{stack_floor, stack_top}
-use Rattle.event_places.specs.Places.{answer_place}
 use Rattle.msp_isa.specs.declared.instructions.Instr.{Instr}
 use Rattle.msp_isa.specs.Encoding.{encoding}
 use Rattle.msp_step.specs.Registers.{registers_of}
@@ -40,6 +39,7 @@ use Rattle.program_view.specs.View.{steady, outside_of}
 use Rattle.run_charges.specs.Charges.{ArePowerStates, AreInstructionMoments, observed, program_steps}
 use Rattle.memory_map.specs.Laws.{AreApart}
 use Rattle.compiled_model.specs.Parts.{compiled_model, start_of as start_due}
+use Rattle.stands_for.specs.Program.{answer_word}
 use Rattle.compiled_bounds.specs.Laws.{KeepsCapacities}
 use Rattle.model_runs.specs.Runs.{IsShort, all_amounts}
 use Rattle.image_laws.specs.Words.{code_words}
@@ -48,7 +48,7 @@ use Rattle.image_laws.specs.Laws.{fresh_world}
 
 -- the words by which what happens in a run is told: GATE, and ANS where the source takes events
 abbrev pub runtime_marks : MemoryMap → Marks
-runtime_marks l = record { gate = word_place l Gate; answer = if l.runtime.events then Some answer_place else None }
+runtime_marks l = record { gate = word_place l Gate; answer = answer_word l }
 
 -- the world of words of FRAM whose receiver accepted these before: HEAD and the ring are no part of it, which the handler alone writes
 abbrev pub world_with : List ℕ → List ℕ → World
