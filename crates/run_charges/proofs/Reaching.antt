@@ -2,7 +2,6 @@
 use Rattle.std.proofs.Common.{◌≡◌, ◌+◌, ◌*◌, ◌≤◌, ◌<◌, ℕ, suc, refl, sym, ap, ◌∙◌, subst, arith, Bool, true, false, if◌then◌else◌, List, [], ◌∷◌, ◌++◌}
 use Rattle.std.proofs.Common.{append_assoc, Ok}
 use Rattle.event_places.specs.Places.{handler_place}
-use Rattle.std.proofs.lemmas.Bool.{leb-true}
 use Rattle.msp_isa.specs.declared.instructions.Instr.{Instr}
 use Rattle.msp_step.specs.Registers.{registers_of}
 use Rattle.fram_board.specs.declared.board.NextStep.TheVariants as next_step
@@ -10,7 +9,7 @@ use Rattle.fram_board.specs.declared.board.Stepped.{Stepped}
 use Rattle.fram_board.specs.Board.{BoardValue, executed, IsNextInstruction}
 use Rattle.fram_board.specs.Effects.{Effect}
 use Rattle.fram_board.specs.Run.{Action, PowerUp, Execute, Moment, moment_of}
-use Rattle.machine_effects.specs.Going.{At, Status, Stretch, stretch, after_effects, going}
+use Rattle.machine_effects.specs.Going.{At, stretch, after_effects, going}
 use Rattle.machine_effects.specs.Inputs.{Look, SeeWords}
 use Rattle.machine_effects.specs.Machine.{MachineBoard, MachineOutcome, MachineStretch, fram_of}
 use Rattle.machine_effects.specs.View.{IsWhole, IsOfWords}
@@ -18,9 +17,9 @@ use Rattle.machine_effects.specs.World.{fram_after}
 use Rattle.machine_effects.specs.Runs.{action_cycles, last_board}
 use Rattle.machine_effects.proofs.Interface.{machine_is_of_words, fram_after-append}
 use Rattle.program_view.specs.View.{StandsAs, AtCode, InHandler, cycles_due, steps_due}
-use Rattle.program_view.proofs.Interface.{handlers_go_on, handler_is_high}
+use Rattle.program_view.proofs.Interface.{handler_is_high}
 use Rattle.run_charges.specs.View.{outside_of, is_handlers, looks_by, outside_looks, looks_in, outside_effects, all_outside_effects, IsMomentFrom, PowersUp, Instructs, Serves, AreMoments}
-use Rattle.run_charges.specs.Charges.{IsInstruction, AreInstructionMoments, program_steps, program_cycles, handler_steps, handler_cycles, accepts_in, acceptances}
+use Rattle.run_charges.specs.Charges.{IsInstruction, AreInstructionMoments, program_steps, program_cycles, handler_steps, handler_cycles, acceptances}
 use Rattle.run_charges.proofs.Moments.{whole_behind, served_effects, front_sees, IsPowerOrStep, IsPower, IsStepped, moment_is}
 use Rattle.run_charges.proofs.Running.{PlacedProgram, Machine, relooked, Leads, Turn, looks_of, program_turn, turn_leads, leads_on}
 

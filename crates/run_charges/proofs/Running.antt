@@ -1,13 +1,12 @@
 -- A board on which a program runs that stands in FRAM, and its handler beside it: its instructions are the program's steps, and the handler's
 -- are none of them.
 use Rattle.std.proofs.Common.{◌≡◌, ◌==◌, ◌+◌, ◌*◌, ◌-◌, ◌≤◌, ◌<◌, ⊎_elim, ℕ, suc, refl, sym, ap, ◌∙◌, subst, arith, Bool, true, false, if◌then◌else◌, nat_le, List, []}
-use Rattle.std.proofs.Common.{◌∷◌, ◌++◌, append_assoc, length, Option, Some, None, Ok, Err, leb-true, eqb-true}
+use Rattle.std.proofs.Common.{◌∷◌, ◌++◌, length, Option, Some, None, Ok, Err, leb-true}
 use Rattle.std.proofs.lemmas.Bool.{and_parts}
 use Rattle.std.proofs.lemmas.Bool.Decides.{nat_tests}
 use Rattle.address_space.specs.Limits.{event_vector, stack_floor, stack_start}
 use Rattle.event_places.specs.Places.{handler_place, is_ring}
 use Rattle.msp_isa.specs.declared.instructions.Instr.{Instr}
-use Rattle.msp_isa.specs.Encoding.{encoding}
 use Rattle.msp_cycles.specs.Cycles.{cycles_of}
 use Rattle.msp_step.specs.declared.machine.Stop.{Stop}
 use Rattle.msp_step.specs.declared.machine.Stop.TheVariants as stop
@@ -20,36 +19,35 @@ use Rattle.fram_board.specs.declared.board.Stepped.{Stepped}
 use Rattle.fram_board.specs.Bus.{board_bus}
 use Rattle.fram_board.specs.Events.{is_full}
 use Rattle.fram_board.specs.Board.{BoardValue, opened, executed, performed, at_boundary, is_accepting, IsNextInstruction, IsStoppedBy, IsNextStep, HasNoStep}
-use Rattle.fram_board.specs.Board.{step_cycles}
 use Rattle.fram_board.specs.Effects.{Effect, effects_of}
 use Rattle.fram_board.specs.Run.{Measure, price, kind_of, Moment, moment_of, RunOutcome, ChargeRun, Spent, TooDear, Refused, Executed}
 use Rattle.fram_board.specs.Run as run
 use Rattle.machine_effects.specs.World.{fram_after, EachStore}
-use Rattle.machine_effects.specs.Going.{Goes, Stops, At, Halted, stretch, after_effects, continued, going}
+use Rattle.machine_effects.specs.Going.{Goes, Stops, At, stretch, after_effects, continued, going}
 use Rattle.machine_effects.specs.Inputs.{Look, SeeWords, look_effects}
 use Rattle.machine_effects.specs.Machine.{Code, MachineBoard, MachineOutcome, MachineStretch, IsStepBy, NoInstruction, Executes, code_executed, standing, step_with, undisturbed, exec, fram_of}
 use Rattle.machine_effects.specs.Machine.{machine_bus, machine_opened, word_in, is_prepared, in_stack}
 use Rattle.machine_effects.specs.View.{machine_with, IsWhole, IsOfWords, looks_at, seen_at_pc, IsBusFault}
 use Rattle.machine_effects.specs.Laws.{KeepsTheHandler, ChangesByEffects}
-use Rattle.machine_effects.specs.Runs.{action_cycles, last_board}
+use Rattle.machine_effects.specs.Runs.{action_cycles}
 use Rattle.machine_effects.proofs.Interface.{each_store-front, each_store-back, machine_is_of_words, seen_by_words, current_on, stopped_to_machine, code_keeps_the_handler}
 use Rattle.machine_effects.proofs.Interface.{code_changes_by_effects}
-use Rattle.event_handler.specs.Handler.{Stage, HasHandler, handler_length, instruction_at, place_at}
+use Rattle.event_handler.specs.Handler.{Stage, HasHandler, handler_length, instruction_at}
 use Rattle.event_handler.specs.Boundaries.{IsInterrupted, IsInHandler, cycles_left, instructions_left}
 use Rattle.program_view.specs.View.{steady, Shows, StandsAs, AtCode, InHandler, cycles_due, steps_due, is_handlers_step}
 use Rattle.program_view.specs.Laws.{KeepsItsStack, KeepsRules, DoesAlike, Begins, GoesOn}
 use Rattle.program_view.proofs.Interface.{steady_low, steady_off, instructions_are_the_programs, acceptances_begin, handlers_go_on}
-use Rattle.code_forms.specs.Placed.{placed, placed_at, words_of, Holds, LeavesCode, IsOutside}
+use Rattle.code_forms.specs.Placed.{placed, words_of, Holds, LeavesCode, IsOutside}
 use Rattle.code_forms.specs.Laws.{IsNoHole}
 use Rattle.code_forms.proofs.Interface.{placed_next, placed_within, holds_stores, code_in_fram_steps, code_goes_undisturbed, code_stays_prepared}
 use Rattle.crash_rules.specs.Model.{Marks}
 use Rattle.crash_rules.specs.Runs.{Program}
-use Rattle.run_charges.specs.View.{is_handlers, outside_looks, looks_in, outside_effects, all_outside_effects, Follows, IsServed, IsMomentFrom, PowersUp}
+use Rattle.run_charges.specs.View.{is_handlers, outside_looks, outside_effects, IsServed, IsMomentFrom}
 use Rattle.run_charges.specs.View.{Instructs, Serves, AreMoments}
-use Rattle.run_charges.specs.Charges.{IsInstruction, AreInstructionMoments, IsPlacedProgram, program_steps, program_cycles, handler_steps, handler_cycles}
-use Rattle.run_charges.specs.Charges.{accepts_in, acceptances}
+use Rattle.run_charges.specs.Charges.{IsPlacedProgram}
+use Rattle.run_charges.specs.Charges.{accepts_in}
 use Rattle.run_charges.proofs.View.{no_gap}
-use Rattle.run_charges.proofs.Moments.{told_alike, step_is_programs, front_sees, nothing_seen, whole_behind, served_effects, served_looks}
+use Rattle.run_charges.proofs.Moments.{told_alike, step_is_programs, front_sees, nothing_seen, whole_behind, served_looks}
 use Rattle.run_charges.proofs.Rules.{stack_kept}
 
 -- a program in FRAM, with the marks of its runs: whether it takes events, where it stands, and the entry in the reset vector
@@ -265,7 +263,7 @@ module _ (on : PlacedProgram) where
         → Turn b more u due left (next_step.Instruction (instruction_at at))
     IsProgram : (i : Instr) → IsNextInstruction b i → Shows b u → IsCode b u i → DoesAlike b u i more → Turn b more u due left (next_step.Instruction i)
 
-  sees_of : (b : BoardValue) → IsOfWords b → (n : NextStep) (more : List Look) → SeeWords more → SeeWords (looks_of b n ++ more)
+  pub sees_of : (b : BoardValue) → IsOfWords b → (n : NextStep) (more : List Look) → SeeWords more → SeeWords (looks_of b n ++ more)
   sees_of b words n more see =
       sees_if (is_handlers_step (kind_of n) b) (seen_at_pc b) more (front_sees _ (fram_of b.fram) more (machine_is_of_words b words).fram see) see
 
