@@ -1,6 +1,11 @@
 -- From an acceptance to its return the handler leaves the program's machine as it is.
+<<<<<<< HEAD
 use Rattle.std.proofs.Common.{◌≡◌, ◌≤◌, if◌then◌else◌, not, nat_le, arith, ℕ, refl, sym, ◌∙◌, ap, ap₂, subst, Bool, true, false, List, [], ◌++◌, length}
+use Rattle.std.proofs.Common.{Option, Some, None, Result, Ok, Err, drop}
+=======
+use Rattle.std.proofs.Common.{◌≡◌, ◌≤◌, if◌then◌else◌, nat_le, arith, ℕ, refl, sym, ◌∙◌, ap, ap₂, subst, Bool, true, [], length}
 use Rattle.std.proofs.Common.{Option, Some, None, Result, Ok, Err, drop, leb-true}
+>>>>>>> cc481407f835cca328a1cc26632c37fdc128633b
 use Rattle.std.proofs.lemmas.Bool.{and_parts}
 use Rattle.event_places.specs.Places.{handler_place}
 use Rattle.msp_isa.specs.declared.instructions.Instr.{Instr}
