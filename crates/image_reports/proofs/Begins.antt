@@ -15,7 +15,7 @@ use Rattle.source_runs.specs.Traces.{AreInputs}
 use Rattle.source_runs.specs.Sources.{BeginsWithSource}
 
 -- words that stand in a FRAM stand in each that has the same there
-holds_as : (f g : ℕ → ℕ) (ws : List ℕ) (a : ℕ) → a % 2 ≡ 0 → ((b : ℕ) → b % 2 ≡ 0 → a ≤ b → b < a + 2 * length ws → f b ≡ g b) → Holds g a ws → Holds f a ws
+pub holds_as : (f g : ℕ → ℕ) (ws : List ℕ) (a : ℕ) → a % 2 ≡ 0 → ((b : ℕ) → b % 2 ≡ 0 → a ≤ b → b < a + 2 * length ws → f b ≡ g b) → Holds g a ws → Holds f a ws
 holds_as f g [] a e h k = tt
 holds_as f g (w ∷ ws) a e h k = (
   h a e (omega arith) (omega arith) ∙ k.0,

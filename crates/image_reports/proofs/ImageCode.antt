@@ -34,19 +34,6 @@ abbrev pub StopsAtReadings : Program → Marks → MachineBoard → History → 
 StopsAtReadings c marks s h = (es : List Charge) (t : MachineBoard) (k : History) → Charged c marks s h es t k → (p : MachineBoard) → c.IsPoweredUp p
     → IsPoweredFrom t p → (n price : ℕ) (e : Stop) → (going c.step n p).status ≡ Halted price e → e ≡ stop.NoReading
 
--- so the machine goes on where charges lead
-pub goes_on : (c : Program) (marks : Marks) (es : List Charge) (s t : MachineBoard) (h k : History) → StopsAtReadings c marks s h → GoesOn c s
-    → Charged c marks s h es t k → GoesOn c t
-goes_on c marks [] s t h k stops here run = let P : MachineBoard → Type 0 = λ u. GoesOn c u in subst P (sym run.0) here
-goes_on c marks (e ∷ es) s t h k stops here run =
-    let q = run.2.0 in
-    let made = (going c.step e.steps e.powered).effects in
-    goes_on c marks es q t (observe marks made (behind_boot h)) k
-    (λ fs u z more. stops (e ∷ fs) u z (run.0, run.1, (q, run.2.1, more)))
-    (λ fs price x k2. stops [] s h (refl, refl) e.powered run.0 run.1 (suc e.steps) price x
-    (stops_next c.step e.steps e.powered q fs price x run.2.1 k2))
-    run.2.2
-
 -- code that goes on at a machine: CPUOFF is clear, and an instruction stands at PC
 pub record StandsOn (code : Code) (s : MachineBoard) : Type 0 where
   pub instruction : Instr

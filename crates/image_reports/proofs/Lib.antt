@@ -3,6 +3,7 @@ pub mod Begins
 mod HandlerWords
 mod InFront
 mod Accounted
+mod Cuts
 pub mod Told
 pub mod Capacities
 pub mod ImageStart

@@ -1,6 +1,7 @@
 -- At each front of a run of an accepted text's image, from any world that belongs to the image.
-use Rattle.image_reports.proofs.Names.{◌≡◌, ◌≢◌, ℕ, zero, ◌+◌, ◌%◌, ◌<◌, ◌≤◌, refl, sym, ap, ◌∙◌, subst, arith, List, [], ◌∷◌, ◌++◌, length, take, drop}
-use Rattle.image_reports.proofs.Names.{append_assoc, length-take-le, encoding, BoardValue, PowerState, powered, started, filled, BoardCharge, PowerUp, Moment}
+use Rattle.image_reports.proofs.Names.{◌≡◌, ◌≢◌, ℕ, zero, suc, ◌+◌, ◌%◌, ◌<◌, ◌≤◌, true, false, refl, sym, ap, ◌∙◌, subst, arith, List, [], ◌∷◌, ◌++◌, length}
+use Rattle.image_reports.proofs.Names.{Some, append_assoc, encoding, MachineBoard, placed_at, IsPoweredFrom, Shows, StandsAs, outside_with, steady_low, NoneServes}
+use Rattle.image_reports.proofs.Names.{Serves, program_steps, world_with, EventsHold, HasRoom, StepsOn, BoardValue, PowerState, powered, started, filled, BoardCharge, PowerUp, Moment}
 use Rattle.image_reports.proofs.Names.{RunOutcome, World, fram_after, going, continued, fram_of, last_board, words_of, CheckedProgram, State, IsAcceptedText}
 use Rattle.image_reports.proofs.Names.{map_of, Gate, Version, MemoryMap, word_place, IsElsewhere, Model, ModelLaws, History, first_history, Program}
 use Rattle.image_reports.proofs.Names.{Origin, Phase, UndecidedPhase, DecidedPhase, CommittingPhase, Begins, world_fram, never_lost}
@@ -11,9 +12,14 @@ use Rattle.image_reports.proofs.Names.{fronts_are_lawful, HoldsWords, IsSound, S
 use Rattle.image_reports.proofs.Names.{redo_model, compiled_model, start_under, is_redo, under_map, KeepsCapacities, KeepsVersions}
 use Rattle.image_reports.proofs.Names.{phase_keeps_versions, capacities_are_kept, source_code, placed_code, compiled_program, code_is_placed}
 use Rattle.image_reports.proofs.Names.{power_ups_raise_version, scripts_store_below, at_first, EachChargePays, runtime_marks, VersionsBelow, KeepsCode}
-use Rattle.image_reports.proofs.Names.{FetchesCode, IsRaisedSoon, RaisesVersion, BelongsTo, known_from, HoldsFrom}
-use Rattle.std.proofs.lemmas.List.{take-append-drop}
+use Rattle.image_reports.proofs.Names.{IsRaisedSoon, RaisesVersion, BelongsTo, known_from, HoldsFrom}
+use Rattle.std.proofs.lemmas.Bool.{and_parts}
+use Rattle.event_places.specs.Places.{is_ring}
+use Rattle.msp_isa.specs.declared.instructions.Instr.{Instr}
 use Rattle.msp_step.specs.Registers.{registers_of}
+use Rattle.msp_step.specs.Step.{is_interruptible, off_bit}
+use Rattle.fram_board.specs.Events.{is_full}
+use Rattle.fram_board.specs.Board.{is_accepting, IsNextInstruction}
 use Rattle.fram_board.specs.Saved.{TakesNextBehind}
 use Rattle.fram_board.specs.Steps.{IsPowerState}
 use Rattle.fram_board.proofs.Interface.{fill_is_a_power_state}
@@ -22,22 +28,36 @@ use Rattle.runtime_effects.specs.Needs.{IsEventWord}
 use Rattle.compiled_model.specs.Needs.{StoresBelow}
 use Rattle.boot_runtime.specs.Entries.{task_entries}
 use Rattle.boot_runtime.specs.Listing.{privates_in}
-use Rattle.run_charges.specs.Laws.{IsPlainRun}
-use Rattle.run_charges.proofs.Interface.{follows_keeps, are_behind, front_moments, run_front, PlacedProgram, is_powered, leads, reached_on, none_due}
-use Rattle.run_charges.proofs.Interface.{Counts, moments_count}
-use Rattle.board_run.specs.Events.{NeverReads}
+use Rattle.machine_effects.specs.Machine.{is_prepared}
+use Rattle.memory_map.specs.MemoryMap.{with_events}
+use Rattle.event_handler.specs.Handler.{Stage}
+use Rattle.event_handler.specs.Boundaries.{IsInterrupted, IsInHandler}
+use Rattle.event_handler.proofs.Interface.{handler_goes_on}
+use Rattle.program_view.specs.View.{AtCode}
+use Rattle.program_view.specs.View as view
+use Rattle.program_view.proofs.Interface.{stands_fram}
+use Rattle.run_charges.specs.Laws.{IsProgramRun}
+use Rattle.run_charges.specs.View.{BeginWithPower, looks_in}
+use Rattle.run_charges.proofs.Interface.{follows_keeps, are_behind, front_moments, run_front, PlacedProgram, Machine, nothing_seen, is_powered, is_powered_from}
+use Rattle.run_charges.proofs.Interface.{sees, reach, leads, reached_on, powered_there, Counts, moments_count}
+use Rattle.board_run.specs.Events.{NeverReads, hand_after, head_of, no_hand}
 use Rattle.model_runs.specs.EventLaws.{StartsWith}
-use Rattle.model_runs.proofs.Interface.{moments_wait, never_reads, runs_plainly}
+use Rattle.model_runs.proofs.Interface.{moments_wait, never_reads, programs_run, runs_alone}
 use Rattle.memory_map.specs.declared.runtime.Logging.{Logging}
 use Rattle.memory_map.specs.declared.runtime.Role.{Role}
 use Rattle.compiled_model.specs.Parts.{start_of as start_due}
-use Rattle.image_reports.proofs.Begins.{Beginning, first_world, first_board, begins, bears}
+use Rattle.image_reports.specs.ImageLaw.{InCode, AtAcceptance, InHandler}
+use Rattle.image_reports.proofs.Begins.{holds_as, Beginning, first_world, first_board, begins, bears}
+use Rattle.image_reports.proofs.HandlerWords.{stage_holds}
+use Rattle.image_reports.proofs.Accounted.{moments_account}
+use Rattle.image_reports.proofs.Cuts.{CutAtPower, Uncut, Cut, cut_at_power, no_power, last-append, none_serves, OwnPart, own_part, ring_stays}
+use Rattle.image_reports.proofs.Cuts.{encoding_has_words, prepared_bounds, handler_is_closed}
 use Rattle.image_reports.proofs.Capacities.{attempts_fit}
 use Rattle.image_reports.proofs.CompiledTold.{models_are_of_sources}
 use Rattle.image_reports.proofs.Told.{source}
 use Rattle.image_reports.proofs.ImageStart.{versions_below}
 use Rattle.image_reports.proofs.Untouched.{NeverThere, untouched}
-use Rattle.image_reports.proofs.ImageCode.{GoesOn, StopsAtReadings, goes_on, StandsOn, stands_on, placed_within, same_words, words_fetched}
+use Rattle.image_reports.proofs.ImageCode.{GoesOn, StopsAtReadings, StandsOn, stands_on, stops_next, IsWithin, placed_within, same_words, words_fetched}
 
 -- a word that isn't 65535 is below it
 below_end : (n : ℕ) → n < 0x10000 → n ≢ 0xFFFF → n < 0xFFFF
