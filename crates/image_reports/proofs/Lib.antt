@@ -1,5 +1,8 @@
 mod Names
 pub mod Begins
+mod HandlerWords
+mod InFront
+mod Accounted
 pub mod Told
 pub mod Capacities
 pub mod ImageStart

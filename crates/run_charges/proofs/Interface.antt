@@ -6,7 +6,7 @@ pub use Rattle.run_charges.proofs.View.{Keeps, follows_keeps, no_gap}
 pub use Rattle.run_charges.proofs.Moments.{charge_last, charge_instructs, first_start, other_starts, are_behind, front_moments}
 pub use Rattle.run_charges.proofs.Moments.{AtMostOne, NoWrite, AStore, AnOutside, OneWrite, told, told_same, whole_after, words_after}
 pub use Rattle.run_charges.proofs.Moments.{nothing_seen, fram_changed, one_write, words_accepted, words_counted, readings_stay, readings_counted}
-pub use Rattle.run_charges.proofs.Moments.{stepped, Steps, IsPowerOrStep, IsPower, IsStepped, moment_is, step_is_observed, whole_behind}
+pub use Rattle.run_charges.proofs.Moments.{step_is_programs, stepped, Steps, IsPowerOrStep, IsPower, IsStepped, moment_is, step_is_observed, whole_behind}
 -- Each front of a program's run is one by its moments alone.
 pub use Rattle.run_charges.proofs.Charges.{run_front}
 -- A board on which a program runs that stands in FRAM, and its handler beside it.
