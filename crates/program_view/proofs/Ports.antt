@@ -1,12 +1,12 @@
 -- Events and the port EVENT: a step takes from the port what it reads, and at the boundary behind it no more wait than arise.
-use Rattle.std.proofs.Common.{◌≡◌, ◌+◌, ◌≤◌, if◌then◌else◌, not, nat_le, ◌==◌, ◌&&◌, arith, ℕ, refl, sym, ◌∙◌, ap, subst, Bool, true, false, List, [], ◌∷◌}
+use Rattle.std.proofs.Common.{◌≡◌, ◌+◌, ◌≤◌, if◌then◌else◌, not, nat_le, ◌==◌, arith, ℕ, refl, sym, ◌∙◌, ap, subst, Bool, true, false, List, [], ◌∷◌}
 use Rattle.std.proofs.Common.{Option, Some, None}
 use Rattle.fram_board.specs.alp_words.declared.Width.{Width}
 use Rattle.fram_board.specs.alp_words.declared.Width.TheVariants.{Word, Byte}
 use Rattle.msp_isa.specs.declared.instructions.Instr.{Instr}
 use Rattle.msp_step.specs.Registers.{Registers, registers_of}
 use Rattle.msp_step.specs.Access.{Access, Completed, Faulted}
-use Rattle.msp_step.specs.Reads.{HasRead, Nothing, Once, OnlyReads}
+use Rattle.msp_step.specs.Reads.{HasRead, Nothing, Once}
 use Rattle.msp_step.specs.Effect.{Written}
 use Rattle.msp_step.specs.Step.{Outcome, effect, outcome_of, return_place, status_place}
 use Rattle.msp_step.specs.Laws.{AfterWrite}
@@ -18,7 +18,7 @@ use Rattle.fram_board.specs.declared.events.Heard.TheVariants as heard
 use Rattle.fram_board.specs.Bus.{BusState, board_bus, is_ram, is_word, is_memory, with_word, with_byte, memory_word, after_read, written, port_written}
 use Rattle.fram_board.specs.Bus.{number_port, data_port, event_port}
 use Rattle.fram_board.specs.Events.{EventLine, words_in, words_heard, heard_again, port_read, port_behind, arising, arising_due, step_counted}
-use Rattle.fram_board.specs.Board.{BoardValue, PowerState, powered, opened, executed, acceptance, acceptance_on, acceptance_refused, acceptance_made, performed}
+use Rattle.fram_board.specs.Board.{BoardValue, PowerState, powered, opened, acceptance_on, performed}
 use Rattle.fram_board.specs.Board.{at_boundary}
 
 -- what the reads of a step make of a line

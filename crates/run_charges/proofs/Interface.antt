@@ -17,7 +17,7 @@ pub use Rattle.run_charges.proofs.Programs.{observed-append, charged_like, Ready
 pub use Rattle.run_charges.proofs.Programs.{reach, end, end_fram, end_readings, leads, charged_once, Reached, reached_first, reached_on, powered_there}
 pub use Rattle.run_charges.proofs.Programs.{front_reached}
 -- A charge that is spent, the one in which a run stops, and whole runs.
-pub use Rattle.run_charges.proofs.Spent.{spent_moments, spent_seen, spent_reached, status_behind, all_made, SpendsItsPart, is_spent, p, q}
+pub use Rattle.run_charges.proofs.Spent.{spent_moments, spent_seen, spent_reached, status_behind, all_made, SpendsItsPart, is_spent, events_arise, p, q}
 pub use Rattle.run_charges.proofs.Stopped.{SameDones, StopsBehind, run_halts}
 pub use Rattle.run_charges.proofs.Fronts.{program_run}
 -- Nothing is read of EVENT.
