@@ -15,7 +15,7 @@ use Rattle.crash_rules.proofs.Interface.{tasks_pay, instructions_pay, progress_l
 use Rattle.run_charges.specs.View.{looks_in}
 use Rattle.run_charges.specs.Charges.{ArePowerStates, observed, program_steps, acceptances, events_met}
 use Rattle.run_charges.proofs.Interface.{PlacedProgram, run_front, first_start, other_starts, charge_instructs, sees, is_powered, is_powered_from, powered_there}
-use Rattle.run_charges.proofs.Interface.{spent_moments, spent_seen, spent_reached, status_behind, all_made, SpendsItsPart, is_spent, p, q}
+use Rattle.run_charges.proofs.Interface.{spent_moments, spent_seen, spent_reached, status_behind, events_arise, all_made, SpendsItsPart, is_spent, p, q}
 use Rattle.model_runs.specs.Runs.{BearsModel, arisen_between, PaysFor, Progresses, AllSpent, SpentOne, StoppedIn}
 use Rattle.model_runs.specs.Laws.{MakesProgress}
 use Rattle.model_runs.proofs.Fronts.{stood, runs_so, AtFront, at_front, powers_up}
@@ -65,7 +65,7 @@ module _ {St : Type 0} (m : Model St) (c : Program) (readings : List ℕ) (origi
     part e = is_spent on t h at.ready d ok ms end one e
 
     met : events_met ms end ≤ arisen
-    met = ?
+    met = events_arise on t h at.ready d ok ms end one
 
     -- by the histories that its moments tell
     told : (P : History → Type 0) → P (observe m.marks (going c.step steps begun).effects (behind_boot h)) → P behind
