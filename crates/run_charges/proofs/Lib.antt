@@ -12,5 +12,6 @@ mod Accepting
 mod Quiet
 mod Fronts
 mod Brief
+mod Room
 pub mod Interface
 pub use Rattle.code_forms.proofs as code_forms

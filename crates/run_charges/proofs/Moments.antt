@@ -72,7 +72,7 @@ pub are_behind : (b : BoardValue) (ms rest : List Moment) → AreMoments b (ms +
 are_behind b [] rest h = h
 are_behind b (m ∷ ms) rest h = are_behind m.after ms rest h.2
 
-are_front : (b : BoardValue) (ms rest : List Moment) → AreMoments b (ms ++ rest) → AreMoments b ms
+pub are_front : (b : BoardValue) (ms rest : List Moment) → AreMoments b (ms ++ rest) → AreMoments b ms
 are_front b [] rest h = tt
 are_front b (m ∷ ms) rest h = (h.0, h.1, are_front m.after ms rest h.2)
 

@@ -1,8 +1,12 @@
 -- Laws that join a board's run, the machine, and the charges of the crash theorem.
-use Rattle.std.specs.Prelude.{◌≡◌, ℕ, ◌*◌, ◌≤◌, Bool, true, false, List, ◌++◌, None, length}
+use Rattle.std.specs.Prelude.{◌≡◌, ℕ, ◌*◌, ◌≤◌, ◌<◌, Bool, true, false, List, ◌∷◌, ◌++◌, None, length}
+use Rattle.address_space.specs.Limits.{stack_floor, stack_start}
+use Rattle.event_places.specs.Places.{handler_place}
+use Rattle.msp_step.specs.Registers.{registers_of}
+use Rattle.msp_step.specs.Step.{is_interruptible}
 use Rattle.msp_isa.specs.declared.instructions.Instr.{Instr}
 use Rattle.fram_board.specs.Board.{BoardValue}
-use Rattle.fram_board.specs.Run.{BoardCharge, Moment, RunOutcome, Run}
+use Rattle.fram_board.specs.Run.{PowerUp, BoardCharge, Moment, RunOutcome, Run}
 use Rattle.machine_effects.specs.Machine.{MachineBoard}
 use Rattle.machine_effects.specs.View.{IsWhole, IsOfWords}
 use Rattle.machine_effects.specs.Runs.{last_board}
@@ -12,7 +16,7 @@ use Rattle.crash_rules.specs.Model.{Marks}
 use Rattle.crash_rules.specs.History.{History}
 use Rattle.crash_rules.specs.Runs.{Program, Charged}
 use Rattle.run_charges.specs.View.{outside_of, NoneServes, AreMoments}
-use Rattle.run_charges.specs.Charges.{ArePowerStates, ChargeFront, moments_of, AreChargesFrom, observed, charges_of, handler_cycles, handler_steps}
+use Rattle.run_charges.specs.Charges.{ArePowerStates, AreInstructionMoments, ChargeFront, moments_of, AreChargesFrom, observed, charges_of, handler_cycles, handler_steps}
 use Rattle.run_charges.specs.Charges.{acceptances, IsPlacedProgram, AlwaysLeaves}
 
 -- a run of a whole board of words under charges with any power-ups
@@ -82,3 +86,26 @@ pub record HandlerIsBrief (ms : List Moment) : Type 0 where
 abbrev pub HandlersAreBrief : Program → Type 0
 HandlersAreBrief c = (cs : List BoardCharge) (b : BoardValue) (r : RunOutcome) (ms rest : List Moment) → IsRunOfWords cs b r
     → r.moments ≡ ms ++ rest → (marks : Marks) (h : History) → StandsIn c marks b h → HandlerIsBrief ms
+
+-- the CPU accepts interrupts
+abbrev pub Accepts : BoardValue → Type 0
+Accepts b = is_interruptible (registers_of b.cpu) ≡ true
+
+-- SP stands where the handler has room below it, and the program's other words above it
+pub record HasRoom (b : BoardValue) : Type 0 where
+  pub low : stack_floor ≤ registers_of b.cpu 1
+  pub high : registers_of b.cpu 1 ≤ stack_start
+
+-- at each boundary of a run at which the CPU accepts interrupts, where it doesn't at first, the handler has room
+abbrev pub StackHasRoom : Program → Type 0
+StackHasRoom c = (cs : List BoardCharge) (b : BoardValue) (r : RunOutcome) (ms rest : List Moment) → IsRunOfWords cs b r → r.moments ≡ ms ++ rest
+    → (marks : Marks) (h : History) → StandsIn c marks b h → is_interruptible (registers_of b.cpu) ≡ false
+    → Accepts (last_board b ms) → HasRoom (last_board b ms)
+
+-- once it accepts them in a charge, it does so at each later boundary of that at which the handler doesn't run
+abbrev pub InterruptsStayOn : Program → Type 0
+InterruptsStayOn c = (cs : List BoardCharge) (b : BoardValue) (r : RunOutcome) (before : List Moment) (boot : Moment) (first more rest : List Moment)
+    → IsRunOfWords cs b r → r.moments ≡ before ++ boot ∷ (first ++ (more ++ rest)) → boot.action ≡ PowerUp
+    → AreInstructionMoments first → AreInstructionMoments more
+    → (marks : Marks) (h : History) → (stands : StandsIn c marks b h) → stands.events ≡ true → Accepts (last_board boot.after first)
+    → let t = last_board (last_board boot.after first) more in registers_of t.cpu 0 < handler_place → Accepts t

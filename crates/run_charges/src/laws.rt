@@ -1,6 +1,6 @@
 //! Laws of a run and its charges. The functions do nothing: their contracts are the laws.
 
-ghost use Rattle.run_charges.specs.Laws.{FrontsAreCharges, ProgramsRun, ProgramsRunAlone, FrontsAreCharged, HandlersAreBrief};
+ghost use Rattle.run_charges.specs.Laws.{FrontsAreCharges, ProgramsRun, ProgramsRunAlone, FrontsAreCharged, HandlersAreBrief, StackHasRoom, InterruptsStayOn};
 
 use crash_rules::Compiled;
 
@@ -18,4 +18,11 @@ pub fn fronts_are_charged<S: Compiled>()
     ensures alone { ProgramsRunAlone S.program }
     ensures charged { FrontsAreCharged S.program }
     ensures brief { HandlersAreBrief S.program }
+{}
+
+/// At each boundary of a run at which the CPU accepts interrupts SP stands where the handler has room below it. Once it accepts them in
+/// a charge, it does so at each later boundary at which the handler doesn't run.
+pub fn interrupts_have_room<S: Compiled>()
+    ensures stack { StackHasRoom S.program }
+    ensures stay { InterruptsStayOn S.program }
 {}
