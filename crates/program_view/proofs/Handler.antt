@@ -19,7 +19,7 @@ use Rattle.fram_board.specs.Board.{BoardValue, opened, answer_of, executed, acce
 use Rattle.fram_board.specs.Run.{kind_of, moment_of, word_list}
 use Rattle.fram_board.proofs.Interface.{counted}
 use Rattle.machine_effects.specs.World.{EachStore}
-use Rattle.machine_effects.proofs.Interface.{each_store-front, each_store-back}
+use Rattle.machine_effects.proofs.Interface.{each_store-front, each_store-back, told_heard}
 use Rattle.machine_effects.specs.Machine.{MachineBoard, fram_of}
 use Rattle.machine_effects.specs.View.{IsWhole, IsOfWords}
 use Rattle.event_handler.specs.Handler.{Stage, SaveR4, SaveR5, TakeEvent, LoadHead, SubtractTail, CompareRoom, LeaveIfFull, LoadHeadAgain, CutToSlots}
@@ -27,9 +27,10 @@ use Rattle.event_handler.specs.Handler.{DoubleIndex, StoreWord, RaiseHead, Resto
 use Rattle.event_handler.specs.Boundaries.{IsInterrupted, IsInHandler, HasReturned, IsBehind, IsOutsideAs, KeepsTheRest, next_stage, effects_at, cycles_left}
 use Rattle.event_handler.specs.Boundaries.{instructions_left, left_behind, stack_of, heard_at, is_ring_full}
 use Rattle.event_handler.proofs.Interface.{handler_begins, handler_goes_on, handler_keeps_the_rest, handler_takes_its_cycles}
-use Rattle.program_view.specs.View.{steady, shown_from, outside_of, Shows, StandsAs, AtCode, InHandler, cycles_due, steps_due, waiting_at, waiting, is_handlers_step, IsServed}
+use Rattle.program_view.specs.View.{steady, shown_from, outside_of, Shows, StandsAs, AtCode, InHandler, cycles_due, steps_due, stage_of, stage_behind, waiting_at, waiting, is_handlers_step, IsServed}
 use Rattle.program_view.specs.Laws.{Begins, AcceptancesBegin, GoesOn, HandlersGoOn}
 use Rattle.program_view.proofs.Steady.{same_steady}
+use Rattle.program_view.proofs.Ports.{acceptance_line}
 
 -- where an instruction stands says whose it is
 pub kind_is : (i : Instr) (b : BoardValue) → is_handlers_step (kind_of (next_step.Instruction i)) b ≡ nat_le handler_place (registers_of b.cpu 0)
@@ -200,16 +201,18 @@ module _ (from : BoardValue) (u : MachineBoard) (shows : Shows from u) (interrup
     cycles : cycles_due stands ≡ left_behind cycles_left o
     steps : steps_due stands ≡ left_behind instructions_left o
     waits : waiting stands ≡ left_behind waiting_at o
+    stage : stage_of stands ≡ stage_behind from o
     outside : IsOutsideAs from b
 
   stands_behind : (o : Option Stage) (b : BoardValue) → IsBehind from o b → Stands o b
   stands_behind None b h =
-      record { stands = AtCode (shows_again b h); cycles = refl; steps = refl; waits = refl; outside = (handler_keeps_the_rest from interrupted).returned b h }
+      record { stands = AtCode (shows_again b h); cycles = refl; steps = refl; waits = refl; stage = refl; outside = (handler_keeps_the_rest from interrupted).returned b h }
   stands_behind (Some at) b h = record {
     stands = InHandler from at shows interrupted h;
     cycles = refl;
     steps = refl;
     waits = refl;
+    stage = refl;
     outside = (handler_keeps_the_rest from interrupted).within at b h;
   }
 
@@ -252,9 +255,13 @@ module _ (from : BoardValue) (u : MachineBoard) (shows : Shows from u) (interrup
         due = refl;
         steps = refl;
         waits = refl;
+        interrupted = interrupted;
+        stage = refl;
+        silent = λ none. told_heard from next_step.Acceptance first.done first.made ∙ ap (λ q. q.heard) (acceptance_line from) ∙ none;
+        inside = first.behind;
       }
 
-  goes_on : (b : BoardValue) (at : Stage) → IsInHandler from at b → GoesOn b u at
+  goes_on : (b : BoardValue) (at : Stage) → IsInHandler from at b → GoesOn b u from at
   goes_on b at inside =
       let step = handler_goes_on from b at interrupted inside in
       let i : Instr = instruction_at at in
@@ -276,6 +283,11 @@ module _ (from : BoardValue) (u : MachineBoard) (shows : Shows from u) (interrup
             (kind_is i b ∙ ap (λ (p : ℕ). nat_le handler_place p) inside.pc ∙ place_high at)
             (told_stores (λ a w. handler_place ≤ a) b i step.done step.made (subst P (sym step.effects) (stage_stores from at))) here (next_stage from at) step.behind;
         stands = behind.stands;
+        interrupted = interrupted;
+        inside = inside;
+        heard = step.heard;
+        behind = step.behind;
+        stage = behind.stage;
         silent = inside.heard;
         waits = waits_by from at interrupted step.done step.heard behind.stands behind.waits;
         cycles = omega (arith, cost, c, d);

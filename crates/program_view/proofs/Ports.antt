@@ -18,7 +18,7 @@ use Rattle.fram_board.specs.declared.events.Heard.TheVariants as heard
 use Rattle.fram_board.specs.Bus.{BusState, board_bus, is_ram, is_word, is_memory, with_word, with_byte, memory_word, after_read, written, port_written}
 use Rattle.fram_board.specs.Bus.{number_port, data_port, event_port}
 use Rattle.fram_board.specs.Events.{EventLine, words_in, words_heard, heard_again, port_read, port_behind, arising, arising_due, step_counted}
-use Rattle.fram_board.specs.Board.{BoardValue, PowerState, powered, opened, acceptance_on, performed}
+use Rattle.fram_board.specs.Board.{BoardValue, PowerState, acceptance, powered, opened, acceptance, acceptance_on, performed}
 use Rattle.fram_board.specs.Board.{at_boundary}
 
 -- what the reads of a step make of a line
@@ -90,6 +90,10 @@ acceptance_same r s =
     either_accepts (not (is_word (return_place r))) s _ _ refl
     (either_accepts (not (is_word (status_place r))) s _ _ refl
     (with_word_same (with_word s (return_place r) (r 0)) (status_place r) (r 2) ∙ with_word_same s (return_place r) (r 0)))
+
+-- an acceptance leaves the line
+pub acceptance_line : (b : BoardValue) → (acceptance b).board.line ≡ b.line
+acceptance_line b = acceptance_same (registers_of b.cpu) (opened b)
 
 step_reads : (b : BoardValue) (n : NextStep) → b.line.heard ≡ heard.Nothing → AreReads b.line (performed b n).board.line
 step_reads b next_step.Acceptance none =

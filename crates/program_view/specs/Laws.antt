@@ -17,9 +17,9 @@ use Rattle.machine_effects.specs.Inputs.{Look, look_effects}
 use Rattle.machine_effects.specs.Going.{Goes, Stops}
 use Rattle.machine_effects.specs.Machine.{MachineBoard, code_executed, keeps_stack, in_stack}
 use Rattle.machine_effects.specs.View.{looks_at, IsWhole, IsBusFault}
-use Rattle.event_handler.specs.Handler.{Stage, instruction_at}
-use Rattle.event_handler.specs.Boundaries.{IsInterrupted, IsInHandler, cycles_left, instructions_left}
-use Rattle.program_view.specs.View.{Shows, StandsAs, IsPrograms, IsServed, cycles_due, steps_due, waiting_at, waiting}
+use Rattle.event_handler.specs.Handler.{Stage, SaveR4, instruction_at}
+use Rattle.event_handler.specs.Boundaries.{IsInterrupted, IsInHandler, IsBehind, next_stage, heard_at, cycles_left, instructions_left}
+use Rattle.program_view.specs.View.{Shows, StandsAs, IsPrograms, IsServed, cycles_due, steps_due, stage_of, stage_behind, waiting_at, waiting}
 
 -- how SP moves in a step with this instruction where the CPU accepts interrupts, and goes on to do so
 pub record KeepsItsStack (i : Instr) (u next : MachineBoard) : Type 0 where
@@ -62,18 +62,27 @@ pub record Begins (b : BoardValue) (u : MachineBoard) : Type 0 where
   pub due : cycles_due stands ≡ 42
   pub steps : steps_due stands ≡ 15
   pub waits : waiting stands ≡ 1
+  pub interrupted : IsInterrupted b
+  pub stage : stage_of stands ≡ Some (b, SaveR4)
+  pub silent : b.line.heard ≡ Nothing → done.heard ≡ Nothing
+  pub inside : IsInHandler b SaveR4 (at_boundary (acceptance b).board)
 
 abbrev pub AcceptancesBegin : Type 0
 AcceptancesBegin = (b : BoardValue) (u : MachineBoard) → Shows b u → IsInterrupted b → Begins b u
 
 -- the step of a board in the handler is the handler's, of the cycles and steps that are left, and the board stands as the program's machine on
-pub record GoesOn (b : BoardValue) (u : MachineBoard) (at : Stage) : Type 0 where
+pub record GoesOn (b : BoardValue) (u : MachineBoard) (from : BoardValue) (at : Stage) : Type 0 where
   pub none : is_accepting b ≡ false
   pub next : IsNextInstruction b (instruction_at at)
   pub done : Stepped
   pub made : (executed b (instruction_at at)).answer ≡ Ok done
   pub served : IsServed b (moment_of b (next_step.Instruction (instruction_at at)) done)
   pub stands : StandsAs (at_boundary (executed b (instruction_at at)).board) u
+  pub interrupted : IsInterrupted from
+  pub inside : IsInHandler from at b
+  pub heard : done.heard ≡ heard_at from at
+  pub behind : IsBehind from (next_stage from at) (at_boundary (executed b (instruction_at at)).board)
+  pub stage : stage_of stands ≡ stage_behind from (next_stage from at)
   pub silent : b.line.heard ≡ Nothing
   pub waits : words_heard done.heard + waiting stands ≡ waiting_at at
   pub cycles : done.cycles + cycles_due stands ≤ cycles_left at
@@ -81,4 +90,4 @@ pub record GoesOn (b : BoardValue) (u : MachineBoard) (at : Stage) : Type 0 wher
 
 abbrev pub HandlersGoOn : Type 0
 HandlersGoOn = (b : BoardValue) (u : MachineBoard) (from : BoardValue) (at : Stage) → Shows from u → IsInterrupted from → IsInHandler from at b
-    → GoesOn b u at
+    → GoesOn b u from at

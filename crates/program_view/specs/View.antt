@@ -1,7 +1,7 @@
 -- What a board shows of its program's machine. Between any two instructions of the program a handler of events may run: it writes HEAD and the
 -- ring, and RAM below SP. The machine can't depend on those: its instructions are told by looks what they see of the ring, and read nothing
 -- of RAM below SP.
-use Rattle.std.specs.Prelude.{◌≡◌, ℕ, ◌%◌, ◌<◌, ◌≤◌, nat_le, Bool, true, false, if◌then◌else◌, List, [], ◌++◌, drop}
+use Rattle.std.specs.Prelude.{◌≡◌, ℕ, ◌%◌, ◌<◌, ◌≤◌, nat_le, Bool, true, false, if◌then◌else◌, List, [], ◌++◌, drop, Option, Some, None}
 use Rattle.event_places.specs.Places.{handler_place, is_ring}
 use Rattle.msp_isa.specs.declared.instructions.Instr.{Instr}
 use Rattle.msp_cycles.specs.Cycles.{cycles_of}
@@ -55,6 +55,16 @@ cycles_due (InHandler from at shows interrupted stands) = cycles_left at
 abbrev pub steps_due : {b : BoardValue} {u : MachineBoard} → StandsAs b u → ℕ
 steps_due (AtCode shows) = 0
 steps_due (InHandler from at shows interrupted stands) = instructions_left at
+
+-- in front of which instruction of the handler a board stands, and the board that accepted the event; none at the program's code
+abbrev pub stage_of : {b : BoardValue} {u : MachineBoard} → StandsAs b u → Option (BoardValue × Stage)
+stage_of (AtCode shows) = None
+stage_of (InHandler from at shows interrupted stands) = Some (from, at)
+
+-- the same of an instruction that comes next, or of none
+abbrev pub stage_behind : BoardValue → Option Stage → Option (BoardValue × Stage)
+stage_behind from None = None
+stage_behind from (Some at) = Some (from, at)
 
 -- whether the event for which the handler runs waits in EVENT yet: it is taken by the third instruction
 abbrev pub waiting_at : Stage → ℕ

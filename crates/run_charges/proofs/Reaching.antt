@@ -1,6 +1,6 @@
 -- Steps of a charge are as many steps of the program as are its own, and the handler takes its cycles.
 use Rattle.std.proofs.Common.{◌≡◌, ◌+◌, ◌*◌, ◌≤◌, ◌<◌, ℕ, suc, refl, sym, ap, ◌∙◌, subst, arith, Bool, true, false, if◌then◌else◌, List, [], ◌∷◌, ◌++◌}
-use Rattle.std.proofs.Common.{append_assoc, Ok}
+use Rattle.std.proofs.Common.{append_assoc, Option, Ok}
 use Rattle.event_places.specs.Places.{handler_place}
 use Rattle.msp_isa.specs.declared.instructions.Instr.{Instr}
 use Rattle.msp_step.specs.Registers.{registers_of}
@@ -18,12 +18,13 @@ use Rattle.machine_effects.specs.View.{IsWhole, IsOfWords}
 use Rattle.machine_effects.specs.World.{fram_after}
 use Rattle.machine_effects.specs.Runs.{action_cycles, last_board}
 use Rattle.machine_effects.proofs.Interface.{machine_is_of_words, fram_after-append, boundary_heard, powered_heard}
-use Rattle.program_view.specs.View.{StandsAs, AtCode, InHandler, cycles_due, steps_due, waiting}
+use Rattle.event_handler.specs.Handler.{Stage}
+use Rattle.program_view.specs.View.{StandsAs, AtCode, InHandler, cycles_due, steps_due, stage_of, waiting}
 use Rattle.program_view.proofs.Interface.{handler_is_high}
 use Rattle.run_charges.specs.View.{outside_of, is_handlers, looks_by, outside_looks, looks_in, outside_effects, all_outside_effects, IsMomentFrom, PowersUp, Instructs, Serves, AreMoments}
 use Rattle.run_charges.specs.Charges.{IsInstruction, AreInstructionMoments, program_steps, program_cycles, handler_steps, handler_cycles, acceptances}
 use Rattle.run_charges.proofs.Moments.{whole_behind, served_effects, front_sees, IsPowerOrStep, IsPower, IsStepped, moment_is}
-use Rattle.run_charges.proofs.Running.{PlacedProgram, Machine, relooked, Leads, Turn, looks_of, program_turn, turn_leads, leads_on}
+use Rattle.run_charges.proofs.Running.{PlacedProgram, Machine, relooked, Leads, Moves, Turn, looks_of, program_turn, turn_leads, leads_on}
 
 if_add : (c : Bool) (n k : ℕ) → (if c then n + k else k) ≡ (if c then n else 0) + k
 if_add true n k = refl
@@ -100,10 +101,10 @@ module _ (on : PlacedProgram) where
   module _ (b : BoardValue) (whole : IsWhole b) (words : IsOfWords b) (more : List Look) (i : Instr) (done : Stepped) (current : IsNextInstruction b i)
       (answer : (executed b i).answer ≡ Ok done) (below : registers_of b.cpu 0 < handler_place) where
     instruction_turn : (x : Machine on b (looks_of b (next_step.Instruction i) ++ more))
-        → Turn on b more x.u (cycles_due x.stands) (steps_due x.stands) (waiting x.stands) (next_step.Instruction i)
+        → Turn on b more x.u (cycles_due x.stands) (steps_due x.stands) (waiting x.stands) (stage_of x.stands) (next_step.Instruction i)
     instruction_turn x = by x.stands
       where
-        by : (st : StandsAs b x.u) → Turn on b more x.u (cycles_due st) (steps_due st) (waiting st) (next_step.Instruction i)
+        by : (st : StandsAs b x.u) → Turn on b more x.u (cycles_due st) (steps_due st) (waiting st) (stage_of st) (next_step.Instruction i)
         by (AtCode shows) = program_turn on b whole words more i x shows current
         by (InHandler from at shows interrupted inside) =
             let high = handler_is_high from at b inside in absurd (omega (arith, below, high))
@@ -122,6 +123,11 @@ module _ (on : PlacedProgram) where
       let P : Moment → Type 0 = λ y. (x : Machine on b (outside_looks y ++ more)) → Leads on b y more x in
       subst P (sym e) (leads_on on b whole words more n done next a)
 
+  -- how the handler goes on over steps of a charge
+  abbrev pub MoveOn : BoardValue → List Moment → Option (BoardValue × Stage) → Option (BoardValue × Stage) → Type 0
+  MoveOn b [] s t = s ≡ t
+  MoveOn b (m ∷ ms) s t = (u : Option (BoardValue × Stage)) × Moves on m.before m s u × MoveOn m.after ms u t
+
   -- what steps of a charge lead to, from a machine of the program's on
   pub record Reach (b : BoardValue) (ms : List Moment) (more : List Look) (x : Machine on b (looks_in ms ++ more)) : Type 0 where
     pub end : Machine on (last_board b ms) more
@@ -130,6 +136,7 @@ module _ (on : PlacedProgram) where
     pub steps : handler_steps ms + steps_due end.stands ≤ 16 * acceptances ms + steps_due x.stands
     pub arise : b.line.heard ≡ heard.Nothing → b.line.arisen + (waiting x.stands + words_in (last_board b ms).line.port + acceptances ms)
         ≤ (last_board b ms).line.arisen + (waiting end.stands + words_in b.line.port)
+    pub moves : MoveOn b ms (stage_of x.stands) (stage_of end.stands)
     pub whole : IsWhole (last_board b ms)
     pub words : IsOfWords (last_board b ms)
 
@@ -140,8 +147,8 @@ module _ (on : PlacedProgram) where
 
   more_reach : (b : BoardValue) (m : Moment) (ms : List Moment) (more : List Look) (x : Machine on b ((outside_looks m ++ looks_in ms) ++ more))
       → m.after.line.heard ≡ heard.Nothing → (one : Leads on b m (looks_in ms ++ more) (joined_looks b m ms more x))
-      → Reach m.after ms more one.next → Reach b (m ∷ ms) more x
-  more_reach b m ms more x silent one rest =
+      → Moves on m.before m (stage_of x.stands) (stage_of one.next.stands) → Reach m.after ms more one.next → Reach b (m ∷ ms) more x
+  more_reach b m ms more x silent one moved rest =
       let h = is_handlers m in
       let c = action_cycles m.action in
       let k = program_steps ms in
@@ -159,6 +166,7 @@ module _ (on : PlacedProgram) where
             ∙ joined h es (all_outside_effects ms) c (program_cycles ms) rest.end.u (served_effects m);
         cycles = omega (arith, cycles_all, c1, c2);
         steps = omega (arith, steps_all, s1, s2);
+        moves = (stage_of one.next.stands, moved, rest.moves);
         arise = λ quiet. let a1 = one.arise quiet in let a2 = rest.arise silent in omega (arith, a1, a2);
         whole = rest.whole;
         words = rest.words;
@@ -167,7 +175,7 @@ module _ (on : PlacedProgram) where
   pub instructions_reach : (b : BoardValue) (ms : List Moment) → IsWhole b → IsOfWords b → AreMoments b ms → AreInstructionMoments ms → (more : List Look)
       → (x : Machine on b (looks_in ms ++ more)) → Reach b ms more x
   instructions_reach b [] whole words are is more x =
-      record { end = x; run = refl; cycles = omega arith; steps = omega arith; arise = λ quiet. omega arith; whole = whole; words = words }
+      record { end = x; run = refl; cycles = omega arith; steps = omega arith; arise = λ quiet. omega arith; moves = refl; whole = whole; words = words }
   instructions_reach b (m ∷ ms) whole words are is more x =
       let c = m.before in
       let whole_there = subst IsWhole (sym are.0.same) whole in
@@ -177,5 +185,5 @@ module _ (on : PlacedProgram) where
       let here : P c = λ x.
       let one = one_leads c whole_there words_there m are.1 is.0 (looks_in ms ++ more)
       (joined_looks c m ms more x) in
-      more_reach c m ms more x (silent_behind c m are.1) one (instructions_reach m.after ms behind.0 behind.1 are.2 is.1 more one.next) in
+      more_reach c m ms more x (silent_behind c m are.1) one one.moves (instructions_reach m.after ms behind.0 behind.1 are.2 is.1 more one.next) in
       subst P are.0.same here x
