@@ -58,7 +58,7 @@ before_is b m (Instructs i done c a own e) = ap (λ (y : Moment). y.before) e
 before_is b m (Serves n done next a served e) = ap (λ (y : Moment). y.before) e
 
 -- nothing was read of EVENT behind a moment
-silent_behind : (b : BoardValue) (m : Moment) → IsMomentFrom b m → m.after.line.heard ≡ heard.Nothing
+pub silent_behind : (b : BoardValue) (m : Moment) → IsMomentFrom b m → m.after.line.heard ≡ heard.Nothing
 silent_behind b m (PowersUp p ok e) = subst (λ (y : Moment). y.after.line.heard ≡ heard.Nothing) (sym e) (powered_heard b p)
 silent_behind b m (Instructs i done c a own e) =
     subst (λ (y : Moment). y.after.line.heard ≡ heard.Nothing) (sym e) (boundary_heard (executed b i).board)

@@ -1,0 +1,2 @@
+pub mod Laws
+pub use Rattle.run_charges.specs as run_charges

@@ -1,0 +1,12 @@
+//! Laws of runs with events. The functions do nothing: their contracts are the laws.
+
+ghost use Rattle.event_rules.specs.Laws.{HandsAreKept, WaitsInTheHandler};
+
+use crash_rules::Compiled;
+
+/// A word that a read of EVENT took is lost in hand only at a power-up, or as a handler returns that found the ring full; it is accepted only
+/// as it stands in the slot of HEAD. Outside the handler none is in hand, so an event that waits is in the port there.
+pub fn hands_are_kept<S: Compiled>()
+    ensures kept { HandsAreKept S.program }
+    ensures waits { WaitsInTheHandler S.program }
+{}
