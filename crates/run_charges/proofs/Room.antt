@@ -1,19 +1,18 @@
 -- Where the CPU accepts interrupts SP stands where the handler has room below it; and once it does it goes on to.
-use Rattle.std.proofs.Common.{◌≡◌, ◌≤◌, ◌<◌, ◌/◌, ◌%◌, ◌==◌, nat_le, arith, ℕ, zero, suc, refl, sym, ap, ◌∙◌, subst, Bool, true, false, leb-true, List, [], ◌∷◌}
-use Rattle.std.proofs.Common.{◌++◌, append_assoc, append-nil}
+use Rattle.std.proofs.Common.{◌≡◌, ◌<◌, ◌/◌, ◌%◌, ◌==◌, nat_le, arith, ℕ, zero, suc, refl, sym, ap, ◌∙◌, subst, Bool, true, false, leb-true, List, [], ◌∷◌}
+use Rattle.std.proofs.Common.{◌++◌}
 use Rattle.std.proofs.lemmas.Bool.{and_parts}
 use Rattle.std.proofs.lemmas.Bool.Decides.{nat_tests}
 use Rattle.address_space.specs.Limits.{stack_floor, stack_start}
 use Rattle.event_places.specs.Places.{handler_place}
-use Rattle.msp_step.specs.declared.machine.Stop.{Stop}
 use Rattle.msp_step.specs.Registers.{Registers, registers_of}
 use Rattle.msp_step.specs.Step.{is_interruptible, off_bit}
 use Rattle.fram_board.specs.Board.{BoardValue, powered}
 use Rattle.fram_board.specs.Effects.{Effect}
 use Rattle.fram_board.specs.Run.{Action, PowerUp, Moment}
-use Rattle.machine_effects.specs.Going.{Goes, Stops, At, Status, continued, going}
+use Rattle.machine_effects.specs.Going.{Goes, Stops, At, continued, going}
 use Rattle.machine_effects.specs.Inputs.{Look, SeeWords}
-use Rattle.machine_effects.specs.Machine.{MachineBoard, MachineOutcome, in_stack, exec}
+use Rattle.machine_effects.specs.Machine.{MachineBoard, MachineOutcome, in_stack}
 use Rattle.machine_effects.specs.View.{IsWhole, IsOfWords}
 use Rattle.machine_effects.specs.Runs.{last_board}
 use Rattle.program_view.specs.View.{StandsAs, AtCode, InHandler}
@@ -22,14 +21,14 @@ use Rattle.code_forms.specs.Placed.{placed}
 use Rattle.code_forms.proofs.Interface.{code_stays_open}
 use Rattle.crash_rules.specs.History.{History, behind_boot}
 use Rattle.crash_rules.specs.Runs.{Program}
-use Rattle.run_charges.specs.View.{looks_in, IsMomentFrom, PowersUp, Instructs, Serves, AreMoments, IsFront}
+use Rattle.run_charges.specs.View.{looks_in, IsMomentFrom, PowersUp, Instructs, Serves, AreMoments}
 use Rattle.run_charges.specs.Charges.{AreInstructionMoments, IsInstruction, ChargeFront, board_behind, board_behind_all, AreChargesFrom, observed, program_steps}
 use Rattle.run_charges.specs.Laws.{Accepts, HasRoom, StackHasRoom, InterruptsStayOn}
 use Rattle.run_charges.proofs.Charges.{front_charges, run_front}
 use Rattle.run_charges.proofs.Moments.{nothing_seen, are_behind, are_front, whole_behind}
 use Rattle.run_charges.proofs.Running.{PlacedProgram, Machine}
-use Rattle.run_charges.proofs.Reaching.{Reach, instructions_reach, looks_see}
-use Rattle.run_charges.proofs.Programs.{last_behind, last-append, Ready, ready_on, running, first_machine, reach, ready_behind, front_reached}
+use Rattle.run_charges.proofs.Reaching.{instructions_reach, looks_see}
+use Rattle.run_charges.proofs.Programs.{last_behind, Ready, ready_on, running, reach, ready_behind, front_reached}
 use Rattle.run_charges.proofs.Fronts.{placed_program, ready_there, programs_run}
 
 -- in the handler GIE is clear
