@@ -83,8 +83,8 @@ module _ (at : Beginning) where
 
 -- ---- the fresh board
 
-module _ (text : List ℕ) (p : CheckedProgram) (allow : Allow) (image : ImageValue) (c : IsCompiled text p allow image) (readings : List ℕ)
-    (events : List Event) (inputs : AreInputs readings events) (ready : IsReadyToRun p c.layout) (new : IsFreshImage text p allow c.layout image) where
+module _ (text : List ℕ) (p : CheckedProgram) (allow : Allow) (image : ImageValue) (c : IsCompiled text p allow image) (ready : IsReadyToRun p c.layout)
+    (new : IsFreshImage text p allow c.layout image) where
   -- HEAD and the ring are 0 at first
   word_by : (c : Bool) (w : ℕ) → (c ≡ true → w ≡ 0) → w ≡ (if c then 0 else w)
   word_by true w h = h refl
@@ -121,6 +121,8 @@ module _ (text : List ℕ) (p : CheckedProgram) (allow : Allow) (image : ImageVa
       let P : (ℕ → ℕ) → Type 0 = λ f. KeepsCode p c.layout image f in
       subst P fram_is (record { code = λ a even from to. refl; vector = refl; handler = new.handler })
 
+module _ (text : List ℕ) (p : CheckedProgram) (allow : Allow) (image : ImageValue) (c : IsCompiled text p allow image) (readings : List ℕ)
+    (events : List Event) (inputs : AreInputs readings events) (ready : IsReadyToRun p c.layout) (new : IsFreshImage text p allow c.layout image) where
   abbrev pub at_first : Beginning
   at_first = record {
     text = text;
@@ -134,12 +136,13 @@ module _ (text : List ℕ) (p : CheckedProgram) (allow : Allow) (image : ImageVa
     number = 0;
     before = [];
     counted = refl;
-    code = own_code;
+    code = own_code text p allow image c ready new;
     origin = Resting (first_state p);
     readings = readings;
     events = events;
     inputs = inputs;
-    begun = (runs_may_begin (compiled_model p c.layout) ready.model readings).resting (first_state p) (world_with image.words []) undecided;
+    begun = (runs_may_begin (compiled_model p c.layout) ready.model readings).resting (first_state p) (world_with image.words [])
+        (undecided text p allow image c ready new);
   }
 
   pub begins_with_source : BeginsWithSource p (map_of text p c.layout allow) (compiled_model p c.layout) (compiled_program p c.layout)
@@ -147,8 +150,8 @@ module _ (text : List ℕ) (p : CheckedProgram) (allow : Allow) (image : ImageVa
   begins_with_source = record {
     bears = bears at_first;
     starts = record { fram = refl; accepted = refl; taken = refl; heard = refl };
-    undecided = undecided;
-    words = subst (λ x. HasWordsOf (map_of text p c.layout allow) x (first_state p)) fresh_is new.has_words;
+    undecided = undecided text p allow image c ready new;
+    words = subst (λ x. HasWordsOf (map_of text p c.layout allow) x (first_state p)) (fresh_is text p allow image c ready new) new.has_words;
   }
 
 -- ---- runs
