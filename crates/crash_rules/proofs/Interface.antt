@@ -5,7 +5,7 @@ pub use Rattle.crash_rules.proofs.Lists.{world_fram, holds-append}
 -- Effects in front of an attempt.
 pub use Rattle.crash_rules.proofs.Front.{in_front}
 -- What effects make of a history.
-pub use Rattle.crash_rules.proofs.Observed.{observe-append, answers-append, with_effects, unchanged, observe_quiet, observed_taken, observed_world}
+pub use Rattle.crash_rules.proofs.Observed.{observe-append, with_effects, unchanged, observe_quiet, observed_taken, observed_world}
 -- The events of an instruction, by its effects and by GATE before and behind it.
 pub use Rattle.crash_rules.proofs.Events.{events_of_instructions}
 -- Steps of any machine, one after another.

@@ -6,7 +6,7 @@ pub use Rattle.run_charges.proofs.View.{Keeps, follows_keeps, no_gap}
 pub use Rattle.run_charges.proofs.Moments.{charge_last, charge_instructs, first_start, other_starts, are_behind, front_moments}
 pub use Rattle.run_charges.proofs.Moments.{AtMostOne, NoWrite, AStore, AnOutside, OneWrite, told, told_same, whole_after, words_after}
 pub use Rattle.run_charges.proofs.Moments.{nothing_seen, fram_changed, one_write, words_accepted, words_counted, readings_stay, readings_counted}
-pub use Rattle.run_charges.proofs.Moments.{stepped, Steps, IsPowerOrStep, IsPower, IsStepped, moment_is, step_is_observed, whole_behind}
+pub use Rattle.run_charges.proofs.Moments.{step_is_programs, stepped, Steps, IsPowerOrStep, IsPower, IsStepped, moment_is, step_is_observed, whole_behind}
 -- Each front of a program's run is one by its moments alone.
 pub use Rattle.run_charges.proofs.Charges.{run_front}
 -- A board on which a program runs that stands in FRAM, and its handler beside it.
@@ -17,7 +17,7 @@ pub use Rattle.run_charges.proofs.Programs.{observed-append, charged_like, Ready
 pub use Rattle.run_charges.proofs.Programs.{reach, end, end_fram, end_readings, leads, charged_once, Reached, reached_first, reached_on, powered_there}
 pub use Rattle.run_charges.proofs.Programs.{front_reached}
 -- A charge that is spent, the one in which a run stops, and whole runs.
-pub use Rattle.run_charges.proofs.Spent.{spent_moments, spent_seen, spent_reached, status_behind, all_made, SpendsItsPart, is_spent, p, q}
+pub use Rattle.run_charges.proofs.Spent.{spent_moments, spent_seen, spent_reached, status_behind, all_made, SpendsItsPart, is_spent, events_arise, p, q}
 pub use Rattle.run_charges.proofs.Stopped.{SameDones, StopsBehind, run_halts}
 pub use Rattle.run_charges.proofs.Fronts.{program_run}
 -- Nothing is read of EVENT.

@@ -21,12 +21,12 @@ use Rattle.machine_effects.specs.Inputs.{Look, first_look, other_looks, look_eff
 use Rattle.machine_effects.specs.Going.{Goes, Stops, step_behind, At, going}
 use Rattle.machine_effects.specs.Machine.{MachineBus, MachineBoard, MachineOutcome, machine_outcome, machine_bus, machine_opened_seeing}
 use Rattle.machine_effects.specs.Machine.{machine_executed_seeing, machine_executed, looks_there, executed_looking, code_executed}
-use Rattle.machine_effects.proofs.Interface.{told_cycles}
+use Rattle.machine_effects.proofs.Interface.{told_cycles, powered_heard}
 use Rattle.machine_effects.specs.Runs.{action_cycles, last_board}
 use Rattle.fram_board.specs.Effects.{Effect}
 use Rattle.event_handler.specs.Handler.{instruction_at}
 use Rattle.program_view.specs.View.{StandsAs, AtCode, InHandler, cycles_due}
-use Rattle.program_view.proofs.Interface.{handlers_go_on}
+use Rattle.program_view.proofs.Interface.{handlers_go_on, power_up_arises, waits_or_accepts}
 use Rattle.machine_effects.proofs.msp_step.Interface.{same_current}
 use Rattle.fram_board.specs.Bus.{board_bus}
 use Rattle.crash_rules.specs.History.{History, observe, behind_boot}
@@ -224,6 +224,16 @@ module _ (on : PlacedProgram) (b : BoardValue) (h : History) (ready : Ready on b
       let all = instructions_used d.amount start spent of_instructions refl in
       let brief = reaches.steps in
       omega (arith, all, brief)
+
+  -- each event that is met in it arose in it
+  pub events_arise : events_met ms end ≤ end.line.arisen - b.line.arisen
+  events_arise =
+      let t : BoardValue = last_board start ms in
+      let grown = reaches.arise (powered_heard b d.start) in
+      let first = power_up_arises b d.start in
+      let late = waits_or_accepts t q reaches.end.stands in
+      let all : events_met ms t ≤ t.line.arisen - b.line.arisen = omega (arith, grown, first, late) in
+      subst (λ (y : BoardValue). events_met ms y ≤ y.line.arisen - b.line.arisen) last all
 
   -- what the program spends of it
   pub record SpendsItsPart : Type 0 where

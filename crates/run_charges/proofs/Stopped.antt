@@ -1,11 +1,11 @@
 -- The charge in which a run stops.
-use Rattle.std.proofs.Common.{◌≡◌, ℕ, ◌+◌, ◌-◌, refl, sym, ap, ◌∙◌, subst, List, [], ◌∷◌, ◌++◌, append-nil, map, Err}
+use Rattle.std.proofs.Common.{◌≡◌, ℕ, ◌+◌, ◌-◌, refl, sym, ap, ◌∙◌, subst, List, [], ◌∷◌, ◌++◌, append-nil, map, ◌==◌, if◌then◌else◌, Option, Some, None, Err}
 use Rattle.msp_cycles.specs.Cycles.{cycles_of}
 use Rattle.msp_step.specs.declared.machine.Stop.{Stop}
 use Rattle.fram_board.specs.declared.board.NextStep.{NextStep}
 use Rattle.fram_board.specs.Board.{BoardValue, powered, executed, performed, at_boundary, IsNextStep, HasNoStep}
 use Rattle.fram_board.specs.Steps.{IsPowerState}
-use Rattle.fram_board.specs.Effects.{Effect, Take, effects_of}
+use Rattle.fram_board.specs.Effects.{Effect, Store, Take, Outside, effects_of}
 use Rattle.fram_board.specs.Run.{Measure, price, Moment, moment_of, Stopped, RunOutcome, run_outcome, BoardCharge, Run, Over, Next, Last, power_up_of}
 use Rattle.fram_board.specs.Run.{ChargeRun, Spent, NoInstruction, TooDear, Refused, Executed}
 use Rattle.machine_effects.specs.World.{EachStore}
@@ -15,7 +15,7 @@ use Rattle.machine_effects.specs.Inputs.{Look, SeeWords, look_effects}
 use Rattle.machine_effects.specs.View.{looks_at}
 use Rattle.machine_effects.specs.Runs.{last_board}
 use Rattle.machine_effects.proofs.Interface.{takes, left_of}
-use Rattle.crash_rules.specs.Model.{IsElsewhere, Marks}
+use Rattle.crash_rules.specs.Model.{IsElsewhere, Marks, words_stored, answers_at, answers_in}
 use Rattle.crash_rules.specs.History.{History, observe, behind_boot}
 use Rattle.crash_rules.specs.Runs.{IsPoweredFrom}
 use Rattle.crash_rules.proofs.Interface.{observe-append, observe_quiet, with_effects, goes_on}
@@ -46,18 +46,44 @@ seen_elsewhere : (gate : ℕ) (looks : List Look) (ws : List ℕ) → EachStore 
 seen_elsewhere gate [] ws = takes_elsewhere gate ws
 seen_elsewhere gate (look ∷ more) ws = (tt, takes_elsewhere gate ws)
 
--- readings that are taken behind the last instruction, and what it saw, are no events
-pub record SameDones (h k : History) : Type 0 where
+-- they store nothing
+takes_store_none : (a : ℕ) (ws : List ℕ) → words_stored a (takes ws) ≡ []
+takes_store_none a [] = refl
+takes_store_none a (w ∷ ws) = takes_store_none a ws
+
+seen_stores_none : (answer : Option ℕ) (looks : List Look) (ws : List ℕ) → answers_at answer (looks_and_takes looks ws) ≡ []
+seen_stores_none None looks ws = refl
+seen_stores_none (Some a) [] ws = takes_store_none a ws
+seen_stores_none (Some a) (look ∷ more) ws = takes_store_none a ws
+
+stored_no_more : (a : ℕ) (es fs : List Effect) → words_stored a fs ≡ [] → words_stored a (es ++ fs) ≡ words_stored a es
+stored_no_more a [] fs e = e
+stored_no_more a (Store b w ∷ es) fs e = ap (λ l. if b == a then w ∷ l else l) (stored_no_more a es fs e)
+stored_no_more a (Take w ∷ es) fs e = stored_no_more a es fs e
+stored_no_more a (Outside o ∷ es) fs e = stored_no_more a es fs e
+
+answered_no_more : (answer : Option ℕ) (es fs : List Effect) → answers_at answer fs ≡ [] → answers_at answer (es ++ fs) ≡ answers_at answer es
+answered_no_more None es fs e = refl
+answered_no_more (Some a) es fs e = stored_no_more a es fs e
+
+-- readings that are taken behind the last instruction, and what it saw, are no events, and no answers
+pub record SameDones (marks : Marks) (h k : History) : Type 0 where
   pub completed : k.completed ≡ h.completed
   pub since : k.since ≡ h.since
+  pub answers : answers_in marks k.effects ≡ answers_in marks h.effects
 
 taken_more : (marks : Marks) (es : List Effect) (looks : List Look) (ws : List ℕ) (h : History)
-    → SameDones (observe marks es h) (observe marks (es ++ looks_and_takes looks ws) h)
+    → SameDones marks (observe marks es h) (observe marks (es ++ looks_and_takes looks ws) h)
 taken_more marks es looks ws h =
     let fs : List Effect = looks_and_takes looks ws in
     let all : observe marks (es ++ fs) h ≡ with_effects fs (observe marks es h) =
     observe-append marks es fs h ∙ observe_quiet marks fs (observe marks es h) (seen_elsewhere marks.gate looks ws) in
-    record { completed = ap (λ k. k.completed) all; since = ap (λ k. k.since) all }
+    record {
+      completed = ap (λ k. k.completed) all;
+      since = ap (λ k. k.since) all;
+      answers = ap (λ k. answers_in marks k.effects) all
+          ∙ answered_no_more marks.answer (observe marks es h).effects fs (seen_stores_none marks.answer looks ws);
+    }
 
 module _ (on : PlacedProgram) where
   abbrev step : MachineBoard → MachineOutcome
@@ -132,7 +158,7 @@ module _ (on : PlacedProgram) where
   -- moments behind which a run stops, from a history on
   pub record StopsBehind (b : BoardValue) (first known : History) (ms : List Moment) (e : Stop) : Type 0 where
     pub halts : HaltsIn b first e
-    pub same : SameDones (observed on.marks ms known)
+    pub same : SameDones on.marks (observed on.marks ms known)
         (observe on.marks (going step halts.steps halts.start).effects (behind_boot halts.before))
 
   -- the charge in which it does
@@ -182,11 +208,11 @@ module _ (on : PlacedProgram) where
         going_on step steps start 1 reached.end.u (all_outside_effects ms) (program_cycles ms) reached.run
         ∙ ap (λ o. after_effects (all_outside_effects ms) (program_cycles ms) (continued o (going step 0))) (halted.stops reached.end)
 
-    same : SameDones (observed on.marks ms (behind_boot h)) (observe on.marks (going step (steps + 1) start).effects (behind_boot h))
+    same : SameDones on.marks (observed on.marks ms (behind_boot h)) (observe on.marks (going step (steps + 1) start).effects (behind_boot h))
     same =
         let k = behind_boot h in
-        let P : History → Type 0 = λ j. SameDones j (observe on.marks (going step (steps + 1) start).effects k) in
-        let Q : List Effect → Type 0 = λ es. SameDones (observe on.marks (all_outside_effects ms) k) (observe on.marks es k) in
+        let P : History → Type 0 = λ j. SameDones on.marks j (observe on.marks (going step (steps + 1) start).effects k) in
+        let Q : List Effect → Type 0 = λ es. SameDones on.marks (observe on.marks (all_outside_effects ms) k) (observe on.marks es k) in
         subst P (sym (instructions_observed on.marks ms k are))
         (subst Q (ap (λ q. q.effects) (sym halts_there)) (taken_more on.marks (all_outside_effects ms) halted.last_seen halted.last_taken k))
 
@@ -216,7 +242,7 @@ module _ (on : PlacedProgram) where
       let k = observed on.marks ms (behind_boot h) in
       let l = run_halts b first ds end k rest (other_starts d ds ok) more next e ends in
       let s = l.halts in
-      let P : History → Type 0 = λ j. SameDones j (observe on.marks (going step s.steps s.start).effects (behind_boot s.before)) in
+      let P : History → Type 0 = λ j. SameDones on.marks j (observe on.marks (going step s.steps s.start).effects (behind_boot s.before)) in
       record { halts = s; same = subst P (sym (observed-append on.marks ms rest.moments (behind_boot h))) l.same }
   run_halts b first cs t h r ok (Last d ds _ ms x end one) at e ends =
       let P : Stop → Type 0 = λ y. StopsBehind b first h (power_up_of t d.start ∷ ms) y in

@@ -4,7 +4,7 @@ use Rattle.std.proofs.Common.{List, [], ◌∷◌, ◌++◌, append-nil, slice_i
 use Rattle.std.proofs.lemmas.Bool.Decides.{nat_tests}
 use Rattle.image_map.specs.declared.parts.RingPlaces.{RingPlaces}
 use Rattle.image_map.specs.MapValue.{MapValue, IsFramWord, IsRing}
-use Rattle.image_text.specs.ImageValue.{place_of}
+use Rattle.fram_board.specs.image_text.ImageValue.{place_of}
 use Rattle.fram_board.specs.declared.board.Stepped.{Stepped}
 use Rattle.fram_board.specs.Bus.{is_fram}
 use Rattle.fram_board.specs.Board.{BoardValue}
@@ -17,7 +17,7 @@ use Rattle.machine_effects.specs.Inputs.{Look, look_effects}
 use Rattle.machine_effects.specs.Runs.{step_effects}
 use Rattle.machine_effects.specs.View.{IsWhole, IsOfWords, seen_at_pc}
 use Rattle.machine_effects.proofs.Interface.{takes}
-use Rattle.crash_rules.specs.Model.{words_stored, answers_at}
+use Rattle.crash_rules.specs.Model.{Marks, words_stored, answers_at, answers_in}
 use Rattle.run_charges.specs.View.{is_handlers, IsMomentFrom, PowersUp, Instructs, Serves, outside_effects, stored_by}
 use Rattle.run_charges.proofs.Interface.{stepped, step_is_programs}
 use Rattle.model_runs.specs.Events.{answer_in}
@@ -35,6 +35,13 @@ stored-append a (Store b w ∷ es) fs =
     stored_behind (b == a) w (words_stored a es) (words_stored a fs) (words_stored a (es ++ fs)) (stored-append a es fs)
 stored-append a (Take w ∷ es) fs = stored-append a es fs
 stored-append a (Outside o ∷ es) fs = stored-append a es fs
+
+answered-append : (answer : Option ℕ) (es fs : List Effect) → answers_at answer (es ++ fs) ≡ answers_at answer es ++ answers_at answer fs
+answered-append None es fs = refl
+answered-append (Some a) es fs = stored-append a es fs
+
+pub answers-append : (marks : Marks) (es fs : List Effect) → answers_in marks (es ++ fs) ≡ answers_in marks es ++ answers_in marks fs
+answers-append marks es fs = answered-append marks.answer es fs
 
 takes_store_none : (a : ℕ) (ws : List ℕ) → words_stored a (takes ws) ≡ []
 takes_store_none a [] = refl

@@ -30,7 +30,7 @@ use Rattle.run_charges.specs.Laws.{IsRunOfWords, IsProgramRun}
 use Rattle.model_runs.specs.Events.{answer_in, marks_of, counted, dones_lines}
 use Rattle.model_runs.specs.EventLaws.{StartsWith}
 use Rattle.model_runs.proofs.Interface.{report_is_of_dones, fronts_are_lawful, stops_where_short, makes_progress, dones_are_few, takes_what_is_there}
-use Rattle.model_runs.proofs.Interface.{runs_plainly, never_reads, spans_are_in_order, spans_past_are_in_order}
+use Rattle.model_runs.proofs.Interface.{runs_so, never_reads, spans_are_in_order, spans_past_are_in_order}
 use Rattle.source_runs.specs.Transitions.{HasWordsOf, StandForTransitions, committed_by}
 use Rattle.source_runs.proofs.Lines.{dones_are_transitions, counted_below}
 use Rattle.model_runs.specs.Runs.{BearsModel, history_behind, IsShort, Progresses, all_amounts, AreInOrder, AreInOrderPast}
@@ -82,7 +82,7 @@ charges_pay text program m model c x cs b r is origin bears starts run pending f
     let Q : ℕ → Type 0 = λ n. Progresses (marks_of m) n costs model.delay cs b (first_history (marks_of m) x) r in
     let R : (Inputs → ℕ) → Type 0 = λ d. Progresses (marks_of m) m.bound costs d cs b (first_history (marks_of m) x) r in
     let made = makes_progress model c b.readings origin x cs b r run bears costs covers in
-    (read_off m x cs b r is.is_map is.front starts (runs_plainly model c b.readings origin x b bears cs r run)).pays x (cost_of program) pending
+    (read_off m x cs b r is.is_map is.front starts (runs_so model c b.readings origin x b bears cs r run)).pays x (cost_of program) pending
     (subst R is.delay (subst Q is.bound (subst P is.marks made))) starts
 
 module _ (text : List ℕ) (program : CheckedProgram) (m : MapValue) (model : Model State) (c : Program) (x : World) (cs : List BoardCharge) (b : BoardValue)
@@ -101,7 +101,7 @@ module _ (text : List ℕ) (program : CheckedProgram) (m : MapValue) (model : Mo
 
   -- each moment is the program's, or the handler's
   plain : IsProgramRun cs b r
-  plain = runs_plainly model c b.readings origin x b bears cs r run
+  plain = runs_so model c b.readings origin x b bears cs r run
 
   few_dones : length h.completed < 2 ^ 64
   few_dones = let l = dones_are_few cs b r plain (marks_of m) (first_history (marks_of m) x) in omega (arith, l, few)
