@@ -14,6 +14,7 @@ use Rattle.fram_board.specs.Run.{BoardCharge, ChargeRun, power_up_of}
 use Rattle.board_run.specs.History.{History, start_with, is_decide, is_done, word_in, noted}
 use Rattle.board_run.specs.Events.{event_counts, none_accepted}
 use Rattle.board_run.specs.Report.{after_all, events_lines}
+use Rattle.model_runs.specs.Runs.{arisen_between}
 use Rattle.source_values.specs.Statements.{Outcome, short}
 use Rattle.cost_bound.specs.Allowance.{task_bound, uses_events, versions_of}
 use Rattle.source_values.specs.Runs.{CheckedProgram, Transition, TaskInputs, first_state, state_behind, source_run, task_body, attempt_of}
@@ -102,10 +103,6 @@ costs_by due m h (Execute kind done offered) b = if is_done h.gate (word_in b.fr
 abbrev pub costs_in : (History → ℕ) → MapValue → History → List Moment → ℕ
 costs_in due m h [] = due h
 costs_in due m h (x ∷ xs) = costs_by due m h x.action x.after + costs_in due m (noted h x) xs
-
--- how many events arose from one board of a run to another
-abbrev pub arisen_between : BoardValue → BoardValue → ℕ
-arisen_between b c = c.line.arisen - b.line.arisen
 
 -- What a charge that was spent completed, in which so many events arose. Each event may take 100 of what it has. One of cycles has a transition at
 -- least for each bound that it has beside these. And each, of cycles or of instructions, is less than these and what its transitions cost together
