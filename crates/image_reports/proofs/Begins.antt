@@ -7,7 +7,8 @@ use Rattle.image_reports.proofs.Names.{code_is_placed, runs_leave_the_code, Bear
 use Rattle.image_reports.proofs.Names.{runtime_marks, world_with, KeepsCode, steady, Bool, true, false, if◌then◌else◌, ◌==◌, ap, nat_tests, eqb-true, slice_index, place_of}
 use Rattle.std.proofs.Common.{◌&&◌, inr}
 use Rattle.std.proofs.Math.Path.{fun_ext}
-use Rattle.event_places.specs.Places.{is_ring}
+use Rattle.event_places.specs.Places.{answer_place, is_ring}
+use Rattle.std.specs.Prelude.{None, Some}
 use Rattle.fram_board.specs.Bus.{is_fram}
 use Rattle.source_runs.specs.Transitions.{HasWordsOf}
 use Rattle.energy_trace.specs.TraceValue.{Event}
@@ -21,6 +22,11 @@ holds_as f g (w ∷ ws) a e h k = (
   h a e (omega arith) (omega arith) ∙ k.0,
   holds_as f g ws (a + 2) (omega (arith, e)) (λ b even from to. h b even (omega (arith, from)) (omega (arith, to))) k.1,
 )
+
+-- where there is no ANS there are no events
+marked_by : (events : Bool) → (if events then Some answer_place else None) ≡ None → events ≡ false
+marked_by true e = absurd (cc e)
+marked_by false e = refl
 
 -- an image with the words of FRAM, of which the code's are the image's; the number that the receiver takes next, and the words that it
 -- accepted; and how a run goes on there
@@ -77,6 +83,7 @@ module _ (at : Beginning) where
           placed = subst P (sym (code.vector ∙ new.vector)) (code_is_placed p l new.fits);
           holds = stands_there;
           handler = code.handler;
+          marked = marked_by l.runtime.events;
           leaves = runs_leave_the_code p l ready.code ready.model ready.stores readings origin first_world (outside_of first_board) begins;
         };
       }
