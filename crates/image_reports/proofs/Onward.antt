@@ -226,8 +226,8 @@ module _ (onward : Onward) where
 
   -- before the first power-up
   none_yet : (ns : List Moment) → BeginWithPower ns → AreInstructionMoments ns → Standing (last_board b ns)
-  none_yet [] begins are = standing_first
-  none_yet (m ∷ ns) begins are = absurd (no_power m.action begins are.0)
+  none_yet [] by_power are = standing_first
+  none_yet (m ∷ ns) by_power are = absurd (no_power m.action by_power are.0)
 
   standing_cut : (ms rest : List Moment) → r.moments ≡ ms ++ rest → CutAtPower ms → Standing (last_board b ms)
   standing_cut ms rest e (Uncut instructions) = none_yet ms (run_front cs b r ms rest own e).begins instructions
@@ -413,7 +413,7 @@ module _ (onward : Onward) where
           accepted = sent_once model ready.model readings origin h lawful.stands;
           sent = λ to is none.
               let P : Origin State → Type 0 = λ o. Begins model readings o x (outside_of b) in
-              pending_sends model program ready.model bearing.program readings to (outside_of t) h
+              pending_sends model program ready.model bearing.program readings to at.end h
               (record { world = x; start = outside_of b; begins = subst P is (begins beginning); charges = at.charges; leads = at.charged }) none;
           versions = λ made.
               let P : (ℕ → ℕ) → Type 0 = λ f. VersionsBelow l f in
