@@ -14,7 +14,6 @@ use Rattle.fram_board.specs.Run.{BoardCharge, ChargeRun, power_up_of}
 use Rattle.board_run.specs.History.{History, start_with, is_decide, is_done, word_in, noted}
 use Rattle.board_run.specs.Events.{event_counts, none_accepted}
 use Rattle.board_run.specs.Report.{after_all, events_lines}
-use Rattle.model_runs.specs.Runs.{arisen_between}
 use Rattle.source_values.specs.Statements.{Outcome, short}
 use Rattle.cost_bound.specs.Allowance.{task_bound, uses_events, versions_of}
 use Rattle.source_values.specs.Runs.{CheckedProgram, Transition, TaskInputs, first_state, state_behind, source_run, task_body, attempt_of}
@@ -116,7 +115,7 @@ pub data EachChargePays (m : MapValue) (due : History → ℕ) : List BoardCharg
   AllSpent : (b : BoardValue) (h : History) → EachChargePays m due [] b h (run_outcome [] Charges b)
   SpentOne : (c : BoardCharge) (cs : List BoardCharge) (b : BoardValue) (h : History) (ms : List Moment) (end : BoardValue) (rest : RunOutcome)
       → ChargeRun c.measure c.amount (powered b c.start) (run_outcome ms Charges end)
-      → PaysFor m due c (arisen_between b end) h (power_up_of b c.start ∷ ms)
+      → PaysFor m due c (end.line.arisen - b.line.arisen) h (power_up_of b c.start ∷ ms)
       → EachChargePays m due cs end (after_all h (power_up_of b c.start ∷ ms)) rest
       → EachChargePays m due (c ∷ cs) b h (after_moments (power_up_of b c.start ∷ ms) rest)
   StoppedIn : (c : BoardCharge) (cs : List BoardCharge) (b : BoardValue) (h : History) (ms : List Moment) (stop : Stop) (end : BoardValue)
