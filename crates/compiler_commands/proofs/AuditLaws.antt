@@ -77,12 +77,12 @@ module _ (m : MapValue) (ring : m.ring ≡ None) where
       (by_none h x.action x.after a none) (none_answered (noted h x) (answers_behind m h x.action x.after a) (behind_none h x.action x.after a none) xs)
 
 -- the tasks of such attempts are given what a report tells
-same_given : (readings : List ℕ) (as : List CommittedAttempt) → All IsUnanswered as → map (given_to readings) as ≡ map (given_of readings) (spans_in as)
+same_given : (readings : List ℕ) (ws : List CommittedAttempt) → All IsUnanswered ws → map (given_to readings) ws ≡ map (given_of readings) (spans_in ws)
 same_given readings [] none = refl
-same_given readings (a ∷ as) none =
+same_given readings (a ∷ ws) none =
     let head : given_to readings a ≡ given_of readings a.span =
-    ap (λ (answers : List ℕ). record { readings = readings_of readings a.span; answers = answers }) (All-head IsUnanswered a as none) in
-    ap₂ (λ (g : TaskInputs) (gs : List TaskInputs). g ∷ gs) head (same_given readings as (All-tail IsUnanswered a as none))
+    ap (λ (answers : List ℕ). record { readings = readings_of readings a.span; answers = answers }) (All-head IsUnanswered a ws none) in
+    ap₂ (λ (g : TaskInputs) (gs : List TaskInputs). g ∷ gs) head (same_given readings ws (All-tail IsUnanswered a ws none))
 
 -- a source that takes no events has no ring
 no_ring : (events : Bool) → events ≡ false → (if events then Some event_ring else None) ≡ None
@@ -120,7 +120,7 @@ tried_reports_are_good source trace file output t no_event none =
         bounded = inr refl;
         apart = t.told.apart;
         run = ap (source_run t.program (first_state t.program)) (sym (same_given t.charges.readings t.told.attempts unanswered)) ∙ t.told.source;
-        count = length-map (λ (a : CommittedAttempt). a.span) t.told.attempts;
+        count = length-map t.told.attempts (λ (a : CommittedAttempt). a.span);
         on_board = never_off r.ending _ t.told.why t.told.ending;
         words = t.told.words;
         few_accepted = omega (arith, heard);
