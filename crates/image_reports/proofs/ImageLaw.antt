@@ -1,5 +1,5 @@
 -- Each run of an image of an accepted text keeps the laws.
-use Rattle.image_reports.proofs.Names.{ℕ, refl, subst, arith, List, ImageValue, BoardValue, fresh, Moment, last_board, CheckedProgram, State, first_state}
+use Rattle.image_reports.proofs.Names.{ℕ, subst, arith, List, ImageValue, BoardValue, fresh, Moment, last_board, CheckedProgram, State, first_state}
 use Rattle.image_reports.proofs.Names.{MemoryMap, Model, History, Resting, trace_inputs, traces_are_few, stops_where_short, SoundAtRest, compiled_model}
 use Rattle.image_reports.proofs.Names.{is_redo, false, map_of, word_place, CurrentTask, Allow, IsCompiled, IsAcceptedText, IsTaskWithin, cost_of, state_within}
 use Rattle.image_reports.proofs.Names.{KeepsCapacities, compiled_program, sources_are_ready, [], world_with, laid_out, images_are_fresh, known_behind, KeepsCode}

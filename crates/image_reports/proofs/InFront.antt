@@ -1,6 +1,6 @@
 -- What the map of a source names of a run's report stands in front of the handler.
-use Rattle.image_reports.proofs.Names.{◌≡◌, ◌<◌, ◌≤◌, ◌+◌, ◌*◌, ℕ, Bool, true, false, sym, ap, arith, List, [], ◌∷◌, All, Option, Some, None, map_of, Allow}
-use Rattle.image_reports.proofs.Names.{CheckedProgram, MemoryMap, word_place, Gate, CurrentTask}
+use Rattle.image_reports.proofs.Names.{◌≡◌, ◌<◌, ◌≤◌, ◌+◌, ◌*◌, ℕ, Bool, true, false, sym, ap, arith, List, [], ◌∷◌, All, Some, None, map_of, Allow}
+use Rattle.image_reports.proofs.Names.{CheckedProgram, MemoryMap, Gate, CurrentTask}
 use Rattle.std.specs.Prelude.{if◌then◌else◌, map, IfSome}
 use Rattle.task_ast.specs.declared.SharedDeclaration.{SharedDeclaration}
 use Rattle.task_ast.specs.declared.Extent.{Extent}

@@ -52,7 +52,7 @@ use Rattle.image_reports.specs.ImageLaw.{InCode, AtAcceptance, InHandler}
 use Rattle.image_reports.proofs.Begins.{holds_as, Beginning, first_world, first_board, begins, bears}
 use Rattle.image_reports.proofs.HandlerWords.{stage_holds}
 use Rattle.image_reports.proofs.Accounted.{moments_account}
-use Rattle.image_reports.proofs.Cuts.{CutAtPower, Uncut, Cut, cut_at_power, no_power, last-append, none_serves, OwnPart, own_part, ring_stays}
+use Rattle.image_reports.proofs.Cuts.{CutAtPower, Uncut, Cut, cut_at_power, no_power, last-append, none_serves, own_part, ring_stays}
 use Rattle.image_reports.proofs.Cuts.{encoding_has_words, prepared_bounds, handler_is_closed}
 use Rattle.image_reports.proofs.Capacities.{attempts_fit}
 use Rattle.image_reports.proofs.CompiledTold.{models_are_of_sources}
