@@ -1,6 +1,6 @@
 -- What each program does, as a chain of what its steps do to a state: said once by the cases of steps. A fact of all programs is an induction over chains.
 use Rattle.std.proofs.Common.{◌≡◌, ℕ, zero, suc, ◌+◌, ◌-◌, ◌%◌, ◌==◌, ◌<◌, List, [], ◌∷◌, ◌++◌, Option, Some, None, Bool, true, false, refl, sym, arith}
-use Rattle.std.proofs.Common.{◌≢◌, if◌then◌else◌}
+use Rattle.std.proofs.Common.{◌≢◌, if◌then◌else◌, ap, subst}
 use Rattle.machine_effects.specs.alp_words.Words.{AreWords}
 use Rattle.machine_effects.specs.fram_board.Effects.{Effect, Store, Take, Outside, Looked}
 use Rattle.machine_effects.specs.event_places.Places.{count_place, sent_place, answer_place, head_place, slot_place}

@@ -10,7 +10,7 @@ use Rattle.machine_effects.specs.alp_words.declared.Width.TheVariants.{Word}
 use Rattle.machine_effects.specs.fram_board.Effects.{Effect}
 use Rattle.machine_effects.specs.World.{put}
 use Rattle.machine_effects.specs.Inputs.{Look, Inputs, first_look, other_looks, TakesExactly}
-use Rattle.machine_effects.proofs.Interface.{left_are_words}
+use Rattle.machine_effects.proofs.Interface.{left_are_words, first_small, others_small}
 use Rattle.array_versions.specs.declared.operations.UnaryOperation.{UnaryOperation}
 use Rattle.array_versions.specs.declared.operations.UnaryOperation.TheVariants.{Negate, Complement}
 use Rattle.array_versions.specs.declared.operations.BinaryOperation.{BinaryOperation}

@@ -14,17 +14,14 @@ observe-append marks [] fs h = refl
 observe-append marks (e ∷ es) fs h = observe-append marks es fs (observe_one marks e h)
 
 -- the answers of two parts
+stored_behind : (is : Bool) (w : ℕ) (es fs all : List ℕ) → all ≡ es ++ fs → cond is (w ∷ all) all ≡ cond is (w ∷ es) es ++ fs
+stored_behind true w es fs all e = ap (λ ws. w ∷ ws) e
+stored_behind false w es fs all e = e
+
 stored-append : (a : ℕ) (es fs : List Effect) → words_stored a (es ++ fs) ≡ words_stored a es ++ words_stored a fs
 stored-append a [] fs = refl
-stored-append a (Store b w ∷ es) fs = by_address (b == a)
-  where
-    rest : words_stored a (es ++ fs) ≡ words_stored a es ++ words_stored a fs
-    rest = stored-append a es fs
-
-    by_address : (is : Bool) → cond is (w ∷ words_stored a (es ++ fs)) (words_stored a (es ++ fs))
-        ≡ cond is (w ∷ words_stored a es) (words_stored a es) ++ words_stored a fs
-    by_address true = ap (λ ws. w ∷ ws) rest
-    by_address false = rest
+stored-append a (Store b w ∷ es) fs =
+    stored_behind (b == a) w (words_stored a es) (words_stored a fs) (words_stored a (es ++ fs)) (stored-append a es fs)
 stored-append a (Take w ∷ es) fs = stored-append a es fs
 stored-append a (Outside o ∷ es) fs = stored-append a es fs
 

@@ -1,5 +1,5 @@
 -- The next word of the ring, and the index that a transition leaves.
-use Rattle.word_code.proofs.Names.{◌≡◌, ℕ, ◌+◌, ◌-◌, ◌*◌, ◌%◌, ◌<◌, ◌==◌, Bool, true, false, not, if◌then◌else◌, List, [], ◌∷◌, length, refl, sym, ap, ◌∙◌, subst}
+use Rattle.word_code.proofs.Names.{◌≡◌, ℕ, ◌+◌, ◌-◌, ◌*◌, ◌%◌, ◌<◌, ◌==◌, Bool, true, false, not, if◌then◌else◌, List, [], ◌∷◌, length, refl, sym, ap, ◌∙◌, subst, append_assoc}
 use Rattle.word_code.proofs.Names.{◌++◌, Effect, behind_effects, All, arith, bit_and, and_mask, Store, put, IsPlace, R4, Core, Stands, forms_bytes, Runs, WordState, Behaviour, stored, pushed}
 use Rattle.word_code.proofs.Names.{next_event, freeze_events, event_index, none_answered, word_answered, event_pushed, events_frozen, with_looks}
 use Rattle.word_code.proofs.Names.{Waiting, flushed, event_code, freeze_code}
@@ -69,6 +69,11 @@ module _ (z : Setting) where
     abbrev seen : List Effect → List Effect
     seen es = look_effects looks ++ (look_effects others ++ es)
 
+    -- as the code has them
+    seen_is : (es : List Effect) → (look_effects looks ++ (look_effects others ++ [])) ++ es ≡ seen es
+    seen_is es =
+        append_assoc (look_effects looks) (look_effects others ++ []) es ∙ ap (λ l. look_effects looks ++ l) (append_assoc (look_effects others) [] es)
+
     abbrev at : ℕ
     at = event_index w.fram
 
@@ -106,7 +111,7 @@ module _ (z : Setting) where
           _,
           ((tail_fits, tt), ((tt, count_fits), ((tt, tt), ((tt, tt), ((tt, tt), ((tt, tt), ((slot_seen, tt), tt))))))),
           (refl, (refl, ap not equal, refl, (_, ((tt, tt), ((tt, answer_fits), tt)), (refl, (refl, equal, refl, tt))))),
-        ) refl refl refl refl refl
+        ) refl refl (seen_is (Store answer_place 0 ∷ [])) refl refl
         (λ s. record { is = s; held = refl })
 
     -- a word does
@@ -124,7 +129,7 @@ module _ (z : Setting) where
           ((tail_fits, tt), ((tt, count_fits), ((tt, tt), ((tt, tt), ((tt, tt), ((tt, tt), ((slot_seen, tt), tt))))))),
           (refl, (refl, ap not equal, refl, (_, ((tt, answer_fits), tt), (refl, (refl, equal, refl, (_, ((tt, refl, tt, count_fits), tt), (refl, tt))))))),
         ) refl
-        refl (λ k. seen (Store answer_place (same k) ∷ Store count_place (up k) ∷ [])) (λ k. put (put w.fram answer_place (same k)) count_place (up k)) refl
+        refl (seen_is _ ∙ (λ k. seen (Store answer_place (same k) ∷ Store count_place (up k) ∷ []))) (λ k. put (put w.fram answer_place (same k)) count_place (up k)) refl
         (λ s. record { is = s; held = same })
 
     -- by whether the index is HEAD

@@ -74,7 +74,7 @@ module _ (z : Setting) where
     low_step o pc a t writes h i =
         let k = i.held in
         calculate z o x R4 c t true _ writes.0 writes.1 low (ap z.code.at i.is.at ∙ h)
-        (record { needs = k.low.needs z.code.events t; still = k.low.still t; left = k.four; right = k.low.word t i.is.fram refl })
+        (record { needs = k.low.needs z.code.events t; quiet = k.low.quiet t; still = k.low.still t; left = k.four; right = k.low.word t i.is.fram refl })
         (record {
           all = record {
             is = stands_elsewhere z pc (pc + (2 + source_bytes x)) w t _ i.is (omega (arith, i.is.at)) refl refl refl refl refl;
@@ -91,7 +91,7 @@ module _ (z : Setting) where
     high_step o pc a t writes h i =
         let k = i.held in
         calculate z o y R6 d t true _ writes.0 writes.1 high (ap z.code.at i.is.at ∙ h)
-        (record { needs = k.high.needs z.code.events t; still = k.high.still t; left = k.six; right = k.high.word t i.is.fram refl })
+        (record { needs = k.high.needs z.code.events t; quiet = k.high.quiet t; still = k.high.still t; left = k.six; right = k.high.word t i.is.fram refl })
         (record {
           all = record {
             is = stands_elsewhere z pc (pc + (2 + source_bytes y)) w t _ i.is (omega (arith, i.is.at)) refl refl refl refl refl;
