@@ -11,6 +11,7 @@ pub use Rattle.code_forms.proofs.Rules.{vector_stays, code_goes_undisturbed, cod
 -- What they read stands at SP or above.
 pub use Rattle.code_forms.proofs.FromSp.{forms_read_from_sp}
 -- Instructions that stand one after another in FRAM, untouched, are what a machine fetches.
-pub use Rattle.code_forms.proofs.Placed.{bytes_are, form_small, holds_front, holds_back, fram_word, fram_no_ram, holds_stores, code_in_fram_steps}
+pub use Rattle.code_forms.proofs.Placed.{bytes_are, form_small, placed_next, placed_within, holds_front, holds_back, fram_word, fram_no_ram}
+pub use Rattle.code_forms.proofs.Placed.{holds_stores, code_in_fram_steps}
 pub use Rattle.code_forms.proofs.Placed.{placed_is_tidy}
 pub use Rattle.code_forms.proofs.Placed.{forms_stand, forms_bytes-append, instructions-append, stands_at}

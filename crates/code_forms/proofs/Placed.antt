@@ -214,7 +214,7 @@ pub code_in_fram_steps : CodeInFramSteps
 code_in_fram_steps events p is s o are even low high is_step h hole = step_is p is are even low high events s o is_step h hole
 
 -- instructions stand at even addresses, within their bytes
-placed_within : (is : List Instr) (q : ℕ) → q % 2 ≡ 0 → (a : ℕ) (i : Instr) → placed_at q is a ≡ Some i
+pub placed_within : (is : List Instr) (q : ℕ) → q % 2 ≡ 0 → (a : ℕ) (i : Instr) → placed_at q is a ≡ Some i
     → (a % 2 ≡ 0) × (q ≤ a) × (a < q + 2 * length (words_of is))
 placed_within [] q e a i h = cc
 placed_within (j ∷ is) q e a i h =

@@ -47,7 +47,6 @@ module _ (text : List ℕ) (p : CheckedProgram) (allow : Allow) (plans : List Ta
     apart = places_are_apart p allow plans l laid;
     room = tasks_have_room p allow plans l laid;
     privates = privates_are_theirs p allow plans l laid;
-    no_events = ap (λ r. r.events) t.layout.runtime;
     programs = record { whole = λ k below. (one_whole k below).0; of_words = λ k below. (one_whole k below).1 };
     leave = tasks_leave text p allow plans l t run;
     costs = tasks_keep_to_the_bound p allow plans l t.accepted.allowed (privates_are_few text p allow plans l t) t.layout;

@@ -25,10 +25,11 @@ power_ups_raise_version p l r b boots gate below t leads =
     let version : u.fram a ≡ b.fram a = ap (λ s. s.fram a) (sym boots.is) in
     let low : u.fram a < 0xFFFF = omega (arith, version, below) in
     let raised = to_raised l (lowered l p) r.fits whole u boots.pc boots.named zero low in
-    let five : 5 ≡ with_events l.runtime.events 2 + 5 = ap (λ events. with_events events 2 + 5) (sym r.no_events) in
-    let made : (going step 5 (board_of u)).status ≡ At (board_of raised.end) =
-    ap (λ n. (going step n (board_of u)).status) five ∙ ap (λ q. q.status) (raised.leads.by 0) in
-    let there : At t ≡ At (board_of raised.end) = sym leads ∙ ap (λ s. (going step 5 s).status) boots.is ∙ made in
+    let steps = with_events l.runtime.events 2 + 5 in
+    let all : steps ≡ steps + 0 = omega arith in
+    let made : (going step steps (board_of u)).status ≡ At (board_of raised.end) =
+    ap (λ n. (going step n (board_of u)).status) all ∙ ap (λ q. q.status) (raised.leads.by 0) in
+    let there : At t ≡ At (board_of raised.end) = sym leads ∙ ap (λ s. (going step steps s).status) boots.is ∙ made in
     let same : t ≡ board_of raised.end = cc there in
     let stored : raised.end.fram a ≡ u.fram a + 1 = ap (λ f. f a) raised.holds.fram ∙ put_same u.fram a (u.fram a + 1) in
     ap (λ s. s.fram a) same ∙ stored ∙ ap (λ n. n + 1) version

@@ -68,7 +68,7 @@ module _ (text : List ℕ) (p : CheckedProgram) (allow : Allow) (image : ImageVa
   fits = sources_have_room p allow c.plans l ok.allowed c.is_layout c.is_plan.count
       (λ k task own at own_at. (tasks_match p allow c.plans l laid k task own (record { is_task = at; is_layout = own_at })).count)
 
-  code_end : l.boot.address + 2 * length (code_words p l) ≤ end_of l.code
+  pub code_end : l.boot.address + 2 * length (code_words p l) ≤ end_of l.code
   code_end = (linked_is_code l (lowered l p) fits).end
 
   -- a word that is code or data, if it isn't the handler's

@@ -17,7 +17,7 @@ use Rattle.boot_runtime.specs.runtime_effects.Stages.{is_at_end, start_effects, 
 use Rattle.boot_runtime.specs.runtime_effects.Needs.{CanCommit}
 use Rattle.boot_runtime.specs.runtime_code.Addresses.{start_address, stack_origin}
 use Rattle.boot_runtime.specs.runtime_code.Comes.{Comes, IsAt, Enters}
-use Rattle.boot_runtime.proofs.runtime_code.Interface.{comes_on, core_at, from_there, places_are_in_fram, opening_keeps_task}
+use Rattle.boot_runtime.proofs.runtime_code.Interface.{with_events_even, comes_on, core_at, from_there, places_are_in_fram, opening_keeps_task}
 use Rattle.boot_runtime.specs.Entries.{entry_of, task_entries}
 use Rattle.boot_runtime.specs.Listing.{TaskEntry, entry_at, privates_in, start_steps, start_cycles}
 use Rattle.boot_runtime.specs.Laws.{IsBoot, NamesHandler}
@@ -99,7 +99,8 @@ module _ (l : MemoryMap) (programs : List Program) (fits : CodeFits l programs) 
   pub to_raised : (u : Core) → u.pc ≡ l.boot.address → NamesHandler l u.fram → u.fram (word_place l Gate) ≡ 0 → u.fram (word_place l Version) < 0xFFFF
       → let raised = u.fram (word_place l Version) + 1 in
       let events = l.runtime.events in
-      Comes code (Store (word_place l Version) raised ∷ []) (with_events events 2 + 5) (with_events events 3 + 16) u (IsAt (start_at + 36) (put u.fram (word_place l Version) raised) u.inputs)
+      Comes code (Store (word_place l Version) raised ∷ []) (with_events events 2 + 5) (with_events events 3 + 16) u
+      (IsAt (start_at + 36) (put u.fram (word_place l Version) raised) u.inputs)
   to_raised u e named z below =
       version_is_raised code l l.commit.address tasks l.boot.address u is_boot e named (omega (arith, z)) (λ q. omega (arith, z, q)) below
 
@@ -149,7 +150,8 @@ module _ (l : MemoryMap) (programs : List Program) (fits : CodeFits l programs) 
 
   -- where a task is entered, its code does as its word program
   pub body_there : (v : Core) (k : ℕ) (g : ℕ → ℕ) (inputs : Inputs)
-      → Enters (entry_at tasks k).code (stack_origin l.runtime.events) g inputs v → k < length programs → ((a : ℕ) → g a < 0x10000) → InputsAreWords inputs → DoesBody v k g inputs
+      → Enters (entry_at tasks k).code (stack_origin l.runtime.events) g inputs v → k < length programs → ((a : ℕ) → g a < 0x10000)
+      → InputsAreWords inputs → DoesBody v k g inputs
   body_there v k g inputs h named words ready =
       let i : IsEntry l.runtime.events (entry_at tasks k).code v = record {
         pc = h.pc;
@@ -177,8 +179,9 @@ module _ (l : MemoryMap) (programs : List Program) (fits : CodeFits l programs) 
   commit_there v f inputs h can word =
       let c = fits.commit in let d = (apart_of l fits.rules).code in let k = (apart_of l fits.rules).high in
       let even = (even_of l fits.rules).boot in
+      let enabling = with_events_even l.runtime.events 6 refl in
       from_there v h (commit_is_made code l l.commit.address start_at (core_at l.commit.address f inputs v) is_linked.tidy is_boot.places
-      (omega (arith, c, d, k)) (omega (arith, even)) parts.commit refl can word)
+      (omega (arith, c, d, k)) (omega (arith, even, enabling)) parts.commit refl can word)
 
   -- from the boot to the commit, where GATE is 1
   pub to_commit : (u : Core) → u.pc ≡ l.boot.address → NamesHandler l u.fram → u.fram (word_place l Gate) ≡ 1 → CanCommit l u.fram
@@ -186,7 +189,8 @@ module _ (l : MemoryMap) (programs : List Program) (fits : CodeFits l programs) 
       → let es = commit_effects l u.fram in
       let n = u.fram (word_place l ListLength) in let ws = length (listed l u.fram) in let k = u.fram (word_place l EmitCount) in
       let events = l.runtime.events in
-      Comes code es (with_events events 2 + 3 + commit_steps events n ws k) (with_events events 3 + 9 + commit_cycles events n ws k) u (IsAt start_at (fram_after es u.fram) u.inputs)
+      Comes code es (with_events events 2 + 3 + commit_steps events n ws k) (with_events events 3 + 9 + commit_cycles events n ws k) u
+      (IsAt start_at (fram_after es u.fram) u.inputs)
   to_commit u e named one can word =
       comes_on (pending_commit_is_found code l l.commit.address tasks l.boot.address u is_boot e named one)
       (λ v h. commit_there v u.fram u.inputs h can word)

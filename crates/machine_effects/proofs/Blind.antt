@@ -33,28 +33,28 @@ holding fram ram s = record s { fram = fram; ram = ram }
 -- memory that is the same where a program may read
 record IsSameMemory (floor : ℕ) (f g fram ram : ℕ → ℕ) : Type 0 where
   in_fram : (a : ℕ) → a < handler_place → f a ≡ fram a
-  in_ram : (a : ℕ) → floor ≤ a → g a ≡ ram a
+  in_ram : (a : ℕ) → floor ≤ a → a % 2 ≡ 0 → g a ≡ ram a
 
 -- a bus that differs from another in memory alone, where a program may not read: in RAM, below this address
-record IsBlindTo (floor : ℕ) (s t : MachineBus) : Type 0 where
+pub record IsBlindTo (floor : ℕ) (s t : MachineBus) : Type 0 where
   fram : ℕ → ℕ
   ram : ℕ → ℕ
   is : t ≡ holding fram ram s
-  at : s.floor ≡ floor
-  same : IsSameMemory s.floor fram ram s.fram s.ram
+  at : floor ≤ s.floor
+  same : IsSameMemory floor fram ram s.fram s.ram
 
 -- no access is odd
-abbrev Never : Refused → ℕ → Type 0
+abbrev pub Never : Refused → ℕ → Type 0
 Never e a = ⊥
 
-module _ (floor : ℕ) (f g fram ram : ℕ → ℕ) (same : IsSameMemory floor f g fram ram) where
-  word_on : (b : Bool) (a : ℕ) → (if b then nat_le floor (word_address a) else nat_lt a handler_place) ≡ true
+module _ (floor top : ℕ) (at : floor ≤ top) (f g fram ram : ℕ → ℕ) (same : IsSameMemory floor f g fram ram) where
+  word_on : (b : Bool) (a : ℕ) → (if b then nat_le top (word_address a) else nat_lt a handler_place) ≡ true
       → (if b then g (word_address a) else f (word_address a)) ≡ (if b then ram (word_address a) else fram (word_address a))
-  word_on true a e = same.in_ram (word_address a) (leb-true floor (word_address a) e)
+  word_on true a e = let l = leb-true top (word_address a) e in same.in_ram (word_address a) (omega (arith, at, l)) (omega arith)
   word_on false a e = let l = ltb-true a handler_place e in same.in_fram (word_address a) (omega (arith, l))
 
   -- what is readable is the same
-  word_same : (a : ℕ) → is_readable floor a ≡ true → word_in f g a ≡ word_in fram ram a
+  word_same : (a : ℕ) → is_readable top a ≡ true → word_in f g a ≡ word_in fram ram a
   word_same a e = word_on (is_ram a) a e
 
 put_same_at : (b : Bool) (v x y : ℕ) → x ≡ y → (if b then v else x) ≡ (if b then v else y)
@@ -65,7 +65,7 @@ either_same : {A : Type 0} (b : Bool) (x y z : A) → (b ≡ true → x ≡ y) �
 either_same true x y z e = e refl
 either_same false x y z e = refl
 
-module _ (floor : ℕ) (s : MachineBus) (f g : ℕ → ℕ) (at : s.floor ≡ floor) (same : IsSameMemory s.floor f g s.fram s.ram) where
+module _ (floor : ℕ) (s : MachineBus) (f g : ℕ → ℕ) (at : floor ≤ s.floor) (same : IsSameMemory floor f g s.fram s.ram) where
   abbrev t : MachineBus
   t = holding f g s
 
@@ -73,10 +73,10 @@ module _ (floor : ℕ) (s : MachineBus) (f g : ℕ → ℕ) (at : s.floor ≡ fl
   reads_same a Word =
       either_same {A = Result ℕ Refused} (is_word a) _ _ _
       (λ e. either_same {A = Result ℕ Refused} (is_readable s.floor a) _ _ (ring_read s.ring a)
-      (λ r. ap (λ v. Ok v) (sym (word_same s.floor f g s.fram s.ram same a r))))
+      (λ r. ap (λ v. Ok v) (sym (word_same floor s.floor at f g s.fram s.ram same a r))))
   reads_same a Byte =
       either_same {A = Result ℕ Refused} (is_memory a && is_readable s.floor a) _ _ (Err refused.Bus)
-      (λ e. ap (λ v. Ok (byte_of v a)) (sym (word_same s.floor f g s.fram s.ram same a (and_parts (is_memory a) (is_readable s.floor a) e).1)))
+      (λ e. ap (λ v. Ok (byte_of v a)) (sym (word_same floor s.floor at f g s.fram s.ram same a (and_parts (is_memory a) (is_readable s.floor a) e).1)))
 
   taken_blind : (ws : List ℕ) → IsBlindTo floor (reading_taken ws s) (reading_taken ws t)
   taken_blind [] = record { fram = f; ram = g; is = refl; at = at; same = same }
@@ -98,7 +98,7 @@ module _ (floor : ℕ) (s : MachineBus) (f g : ℕ → ℕ) (at : s.floor ≡ fl
     ram = put g (word_address a) v;
     is = refl;
     at = at;
-    same = record { in_fram = same.in_fram; in_ram = λ x h. put_same_at (x == word_address a) v (g x) (s.ram x) (same.in_ram x h) };
+    same = record { in_fram = same.in_fram; in_ram = λ x h even. put_same_at (x == word_address a) v (g x) (s.ram x) (same.in_ram x h even) };
   }
   stored_if false a v log = record {
     fram = put f (word_address a) v;
@@ -136,13 +136,13 @@ module _ (floor : ℕ) (s : MachineBus) (f g : ℕ → ℕ) (at : s.floor ≡ fl
       served_if (is_memory a && is_readable s.floor a) (machine_stored s a (with_byte (word_in s.fram s.ram a) a v))
       (machine_stored t a (with_byte (word_in f g a) a v))
       (λ e.
-      let at = word_same s.floor f g s.fram s.ram same a (and_parts (is_memory a) (is_readable s.floor a) e).1 in
+      let at = word_same floor s.floor at f g s.fram s.ram same a (and_parts (is_memory a) (is_readable s.floor a) e).1 in
       let x = with_byte (word_in s.fram s.ram a) a v in
       subst (λ n. IsBlindTo floor (machine_stored s a x) (machine_stored t a (with_byte n a v))) (sym at)
       (stored_if (is_ram a) a x (s.log ++ Store (word_address a) x ∷ [])))
 
 -- two such buses answer alike
-blind_answers : (floor : ℕ) → AnswerAlikeUnless Never machine_bus machine_bus (IsBlindTo floor)
+pub blind_answers : (floor : ℕ) → AnswerAlikeUnless Never machine_bus machine_bus (IsBlindTo floor)
 blind_answers floor = record {
   reads = λ s t a w h. inl (reads_same floor s h.fram h.ram h.at h.same a w ∙ ap (λ u. machine_read u a w) (sym h.is));
   after = λ s t a w v h e. subst (λ u. IsBlindTo floor (machine_after_read s a w) (machine_after_read u a w)) (sym h.is)
@@ -156,7 +156,7 @@ closed_same : (floor : ℕ) (r q : Registers) (s t : MachineBus) → q ≡ r →
 closed_same floor r q s t e h = record {
   registers = e;
   fram = λ a l. ap (λ u. u.fram a) h.is ∙ h.same.in_fram a l;
-  ram = λ a l. ap (λ u. u.ram a) h.is ∙ h.same.in_ram a (subst (λ n. n ≤ a) (sym h.at) l);
+  ram = λ a l even. ap (λ u. u.ram a) h.is ∙ h.same.in_ram a l even;
   inputs = ap (λ u. u.inputs) h.is;
   outnum = ap (λ u. u.outnum) h.is;
 }
@@ -171,47 +171,62 @@ outcomes_same floor pc c (Faulted e a s) (Faulted f b t) (inr h) =
 outcomes_same floor pc c (Completed x s) (Faulted f b t) h = absurd h
 outcomes_same floor pc c (Faulted e a s) (Completed y t) h = absurd h
 
--- an instruction that sees the same of the ring
-seeing_same : (ring : Option Look) (i : Instr) (s t : MachineBoard) → IsSameFrom (s.registers 1) s t
-    → AreSameFrom (s.registers 1) (machine_executed_seeing ring s i) (machine_executed_seeing ring t i)
-seeing_same ring i s t h =
-    let floor = s.registers 1 in
-    let x = machine_opened_seeing ring s in
-    let y : MachineBus = record x { fram = t.fram; ram = t.ram } in
-    let blind : IsBlindTo floor x y = record { fram = t.fram; ram = t.ram; is = refl; at = refl; same = record { in_fram = h.fram; in_ram = h.ram } } in
-    let on_same : MachineBoard = record s { fram = t.fram; ram = t.ram } in
-    let is : t ≡ on_same = λ k. record { registers = h.registers k; fram = t.fram; ram = t.ram; inputs = h.inputs k; outnum = h.outnum k } in
-    let P : MachineBoard → Type 0 = λ u. AreSameFrom floor (machine_executed_seeing ring s i) (machine_executed_seeing ring u i) in
-    subst P (sym is)
-    (outcomes_same floor (s.registers 0) (cycles_of i) (effect machine_bus i s.registers x) (effect machine_bus i s.registers y)
-    (effect_alike MachineBus MachineBus machine_bus machine_bus Never (IsBlindTo floor) (blind_answers floor) i s.registers x y blind))
+-- such machines behind a look
+abbrev pub with_others : List Look → MachineBoard → MachineBoard
+with_others looks s = record s { inputs = record s.inputs { looks = other_looks looks } }
 
--- behind the same look
-same_behind : (floor : ℕ) (es : List Effect) (o p : MachineOutcome) → AreSameFrom floor o p → AreSameFrom floor (step_behind es o) (step_behind es p)
-same_behind floor es (Goes fs c s) (Goes gs d t) h = (ap (λ l. es ++ l) h.0, h.1, h.2)
-same_behind floor es (Stops fs price e) (Stops gs paid f) h = (ap (λ l. es ++ l) h.0, h.1, h.2)
-same_behind floor es (Goes fs c s) (Stops gs paid f) h = absurd h
-same_behind floor es (Stops fs price e) (Goes gs d t) h = absurd h
+pub others_same : (floor : ℕ) (looks : List Look) (s t : MachineBoard) → IsSameFrom floor s t
+    → IsSameFrom floor (with_others looks s) (with_others looks t)
+others_same floor looks s t h = record {
+  registers = h.registers;
+  fram = h.fram;
+  ram = h.ram;
+  inputs = ap (λ (j : Inputs). record j { looks = other_looks looks }) h.inputs;
+  outnum = h.outnum;
+}
 
-looking_same : (looks : List Look) (i : Instr) (s t : MachineBoard) → IsSameFrom (s.registers 1) s t
-    → AreSameFrom (s.registers 1) (executed_looking looks s i) (executed_looking looks t i)
-looking_same looks i s t h =
-    let with_others : MachineBoard → MachineBoard = λ u. record u { inputs = record u.inputs { looks = other_looks looks } } in
-    let left : IsSameFrom (s.registers 1) (with_others s) (with_others t) = record {
-      registers = h.registers;
-      fram = h.fram;
-      ram = h.ram;
-      inputs = ap (λ (j : Inputs). record j { looks = other_looks looks }) h.inputs;
-      outnum = h.outnum;
-    } in
-    same_behind (s.registers 1) (look_effects looks) _ _ (seeing_same (Some (first_look looks)) i (with_others s) (with_others t) left)
+-- the bus of such machines as an instruction begins that sees the same of the ring
+pub opened_blind : (floor : ℕ) (ring : Option Look) (s t : MachineBoard) → floor ≤ s.registers 1 → IsSameFrom floor s t
+    → IsBlindTo floor (machine_opened_seeing ring s) (machine_opened_seeing ring (record s { fram = t.fram; ram = t.ram }))
+opened_blind floor ring s t low h =
+    record { fram = t.fram; ram = t.ram; is = refl; at = low; same = record { in_fram = h.fram; in_ram = h.ram } }
 
-same_by : (c : Bool) (i : Instr) (s t : MachineBoard) → IsSameFrom (s.registers 1) s t → AreSameFrom (s.registers 1)
-    (if c then executed_looking s.inputs.looks s i else machine_executed s i) (if c then executed_looking t.inputs.looks t i else machine_executed t i)
-same_by true i s t h =
-    subst (λ (j : Inputs). AreSameFrom (s.registers 1) (executed_looking s.inputs.looks s i) (executed_looking j.looks t i)) (sym h.inputs)
-    (looking_same s.inputs.looks i s t h)
-same_by false i s t h = seeing_same None i s t h
+-- all that they differ in is memory
+pub same_but_memory : (floor : ℕ) (s t : MachineBoard) → IsSameFrom floor s t → t ≡ record s { fram = t.fram; ram = t.ram }
+same_but_memory floor s t h = λ k. record { registers = h.registers k; fram = t.fram; ram = t.ram; inputs = h.inputs k; outnum = h.outnum k }
+
+module _ (floor : ℕ) (i : Instr) where
+  -- an instruction that sees the same of the ring
+  seeing_same : (ring : Option Look) (s t : MachineBoard) → floor ≤ s.registers 1 → IsSameFrom floor s t
+      → AreSameFrom floor (machine_executed_seeing ring s i) (machine_executed_seeing ring t i)
+  seeing_same ring s t low h =
+      let x = machine_opened_seeing ring s in
+      let y = machine_opened_seeing ring (record s { fram = t.fram; ram = t.ram }) in
+      let P : MachineBoard → Type 0 = λ u. AreSameFrom floor (machine_executed_seeing ring s i) (machine_executed_seeing ring u i) in
+      subst P (sym (same_but_memory floor s t h))
+      (outcomes_same floor (s.registers 0) (cycles_of i) (effect machine_bus i s.registers x) (effect machine_bus i s.registers y)
+      (effect_alike MachineBus MachineBus machine_bus machine_bus Never (IsBlindTo floor) (blind_answers floor) i s.registers x y
+      (opened_blind floor ring s t low h)))
+
+  -- behind the same look
+  same_behind : (es : List Effect) (o p : MachineOutcome) → AreSameFrom floor o p → AreSameFrom floor (step_behind es o) (step_behind es p)
+  same_behind es (Goes fs c s) (Goes gs d t) h = (ap (λ l. es ++ l) h.0, h.1, h.2)
+  same_behind es (Stops fs price e) (Stops gs paid f) h = (ap (λ l. es ++ l) h.0, h.1, h.2)
+  same_behind es (Goes fs c s) (Stops gs paid f) h = absurd h
+  same_behind es (Stops fs price e) (Goes gs d t) h = absurd h
+
+  looking_same : (looks : List Look) (s t : MachineBoard) → floor ≤ s.registers 1 → IsSameFrom floor s t
+      → AreSameFrom floor (executed_looking looks s i) (executed_looking looks t i)
+  looking_same looks s t low h =
+      same_behind (look_effects looks) _ _
+      (seeing_same (Some (first_look looks)) (with_others looks s) (with_others looks t) low (others_same floor looks s t h))
+
+  same_by : (c : Bool) (s t : MachineBoard) → floor ≤ s.registers 1 → IsSameFrom floor s t → AreSameFrom floor
+      (if c then executed_looking s.inputs.looks s i else machine_executed s i) (if c then executed_looking t.inputs.looks t i else machine_executed t i)
+  same_by true s t low h =
+      subst (λ (j : Inputs). AreSameFrom floor (executed_looking s.inputs.looks s i) (executed_looking j.looks t i)) (sym h.inputs)
+      (looking_same s.inputs.looks s t low h)
+  same_by false s t low h = seeing_same None s t low h
 
 pub machine_is_blind : MachineIsBlind
-machine_is_blind i s t h = same_by (looks_there i) i s t h
+machine_is_blind floor i s t low h = same_by floor i (looks_there i) s t low h

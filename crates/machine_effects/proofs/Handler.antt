@@ -124,7 +124,8 @@ either_keeps : (b : Bool) (s : MachineBoard) (o p : MachineOutcome) → KeepsThe
 either_keeps true s o p h k = h
 either_keeps false s o p h k = k
 
-standing_keeps : (o : Option Instr) (s : MachineBoard) → KeepsTheHandler s (standing o s)
+-- an instruction of any code leaves it
+pub standing_keeps : (o : Option Instr) (s : MachineBoard) → KeepsTheHandler s (standing o s)
 standing_keeps None s = tt
 standing_keeps (Some i) s = either_keeps (looks_there i) s (executed_looking s.inputs.looks s i) (machine_executed s i) (looking_keeps s.inputs.looks s i) (executed_keeps None s i)
 

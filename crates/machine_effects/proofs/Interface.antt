@@ -13,17 +13,18 @@ pub use Rattle.machine_effects.proofs.Inputs.{left_by_taking, all_behind, left_a
 pub use Rattle.machine_effects.proofs.Logs.{takes, written_effects, LoggedBy, effect_logged, code_changes, step_changes, code_changes_by_effects}
 pub use Rattle.machine_effects.proofs.Logs.{machine_changes_by_effects}
 -- FRAM from the handler on stays.
-pub use Rattle.machine_effects.proofs.Handler.{code_keeps_the_handler}
+pub use Rattle.machine_effects.proofs.Handler.{standing_keeps, code_keeps_the_handler}
 -- The board's bus and the machine's answer alike, but for what the machine refuses.
 pub use Rattle.machine_effects.proofs.Alike.{is_fram_address}
 -- Memory by addresses, from the lists of its words: a word read, and a word written.
 pub use Rattle.machine_effects.proofs.Alike.{fram_at, ram_at, put_fram, put_ram}
 -- Each step of a board is a step of the machine that it is, and each step of that is one of the board, but for its bus faults.
-pub use Rattle.machine_effects.proofs.Steps.{looks_as_the_board, current_to_machine, stopped_to_machine, none_taken}
+pub use Rattle.machine_effects.proofs.Steps.{looks_as_the_board, current_on, current_to_machine, stopped_to_machine, none_taken}
 -- What the next instruction of a board sees is told by the words at PC.
 pub use Rattle.machine_effects.proofs.Seen.{seen_by_words}
 -- What a handler may change the machine can't depend on.
 pub use Rattle.machine_effects.proofs.Blind.{machine_is_blind}
+pub use Rattle.machine_effects.proofs.Pushes.{pushes_alike}
 -- The boundary behind a step keeps a board whole, and words; there and behind a power-up nothing was read of EVENT.
 pub use Rattle.machine_effects.proofs.Lines.{boundary_whole, boundary_words, boundary_heard, powered_heard}
 -- What an instruction of a board leaves, made or refused.

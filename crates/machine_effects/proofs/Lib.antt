@@ -8,6 +8,7 @@ mod Along
 mod Steps
 mod Seen
 mod Blind
+mod Pushes
 mod Lines
 mod Executed
 mod Values

@@ -1,8 +1,12 @@
 -- Laws of the machine, and that it is the board.
-use Rattle.std.specs.Prelude.{ℕ, ◌≡◌, ◌<◌, ◌≤◌, ◌⊎◌, List, [], All, ◌++◌, length, Some, Ok}
+use Rattle.std.specs.Prelude.{ℕ, ◌%◌, ◌≡◌, ◌<◌, ◌≤◌, ◌⊎◌, List, [], All, ◌++◌, length, Some, Ok}
 use Rattle.fram_board.specs.address_space.Limits.{fram_words}
 use Rattle.event_places.specs.Places.{handler_place}
+use Rattle.fram_board.specs.alp_words.declared.Width.TheVariants.{Word}
+use Rattle.fram_board.specs.msp_isa.declared.operands.Src.{Src}
+use Rattle.fram_board.specs.msp_isa.declared.instructions.OneOp.TheVariants as one
 use Rattle.fram_board.specs.msp_isa.declared.instructions.Instr.{Instr}
+use Rattle.fram_board.specs.msp_isa.declared.instructions.Instr.TheVariants as instr
 use Rattle.fram_board.specs.msp_isa.Encoding.{encoding}
 use Rattle.fram_board.specs.msp_cycles.Cycles.{cycles_of}
 use Rattle.fram_board.specs.msp_step.Registers.{registers_of, powered_up}
@@ -17,7 +21,7 @@ use Rattle.fram_board.specs.Run.{Measure, moment_of, RunOutcome, ChargeRun, acce
 use Rattle.machine_effects.specs.World.{World, fram_after, accepted_after, world_after}
 use Rattle.machine_effects.specs.Inputs.{Look, Inputs, look_effects, TakesExactly}
 use Rattle.machine_effects.specs.Going.{Goes, Stops}
-use Rattle.machine_effects.specs.Machine.{MachineBoard, MachineOutcome, code_executed, IsMachineStep, Code, exec, fram_of, machine_powered}
+use Rattle.machine_effects.specs.Machine.{MachineBoard, MachineOutcome, code_executed, IsMachineStep, Code, exec, IsRam, fram_of, machine_powered}
 use Rattle.machine_effects.specs.View.{machine_with, machine_of, IsWhole, IsOfWords, IsMachineOfWords, IsNextPrice, machine_outcome_with}
 use Rattle.machine_effects.specs.View.{machine_outcome_of, looks_at, seen_at_pc, IsBusFault}
 use Rattle.machine_effects.specs.Runs.{action_effects, moments_effects}
@@ -54,11 +58,11 @@ LooksAsTheBoard = (b : BoardValue) (i : Instr) (more : List Look) → IsWhole b 
 abbrev pub SeenByWords : Type 0
 SeenByWords = (b : BoardValue) (i : Instr) → IsWhole b → IsNextInstruction b i → seen_at_pc b ≡ looks_at b i
 
--- machines that a program can't tell apart: FRAM may differ from the handler on, and RAM below an address
+-- machines that a program can't tell apart: FRAM may differ from the handler on, and the words of RAM below an address
 pub record IsSameFrom (floor : ℕ) (s t : MachineBoard) : Type 0 where
   pub registers : t.registers ≡ s.registers
   pub fram : (a : ℕ) → a < handler_place → t.fram a ≡ s.fram a
-  pub ram : (a : ℕ) → floor ≤ a → t.ram a ≡ s.ram a
+  pub ram : (a : ℕ) → floor ≤ a → a % 2 ≡ 0 → t.ram a ≡ s.ram a
   pub inputs : t.inputs ≡ s.inputs
   pub outnum : t.outnum ≡ s.outnum
 
@@ -69,9 +73,21 @@ AreSameFrom floor (Stops es price e) (Stops fs paid f) = (fs ≡ es) × (paid �
 AreSameFrom floor (Goes es c s) (Stops fs paid f) = ⊥
 AreSameFrom floor (Stops es price e) (Goes fs d t) = ⊥
 
--- an instruction of code does the same on machines that are the same from SP on: what a handler may change it can't depend on
+-- an instruction of code does the same on machines that are the same from SP on, or from below it: what a handler may change it can't
+-- depend on
 abbrev pub MachineIsBlind : Type 0
-MachineIsBlind = (i : Instr) (s t : MachineBoard) → IsSameFrom (s.registers 1) s t → AreSameFrom (s.registers 1) (code_executed s i) (code_executed t i)
+MachineIsBlind = (floor : ℕ) (i : Instr) (s t : MachineBoard) → floor ≤ s.registers 1 → IsSameFrom floor s t
+    → AreSameFrom floor (code_executed s i) (code_executed t i)
+
+-- the word at SP behind both is the same, where that stands in RAM
+abbrev pub HaveSameTop : MachineOutcome → MachineOutcome → Type 0
+HaveSameTop (Goes es c s) (Goes fs d t) = IsRam (s.registers 1) → t.ram (s.registers 1) ≡ s.ram (s.registers 1)
+HaveSameTop o p = Unit {0}
+
+-- and a push writes the same word there
+abbrev pub PushesAlike : Type 0
+PushesAlike = (floor : ℕ) (x : Src) (s t : MachineBoard) → floor ≤ s.registers 1 → IsSameFrom floor s t
+    → let push = instr.One (one.Push Word x) in HaveSameTop (code_executed s push) (code_executed t push)
 
 -- the machine steps in one way
 abbrev pub MachineStepsInOneWay : Type 0

@@ -1,7 +1,7 @@
 //! Laws of the machine. The functions do nothing: their contracts are the laws.
 
 ghost use Rattle.machine_effects.specs.Laws.{BoardStepsAsMachine, MachineStepsAsBoard, LooksAsTheBoard, MachineStepsInOneWay, CodeChangesByEffects};
-ghost use Rattle.machine_effects.specs.Laws.{MachineChangesByEffects, SeenByWords, MachineIsBlind, CodeKeepsTheHandler};
+ghost use Rattle.machine_effects.specs.Laws.{MachineChangesByEffects, SeenByWords, MachineIsBlind, PushesAlike, CodeKeepsTheHandler};
 ghost use Rattle.machine_effects.specs.Laws.{MachineWordsStayWords, CodeWordsStayWords, WordsStayWords, StepLeavesItWhole, BoundaryKeepsWords};
 ghost use Rattle.machine_effects.specs.Laws.{AcceptanceKeepsWords, MachineIsOfWords, PowerUpIsTheMachines, PowerUpKeepsWords, FreshMachine, FreshIsWhole};
 ghost use Rattle.machine_effects.specs.Laws.{ChargeKeepsWords, StepAcceptsBySends, ChargeAcceptsBySends, WorldByItsParts};
@@ -23,10 +23,11 @@ pub fn instructions_look_as_on_the_board()
     ensures told { SeenByWords }
 {}
 
-/// An instruction of code does the same where FRAM differs from the handler on, and RAM below SP.
-#[tactic(auto, using(crate::proofs::Blind::machine_is_blind))]
+/// An instruction of code does the same where FRAM differs from the handler on, and RAM below SP; and a push writes the same word.
+#[tactic(auto, using(crate::proofs::Blind::machine_is_blind, crate::proofs::Pushes::pushes_alike))]
 pub fn machine_is_blind()
-    ensures { MachineIsBlind }
+    ensures same { MachineIsBlind }
+    ensures pushes { PushesAlike }
 {}
 
 /// The machine steps in one way.

@@ -1,12 +1,7 @@
 -- The charges of a board's run as charges of the machine.
-<<<<<<< HEAD
-use Rattle.std.specs.Prelude.{◌≡◌, ℕ, ◌+◌, ◌*◌, ◌%◌, ◌<◌, ◌≤◌, Bool, true, if◌then◌else◌, List, [], ◌∷◌, ◌++◌, length, All}
+use Rattle.std.specs.Prelude.{◌≡◌, ℕ, suc, ◌+◌, ◌*◌, ◌%◌, ◌<◌, ◌≤◌, Bool, true, if◌then◌else◌, List, [], ◌∷◌, ◌++◌, length, All}
 use Rattle.address_space.specs.Limits.{fram_first, reset_vector, event_vector}
 use Rattle.event_places.specs.Places.{handler_place}
-=======
-use Rattle.std.specs.Prelude.{◌≡◌, Bool, ℕ, ◌+◌, ◌*◌, ◌%◌, ◌<◌, ◌≤◌, List, [], ◌∷◌, ◌++◌, length, All}
-use Rattle.address_space.specs.Limits.{fram_first, fram_end, reset_vector}
->>>>>>> 023a6349829233336faab35165b617f2d9017c1a
 use Rattle.msp_isa.specs.declared.instructions.Instr.{Instr}
 use Rattle.fram_board.specs.Board.{BoardValue, PowerState, powered}
 use Rattle.fram_board.specs.Steps.{IsPowerState}
@@ -91,20 +86,20 @@ observed marks (m ∷ ms) k = observed marks ms (behind_moment marks m k)
 -- how many steps and cycles of these moments were the program's own
 abbrev pub program_steps : List Moment → ℕ
 program_steps [] = 0
-program_steps (m ∷ ms) = (if is_handlers m then 0 else 1) + program_steps ms
+program_steps (m ∷ ms) = if is_handlers m then program_steps ms else suc (program_steps ms)
 
 abbrev pub program_cycles : List Moment → ℕ
 program_cycles [] = 0
-program_cycles (m ∷ ms) = (if is_handlers m then 0 else action_cycles m.action) + program_cycles ms
+program_cycles (m ∷ ms) = if is_handlers m then program_cycles ms else action_cycles m.action + program_cycles ms
 
 -- how many were the handler's, with its acceptances, and how many of those there were
 abbrev pub handler_steps : List Moment → ℕ
 handler_steps [] = 0
-handler_steps (m ∷ ms) = (if is_handlers m then 1 else 0) + handler_steps ms
+handler_steps (m ∷ ms) = if is_handlers m then suc (handler_steps ms) else handler_steps ms
 
 abbrev pub handler_cycles : List Moment → ℕ
 handler_cycles [] = 0
-handler_cycles (m ∷ ms) = (if is_handlers m then action_cycles m.action else 0) + handler_cycles ms
+handler_cycles (m ∷ ms) = if is_handlers m then action_cycles m.action + handler_cycles ms else handler_cycles ms
 
 abbrev pub accepts_in : Action → ℕ
 accepts_in PowerUp = 0
@@ -122,31 +117,20 @@ abbrev pub charges_of : List ChargeFront → List Charge
 charges_of [] = []
 charges_of (c ∷ cs) = record { powered = outside_with (looks_in c.instructions) (board_powered c); steps = program_steps c.instructions } ∷ charges_of cs
 
-<<<<<<< HEAD
 -- the vector of interrupts leads to the handler, where a program takes events
 abbrev pub NamesHandler : Bool → (ℕ → ℕ) → Type 0
 NamesHandler events fram = events ≡ true → fram event_vector ≡ handler_place
 
 -- a program that is instructions placed in FRAM from p on, in front of the handler, which takes events or doesn't; and which boards a power-up
 -- leaves where the reset vector is its entry
-=======
--- a program that is instructions placed in FRAM from p on, which may take events or not, and which boards a power-up leaves where the reset
--- vector is its entry
->>>>>>> 023a6349829233336faab35165b617f2d9017c1a
 pub record IsPlacedProgram (c : Program) (events : Bool) (p : ℕ) (is : List Instr) (entry : ℕ) : Type 0 where
   pub instructions : AreInstructions is
   pub even : p % 2 ≡ 0
   pub low : fram_first ≤ p
-<<<<<<< HEAD
   pub high : p + 2 * length (words_of is) ≤ handler_place
   pub steps : c.step ≡ exec (placed events p is)
   pub powers : (s : MachineBoard) (q : PowerState) → IsMachineOfWords s → IsPowerState q → s.fram reset_vector ≡ entry → NamesHandler events s.fram
       → c.IsPoweredUp (machine_powered s q)
-=======
-  pub high : p + 2 * length (words_of is) < fram_end
-  pub steps : c.step ≡ exec (placed events p is)
-  pub powers : (s : MachineBoard) (q : PowerState) → IsMachineOfWords s → IsPowerState q → s.fram reset_vector ≡ entry → c.IsPoweredUp (machine_powered s q)
->>>>>>> 023a6349829233336faab35165b617f2d9017c1a
 
 -- steps that store on none of so many words from p on, nor on the reset vector, never go astray, and whose accesses are served
 pub record LeavesProgram (p n : ℕ) (r : MachineStretch) : Type 0 where

@@ -1,20 +1,17 @@
 -- Laws that join a board's run, the machine, and the charges of the crash theorem.
-use Rattle.std.specs.Prelude.{◌≡◌, ℕ, ◌+◌, ◌*◌, ◌≤◌, Bool, true, false, List, ◌++◌, length, drop}
+use Rattle.std.specs.Prelude.{◌≡◌, ℕ, ◌*◌, ◌≤◌, Bool, true, false, List, ◌++◌, length}
 use Rattle.msp_isa.specs.declared.instructions.Instr.{Instr}
-use Rattle.msp_step.specs.Registers.{registers_of}
-use Rattle.msp_step.specs.Step.{is_interruptible}
 use Rattle.fram_board.specs.Board.{BoardValue}
 use Rattle.fram_board.specs.Run.{BoardCharge, Moment, RunOutcome, Run}
-use Rattle.machine_effects.specs.Machine.{MachineBoard, fram_of, ram_of}
+use Rattle.machine_effects.specs.Machine.{MachineBoard}
 use Rattle.machine_effects.specs.View.{IsWhole, IsOfWords}
 use Rattle.machine_effects.specs.Runs.{last_board}
-use Rattle.event_handler.specs.Handler.{Stage, HasHandler}
-use Rattle.event_handler.specs.Boundaries.{IsInterrupted, IsInHandler, cycles_left, instructions_left}
+use Rattle.event_handler.specs.Handler.{HasHandler}
 use Rattle.code_forms.specs.Placed.{words_of, Holds}
 use Rattle.crash_rules.specs.Model.{Marks}
 use Rattle.crash_rules.specs.History.{History}
 use Rattle.crash_rules.specs.Runs.{Program, Charged}
-use Rattle.run_charges.specs.View.{steady, outside_of, NoneServes, AreMoments}
+use Rattle.run_charges.specs.View.{outside_of, NoneServes, AreMoments}
 use Rattle.run_charges.specs.Charges.{ArePowerStates, ChargeFront, moments_of, AreChargesFrom, observed, charges_of, handler_cycles, handler_steps}
 use Rattle.run_charges.specs.Charges.{acceptances, IsPlacedProgram, AlwaysLeaves}
 
@@ -41,33 +38,8 @@ abbrev pub FrontsAreCharges : Type 0
 FrontsAreCharges = (cs : List BoardCharge) (b : BoardValue) (r : RunOutcome) (ms rest : List Moment) → IsProgramRun cs b r
     → r.moments ≡ ms ++ rest → IsOfCharges b ms
 
--- what a board shows of its program's machine: all but HEAD, the ring, and RAM below SP. Until the CPU accepts interrupts no handler ran, and
--- RAM is all the machine's
-pub record Shows (b : BoardValue) (u : MachineBoard) : Type 0 where
-  pub registers : u.registers ≡ registers_of b.cpu
-  pub fram : u.fram ≡ steady (fram_of b.fram)
-  pub ram : (a : ℕ) → u.registers 1 ≤ a → u.ram a ≡ ram_of b.ram a
-  pub closed : is_interruptible u.registers ≡ false → u.ram ≡ ram_of b.ram
-  pub readings : u.inputs.readings ≡ drop b.taken b.readings
-  pub outnum : u.outnum ≡ b.outnum
-
--- how a board stands to its program's machine: it stands at the program's code and shows it, or the handler runs, which began at a board that
--- showed it
-pub data StandsAs (b : BoardValue) (u : MachineBoard) : Type 0 where
-  AtCode : Shows b u → StandsAs b u
-  InHandler : (from : BoardValue) (at : Stage) → Shows from u → IsInterrupted from → IsInHandler from at b → StandsAs b u
-
--- the cycles that the handler may still take before the program goes on, and its instructions
-abbrev pub still_due : {b : BoardValue} {u : MachineBoard} → StandsAs b u → ℕ
-still_due (AtCode shows) = 0
-still_due (InHandler from at shows interrupted stands) = cycles_left at
-
-abbrev pub steps_due : {b : BoardValue} {u : MachineBoard} → StandsAs b u → ℕ
-steps_due (AtCode shows) = 0
-steps_due (InHandler from at shows interrupted stands) = instructions_left at
-
--- a front of a run is charges of a program, with the history of its moments behind them: they lead to a machine as which the board behind the
--- front stands. Of cycles the handler has 48 at most for each acceptance, of steps 16
+-- a front of a run is charges of a program, with the history of its moments behind them: they lead to a machine that has the FRAM of the board
+-- behind the front, and the readings that are left. Its registers and RAM are the board's too, but while the handler runs
 pub record IsChargedBy (c : Program) (marks : Marks) (b : BoardValue) (h : History) (ms : List Moment) : Type 0 where
   pub front : IsOfCharges b ms
   pub end : MachineBoard

@@ -3,49 +3,19 @@
 -- HEAD and the ring. A program's own instructions leave EVENT alone; what they see of HEAD and the ring they are told by looks, each by the
 -- board in front of it; and what the handler does is nothing to the program. What else is to run on a board beside its program, or to reach
 -- it between two steps, is said here.
-use Rattle.std.specs.Prelude.{◌≡◌, ℕ, ◌<◌, nat_le, Bool, true, false, if◌then◌else◌, List, [], ◌∷◌, ◌++◌, Ok}
-use Rattle.event_places.specs.Places.{handler_place, is_ring}
+use Rattle.std.specs.Prelude.{◌≡◌, false, if◌then◌else◌, List, [], ◌∷◌, ◌++◌, Ok}
 use Rattle.msp_isa.specs.declared.instructions.Instr.{Instr}
-use Rattle.msp_cycles.specs.Cycles.{cycles_of}
-use Rattle.msp_step.specs.Registers.{registers_of}
 use Rattle.fram_board.specs.declared.board.NextStep.{NextStep}
 use Rattle.fram_board.specs.declared.board.NextStep.TheVariants as next_step
 use Rattle.fram_board.specs.declared.board.Stepped.{Stepped}
-use Rattle.fram_board.specs.Board.{BoardValue, PowerState, executed, performed, IsNextInstruction}
+use Rattle.fram_board.specs.Board.{BoardValue, PowerState, executed, performed, IsNextInstruction, IsNextStep}
 use Rattle.fram_board.specs.Steps.{IsPowerState}
 use Rattle.fram_board.specs.Effects.{Effect}
-use Rattle.fram_board.specs.Run.{StepKind, Accepting, Returning, Plain, Action, PowerUp, Execute, Moment, moment_of, power_up_of, accepted_by}
+use Rattle.fram_board.specs.Run.{Action, PowerUp, Execute, Moment, moment_of, power_up_of}
 use Rattle.machine_effects.specs.Inputs.{Look, look_effects}
-use Rattle.machine_effects.specs.Machine.{MachineBoard, fram_of, code_executed}
-use Rattle.machine_effects.specs.View.{machine_with, looks_at, seen_at_pc, machine_outcome_with, IsWhole, IsOfWords}
+use Rattle.machine_effects.specs.View.{seen_at_pc, IsWhole, IsOfWords}
 use Rattle.machine_effects.specs.Runs.{action_effects}
-use Rattle.event_handler.specs.Boundaries.{KeepsTheRest}
-
--- FRAM without HEAD and the ring, which a handler writes
-abbrev pub steady : (ℕ → ℕ) → ℕ → ℕ
-steady fram a = if is_ring a then 0 else fram a
-
--- the machine that a board is to its program, which is to see these of the ring
-abbrev pub outside_with : List Look → BoardValue → MachineBoard
-outside_with looks b = record (machine_with looks b) { fram = steady (fram_of b.fram) }
-
--- one that is to see nothing of it
-abbrev pub outside_of : BoardValue → MachineBoard
-outside_of b = outside_with [] b
-
--- a step of this kind on a board is the handler's: an acceptance, or an instruction that stands from the handler on, where no program does
-abbrev pub is_handlers_step : StepKind → BoardValue → Bool
-is_handlers_step Accepting before = true
-is_handlers_step Returning before = nat_le handler_place (registers_of before.cpu 0)
-is_handlers_step Plain before = nat_le handler_place (registers_of before.cpu 0)
-
-abbrev pub is_handlers_action : Action → BoardValue → Bool
-is_handlers_action PowerUp before = false
-is_handlers_action (Execute kind done offered) before = is_handlers_step kind before
-
--- a moment of the handler's
-abbrev pub is_handlers : Moment → Bool
-is_handlers m = is_handlers_action m.action m.before
+pub use Rattle.program_view.specs.View.{steady, outside_with, outside_of, is_handlers, IsPrograms, IsServed}
 
 -- no moment is the handler's
 abbrev pub NoneServes : List Moment → Type 0
@@ -79,23 +49,6 @@ all_outside_effects (m ∷ ms) = outside_effects m ++ all_outside_effects ms
 pub record Follows (left next : BoardValue) : Type 0 where
   pub same : next ≡ left
 
--- an instruction of a board is the program's: it stands in front of the handler, and does as the machine's, which serves fewer addresses and
--- sees of the ring what the board holds there; and it leaves the events as they are
-pub record IsPrograms (b : BoardValue) (i : Instr) : Type 0 where
-  pub below : registers_of b.cpu 0 < handler_place
-  pub step : code_executed (machine_with (looks_at b i) b) i ≡ machine_outcome_with (look_effects (looks_at b i)) [] b (executed b i) (cycles_of i)
-  pub line : (executed b i).board.line ≡ b.line
-
--- what a handler's moment leaves of a board: all that the program is told of, but for registers and RAM, which are back as they were when the
--- handler returns
-pub record IsServed (b : BoardValue) (m : Moment) : Type 0 where
-  pub handlers : is_handlers m ≡ true
-  pub accepts_none : accepted_by m.action ≡ []
-  pub whole : IsWhole m.after
-  pub words : IsOfWords m.after
-  pub fram : steady (fram_of m.after.fram) ≡ steady (fram_of b.fram)
-  pub rest : KeepsTheRest b m.after
-
 -- a moment that may begin on this board, of a program and the handler beside it
 pub data IsMomentFrom (b : BoardValue) (m : Moment) : Type 0 where
   -- a power-up
@@ -104,7 +57,8 @@ pub data IsMomentFrom (b : BoardValue) (m : Moment) : Type 0 where
   Instructs : (i : Instr) (done : Stepped) → IsNextInstruction b i → (executed b i).answer ≡ Ok done → IsPrograms b i
       → m ≡ moment_of b (next_step.Instruction i) done → IsMomentFrom b m
   -- a step of the handler's, an acceptance to begin with
-  Serves : (n : NextStep) (done : Stepped) → (performed b n).answer ≡ Ok done → IsServed b (moment_of b n done) → m ≡ moment_of b n done → IsMomentFrom b m
+  Serves : (n : NextStep) (done : Stepped) → IsNextStep b n → (performed b n).answer ≡ Ok done → IsServed b (moment_of b n done)
+      → m ≡ moment_of b n done → IsMomentFrom b m
 
 -- moments from this board on, one behind the other
 abbrev pub AreMoments : BoardValue → List Moment → Type 0

@@ -3,17 +3,13 @@ use Rattle.std.specs.Prelude.{ℕ, ◌+◌, Bool, true, false}
 use Rattle.runtime_effects.specs.address_space.Limits.{stack_top, stack_start}
 use Rattle.runtime_effects.specs.memory_map.MemoryMap.{with_events}
 
--- the bytes in front of the look at GATE: where there are events, SP is set there and interrupts are enabled
-abbrev pub enabling_bytes : ℕ
-enabling_bytes = 6
-
--- the bytes of the look
+-- the bytes of the boot's look at GATE
 abbrev pub boot_head_bytes : ℕ
 boot_head_bytes = 10
 
--- where the boot looks at GATE, by whether there are events, and by its address
+-- where the boot looks at GATE, by whether there are events, and by its address: these enable interrupts in front of it
 abbrev pub gate_address : Bool → ℕ → ℕ
-gate_address events boot = boot + with_events events enabling_bytes
+gate_address events boot = boot + with_events events 6
 
 -- where an attempt starts
 abbrev pub start_address : Bool → ℕ → ℕ

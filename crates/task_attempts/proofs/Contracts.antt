@@ -3,7 +3,7 @@ use Rattle.task_attempts.proofs.Names.{◌≡◌, ℕ, ◌≤◌, List, [], ◌�
 use Rattle.task_attempts.proofs.Names.{get_or_from_slice_get, Effect, Store, readings_taken, EachStore, InputsAreWords}
 use Rattle.task_attempts.proofs.Names.{looks_taken, looks_taken-append, answer_place, answers_in, given_by, nothing_given}
 use Rattle.task_attempts.proofs.Names.{readings_taken-append, each_store-append, emits_of, Attempt, Outcome, to_task, short, run_block, block_emits, State}
-use Rattle.task_attempts.proofs.Names.{Completion, completion_of, without_answers, attempt_of, fresh_attempt, EndsWell, TransitionComes, readings_left_over_lem}
+use Rattle.task_attempts.proofs.Names.{Completion, completion_of, attempt_of, fresh_attempt, EndsWell, answered_by, answers_told, StoresBelow, false, ⊎_elim, inr, TransitionComes, readings_left_over_lem}
 use Rattle.task_attempts.proofs.Names.{WordState, End}
 use Rattle.task_attempts.proofs.Names.{GoesOn, Jumps, Broken, behaviour, started, behaves_by_effects, whole_ends_soundly, StoresWords, stores_words, Ends}
 use Rattle.task_attempts.proofs.Names.{program_effects, IsElsewhere, Model, AttemptContract, Comes, Lacks, Decides, RunsShort, TakesAndStores, EndsAs, BlocksAgree}
@@ -14,10 +14,10 @@ use Rattle.array_versions.specs.Behaviour.{Short as Starves}
 use Rattle.array_versions.specs.Laws.{EndsByEffects, IsSound}
 use Rattle.source_meaning.proofs.Interface.{emits_same}
 use Rattle.task_attempts.proofs.Rows.{HasRows, block_rows}
-use Rattle.task_attempts.proofs.Quiet.{stores_each, stores_as, quiet_through, none_answered}
+use Rattle.task_attempts.proofs.Quiet.{stores_each, stores_as, quiet_through, answers_seen}
 use Rattle.task_attempts.proofs.Tasks.{body_is, program_is}
 use Rattle.task_attempts.proofs.Stores.{Safe, StoresOf, task_safe, emits_fit}
-use Rattle.task_attempts.proofs.Starts.{held_attempt, held_runs, attempt_stands}
+use Rattle.task_attempts.proofs.Starts.{held_attempt, held_runs, attempt_stands, readings_and}
 use Rattle.task_attempts.proofs.Started.{Started, scene}
 use Rattle.task_attempts.proofs.Decided.{setting, bounds, Transition, before, effects_are, safe_before, quiet_before, quiet_start, quiet_of, next, decided}
 
@@ -30,19 +30,20 @@ module _ (run : Started) where
 
   -- what is known of a behaviour's effects and end, and of the source's outcome
   record Meets (es : List Effect) (e : End) (o : Outcome) : Type 0 where
-    agrees : EndsAs here (bounds run) [] es e o
+    agrees : EndsAs here (bounds run) [] [] es e o
     by_effects : EndsByEffects (started x.fram inputs) es e
     sound : IsSound e
     of_words : StoresWords es
     well : EndsWell (length p.tasks) o
     rows : HasRows (length s.shared) o
-    source : completion_of (attempt_of p s.task s.shared (without_answers inputs.readings)) ≡ completion_of o
+    source : completion_of (attempt_of p s.task s.shared (readings_and run (answers_told es))) ≡ completion_of o
 
-  -- no store is to ANS
-  off_answer : (es : List Effect) → TakesAndStores (Safe run) es → EachStore (IsElsewhere answer_place) es
-  off_answer es h =
+  -- where no events are taken no store is to ANS
+  off_answer : (es : List Effect) → TakesAndStores (Safe run) es → l.runtime.events ≡ false → EachStore (IsElsewhere answer_place) es
+  off_answer es h off =
       let apart = given.apart in
-      stores_each (Safe run) (IsElsewhere answer_place) (λ a w q e. let below = q.below in omega (arith, apart, below, e)) es h
+      stores_each (Safe run) (IsElsewhere answer_place)
+      (λ a w q e. ⊎_elim (λ low. omega (arith, apart, low, e)) (λ counter. let on = counter.events in cc (on, off)) q.below) es h
 
   off_gate : (es : List Effect) → TakesAndStores (Safe run) es → EachStore (IsElsewhere (word_place l Gate)) es
   off_gate es h = stores_each (Safe run) (IsElsewhere (word_place l Gate)) (λ a w q e. q.quiet.gate e) es h
@@ -53,7 +54,7 @@ module _ (run : Started) where
       let fits = emits_fit run in
       stores_each (Safe run) (IsBelowCode l) (λ a w q. record {
         from = q.from;
-        below = let b = q.below in inl (omega (arith, b, c));
+        below = ⊎_elim {C = StoresBelow l l.boot.address a w} (λ b. inl (omega (arith, b, c))) (λ counter. inr counter) q.below;
         list = q.list_length;
         emits = λ e. let few = q.emit_count e in omega (arith, few, fits);
       }) es h
@@ -64,15 +65,15 @@ module _ (run : Started) where
     safe_short : TakesAndStores (Safe run) es
     safe_short = stores_as (StoresOf run) (Safe run) (task_safe run) es h.agrees h.of_words
 
-    answers_none : answers_in model.marks es ≡ []
-    answers_none = none_answered l es (off_answer es safe_short)
+    answers_are : answers_in model.marks es ≡ answers_told es
+    answers_are = answers_seen l es (off_answer es safe_short)
 
     runs_short : RunsShort model s inputs x (program_effects es false)
     runs_short = record {
       is = refl;
       elsewhere = off_gate es safe_short;
       undecided = quiet_through sites view s ver es x (quiet_of run es safe_short h.of_words) (quiet_start run);
-      short = ap (λ answers. whole_task p s (record { readings = inputs.readings; answers = answers })) answers_none ∙ ap (outcome_of s) h.source;
+      short = ap (λ answers. whole_task p s (record { readings = inputs.readings; answers = answers })) answers_are ∙ ap (outcome_of s) h.source;
     }
 
   -- ---- a transition
@@ -106,19 +107,20 @@ module _ (run : Started) where
     abbrev whole : List Effect
     whole = front ++ Store (word_place l Gate) 1 ∷ []
 
-    answers_none : answers_in model.marks whole ≡ []
-    answers_none =
+    answers_are : answers_in model.marks whole ≡ answers_told es
+    answers_are =
         let apart = given.apart in
-        none_answered l whole (each_store-append (IsElsewhere answer_place) front (Store (word_place l Gate) 1 ∷ [])
-        (off_answer front (safe_before run t)) ((λ e. omega (arith, apart, e)), tt))
+        answers_seen l whole (λ off. each_store-append (IsElsewhere answer_place) front (Store (word_place l Gate) 1 ∷ [])
+        (off_answer front (safe_before run t) off) ((λ e. omega (arith, apart, e)), tt))
+        ∙ sym (ap answers_told (effects_are run t))
 
     exact : whole_task p s (given_by model.marks whole) ≡ Ends (next run t) nothing_given
     exact =
-        let r = readings_left_over_lem p s.task s.shared (without_answers inputs.readings) completion h.source in
+        let r = readings_left_over_lem p s.task s.shared (readings_and run (answers_told es)) completion h.source in
         let used : r.0 ≡ readings_taken front = append_cancel_right r.0 (readings_taken front) m.left (sym r.1 ∙ sym reads) in
         let read : readings_taken whole ≡ r.0 ++ [] = sym (ap readings_taken (effects_are run t)) ∙ taken ∙ sym used ∙ sym (append-nil r.0) in
-        (λ j. whole_task p s (record { readings = read j; answers = answers_none j })) ∙ ap (outcome_of s) (r.2 [])
-        ∙ ap (λ answers. Ends (next run t) (record { readings = []; answers = answers })) (r.3 refl)
+        (λ j. whole_task p s (record { readings = read j; answers = answers_are j })) ∙ ap (outcome_of s) (r.2 [])
+        ∙ ap (λ answers. Ends (next run t) (record { readings = []; answers = answers })) h.agrees.answers
 
     decides : Decides model s (next run t) inputs x (program_effects es true)
     decides = record {
@@ -176,8 +178,12 @@ module _ (run : Started) where
   abbrev program : Program
   program = lowered_block here code
 
+  -- the answers that it tells
+  abbrev told : List ℕ
+  told = answers_told (behaviour program (started x.fram inputs)).effects
+
   abbrev attempt : Attempt
-  attempt = fresh_attempt s.shared (without_answers inputs.readings)
+  attempt = fresh_attempt s.shared (readings_and run told)
 
   few_emits : block_emits code ≤ emits_of code
   few_emits = let e = emits_same code in omega (arith, e)
@@ -194,9 +200,10 @@ module _ (run : Started) where
       let b = behaviour program w in
       record {
         -- the program agrees with the attempt from what FRAM has, which comes to what the source's attempt comes to
-        agrees = subst (EndsAs here (bounds run) [] b.effects b.end) (held_runs run)
-            (agree (setting run) code (held_attempt run) [] w refl facts.formed (λ v h. h) (attempt_stands run)
-            (let f = few_emits in omega (arith, f)) (λ v. omega arith));
+        agrees = subst (EndsAs here (bounds run) [] [] b.effects b.end)
+            (ap (λ l. run_block code (answered_by l (held_attempt run))) (append-nil told) ∙ held_runs run told)
+            (agree (setting run) code (held_attempt run) [] w refl facts.formed facts.admits (λ v h. h) (attempt_stands run)
+            (let f = few_emits in omega (arith, f)) (λ v. omega arith) []);
         by_effects = behaves_by_effects program w;
         sound = whole_ends_soundly program x.fram inputs facts.whole;
         of_words = stores_words program w facts.of_words
