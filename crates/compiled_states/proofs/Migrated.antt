@@ -114,6 +114,10 @@ module _ (text : List ℕ) (image : ImageValue) (of : IsImageOf text image) (old
   low_word : (w : RuntimeWord) → f (word_place l w) ≡ g0 (word_place l w)
   low_word w = let below = (stands w).below in let k = apart in steady_low g0 (word_place l w) (omega (arith, below, k))
 
+  -- the image's own word is off the ring, too
+  image_word : (w : RuntimeWord) → steady (fram_of image.words) (word_place l w) ≡ fram_of image.words (word_place l w)
+  image_word w = let below = (stands w).below in let k = apart in steady_low (fram_of image.words) (word_place l w) (omega (arith, below, k))
+
   current : f (word_place l CurrentTask) ≡ task
   current =
       let a = word_place l CurrentTask in
@@ -176,8 +180,10 @@ module _ (text : List ℕ) (image : ImageValue) (of : IsImageOf text image) (old
         record {
           code = keeps_code text image of t code_words;
           capacities = record {
-            list = (let here = runtime_word ListLength (λ e. omega (arith, e)) (λ e. omega (arith, e)) in let most = k.list in omega (arith, here, most));
-            emits = (let here = runtime_word EmitCount (λ e. omega (arith, e)) (λ e. omega (arith, e)) in let most = k.emits in omega (arith, here, most));
+            list = (let here = runtime_word ListLength (λ e. omega (arith, e)) (λ e. omega (arith, e)) in let there = image_word ListLength in
+                let most = k.list in omega (arith, here, there, most));
+            emits = (let here = runtime_word EmitCount (λ e. omega (arith, e)) (λ e. omega (arith, e)) in let there = image_word EmitCount in
+                let most = k.emits in omega (arith, here, there, most));
             versions = rests_there.versions;
           };
           sound = SoundAtRest rests_there;

@@ -1,4 +1,7 @@
--- The image of an accepted source without events suits it.
+-- The image of an accepted source suits it.
+use Rattle.compiled_states.proofs.Names.{Bool, true, false, if◌then◌else◌, None}
+use Rattle.std.specs.Prelude.{is_some}
+use Rattle.source_maps.specs.Maps.{event_ring}
 use Rattle.compiled_states.proofs.Names.{◌≡◌, ℕ, suc, List, [], ◌∷◌, length, map, Some, refl, sym, ap, ap₂, ◌∙◌, arith, slice_get}
 use Rattle.compiled_states.proofs.Names.{SharedDeclaration, CheckedTask, TaskPlanValue, VariablePlace, TaskPlace}
 use Rattle.compiled_states.proofs.Names.{IsTaskLayout, TaskValue, variables_of, shared_name, task_value_of, tasks_of}

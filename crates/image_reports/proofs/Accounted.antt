@@ -1,10 +1,9 @@
 -- Each event that arose is accounted for at each front of a run.
-use Rattle.image_reports.proofs.Names.{◌≡◌, ◌+◌, ℕ, sym, ap, subst, List, [], ◌∷◌, Option, BoardValue, Moment, last_board, AreMoments, Instructs, IsMomentFrom, PowersUp}
+use Rattle.image_reports.proofs.Names.{◌≡◌, ℕ, sym, subst, List, [], ◌∷◌, Option, BoardValue, Moment, last_board, AreMoments, Instructs, IsMomentFrom, PowersUp}
 use Rattle.fram_board.specs.declared.board.NextStep.{NextStep}
 use Rattle.fram_board.specs.declared.board.NextStep.TheVariants as next_step
 use Rattle.fram_board.specs.declared.board.Stepped.{Stepped}
 use Rattle.fram_board.specs.Board.{performed}
-use Rattle.fram_board.specs.Events.{words_heard}
 use Rattle.fram_board.specs.Run.{moment_of, power_up_of}
 use Rattle.fram_board.proofs.Interface.{AreCounted, IsCountedLine, step_counts, boundary_counts, power_up_counts}
 use Rattle.board_run.specs.Events.{Hand, hand_behind, hand_after, words_known}

@@ -4,10 +4,12 @@ use Rattle.image_reports.proofs.Names.{fresh, started, BoardCharge, RunOutcome, 
 use Rattle.image_reports.proofs.Names.{first_state, first_history, Origin, Resting, StandsFor, Begins, runs_may_begin, outside_of, ArePowerStates}
 use Rattle.image_reports.proofs.Names.{IsPlacedProgram, IsRunOfWords, MemoryMap, compiled_model, source_code, compiled_program, code_keeps_the_laws}
 use Rattle.image_reports.proofs.Names.{code_is_placed, runs_leave_the_code, BearsModel, map_of, IsCompiled, fresh_world, IsFreshImage, IsReadyToRun}
-use Rattle.image_reports.proofs.Names.{runtime_marks, world_with, KeepsCode, steady, Bool, true, false, if◌then◌else◌, ◌==◌, ap, nat_tests, eqb-true, slice_index, place_of}
+use Rattle.image_reports.proofs.Names.{runtime_marks, world_with, KeepsCode, steady, Bool, true, false, if◌then◌else◌, ◌==◌, ap, eqb-true, slice_index, place_of}
 use Rattle.std.proofs.Common.{◌&&◌, inr}
 use Rattle.std.proofs.Math.Path.{fun_ext}
-use Rattle.event_places.specs.Places.{is_ring}
+use Rattle.event_places.specs.Places.{answer_place, is_ring}
+use Rattle.std.specs.Prelude.{None, Some, nat_le, nat_lt}
+use Rattle.std.proofs.lemmas.Bool.{and_parts, leb-true, ltb-true}
 use Rattle.fram_board.specs.Bus.{is_fram}
 use Rattle.source_runs.specs.Transitions.{HasWordsOf}
 use Rattle.energy_trace.specs.TraceValue.{Event}
@@ -21,6 +23,11 @@ holds_as f g (w ∷ ws) a e h k = (
   h a e (omega arith) (omega arith) ∙ k.0,
   holds_as f g ws (a + 2) (omega (arith, e)) (λ b even from to. h b even (omega (arith, from)) (omega (arith, to))) k.1,
 )
+
+-- where there is no ANS there are no events
+pub marked_by : (events : Bool) → (if events then Some answer_place else None) ≡ None → events ≡ false
+marked_by true e = absurd (cc e)
+marked_by false e = refl
 
 -- an image with the words of FRAM, of which the code's are the image's; the number that the receiver takes next, and the words that it
 -- accepted; and how a run goes on there
@@ -77,26 +84,28 @@ module _ (at : Beginning) where
           placed = subst P (sym (code.vector ∙ new.vector)) (code_is_placed p l new.fits);
           holds = stands_there;
           handler = code.handler;
+          marked = marked_by l.runtime.events;
           leaves = runs_leave_the_code p l ready.code ready.model ready.stores readings origin first_world (outside_of first_board) begins;
         };
       }
 
 -- ---- the fresh board
 
-module _ (text : List ℕ) (p : CheckedProgram) (allow : Allow) (image : ImageValue) (c : IsCompiled text p allow image) (readings : List ℕ)
-    (events : List Event) (inputs : AreInputs readings events) (ready : IsReadyToRun p c.layout) (new : IsFreshImage text p allow c.layout image) where
+module _ (text : List ℕ) (p : CheckedProgram) (allow : Allow) (image : ImageValue) (c : IsCompiled text p allow image) (ready : IsReadyToRun p c.layout)
+    (new : IsFreshImage text p allow c.layout image) where
   -- HEAD and the ring are 0 at first
   word_by : (c : Bool) (w : ℕ) → (c ≡ true → w ≡ 0) → w ≡ (if c then 0 else w)
   word_by true w h = h refl
   word_by false w h = refl
 
-  fram_is : fram_of image.words ≡ steady (fram_of image.words)
+  pub fram_is : fram_of image.words ≡ steady (fram_of image.words)
   fram_is = fun_ext (λ a. word_by (is_ring a) (fram_of image.words a) (λ of. ring_is_empty a of))
     where
       ring_is_empty : (a : ℕ) → is_ring a ≡ true → fram_of image.words a ≡ 0
       ring_is_empty a of =
-          let from : 0xFF6E ≤ a = grind (arith, nat_tests, of) in
-          let below : a < 0xFFF0 = grind (arith, nat_tests, of) in
+          let bounds = and_parts (nat_le 0xFF6E a) (nat_lt a 0xFFF0) of in
+          let from : 0xFF6E ≤ a = leb-true 0xFF6E a bounds.0 in
+          let below : a < 0xFFF0 = ltb-true a 0xFFF0 bounds.1 in
           by (a % 2 == 0) refl from below
         where
           by : (even : Bool) → (a % 2 == 0) ≡ even → 0xFF6E ≤ a → a < 0xFFF0 → fram_of image.words a ≡ 0
@@ -121,6 +130,8 @@ module _ (text : List ℕ) (p : CheckedProgram) (allow : Allow) (image : ImageVa
       let P : (ℕ → ℕ) → Type 0 = λ f. KeepsCode p c.layout image f in
       subst P fram_is (record { code = λ a even from to. refl; vector = refl; handler = new.handler })
 
+module _ (text : List ℕ) (p : CheckedProgram) (allow : Allow) (image : ImageValue) (c : IsCompiled text p allow image) (readings : List ℕ)
+    (events : List Event) (inputs : AreInputs readings events) (ready : IsReadyToRun p c.layout) (new : IsFreshImage text p allow c.layout image) where
   abbrev pub at_first : Beginning
   at_first = record {
     text = text;
@@ -134,12 +145,13 @@ module _ (text : List ℕ) (p : CheckedProgram) (allow : Allow) (image : ImageVa
     number = 0;
     before = [];
     counted = refl;
-    code = own_code;
+    code = own_code text p allow image c ready new;
     origin = Resting (first_state p);
     readings = readings;
     events = events;
     inputs = inputs;
-    begun = (runs_may_begin (compiled_model p c.layout) ready.model readings).resting (first_state p) (world_with image.words []) undecided;
+    begun = (runs_may_begin (compiled_model p c.layout) ready.model readings).resting (first_state p) (world_with image.words [])
+        (undecided text p allow image c ready new);
   }
 
   pub begins_with_source : BeginsWithSource p (map_of text p c.layout allow) (compiled_model p c.layout) (compiled_program p c.layout)
@@ -147,8 +159,8 @@ module _ (text : List ℕ) (p : CheckedProgram) (allow : Allow) (image : ImageVa
   begins_with_source = record {
     bears = bears at_first;
     starts = record { fram = refl; accepted = refl; taken = refl; heard = refl };
-    undecided = undecided;
-    words = subst (λ x. HasWordsOf (map_of text p c.layout allow) x (first_state p)) fresh_is new.has_words;
+    undecided = undecided text p allow image c ready new;
+    words = subst (λ x. HasWordsOf (map_of text p c.layout allow) x (first_state p)) (fresh_is text p allow image c ready new) new.has_words;
   }
 
 -- ---- runs

@@ -1,5 +1,5 @@
 -- A run of a compiled source is told by the source.
-use Rattle.image_reports.proofs.Names.{◌≡◌, ◌∙◌, Bool, true, false, Option, Some, None, refl, sym, ap, ap₂, subst, Program, MemoryMap, compiled_model}
+use Rattle.image_reports.proofs.Names.{◌≡◌, ◌∙◌, Bool, true, false, Some, None, refl, sym, ap, ap₂, Program, MemoryMap, compiled_model}
 use Rattle.image_reports.proofs.Names.{bound_is_the_sources, runs_are_told}
 use Rattle.source_maps.specs.Maps.{event_ring, map_ring}
 use Rattle.event_places.specs.Places.{answer_place}

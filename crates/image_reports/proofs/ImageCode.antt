@@ -3,7 +3,7 @@ use Rattle.image_reports.proofs.Names.{◌≡◌, ℕ, zero, suc, ◌+◌, ◌*�
 use Rattle.image_reports.proofs.Names.{List, [], ◌∷◌, length, length-append, Option, Some, None, slice_index, nat_tests, encoding, IsInstruction, place_of}
 use Rattle.image_reports.proofs.Names.{BoardValue, opened, Effect, StepOutcome, Goes, Stops, At, Halted, going, continued, MachineBoard, Code, standing}
 use Rattle.image_reports.proofs.Names.{undisturbed, exec}
-use Rattle.image_reports.proofs.Names.{fram_of, is_fram_address, placed_at, words_of, Holds, AreInstructions, Marks, History, observe, behind_boot, Program}
+use Rattle.image_reports.proofs.Names.{fram_of, is_fram_address, placed_at, words_of, Holds, AreInstructions, Marks, History, Program}
 use Rattle.image_reports.proofs.Names.{Charge, Charged, IsPoweredFrom}
 use Rattle.msp_step.specs.declared.machine.Stop.TheVariants as stop
 use Rattle.msp_isa.specs.declared.instructions.Instr.{Instr}

@@ -1,11 +1,11 @@
 -- Each run of an image of an accepted text keeps the laws.
-use Rattle.image_reports.proofs.Names.{ℕ, refl, subst, arith, List, ImageValue, BoardValue, fresh, Moment, last_board, CheckedProgram, State, first_state}
+use Rattle.image_reports.proofs.Names.{ℕ, subst, arith, List, ImageValue, BoardValue, fresh, Moment, last_board, CheckedProgram, State, first_state}
 use Rattle.image_reports.proofs.Names.{MemoryMap, Model, History, Resting, trace_inputs, traces_are_few, stops_where_short, SoundAtRest, compiled_model}
 use Rattle.image_reports.proofs.Names.{is_redo, false, map_of, word_place, CurrentTask, Allow, IsCompiled, IsAcceptedText, IsTaskWithin, cost_of, state_within}
 use Rattle.image_reports.proofs.Names.{KeepsCapacities, compiled_program, sources_are_ready, [], world_with, laid_out, images_are_fresh, known_behind, KeepsCode}
 use Rattle.image_reports.proofs.Names.{HoldsAt, ImagesKeepTheLaws, ImagesAreTold, ImagesKeepCapacities, HoldsFrom, ImagesBelong}
 use Rattle.board_run.specs.Charges.{charges_of}
-use Rattle.image_reports.proofs.Begins.{at_first, bears, own_code, rests, run_of_words}
+use Rattle.image_reports.proofs.Begins.{at_first, bears, fram_is, own_code, rests, run_of_words}
 use Rattle.image_reports.proofs.Capacities.{fresh_capacities}
 use Rattle.image_reports.proofs.CompiledTold.{models_are_of_sources}
 use Rattle.image_reports.proofs.Told.{source, runs_are_told}
@@ -21,7 +21,7 @@ images_belong text p allow image ok c =
     let cur = o.current_task in let task = o.is_task in
     record {
       code = own_code text p allow image c ready new;
-      capacities = fresh_capacities text p allow image ok c;
+      capacities = subst (λ f. KeepsCapacities c.layout f) (fram_is text p allow image c ready new) (fresh_capacities text p allow image ok c);
       sound = SoundAtRest (record { words = o.words; current_task = omega (arith, cur, task); gate = o.gate; base = o.base; versions = o.versions });
     }
 

@@ -1,12 +1,13 @@
 -- What the map of a source names of a run's report stands in front of the handler.
-use Rattle.image_reports.proofs.Names.{◌≡◌, ◌<◌, ◌≤◌, ◌+◌, ◌*◌, ℕ, Bool, true, false, sym, ap, arith, List, [], ◌∷◌, All, Option, Some, None, map_of, Allow}
-use Rattle.image_reports.proofs.Names.{CheckedProgram, MemoryMap, word_place, Gate, CurrentTask}
+use Rattle.image_reports.proofs.Names.{◌≡◌, ◌<◌, ◌≤◌, ◌+◌, ◌*◌, ℕ, Bool, true, false, sym, ap, arith, List, [], ◌∷◌, All, Some, None, map_of, Allow}
+use Rattle.image_reports.proofs.Names.{CheckedProgram, MemoryMap, Gate, CurrentTask}
 use Rattle.std.specs.Prelude.{if◌then◌else◌, map, IfSome}
 use Rattle.task_ast.specs.declared.SharedDeclaration.{SharedDeclaration}
 use Rattle.task_ast.specs.declared.Extent.{Extent}
 use Rattle.task_ast.specs.declared.Extent.TheVariants as extent
 use Rattle.task_ast.specs.declared.WordType.{WordType}
 use Rattle.task_ast.specs.declared.WordType.TheVariants as word
+use Rattle.image_map.specs.declared.parts.Variable.{Variable}
 use Rattle.image_map.specs.MapValue.{word_count}
 use Rattle.event_places.specs.Places.{handler_place}
 use Rattle.memory_map.specs.declared.place.VariablePlace.{VariablePlace}
@@ -15,7 +16,8 @@ use Rattle.memory_map.specs.Places.{AreInOrder, end_of, home_region, scalar_word
 use Rattle.memory_map.proofs.Interface.{in_order_end, parts_in_fram, words_stand}
 use Rattle.model_runs.specs.Events.{IsInFront}
 use Rattle.source_runs.specs.Naming.{length_of}
-use Rattle.source_maps.specs.Maps.{event_ring, value_type_of, variables_of}
+use Rattle.source_maps.specs.Maps.{event_ring, value_type_of, variable_of, variables_of}
+use Rattle.std.proofs.lemmas.List.Elements.{All-nil, All-cons}
 use Rattle.source_maps.specs.Placing.{ArePlacesOf, IsOfKind}
 
 -- a variable of a map has the words of its place
@@ -30,17 +32,22 @@ words_are w (extent.Long n) (Array elements length copies) h = absurd h
 words_are w (extent.Array n) (Scalar home copy width) h = absurd h
 words_are w (extent.Array n) (Array elements length copies) h = sym h
 
+-- a variable ends in front of the handler
+abbrev Ends : Variable → Type 0
+Ends v = v.address + 2 * word_count v.value_type v.length ≤ handler_place
+
 -- the words of variables end where their places do
 variables_end : (text : List ℕ) (ds : List SharedDeclaration) (places : List VariablePlace) (from end : ℕ) → ArePlacesOf ds places
     → AreInOrder from (map home_region places) end → end ≤ handler_place
-    → All (λ v. v.address + 2 * word_count v.value_type v.length ≤ handler_place) (variables_of text ds places)
-variables_end text [] [] from end kinds order low = tt
+    → All Ends (variables_of text ds places)
+variables_end text [] [] from end kinds order low = All-nil Ends
 variables_end text [] (place ∷ places) from end kinds order low = absurd kinds
 variables_end text (d ∷ ds) [] from end kinds order low = absurd kinds
 variables_end text (d ∷ ds) (place ∷ places) from end kinds order low =
     let size = words_are d.word_type d.extent place kinds.0 in
     let behind = in_order_end (end_of (home_region place)) (map home_region places) end order.1 in
-    (omega (arith, size, behind, low), variables_end text ds places (end_of (home_region place)) end kinds.1 order.1 low)
+    All-cons Ends (variable_of text d place) (variables_of text ds places) (omega (arith, size, behind, low))
+    (variables_end text ds places (end_of (home_region place)) end kinds.1 order.1 low)
 
 ring_in_front : (events : Bool) → IfSome (if events then Some event_ring else None) (λ ring. ring.answer < handler_place)
 ring_in_front true = omega arith

@@ -14,7 +14,9 @@ use Rattle.image_reports.proofs.Names.{phase_keeps_versions, capacities_are_kept
 use Rattle.image_reports.proofs.Names.{power_ups_raise_version, scripts_store_below, at_first, EachChargePays, runtime_marks, VersionsBelow, KeepsCode}
 use Rattle.image_reports.proofs.Names.{IsRaisedSoon, RaisesVersion, BelongsTo, known_from, HoldsFrom}
 use Rattle.std.proofs.lemmas.Bool.{and_parts}
-use Rattle.event_places.specs.Places.{is_ring}
+use Rattle.event_places.specs.Places.{answer_place, is_ring}
+use Rattle.std.specs.Prelude.{if◌then◌else◌, None}
+use Rattle.stands_for.specs.Program.{answer_word}
 use Rattle.msp_isa.specs.declared.instructions.Instr.{Instr}
 use Rattle.msp_step.specs.Registers.{registers_of}
 use Rattle.msp_step.specs.Step.{is_interruptible, off_bit}
@@ -42,7 +44,7 @@ use Rattle.run_charges.proofs.Interface.{follows_keeps, are_behind, front_moment
 use Rattle.run_charges.proofs.Interface.{sees, reach, leads, reached_on, powered_there, Counts, moments_count}
 use Rattle.board_run.specs.Events.{NeverReads, hand_after, head_of, no_hand}
 use Rattle.model_runs.specs.EventLaws.{StartsWith}
-use Rattle.model_runs.proofs.Interface.{moments_wait, never_reads, programs_run, runs_alone}
+use Rattle.model_runs.proofs.Interface.{moments_wait, never_reads, runs_so, runs_alone}
 use Rattle.memory_map.specs.declared.runtime.Logging.{Logging}
 use Rattle.memory_map.specs.declared.runtime.Role.{Role}
 use Rattle.compiled_model.specs.Parts.{start_of as start_due}
@@ -50,7 +52,7 @@ use Rattle.image_reports.specs.ImageLaw.{InCode, AtAcceptance, InHandler}
 use Rattle.image_reports.proofs.Begins.{holds_as, Beginning, first_world, first_board, begins, bears}
 use Rattle.image_reports.proofs.HandlerWords.{stage_holds}
 use Rattle.image_reports.proofs.Accounted.{moments_account}
-use Rattle.image_reports.proofs.Cuts.{CutAtPower, Uncut, Cut, cut_at_power, no_power, last-append, none_serves, OwnPart, own_part, ring_stays}
+use Rattle.image_reports.proofs.Cuts.{CutAtPower, Uncut, Cut, cut_at_power, no_power, last-append, none_serves, own_part, ring_stays}
 use Rattle.image_reports.proofs.Cuts.{encoding_has_words, prepared_bounds, handler_is_closed}
 use Rattle.image_reports.proofs.Capacities.{attempts_fit}
 use Rattle.image_reports.proofs.CompiledTold.{models_are_of_sources}
@@ -128,14 +130,17 @@ module _ (onward : Onward) where
 
   -- it is one of the program and its handler
   own : IsProgramRun cs b r
-  own = programs_run model program readings origin x b bearing cs r run
+  own = runs_so model program readings origin x b bearing cs r run
 
   -- where the source takes no events the handler never runs, and nothing is read of EVENT
+  no_answer : l.runtime.events ≡ false → answer_word l ≡ None
+  no_answer off = ap (λ e. if e then Some answer_place else None) off
+
   alone : l.runtime.events ≡ false → NoneServes r.moments
-  alone off = runs_alone model program readings origin x b bearing cs r run off
+  alone off = runs_alone model program readings origin x b bearing (no_answer off) cs r run
 
   pub unheard : l.runtime.events ≡ false → NeverReads r
-  unheard off = never_reads model program readings origin x b bearing cs r run off refl
+  unheard off = never_reads model program readings origin x b bearing (no_answer off) cs r run refl
 
   -- a charge stops for want of a reading alone, wherever charges lead
   stops_at_readings : StopsAtReadings program (runtime_marks l) (outside_of b) first
@@ -221,8 +226,8 @@ module _ (onward : Onward) where
 
   -- before the first power-up
   none_yet : (ns : List Moment) → BeginWithPower ns → AreInstructionMoments ns → Standing (last_board b ns)
-  none_yet [] begins are = standing_first
-  none_yet (m ∷ ns) begins are = absurd (no_power m.action begins are.0)
+  none_yet [] by_power are = standing_first
+  none_yet (m ∷ ns) by_power are = absurd (no_power m.action by_power are.0)
 
   standing_cut : (ms rest : List Moment) → r.moments ≡ ms ++ rest → CutAtPower ms → Standing (last_board b ms)
   standing_cut ms rest e (Uncut instructions) = none_yet ms (run_front cs b r ms rest own e).begins instructions
@@ -408,7 +413,7 @@ module _ (onward : Onward) where
           accepted = sent_once model ready.model readings origin h lawful.stands;
           sent = λ to is none.
               let P : Origin State → Type 0 = λ o. Begins model readings o x (outside_of b) in
-              pending_sends model program ready.model bearing.program readings to (outside_of t) h
+              pending_sends model program ready.model bearing.program readings to at.end h
               (record { world = x; start = outside_of b; begins = subst P is (begins beginning); charges = at.charges; leads = at.charged }) none;
           versions = λ made.
               let P : (ℕ → ℕ) → Type 0 = λ f. VersionsBelow l f in

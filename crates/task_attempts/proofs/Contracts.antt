@@ -67,15 +67,15 @@ module _ (run : Started) where
     safe_short : TakesAndStores (Safe run) es
     safe_short = stores_as (StoresOf run) (Safe run) (task_safe run) es h.agrees h.of_words
 
-    answers_are : answers_in model.marks es ≡ answers_told es
-    answers_are = answers_seen l es (off_answer es safe_short)
+    answers_so_far : answers_in model.marks es ≡ answers_told es
+    answers_so_far = answers_seen l es (off_answer es safe_short)
 
     runs_short : RunsShort model s inputs x (program_effects es false)
     runs_short = record {
       is = refl;
       elsewhere = off_gate es safe_short;
       undecided = quiet_through sites view s ver es x (quiet_of run es safe_short h.of_words) (quiet_start run);
-      short = ap (λ answers. whole_task p s (record { readings = inputs.readings; answers = answers })) answers_are ∙ ap (outcome_of s) h.source;
+      short = ap (λ answers. whole_task p s (record { readings = inputs.readings; answers = answers })) answers_so_far ∙ ap (outcome_of s) h.source;
     }
 
   -- ---- a transition
