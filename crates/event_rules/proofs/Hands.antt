@@ -1,7 +1,7 @@
 -- The word in hand over one moment of a charge.
-use Rattle.std.proofs.Common.{◌≡◌, ◌+◌, ◌<◌, ◌==◌, if◌then◌else◌, arith, ℕ, refl, sym, ap, ◌∙◌, subst, Bool, true, false, List, [], ◌∷◌, ◌++◌}
-use Rattle.std.proofs.Common.{◌⊎◌, inl, inr, Option, Some, None, Ok, length, ne_eqb, eq-eqb}
-use Rattle.event_places.specs.Places.{head_place, tail_place, ring_slots, slot_place}
+use Rattle.std.proofs.Common.{◌≤◌, ◌≡◌, ◌+◌, ◌<◌, ◌==◌, if◌then◌else◌, arith, ℕ, refl, sym, ap, ◌∙◌, subst, Bool, true, false, List, [], ◌∷◌, ◌++◌}
+use Rattle.std.proofs.Common.{append-nil, ◌⊎◌, inl, inr, Option, Some, None, Ok, length, ne_eqb, eq-eqb}
+use Rattle.event_places.specs.Places.{handler_place, head_place, tail_place, ring_slots, slot_place}
 use Rattle.msp_isa.specs.declared.instructions.Instr.{Instr}
 use Rattle.msp_cycles.specs.Cycles.{cycles_of}
 use Rattle.msp_step.specs.alp_words.Words.{word_sum, word_difference}
@@ -48,10 +48,16 @@ abbrev pub held : Option (BoardValue × Stage) → Option ℕ
 held None = None
 held (Some x) = held_at x.0 x.1
 
--- a hand behind a moment
-pub record Behind (m : Moment) (h : Hand) (word : Option ℕ) (behind : Hand) : Type 0 where
+-- the word that an instruction of the handler makes accepted
+abbrev pub stored_at : BoardValue → Stage → List ℕ
+stored_at from RaiseHead = event_of from ∷ []
+stored_at from _ = []
+
+-- a hand behind a moment: what it holds then, and what was accepted in it
+pub record Behind (m : Moment) (h : Hand) (word : Option ℕ) (more : List ℕ) (behind : Hand) : Type 0 where
   pub holds : behind.word ≡ word
   pub keeps : KeepsHand m h behind
+  pub exact : behind.accepted ≡ h.accepted ++ more
 
 -- a word of HEAD, by the list of FRAM or by addresses
 head_word : (xs : List ℕ) → word_in xs head_place ≡ fram_of xs head_place
@@ -87,8 +93,12 @@ returned true h none = record {
 returned false h none = record { word = refl; lost = refl; accepted = refl }
 
 -- behind a step that does so
-same_behind : (m : Moment) (h k : Hand) (word : Option ℕ) → h.word ≡ word → SameHand h k → Behind m h word k
-same_behind m h k word is same = record { holds = same.word ∙ is; keeps = record { lost = inl same.lost; accepted = inl same.accepted } }
+same_behind : (m : Moment) (h k : Hand) (word : Option ℕ) → h.word ≡ word → SameHand h k → Behind m h word [] k
+same_behind m h k word is same = record {
+  holds = same.word ∙ is;
+  keeps = record { lost = inl same.lost; accepted = inl same.accepted };
+  exact = same.accepted ∙ sym (append-nil h.accepted);
+}
 
 -- a step of this kind on a board
 module _ (m : Moment) (kind : StepKind) (done : Stepped) (offered : Option ℕ) (is : m.action ≡ Execute kind done offered) (h : Hand) where
@@ -106,39 +116,43 @@ module _ (m : Moment) (kind : StepKind) (done : Stepped) (offered : Option ℕ) 
   quiet_is none same = hand_is ∙ ap (λ l. handed_all l h) (ends_quiet done.heard was now (is_return kind) none same)
 
   -- with nothing in hand
-  empty_hand : done.heard ≡ heard.Nothing → now ≡ was → h.word ≡ None → Behind m h None (hand_behind (Some head_place) m h)
+  empty_hand : done.heard ≡ heard.Nothing → now ≡ was → h.word ≡ None → Behind m h None [] (hand_behind (Some head_place) m h)
   empty_hand none same empty =
-      let P : Hand → Type 0 = λ k. Behind m h None k in
+      let P : Hand → Type 0 = λ k. Behind m h None [] k in
       subst P (sym (quiet_is none same)) (same_behind m h _ None empty (returned (is_return kind) h empty))
 
   -- or with something, where it isn't a return
   full_hand : (word : Option ℕ) → done.heard ≡ heard.Nothing → now ≡ was → is_return kind ≡ false → h.word ≡ word
-      → Behind m h word (hand_behind (Some head_place) m h)
+      → Behind m h word [] (hand_behind (Some head_place) m h)
   full_hand word none same plain holds =
-      let P : Hand → Type 0 = λ k. Behind m h word k in
+      let P : Hand → Type 0 = λ k. Behind m h word [] k in
       subst P (sym (quiet_is none same ∙ ap (λ (c : Bool). handed_all (return_ends c) h) plain))
       (same_behind m h h word holds (record { word = refl; lost = refl; accepted = refl }))
 
--- the program's own instruction leaves HEAD
-own_head : (b : BoardValue) (i : Instr) (done : Stepped) → (executed b i).answer ≡ Ok done → IsPrograms b i
-    → word_in (at_boundary (executed b i).board).fram head_place ≡ word_in b.fram head_place
-own_head b i done answer own =
+-- the program's own instruction leaves HEAD and the ring
+pub own_high : (b : BoardValue) (i : Instr) (done : Stepped) → (executed b i).answer ≡ Ok done → IsPrograms b i → (a : ℕ) → handler_place ≤ a
+    → fram_of (at_boundary (executed b i).board).fram a ≡ fram_of b.fram a
+own_high b i done answer own =
     let s = machine_with (looks_at b i) b in
     let fs = look_effects (looks_at b i) ++ effects_of b (executed b i) in
     let goes : code_executed s i ≡ Goes fs done.cycles (machine_with [] (executed b i).board) =
     own.step ∙ ap (λ y. outcome_of_answer fs (cycles_of i) y (machine_with [] (executed b i).board)) answer in
     let keeps : KeepsTheHandler s (Goes fs done.cycles (machine_with [] (executed b i).board)) =
     subst (λ (o : MachineOutcome). KeepsTheHandler s o) goes (standing_keeps (Some i) s) in
-    keeps head_place (omega arith)
+    keeps
+
+own_head : (b : BoardValue) (i : Instr) (done : Stepped) → (executed b i).answer ≡ Ok done → IsPrograms b i
+    → word_in (at_boundary (executed b i).board).fram head_place ≡ word_in b.fram head_place
+own_head b i done answer own = own_high b i done answer own head_place (omega arith)
 
 raised_other : (n : ℕ) → n < 0x10000 → word_sum n 1 ≡ n → ⊥
 raised_other n l e = omega (arith, l, e)
 
 -- HEAD behind an instruction of the handler
-no_slot : (index : ℕ) → head_place ≡ slot_place index → ⊥
+pub no_slot : (index : ℕ) → head_place ≡ slot_place index → ⊥
 no_slot index e = omega (arith, e)
 
-event_head : (from : BoardValue) → with_event from head_place ≡ head_of from
+pub event_head : (from : BoardValue) → with_event from head_place ≡ head_of from
 event_head from = put_other (fram_of from.fram) (slot_place (head_of from)) (event_of from) head_place (no_slot (head_of from))
 
 abbrev head_at : BoardValue → Option Stage → ℕ
@@ -180,14 +194,14 @@ module _ (from : BoardValue) (interrupted : IsInterrupted from) (b : BoardValue)
   quiet : (at : Stage) (offered : Option ℕ) (word : Option ℕ) → IsInHandler from at b → IsBehind from (next_stage from at) (after at)
       → done.heard ≡ heard.Nothing → head_at from (next_stage from at) ≡ fram_at from at head_place
       → kind_of (next_step.Instruction (instruction_at at)) ≡ Plain → h.word ≡ word
-      → Behind (moment at) h word (hand_behind (Some head_place) (moment at) h)
+      → Behind (moment at) h word [] (hand_behind (Some head_place) (moment at) h)
   quiet at offered word inside behind none same plain holds =
       full_hand (moment at) (kind_of (next_step.Instruction (instruction_at at))) done (executed b (instruction_at at)).offered refl h word none
       (behind_head from (next_stage from at) (after at) behind ∙ same ∙ sym (head_before at inside)) (ap is_return plain) holds
 
   -- the one that takes the event
   takes : IsInHandler from TakeEvent b → done.heard ≡ heard.Once from.line.port → IsBehind from (Some LoadHead) (after TakeEvent) → h.word ≡ None
-      → Behind (moment TakeEvent) h from.line.port (hand_behind (Some head_place) (moment TakeEvent) h)
+      → Behind (moment TakeEvent) h from.line.port [] (hand_behind (Some head_place) (moment TakeEvent) h)
   takes inside once behind empty =
       let m = moment TakeEvent in
       let was = word_in b.fram head_place in
@@ -198,12 +212,12 @@ module _ (from : BoardValue) (interrupted : IsInterrupted from) (b : BoardValue)
       ∙ ap (λ (r : Heard). handed_all (ends r was now false) h) once
       ∙ ap (λ (l : List HandEnd). handed_all (Reads from.line.port ∷ (l ++ [])) h) (change_same was now same) in
       let lost : h.lost + length (word_list h.word) ≡ h.lost = ap (λ (o : Option ℕ). h.lost + length (word_list o)) empty ∙ (let e : h.lost + 0 ≡ h.lost = omega arith in e) in
-      let P : Hand → Type 0 = λ k. Behind m h from.line.port k in
-      subst P (sym all) (record { holds = refl; keeps = record { lost = inl lost; accepted = inl refl } })
+      let P : Hand → Type 0 = λ k. Behind m h from.line.port [] k in
+      subst P (sym all) (record { holds = refl; keeps = record { lost = inl lost; accepted = inl refl }; exact = sym (append-nil h.accepted) })
 
   -- the one that raises HEAD
   raises : IsInHandler from RaiseHead b → done.heard ≡ heard.Nothing → IsBehind from (Some RestoreR5) (after RaiseHead) → h.word ≡ from.line.port
-      → Behind (moment RaiseHead) h (if full then from.line.port else None) (hand_behind (Some head_place) (moment RaiseHead) h)
+      → Behind (moment RaiseHead) h (if full then from.line.port else None) (event_of from ∷ []) (hand_behind (Some head_place) (moment RaiseHead) h)
   raises inside none behind holds =
       let m = moment RaiseHead in
       let was = word_in b.fram head_place in
@@ -226,23 +240,24 @@ module _ (from : BoardValue) (interrupted : IsInterrupted from) (b : BoardValue)
       ∙ ap (λ f. f (slot_place (head_of from))) raised
       ∙ put_other (with_event from) head_place _ (slot_place (head_of from)) (λ e. no_slot (head_of from) (sym e))
       ∙ put_same (fram_of from.fram) (slot_place (head_of from)) (event_of from) in
-      let P : Hand → Type 0 = λ k. Behind m h (if full then from.line.port else None) k in
+      let P : Hand → Type 0 = λ k. Behind m h (if full then from.line.port else None) (event_of from ∷ []) k in
       subst P (sym all) (record {
         holds = sym (ap (λ (c : Bool). if c then from.line.port else None) room);
         keeps = record { lost = inl refl; accepted = inr (ap (λ l. h.accepted ++ l) (is_event ∙ ap (λ w. w ∷ []) (sym slot))) };
+        exact = ap (λ l. h.accepted ++ l) is_event;
       })
 
   -- and the return
   returns_so : IsInHandler from Return b → done.heard ≡ heard.Nothing → IsBehind from None (after Return) → h.word ≡ (if full then from.line.port else None)
-      → Behind (moment Return) h None (hand_behind (Some head_place) (moment Return) h)
+      → Behind (moment Return) h None [] (hand_behind (Some head_place) (moment Return) h)
   returns_so inside none behind holds =
       let m = moment Return in
       let same : word_in (after Return).fram head_place ≡ word_in b.fram head_place =
       behind_head from None (after Return) behind ∙ sym (head_before Return inside) in
       let all : hand_behind (Some head_place) m h ≡ losing h =
       quiet_is m Returning done (executed b (instruction_at Return)).offered refl h none same in
-      let P : Hand → Type 0 = λ k. Behind m h None k in
-      subst P (sym all) (record { holds = refl; keeps = record { lost = by full refl; accepted = inl refl } })
+      let P : Hand → Type 0 = λ k. Behind m h None [] k in
+      subst P (sym all) (record { holds = refl; keeps = record { lost = by full refl; accepted = inl refl }; exact = sym (append-nil h.accepted) })
     where
       by : (c : Bool) → is_ring_full from ≡ c → (h.lost + length (word_list h.word) ≡ h.lost) ⊎ (is_ring_full b ≡ true)
       by true e =
@@ -253,7 +268,7 @@ module _ (from : BoardValue) (interrupted : IsInterrupted from) (b : BoardValue)
           inl (ap (λ (o : Option ℕ). h.lost + length (word_list o)) empty ∙ (let n : h.lost + 0 ≡ h.lost = omega arith in n))
 
   stage_hand : (at : Stage) → IsInHandler from at b → done.heard ≡ heard_at from at → IsBehind from (next_stage from at) (after at) → h.word ≡ held_at from at
-      → Behind (moment at) h (held (stage_behind from (next_stage from at))) (hand_behind (Some head_place) (moment at) h)
+      → Behind (moment at) h (held (stage_behind from (next_stage from at))) (stored_at from at) (hand_behind (Some head_place) (moment at) h)
   stage_hand SaveR4 i q n w = quiet SaveR4 None None i n q refl refl w
   stage_hand SaveR5 i q n w = quiet SaveR5 None None i n q refl refl w
   stage_hand TakeEvent i q n w = takes i q n w
@@ -271,31 +286,37 @@ module _ (from : BoardValue) (interrupted : IsInterrupted from) (b : BoardValue)
   stage_hand RestoreR4 i q n w = quiet RestoreR4 None (if full then from.line.port else None) i n q refl refl w
   stage_hand Return i q n w = returns_so i q n w
 
-no_power_up : (m : Moment) → m.action ≡ PowerUp → IsInstruction m.action → ⊥
+pub no_power_up : (m : Moment) → m.action ≡ PowerUp → IsInstruction m.action → ⊥
 no_power_up m up is = subst (λ (a : Action). IsInstruction a) up is
 
 -- a moment of a charge
 module _ (on : PlacedProgram) (b : BoardValue) (m : Moment) (is : IsInstruction m.action) (silent : b.line.heard ≡ heard.Nothing) (h : Hand) where
-  abbrev Hands : Moment → Option ℕ → Type 0
-  Hands y word = Behind y h word (hand_behind (Some head_place) y h)
+  abbrev Hands : Moment → Option ℕ → List ℕ → Type 0
+  Hands y word more = Behind y h word more (hand_behind (Some head_place) y h)
 
-  own_hand : IsMomentFrom b m → is_handlers m ≡ false → h.word ≡ None → Hands m None
+  own_hand : IsMomentFrom b m → is_handlers m ≡ false → h.word ≡ None → Hands m None []
   own_hand (PowersUp p ok e) own empty = absurd (no_power_up m (ap (λ (y : Moment). y.action) e) is)
   own_hand (Instructs i done c a programs e) own empty =
       let quiet : done.heard ≡ heard.Nothing =
       told_heard b (next_step.Instruction i) done a ∙ ap (λ q. q.heard) programs.line ∙ silent in
-      subst (λ (y : Moment). Hands y None) (sym e)
+      subst (λ (y : Moment). Hands y None []) (sym e)
       (empty_hand (moment_of b (next_step.Instruction i) done) (kind_of (next_step.Instruction i)) done (executed b i).offered refl h quiet
       (own_head b i done a programs) empty)
   own_hand (Serves n done next a served e) own empty =
       let no : true ≡ false = sym served.handlers ∙ ap is_handlers (sym e) ∙ own in absurd cc
 
-  pub moves_hand : (s t : Option (BoardValue × Stage)) → Moves on b m s t → IsMomentFrom b m → h.word ≡ held s → Hands m (held t)
+  -- what a move makes accepted
+  abbrev pub stored_by : (s t : Option (BoardValue × Stage)) → Moves on b m s t → List ℕ
+  stored_by _ _ (MovesOwn own) = []
+  stored_by _ _ (MovesIn done interrupted inside quiet e) = []
+  stored_by _ _ (MovesOn from at done interrupted inside read behind e) = stored_at from at
+
+  pub moves_hand : (s t : Option (BoardValue × Stage)) (moves : Moves on b m s t) → IsMomentFrom b m → h.word ≡ held s → Hands m (held t) (stored_by s t moves)
   moves_hand _ _ (MovesOwn own) from empty = own_hand from own empty
   moves_hand _ _ (MovesIn done interrupted inside quiet e) from empty =
-      subst (λ (y : Moment). Hands y None) (sym e)
+      subst (λ (y : Moment). Hands y None []) (sym e)
       (empty_hand (moment_of b next_step.Acceptance done) Accepting done (performed b next_step.Acceptance).offered refl h (quiet silent)
       (behind_head b (Some SaveR4) (at_boundary (performed b next_step.Acceptance).board) inside) empty)
   moves_hand _ _ (MovesOn from at done interrupted inside read behind e) start holds =
-      subst (λ (y : Moment). Hands y (held (stage_behind from (next_stage from at)))) (sym e)
+      subst (λ (y : Moment). Hands y (held (stage_behind from (next_stage from at))) (stored_at from at)) (sym e)
       (stage_hand from interrupted b done h at inside read behind holds)

@@ -20,10 +20,10 @@ use Rattle.run_charges.proofs.Interface.{placed_program, ready_there, programs_r
 use Rattle.event_rules.specs.Laws.{KeepsHand, EachKeepsHand, HandsAreKept, WaitsInTheHandler}
 use Rattle.event_rules.proofs.Hands.{held, moves_hand}
 
-abbrev after : List Moment → Hand → Hand
+abbrev pub after : List Moment → Hand → Hand
 after ms h = hand_after (Some head_place) ms h
 
-after-append : (ms ns : List Moment) (h : Hand) → after (ms ++ ns) h ≡ after ns (after ms h)
+pub after-append : (ms ns : List Moment) (h : Hand) → after (ms ++ ns) h ≡ after ns (after ms h)
 after-append [] ns h = refl
 after-append (m ∷ ms) ns h = after-append ms ns (hand_behind (Some head_place) m h)
 
@@ -47,14 +47,14 @@ steps_keep on b (m ∷ ms) s t moves are is silent h holds =
 
 -- a power-up loses what is in hand
 module _ (b : BoardValue) (p : PowerState) (h : Hand) where
-  power_up_loses : hand_behind (Some head_place) (power_up_of b p) h ≡ losing h
+  pub power_up_loses : hand_behind (Some head_place) (power_up_of b p) h ≡ losing h
   unfolding hand_behind
   power_up_loses = refl
 
   power_up_keeps : KeepsHand (power_up_of b p) h (hand_behind (Some head_place) (power_up_of b p) h)
   power_up_keeps = record { lost = inr tt; accepted = inl (ap (λ (k : Hand). k.accepted) power_up_loses) }
 
-  power_up_empties : (hand_behind (Some head_place) (power_up_of b p) h).word ≡ None
+  pub power_up_empties : (hand_behind (Some head_place) (power_up_of b p) h).word ≡ None
   power_up_empties = ap (λ (k : Hand). k.word) power_up_loses
 
 module _ (on : PlacedProgram) where

@@ -1,5 +1,5 @@
 -- What becomes of events in a run of a program with the handler beside it.
-use Rattle.std.specs.Prelude.{◌≡◌, ◌<◌, ◌⊎◌, true, List, [], ◌∷◌, ◌++◌, Some, None}
+use Rattle.std.specs.Prelude.{◌≡◌, ℕ, ◌+◌, ◌%◌, ◌<◌, ◌≤◌, ◌⊎◌, true, List, [], ◌∷◌, ◌++◌, length, slice_index, Some, None}
 use Rattle.event_places.specs.Places.{handler_place, head_place, slot_place}
 use Rattle.msp_step.specs.Registers.{registers_of}
 use Rattle.fram_board.specs.Board.{BoardValue}
@@ -42,3 +42,15 @@ abbrev pub WaitsInTheHandler : Program → Type 0
 WaitsInTheHandler c = (cs : List BoardCharge) (b : BoardValue) (r : RunOutcome) (ms rest : List Moment) → IsRunOfWords cs b r → r.moments ≡ ms ++ rest
     → (marks : Marks) (h : History) → StandsIn c marks b h → registers_of (last_board b ms).cpu 0 < handler_place
     → (hand_after (Some head_place) ms no_hand).word ≡ None
+
+-- HEAD counts the accepted words behind what it was at first, and each of the last 63 of them stands in its slot: the slot behind them may
+-- have the next word already, which a handler stored that power was lost in
+pub record HoldsLast (first : ℕ) (fram : ℕ → ℕ) (words : List ℕ) : Type 0 where
+  pub head : fram head_place ≡ (first + length words) % 0x10000
+  pub slots : (j : ℕ) → j < length words → length words ≤ j + 63 → fram (slot_place (first + j)) ≡ slice_index words j
+
+-- behind each front of a run from a board of words
+abbrev pub RingHoldsAccepted : Program → Type 0
+RingHoldsAccepted c = (cs : List BoardCharge) (b : BoardValue) (r : RunOutcome) (ms rest : List Moment) → IsRunOfWords cs b r → r.moments ≡ ms ++ rest
+    → (marks : Marks) (h : History) → StandsIn c marks b h
+    → HoldsLast (head_of b) (fram_of (last_board b ms).fram) (hand_after (Some head_place) ms no_hand).accepted

@@ -1,6 +1,6 @@
 //! Laws of runs with events. The functions do nothing: their contracts are the laws.
 
-ghost use Rattle.event_rules.specs.Laws.{HandsAreKept, WaitsInTheHandler};
+ghost use Rattle.event_rules.specs.Laws.{HandsAreKept, WaitsInTheHandler, RingHoldsAccepted};
 
 use crash_rules::Compiled;
 
@@ -9,4 +9,10 @@ use crash_rules::Compiled;
 pub fn hands_are_kept<S: Compiled>()
     ensures kept { HandsAreKept S.program }
     ensures waits { WaitsInTheHandler S.program }
+{}
+
+/// At each boundary of a run HEAD counts the accepted words, and the last 63 of them stand in their slots: neither the program nor a power-up
+/// changes them.
+pub fn ring_holds_accepted<S: Compiled>()
+    ensures { RingHoldsAccepted S.program }
 {}
