@@ -91,6 +91,12 @@ own_part (suc n) (m ∷ ms) h = by (is_handlers m) refl (own_part (suc n) ms) (o
         let same : program_steps (m ∷ ms) ≡ suc (program_steps ms) = ap (λ c. if c then program_steps ms else suc (program_steps ms)) e in
         own_one n m ms e (less (omega (arith, h, same)))
 
+-- a number from two on
+pub two_less : (n : ℕ) → 2 ≤ n → (k : ℕ) × (n ≡ suc (suc k))
+two_less zero h = absurd (omega (arith, h))
+two_less (suc zero) h = absurd (omega (arith, h))
+two_less (suc (suc k)) h = (k, refl)
+
 -- ---- what steps leave alone
 
 ring_is_high : (a : ℕ) → is_ring a ≡ true → handler_place ≤ a

@@ -9,7 +9,7 @@ use Rattle.image_reports.proofs.Begins.{at_first, bears, fram_is, own_code, rest
 use Rattle.image_reports.proofs.Capacities.{fresh_capacities}
 use Rattle.image_reports.proofs.CompiledTold.{models_are_of_sources}
 use Rattle.image_reports.proofs.Told.{source, runs_are_told}
-use Rattle.image_reports.proofs.Onward.{Onward, front, unheard, raises, pays}
+use Rattle.image_reports.proofs.Onward.{Onward, front, unheard, opens, raises, pays}
 
 -- the fresh image belongs to itself
 pub images_belong : ImagesBelong
@@ -79,6 +79,7 @@ images_keep_the_laws text p allow image ok c cs starts readings events inputs r 
       stops = stops_where_short (compiled_model p l) (compiled_program p l) readings (Resting (first_state p)) (world_with image.words []) cs
           (fresh image.words readings events) r on.run (bears on.start);
       unheard = unheard on;
+      opens = opens on;
       raises = raises on;
       progress = pays on false (first_within text p allow image ok c);
       told = runs_are_told text p allow image ok c cs readings events inputs r on.run;
