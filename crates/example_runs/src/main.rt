@@ -1,4 +1,5 @@
-//! Runs programs under their traces, and says which print the report that stands beside them, of which an audit says yes.
+//! Runs programs under their traces, and says which print the report that stands beside them, of which an audit says yes; or that it can't say,
+//! where the source takes events.
 //!
 //! Of each NAME in its words it runs `alpaca try NAME.alp NAME.trace NAME.img`, and compares what that prints with NAME.report;
 //! and it runs `alpaca audit NAME.alp NAME.report NAME.trace`.
@@ -66,13 +67,17 @@ fn words_of(
     Ok(words)
 }
 
-// Whether an audit of its report says yes.
+// Whether an audit of its report says yes, or refuses the source since it takes events.
 fn is_told<H: Shelf>(alloc: Global, shelf: &mut H, name: &str) -> Result<bool, Fault> {
     let mut out = MemSink::new(alloc, ROOM, Vec::new(alloc))?;
     let mut err = MemSink::new(alloc, ROOM, Vec::new(alloc))?;
     let words = words_of(alloc, "audit", name, [".alp", ".report", ".trace"])?;
     let status = alpaca(alloc, &words, shelf, &mut out, &mut err);
-    Ok(status == Status::Done && out.bytes().starts_with(b"yes ") && err.bytes().is_empty())
+    Ok(match status {
+        Status::Done => out.bytes().starts_with(b"yes ") && err.bytes().is_empty(),
+        Status::Refused => err.bytes().ends_with(b" Events\n"),
+        _ => false,
+    })
 }
 
 // Whether an example ends with status 0, and prints its report and nothing else.

@@ -36,8 +36,8 @@ push_tasks-requires-clause-order c =
     c.push_part-2.new.words.items c.as_slice-2.result.now
     start (ap (λ r. r.address) c.commit.ensures) (c.as_slice-2.ensures.value ∙ c.in_ok-commit.ensures) boot c.in_ok-push_part-2.ensures in
     let end = c.boot-start.result.address + 2 * length c.push_part-2.new.words.items in
-    subst (λ ts. PartsInOrder end (task_parts c.runtime.result.events ts ps) reset_vector) (sym c.tasks.ensures)
-    (subst (λ events. PartsInOrder end (task_parts events l.tasks ps) reset_vector) (sym (ap (λ r. r.events) c.runtime.ensures))
+    subst (λ ts. PartsInOrder end (task_parts c.runtime-events.result.events ts ps) reset_vector) (sym c.tasks.ensures)
+    (subst (λ events. PartsInOrder end (task_parts events l.tasks ps) reset_vector) (sym (ap (λ r. r.events) c.runtime-events.ensures))
     (tasks_behind l ps c.requires.fits c.boot-start.result.address c.push_part-2.new.words.items commit))
 
 pub push_tasks-requires-clause-short : goal.push_tasks-requires-clause-short
@@ -62,6 +62,6 @@ returns c =
     let behind : Bool → List TaskPlace → List ℕ = λ events ts. c.push_part-2.new.words.items ++ words_in
     (chained (c.boot-start.result.address + 2 * length c.push_part-2.new.words.items) (task_parts events ts ps)) in
     c.in_ok-push_tasks.ensures
-    ∙ ap (λ ts. behind c.runtime.result.events ts) c.tasks.ensures
-    ∙ ap (λ events. behind events l.tasks) (ap (λ r. r.events) c.runtime.ensures)
+    ∙ ap (λ ts. behind c.runtime-events.result.events ts) c.tasks.ensures
+    ∙ ap (λ events. behind events l.tasks) (ap (λ r. r.events) c.runtime-events.ensures)
     ∙ commit.rest
