@@ -1,0 +1,4 @@
+mod Forms
+mod Alone
+mod Spends
+pub mod Interface
