@@ -20,8 +20,8 @@ use Rattle.code_forms.specs.Forms.{Branch, BranchIndexed, SkipBy, instruction_of
 use Rattle.code_forms.specs.Code.{Stands, forms_bytes, IsStraight, OfNext, IsTidy, IsAtForm, Comes, Runs, Starves}
 use Rattle.code_forms.specs.Placed.{placed, instructions}
 use Rattle.code_forms.proofs.Interface.{bytes_are, does}
-use Rattle.code_paths.specs.Paths.{form_cycles, dearer_way, behind_form, dearest_from, dearest, goes_forward, all_forward, is_forward}
-use Rattle.code_paths.specs.Laws.{IsForwardCode, RunsKeepToPaths, StarvingKeepsToPaths}
+use Rattle.code_paths.specs.Paths.{form_cycles, dearer_way, behind_form, dearest_from, dearest, goes_forward, all_forward, is_forward, forward_most}
+use Rattle.code_paths.specs.Laws.{BeginsCode, RunsKeepToPaths, StarvingKeepsToPaths}
 use Rattle.code_paths.proofs.Forms.{CostsSo, costs_so, IsAt, goes_behind, writes_pc, straight_leaves_pc, straight_by_pc, jump_by_instruction, forward_distance}
 use Rattle.code_paths.proofs.Alone.{AtForms, forms_behind_step, first_form, tidy_alone, leads_so, stalls_so, forms_there}
 
@@ -250,55 +250,66 @@ module _ (p : ℕ) (all : List Form) (tidy : IsTidy (placed p (instructions all)
   spends [] n q b u h forward low high at forms = no_step n (q + b) u 0 (h (q + b) (omega arith)) at forms
   spends (m ∷ ms) n q b u h forward low high at forms = spends_by m ms (spends ms) n q b u (b == 0) refl h forward low high at forms
 
--- from its front on
-from_front : (code : Code) (at : ℕ) (ms : List Form) (u : Core) (n : ℕ) → IsForwardCode code at ms u → AtForms (placed at (instructions ms)) n (board_of u)
-    → steps_cost (exec (placed at (instructions ms))) n (board_of u) ≤ dearest ms
-from_front code at ms u n k forms =
-    let both = and_parts (all_forward ms) (nat_lt (forms_bytes ms) 0x8000) k.forward in
-    let short : forms_bytes ms < 0x8000 = ltb-true (forms_bytes ms) 0x8000 both.1 in
-    spends at ms (tidy_alone code at ms k.tidy k.stands) ms n at 0 u (λ a l. refl) both.0 (omega arith) (omega (arith, short))
-    (k.begins ∙ omega arith) forms
+-- ---- as a part of other code
 
-pub runs_so : (code : Code) (at : ℕ) (ms : List Form) (u : Core) (es : List Effect) (most : ℕ) (P : Core → Type 0) → IsForwardCode code at ms u
-    → Runs (placed at (instructions ms)) es most u P → Runs code es (dearest ms) u P
-runs_so code at ms u es most P k a =
-    let alone = placed at (instructions ms) in
-    let spent = from_front code at ms u a.steps k a.forms in
-    let made = cycles_cost (exec alone) a.steps (board_of u) in
-    let last : a.steps ≡ a.steps + 0 = omega arith in
-    let cycles : (going (exec alone) a.steps (board_of u)).cycles ≡ a.cycles + 0 =
-    ap (λ j. (going (exec alone) j (board_of u)).cycles) last ∙ ap (λ r. r.cycles) (a.leads.by 0) in
-    record {
-      steps = a.steps;
-      cycles = a.cycles;
-      within = omega (arith, spent, made, cycles);
-      comes =
-          record {
-            end = a.end;
-            leads = leads_so code at ms k.stands a.steps a.cycles es (board_of u) (board_of a.end) a.forms a.leads;
-            forms = forms_there code at ms k.stands a.steps (board_of u) a.forms;
-            holds = a.holds;
-          };
-    }
+module _ (code : Code) (at : ℕ) (ms : List Form) (u : Core) (k : BeginsCode code at ms u) where
+  abbrev by_itself : Code
+  by_itself = placed at (instructions ms)
+
+  -- from its front on
+  from_front : (n : ℕ) → is_forward ms ≡ true → AtForms by_itself n (board_of u) → steps_cost (exec by_itself) n (board_of u) ≤ dearest ms
+  from_front n forward forms =
+      let both = and_parts (all_forward ms) (nat_lt (forms_bytes ms) 0x8000) forward in
+      let short : forms_bytes ms < 0x8000 = ltb-true (forms_bytes ms) 0x8000 both.1 in
+      spends at ms (tidy_alone code at ms k.tidy k.stands) ms n at 0 u (λ a l. refl) both.0 (omega arith) (omega (arith, short))
+      (k.begins ∙ omega arith) forms
+
+  -- within the cycles of its path, or as many as are known
+  path_or : (forward : Bool) (most spent : ℕ) → is_forward ms ≡ forward → spent ≤ most → (is_forward ms ≡ true → spent ≤ dearest ms)
+      → spent ≤ (if forward then dearest ms else most)
+  path_or true most spent e l f = f e
+  path_or false most spent e l f = l
+
+  pub runs_so : (es : List Effect) (most : ℕ) (P : Core → Type 0) → Runs by_itself es most u P → Runs code es (forward_most ms most) u P
+  runs_so es most P a =
+      let last : a.steps ≡ a.steps + 0 = omega arith in
+      let cycles : (going (exec by_itself) a.steps (board_of u)).cycles ≡ a.cycles + 0 =
+      ap (λ j. (going (exec by_itself) j (board_of u)).cycles) last ∙ ap (λ r. r.cycles) (a.leads.by 0) in
+      let made = cycles_cost (exec by_itself) a.steps (board_of u) in
+      let path : is_forward ms ≡ true → a.cycles ≤ dearest ms = λ e. let spent = from_front a.steps e a.forms in omega (arith, spent, made, cycles) in
+      record {
+        steps = a.steps;
+        cycles = a.cycles;
+        within = path_or (is_forward ms) most a.cycles refl a.within path;
+        comes =
+            record {
+              end = a.end;
+              leads = leads_so code at ms k.stands a.steps a.cycles es (board_of u) (board_of a.end) a.forms a.leads;
+              forms = forms_there code at ms k.stands a.steps (board_of u) a.forms;
+              holds = a.holds;
+            };
+      }
+
+  pub starves_so : (es : List Effect) (most : ℕ) → Starves by_itself es most u → Starves code es (forward_most ms most) u
+  starves_so es most a =
+      let n = suc a.steps in
+      let last : n ≡ a.steps + suc 0 = omega arith in
+      let there : going (exec by_itself) n (board_of u) ≡ stretch es a.cycles (Halted a.price stop.NoReading) =
+      ap (λ j. going (exec by_itself) j (board_of u)) last ∙ a.stalls.by 0 in
+      let made = halted_cost (exec by_itself) n a.price stop.NoReading (board_of u) (ap (λ r. r.status) there) in
+      let cycles : (going (exec by_itself) n (board_of u)).cycles ≡ a.cycles = ap (λ r. r.cycles) there in
+      let path : is_forward ms ≡ true → a.cycles + a.price ≤ dearest ms = λ e. let spent = from_front n e a.forms in omega (arith, spent, made, cycles) in
+      record {
+        steps = a.steps;
+        cycles = a.cycles;
+        price = a.price;
+        within = path_or (is_forward ms) most (a.cycles + a.price) refl a.within path;
+        stalls = stalls_so code at ms k.stands a.steps a.cycles es (board_of u) a.price stop.NoReading a.forms a.stalls;
+        forms = forms_there code at ms k.stands n (board_of u) a.forms;
+      }
 
 pub runs_keep_to_paths : RunsKeepToPaths
-runs_keep_to_paths code at ms u end es most k a = runs_so code at ms u es most (λ t. t ≡ end) k a
+runs_keep_to_paths code at ms u end es most k a = runs_so code at ms u k es most (λ t. t ≡ end) a
 
 pub starving_keeps_to_paths : StarvingKeepsToPaths
-starving_keeps_to_paths code at ms u es most k a =
-    let alone = placed at (instructions ms) in
-    let n = suc a.steps in
-    let spent = from_front code at ms u n k a.forms in
-    let last : n ≡ a.steps + suc 0 = omega arith in
-    let there : going (exec alone) n (board_of u) ≡ stretch es a.cycles (Halted a.price stop.NoReading) =
-    ap (λ j. going (exec alone) j (board_of u)) last ∙ a.stalls.by 0 in
-    let made = halted_cost (exec alone) n a.price stop.NoReading (board_of u) (ap (λ r. r.status) there) in
-    let cycles : (going (exec alone) n (board_of u)).cycles ≡ a.cycles = ap (λ r. r.cycles) there in
-    record {
-      steps = a.steps;
-      cycles = a.cycles;
-      price = a.price;
-      within = omega (arith, spent, made, cycles);
-      stalls = stalls_so code at ms k.stands a.steps a.cycles es (board_of u) a.price stop.NoReading a.forms a.stalls;
-      forms = forms_there code at ms k.stands n (board_of u) a.forms;
-    }
+starving_keeps_to_paths code at ms u es most k a = starves_so code at ms u k es most a

@@ -54,3 +54,7 @@ all_forward (m ∷ ms) = goes_forward m && all_forward ms
 -- and there are few enough that no jump leads round the end of memory into them
 abbrev pub is_forward : List Form → Bool
 is_forward ms = all_forward ms && nat_lt (forms_bytes ms) 0x8000
+
+-- the cycles of code at most: those of its dearest path where its jumps go forward, and else this many
+abbrev pub forward_most : List Form → ℕ → ℕ
+forward_most ms most = if is_forward ms then dearest ms else most

@@ -2,8 +2,8 @@
 
 ghost use Rattle.code_paths.specs.Laws.{RunsKeepToPaths, StarvingKeepsToPaths};
 
-/// Code whose jumps go forward, and which comes somewhere or is short of a reading by itself, does so in all code that it is a part of, within
-/// the cycles of its dearest path.
+/// Code that comes somewhere or is short of a reading by itself does so in all code that it is a part of; and within the cycles of its dearest path
+/// where its jumps go forward.
 #[tactic(auto, using(crate::proofs::Spends::runs_keep_to_paths, crate::proofs::Spends::starving_keeps_to_paths))]
 pub fn code_keeps_to_its_paths()
     ensures runs { RunsKeepToPaths }
