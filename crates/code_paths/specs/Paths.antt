@@ -1,5 +1,5 @@
 -- The dearest path through code whose jumps all go forward.
-use Rattle.std.specs.Prelude.{ℕ, ◌+◌, ◌-◌, ◌*◌, ◌==◌, ◌&&◌, Bool, true, false, max, nat_lt, if◌then◌else◌, List, [], ◌∷◌}
+use Rattle.std.specs.Prelude.{ℕ, ◌+◌, ◌-◌, ◌*◌, ◌^◌, ◌==◌, ◌&&◌, Bool, true, false, min, max, nat_lt, if◌then◌else◌, List, [], ◌∷◌}
 use Rattle.msp_cycles.specs.Cycles.{cycles_of}
 use Rattle.msp_isa.specs.declared.instructions.Condition.{Condition}
 use Rattle.msp_isa.specs.declared.instructions.Condition.TheVariants.{Always}
@@ -58,3 +58,14 @@ is_forward ms = all_forward ms && nat_lt (forms_bytes ms) 0x8000
 -- the cycles of code at most: those of its dearest path where its jumps go forward, and else this many
 abbrev pub forward_most : List Form → ℕ → ℕ
 forward_most ms most = if is_forward ms then dearest ms else most
+
+-- ---- as it is computed
+
+-- a number, 2^64 - 1 where it is more
+abbrev pub capped : ℕ → ℕ
+capped n = min n (2 ^ 64 - 1)
+
+-- the dearest path from each form on
+abbrev pub costs_of : List Form → List ℕ
+costs_of [] = []
+costs_of (m ∷ ms) = capped (dearest (m ∷ ms)) ∷ costs_of ms

@@ -3,5 +3,7 @@
 #![tactic(auto)]
 
 mod laws;
+mod paths;
 
 pub use laws::code_keeps_to_its_paths;
+pub use paths::{dearer, forward_most, plus};
