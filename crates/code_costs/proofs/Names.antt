@@ -18,13 +18,18 @@ pub use Rattle.word_code.specs.code_forms.Forms.{Core, Form, Jump, Skip, Branch,
 pub use Rattle.word_code.specs.code_forms.Code.{Stands, forms_bytes, IsTidy, Runs, Starves}
 pub use Rattle.word_code.specs.code_forms.Placed.{placed, instructions}
 pub use Rattle.word_code.specs.array_versions.Program.{Step, Test, Program, number, truth, choose, repeat, jump, holds, compares, both, either, fails}
-pub use Rattle.word_code.specs.array_versions.Program.{nothing, step}
+pub use Rattle.word_code.specs.array_versions.Program.{nothing, step, unary, binary, long}
+pub use Rattle.word_code.specs.array_versions.declared.operations.UnaryOperation.{UnaryOperation}
+pub use Rattle.word_code.specs.array_versions.declared.operations.UnaryOperation.TheVariants.{Negate, Complement}
+pub use Rattle.word_code.specs.array_versions.declared.operations.BinaryOperation.{BinaryOperation}
+pub use Rattle.word_code.specs.array_versions.declared.operations.BinaryOperation.TheVariants.{Multiply, Divide, Remainder, Plain}
+pub use Rattle.word_code.specs.array_versions.declared.operations.LongOperation.{LongOperation}
 pub use Rattle.word_code.specs.array_versions.Behaviour.{WordState, End, GoesOn, Jumps, Short, Strays, Broken, Behaviour, behind_effects, on_end, started, turns}
 pub use Rattle.word_code.specs.array_versions.Behaviour.{step_behaviour, behaviour, then_on, tested, with_stack, with_local, with_top, with_two, way_by_top}
 pub use Rattle.word_code.specs.array_versions.Behaviour.{way_by_two, number_pushed, behaves, broken}
 pub use Rattle.word_code.specs.array_versions.Form.{Place, start, assigning, Moves, EachTurn, EachStepWay, EachTestWay, EachWay, StepSpares, TestSpares, Spares}
 pub use Rattle.word_code.specs.array_versions.Form.{IsWhole, OfWords, locals_of}
-pub use Rattle.word_code.specs.array_versions.Cost.{step_cycles, step_spent}
+pub use Rattle.word_code.specs.array_versions.Cost.{step_cycles, step_spent, unary_cycles, binary_cycles, long_cycles}
 pub use Rattle.word_code.specs.array_versions.Operations.{is_true, compare_words}
 pub use Rattle.word_code.specs.array_versions.Laws.{IsStateOfWords, EndsInWords, IsSound}
 pub use Rattle.word_code.specs.array_versions.declared.operations.Comparison.{Comparison}
@@ -36,5 +41,5 @@ pub use Rattle.word_code.specs.Code.{stack_base, stack_set, waiting_behind, wait
 pub use Rattle.word_code.specs.Laws.{HasJumped, ComesTo}
 pub use Rattle.code_paths.specs.Paths.{forward_most}
 pub use Rattle.code_paths.proofs.Interface.{runs_so, starves_so, stands_alone, tidy_alone}
-pub use Rattle.code_costs.specs.Dearest.{push_most, pushes_most, flush_most, leaf_most, back_cycles, turn_most, turns_most, step_most, test_most, steps_most}
+pub use Rattle.code_costs.specs.Dearest.{any_most, push_most, pushes_most, flush_most, leaf_most, back_cycles, turn_most, turns_most, step_most, test_most, steps_most}
 pub use Rattle.code_costs.specs.Dearest.{block_most, most_spent}

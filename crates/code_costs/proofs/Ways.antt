@@ -14,6 +14,9 @@ use Rattle.code_costs.proofs.Names.{locals_of, step_cycles, step_spent, IsStateO
 use Rattle.code_costs.proofs.Names.{truth_code, number_code, turn_end, turns_code, pass_over, size, bound_of, stack_base, stack_set, waiting_behind, waiting_after}
 use Rattle.code_costs.proofs.Names.{step_code, test_code, steps_code, block_code, code_of, HasJumped, ComesTo, forward_most, pushes_most, flush_most, leaf_most}
 use Rattle.code_costs.proofs.Names.{turn_most, turns_most, step_most, test_most, steps_most, block_most, most_spent}
+use Rattle.code_costs.proofs.Names.{unary, binary, long, unary_cycles, binary_cycles, long_cycles, UnaryOperation, Negate, Complement, BinaryOperation, Multiply}
+use Rattle.code_costs.proofs.Names.{Divide, Remainder, Plain, LongOperation, any_most}
+use Rattle.word_code.specs.array_versions.declared.operations.LongOperation.TheVariants as with_longs
 use Rattle.code_costs.proofs.Names.{behaves, broken, FollowsEnd, ◌==◌, ◌%◌}
 use Rattle.code_costs.specs.Laws.{CodeKeepsToItsWays}
 use Rattle.code_costs.proofs.Alone.{owed_is, alone, stand, stands_in, stands_out, describes_in, describes_out, runs_there, reaches_there}
@@ -21,9 +24,24 @@ use Rattle.code_costs.proofs.Reaching.{reach_as, then_more, on_way, flushes, beh
 use Rattle.code_costs.proofs.Tests.{Way, Ways, Continues, by_top, by_two}
 use Rattle.code_costs.proofs.Turns.{loop_reach}
 
+-- what operations cost, whatever their code is
+unary_few : (o : UnaryOperation) → unary_cycles o ≤ 202
+unary_few Negate = omega arith
+unary_few Complement = omega arith
+
+binary_few : (o : BinaryOperation) → binary_cycles o ≤ any_most (binary o)
+binary_few Multiply = omega arith
+binary_few Divide = omega arith
+binary_few Remainder = omega arith
+binary_few (Plain o) = omega arith
+
+long_few : (o : LongOperation) → long_cycles o ≤ 202
+long_few (with_longs.Calculate o) = omega arith
+long_few _ = omega arith
+
 module _ (z : Setting) where
   -- a step that is no test, no choice, no loop and no jump, by what is known of it where its code stands alone
-  leaf : (bs : List Bound) (first : Step) (fits : Place → Type 0) (os : List Waiting) (pc : ℕ) (w : WordState) (u : Core) → step_spent first w ≤ step_cycles first
+  leaf : (bs : List Bound) (first : Step) (fits : Place → Type 0) (os : List Waiting) (pc : ℕ) (w : WordState) (u : Core) → step_spent first w ≤ any_most first
       → Ready bs (EachStepWay z.room first fits) w → KnownStep z bs first → Stands z.code pc (step_code bs os first) → Describes z os pc w u → (next : ℕ)
       → (let b = step_behaviour first w in
       Reaches z next (Describes z (waiting_behind os first) (pc + forms_bytes (step_code bs os first))) (leaf_most bs os first + next) u b.effects b.end)
@@ -34,7 +52,7 @@ module _ (z : Setting) where
       let y = alone z pc ms h in
       let b = step_behaviour first w in
       let paid = owed_is os in
-      reaches_there z pc ms h (owed after) next (step_spent first w + owed os) (step_cycles first + pushes_most os) u (λ v. Describes y after end v)
+      reaches_there z pc ms h (owed after) next (step_spent first w + owed os) (any_most first + pushes_most os) u (λ v. Describes y after end v)
       (λ v. Describes z after end v) b.effects b.end d.is.at (omega (arith, least, paid)) (λ v t j. describes_out z pc ms h after end v t j)
       (step_follows y bs first fits os pc w u r known (stand z pc ms h) (describes_in z pc ms h os pc w u d))
 
@@ -188,6 +206,9 @@ module _ (z : Setting) where
         leaves_by (to % 2 == 0) next to (at + 4) w t (λ v. StandsFor z (at + forms_bytes (Branch to ∷ [])) v) (jump_part z to at w t r.fit s i))
     -- of each other step alike: the first clause makes it a proof by cases
     step_reach bs (number v) fits os pc w u r known h d next = leaf bs (number v) fits os pc w u (omega arith) r known h d next
+    step_reach bs (unary op) fits os pc w u r known h d next = leaf bs (unary op) fits os pc w u (omega (arith, unary_few op)) r known h d next
+    step_reach bs (binary op) fits os pc w u r known h d next = leaf bs (binary op) fits os pc w u (binary_few op) r known h d next
+    step_reach bs (long op) fits os pc w u r known h d next = leaf bs (long op) fits os pc w u (omega (arith, long_few op)) r known h d next
     step_reach bs first fits os pc w u r known h d next = leaf bs first fits os pc w u (omega arith) r known h d next
 
     test_reach : (bs : List Bound) (next : ℕ) (Q : WordState → Core → Type 0) (t : Test) (when : Bool) (d pc : ℕ) (ways : Ways z bs next Q) (w : WordState) (u : Core)

@@ -4,9 +4,9 @@ use Rattle.std.specs.Prelude.{ℕ, zero, suc, ◌+◌, ◌-◌, max, Bool, true,
 use Rattle.word_code.specs.declared.bounds.Bound.{Bound}
 use Rattle.word_code.specs.declared.waiting.Waiting.{Waiting}
 use Rattle.word_code.specs.declared.waiting.Waiting.TheVariants as waiting
-use Rattle.word_code.specs.array_versions.Program.{Step, Test, Program, truth, choose, repeat, jump, holds, compares, both, either, fails, nothing, step}
+use Rattle.word_code.specs.array_versions.Program.{Step, Test, Program, binary, truth, choose, repeat, jump, holds, compares, both, either, fails, nothing, step}
 use Rattle.word_code.specs.array_versions.Form.{locals_of}
-use Rattle.word_code.specs.array_versions.Cost.{step_cycles}
+use Rattle.word_code.specs.array_versions.declared.operations.BinaryOperation.TheVariants.{Multiply}
 use Rattle.word_code.specs.code_forms.Forms.{Branch}
 use Rattle.word_code.specs.Code.{flushed, holds_code, compares_code, number_code, turn_end, pass_over, size, bound_of, stack_set, waiting_behind, waiting_after}
 use Rattle.word_code.specs.Code.{step_code, test_code, block_code}
@@ -29,9 +29,14 @@ pushes_most (o ∷ os) = pushes_most os + push_most o
 abbrev pub flush_most : List Waiting → ℕ
 flush_most os = forward_most (flushed os) (pushes_most os)
 
--- a step that is no test, no choice, no loop and no jump
+-- a step that is no test, no choice, no loop and no jump, whatever its code is: products and quotients, which go by the bits of a word, have the most
+abbrev pub any_most : Step → ℕ
+any_most (binary Multiply) = 152
+any_most _ = 202
+
+-- and by its code
 abbrev pub leaf_most : List Bound → List Waiting → Step → ℕ
-leaf_most bs os s = forward_most (step_code bs os s) (step_cycles s + pushes_most os)
+leaf_most bs os s = forward_most (step_code bs os s) (any_most s + pushes_most os)
 
 -- what goes back over so many words: a jump of one word, or further
 abbrev pub back_cycles : ℕ → ℕ
