@@ -4,7 +4,7 @@ use Rattle.alpaca_cli.specs.Calls.{Call, mean, try_, build, run, asm, dis, gen, 
 use Rattle.plain_commands.specs.command_answers.Refusals.{Refusal}
 use Rattle.state_commands.specs.Migrated.{editions}
 use Rattle.alpaca_cli.specs.Products.{AreAccepted}
-use Rattle.plain_commands.proofs.command_texts.Interface.{no_image, no_assembly, builds_exclude}
+use Rattle.plain_commands.proofs.command_texts.Interface.{no_image, no_assembly}
 use Rattle.plain_commands.proofs.Interface.{no_mean, no_run, no_audit}
 use Rattle.compiler_commands.proofs.Interface.{no_try}
 use Rattle.state_commands.proofs.Interface.{no_save, no_resume, no_migrate, TextsExclude}
@@ -20,7 +20,7 @@ not_refused law (try_ c d i) (x ∷ []) place r a b = a
 not_refused law (try_ c d i) (x ∷ y ∷ []) place r a b = no_try law.sources x y place r a b
 not_refused law (try_ c d i) (x ∷ y ∷ z ∷ more) place r a b = a
 not_refused law (build c i) [] place r a b = a
-not_refused law (build c i) (x ∷ []) place r (said, none) b = builds_exclude law.sources x said.0 r said.1 none b.0
+not_refused law (build c i) (x ∷ []) place r a b = law.sources x a.0 r a.1 b.0
 not_refused law (build c i) (x ∷ y ∷ more) place r a b = a
 not_refused law (run c d) [] place r a b = a
 not_refused law (run c d) (x ∷ []) place r a b = a

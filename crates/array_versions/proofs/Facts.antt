@@ -1,6 +1,6 @@
 -- What holds of each program's effects and ends: each is a fact of chains.
 use Rattle.std.proofs.Common.{◌≡◌, ℕ, ◌<◌, List, [], ◌∷◌, ◌++◌, Option, Some, refl, sym, ap, ◌∙◌, append-nil, ne_eqb, if◌then◌else◌}
-use Rattle.machine_effects.specs.fram_board.Effects.{Effect, Take}
+use Rattle.machine_effects.specs.fram_board.Effects.{Effect, Take, Outside, Looked}
 use Rattle.machine_effects.specs.World.{fram_after, readings_taken, EachStore}
 use Rattle.machine_effects.specs.Inputs.{TakesExactly}
 use Rattle.machine_effects.proofs.Interface.{takes_nothing, takes_behind_store, takes_through}
@@ -31,7 +31,7 @@ module _ {W : Type 0} {spared : ℕ → Type 0} where
   run_stores (assigns n v d l q) x = run_stores q x
   run_stores (stores a v l q) x = (l x, run_stores q x)
   run_stores (takes r left e q) x = (tt, run_stores q x)
-  run_stores (sees left e q) x = run_stores q x
+  run_stores (sees look left e q) x = (tt, run_stores q x)
 
   run_leaves : {s t : WordState} {es : List Effect} → Run W spared s es t → (n : ℕ) → spared n → t.locals n ≡ s.locals n
   run_leaves stays n y = refl
@@ -39,7 +39,7 @@ module _ {W : Type 0} {spared : ℕ → Type 0} where
   run_leaves (assigns {s = s} m v d l q) n y = run_leaves q n y ∙ ap (λ b. if b then Some v else s.locals n) (ne_eqb n m (λ e. d n y (sym e)))
   run_leaves (stores a v l q) n y = run_leaves q n y
   run_leaves (takes r left e q) n y = run_leaves q n y
-  run_leaves (sees left e q) n y = run_leaves q n y
+  run_leaves (sees look left e q) n y = run_leaves q n y
 
   run_effects : {s t : WordState} {es : List Effect} → Run W spared s es t
       → (t.fram ≡ fram_after es s.fram) × TakesExactly es s.inputs t.inputs
@@ -48,7 +48,8 @@ module _ {W : Type 0} {spared : ℕ → Type 0} where
   run_effects (assigns n v d l q) = run_effects q
   run_effects {s = s} {t = t} (stores {es = es} a v l q) = let k = run_effects q in (k.0, takes_behind_store a v es s.inputs t.inputs k.1)
   run_effects {s = s} {t = t} (takes {es = es} r left e q) = let k = run_effects q in (k.0, takes_through (Take r ∷ []) es s.inputs left t.inputs e k.1)
-  run_effects {s = s} {t = t} (sees {es = es} left e q) = let k = run_effects q in (k.0, takes_through [] es s.inputs left t.inputs e k.1)
+  run_effects {s = s} {t = t} (sees {es = es} look left e q) =
+      let k = run_effects q in (k.0, takes_through (Outside (Looked look) ∷ []) es s.inputs left t.inputs e k.1)
 
 -- ---- at ends
 

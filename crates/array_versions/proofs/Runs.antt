@@ -1,10 +1,10 @@
 -- What each program does, as a chain of what its steps do to a state: said once by the cases of steps. A fact of all programs is an induction over chains.
 use Rattle.std.proofs.Common.{◌≡◌, ℕ, zero, suc, ◌+◌, ◌-◌, ◌%◌, ◌==◌, ◌<◌, List, [], ◌∷◌, ◌++◌, Option, Some, None, Bool, true, false, refl, sym, arith}
-use Rattle.std.proofs.Common.{◌≢◌, if◌then◌else◌}
+use Rattle.std.proofs.Common.{◌≢◌, if◌then◌else◌, ap, subst}
 use Rattle.machine_effects.specs.alp_words.Words.{AreWords}
-use Rattle.machine_effects.specs.fram_board.Effects.{Effect, Store, Take}
+use Rattle.machine_effects.specs.fram_board.Effects.{Effect, Store, Take, Outside, Looked}
 use Rattle.machine_effects.specs.event_places.Places.{count_place, sent_place, answer_place, head_place, slot_place}
-use Rattle.machine_effects.specs.Inputs.{Look, Inputs, TakesExactly}
+use Rattle.machine_effects.specs.Inputs.{Look, Inputs, first_look, other_looks, TakesExactly}
 use Rattle.machine_effects.proofs.Interface.{taken_is_word}
 use Rattle.array_versions.specs.declared.operations.PlainOperation.{PlainOperation}
 use Rattle.array_versions.specs.Operations.{unary_word, plain_word, binary_word, shift_word, is_true, compare_words, long_pops, long_result}
@@ -24,7 +24,7 @@ use Rattle.array_versions.proofs.Words.{input_words, second_look_words}
 use Rattle.array_versions.proofs.Parts.{Writes, astray, done, writes, Pushes, off, on_top, Known, loads, element_pushes, versioned_pushes, word_writes}
 use Rattle.array_versions.proofs.Parts.{emitted_writes, entry_writes, versioned_writes, updated_writes}
 
--- A chain from a state to another by effects: other words on the stack, a local set, a word stored in FRAM, a reading taken, looks taken. Where `W` is
+-- A chain from a state to another by effects: other words on the stack, a local set, a word stored in FRAM, a reading or a look taken. Where `W` is
 -- given, each word in it is one; a local that is set is none that is spared
 pub data Run (W : Type 0) (spared : ℕ → Type 0) : WordState → List Effect → WordState → Type 0 where
   stays : {s : WordState} → Run W spared s [] s
@@ -34,8 +34,8 @@ pub data Run (W : Type 0) (spared : ℕ → Type 0) : WordState → List Effect 
   stores : {s t : WordState} {es : List Effect} (a v : ℕ) → (W → v < 0x10000) → Run W spared (stored a v s) es t → Run W spared s (Store a v ∷ es) t
   takes : {s t : WordState} {es : List Effect} (r : ℕ) (left : Inputs) → TakesExactly (Take r ∷ []) s.inputs left
       → Run W spared (record s { inputs = left }) es t → Run W spared s (Take r ∷ es) t
-  sees : {s t : WordState} {es : List Effect} (left : Inputs) → TakesExactly [] s.inputs left → Run W spared (record s { inputs = left }) es t
-      → Run W spared s es t
+  sees : {s t : WordState} {es : List Effect} (look : Look) (left : Inputs) → TakesExactly (Outside (Looked look) ∷ []) s.inputs left
+      → Run W spared (record s { inputs = left }) es t → Run W spared s (Outside (Looked look) ∷ es) t
 
 -- one chain behind another
 run_behind : {W : Type 0} {spared : ℕ → Type 0} {s t u : WordState} {es fs : List Effect} → Run W spared s es t → Run W spared t fs u
@@ -45,7 +45,7 @@ run_behind (stacks vs l q) r = stacks vs l (run_behind q r)
 run_behind (assigns n v d l q) r = assigns n v d l (run_behind q r)
 run_behind (stores a v l q) r = stores a v l (run_behind q r)
 run_behind (takes x left e q) r = takes x left e (run_behind q r)
-run_behind (sees left e q) r = sees left e (run_behind q r)
+run_behind (sees look left e q) r = sees look left e (run_behind q r)
 
 -- from words it leads to words
 pub run_words : {W : Type 0} {spared : ℕ → Type 0} {s t : WordState} {es : List Effect} → Run W spared s es t → W → IsStateOfWords s → IsStateOfWords t
@@ -54,7 +54,7 @@ run_words (stacks {s = s} vs l q) x i = run_words q x (stack_words s vs i (l x))
 run_words (assigns {s = s} n v d l q) x i = run_words q x (local_words s n v i (l x))
 run_words (stores {s = s} a v l q) x i = run_words q x (stored_words s a v i (l x))
 run_words (takes {s = s} r left e q) x i = run_words q x (input_words s (Take r ∷ []) left e i)
-run_words (sees {s = s} left e q) x i = run_words q x (input_words s [] left e i)
+run_words (sees {s = s} look left e q) x i = run_words q x (input_words s (Outside (Looked look) ∷ []) left e i)
 
 module _ (W : Type 0) (spared : ℕ → Type 0) where
   -- how far a chain leads that ends so: where a reading is wanted, to a state with none left
@@ -142,7 +142,7 @@ module _ (W : Type 0) (spared : ℕ → Type 0) where
   reading_does [] s e i = (s, stays, e)
   reading_does (r ∷ rs) s e i =
       let left : Inputs = record s.inputs { readings = rs } in
-      let taken : TakesExactly (Take r ∷ []) s.inputs left = record { readings = sym e; seen = []; looks = refl } in
+      let taken : TakesExactly (Take r ∷ []) s.inputs left = record { readings = sym e; looks = refl } in
       takes r left taken (stacks (r ∷ s.stack) (λ x. (taken_is_word r s.inputs left taken (i x).inputs, (i x).stack)) stays)
 
   -- an answer
@@ -156,20 +156,40 @@ module _ (W : Type 0) (spared : ℕ → Type 0) where
       let n = (s.fram count_place + 1) % 65536 in
       stores answer_place w l (stacks (w ∷ s.stack) (λ x. (l x, (i x).stack)) (stores count_place n (λ x. omega arith) stays))
 
-  -- behind two looks
-  event_does : (looks : List Look) (s : WordState) → s.inputs.looks ≡ looks → Known W s → Does s (event_pushed looks s)
-  event_does [] s e i = (s, stays)
-  event_does (first ∷ []) s e i = (s, stays)
-  event_does (first ∷ (second ∷ more)) s e i =
-      let t = with_looks more s in
-      let taken : TakesExactly [] s.inputs t.inputs = record { readings = refl; seen = first ∷ (second ∷ []); looks = sym e } in
-      let b = event_answered first second t in
+  -- by what is seen at HEAD and at the slot
+  answer_does : (first second : Look) (s : WordState) → Known W s → (W → (a : ℕ) → second a < 0x10000) → Does s (event_answered first second s)
+  answer_does first second s i small =
       let at = event_index s.fram in
       let v = second (slot_place at) in
-      let j : Known W t = λ x. input_words s [] t.inputs taken (i x) in
-      does_behind b.effects b.end (sees t.inputs taken stays)
-      (one_does (at == first head_place) t (none_answered t) (word_answered v t) (none_does t j)
-      (word_does v t j (λ x. second_look_words s first second more e (i x) (slot_place at))))
+      one_does (at == first head_place) s (none_answered s) (word_answered v s) (none_does s i) (word_does v s i (λ x. small x (slot_place at)))
+
+  -- the inputs behind a look
+  look_takes : (s : WordState) (look : Look) (more : List Look) → s.inputs.looks ≡ look ∷ more
+      → TakesExactly (Outside (Looked look) ∷ []) s.inputs (with_looks more s).inputs
+  look_takes s look more e = record { readings = refl; looks = sym e }
+
+  -- behind two looks
+  event_does : (looks : List Look) (s : WordState) → s.inputs.looks ≡ looks → Known W s → Does s (event_pushed looks s)
+  event_does [] s e i =
+      let t = with_looks [] s in
+      let same : t ≡ s = ap (λ l. with_looks l s) (sym e) in
+      let j : Known W t = λ x. subst IsStateOfWords (sym same) (i x) in
+      subst (λ u. Does u (event_pushed [] s)) same (answer_does (first_look []) (first_look []) t j (λ x a. omega arith))
+  event_does (first ∷ []) s e i =
+      let t = with_looks [] s in
+      let taken = look_takes s first [] e in
+      let j : Known W t = λ x. input_words s (Outside (Looked first) ∷ []) t.inputs taken (i x) in
+      let b = event_answered first (first_look []) t in
+      does_behind b.effects b.end (sees first t.inputs taken stays) (answer_does first (first_look []) t j (λ x a. omega arith))
+  event_does (first ∷ (second ∷ more)) s e i =
+      let r = with_looks (second ∷ more) s in
+      let t = with_looks more s in
+      let taken = look_takes s first (second ∷ more) e in
+      let next = look_takes r second more refl in
+      let j : Known W t = λ x. input_words r (Outside (Looked second) ∷ []) t.inputs next (input_words s (Outside (Looked first) ∷ []) r.inputs taken (i x)) in
+      let b = event_answered first second t in
+      does_behind b.effects b.end (sees first r.inputs taken (sees second t.inputs next stays))
+      (answer_does first second t j (λ x. second_look_words s (first ∷ (second ∷ more)) e (i x)))
 
   turns_do : (m n k : ℕ) (body : WordState → Behaviour) (s : WordState) → ((x : ℕ) → spared x → n ≢ x) → (W → k + m < 0x10000) → Leads body → Known W s
       → Does s (turns m n k body s)

@@ -4,7 +4,7 @@ use Rattle.std.proofs.Common.{nat_eq, refl, sym, ap, ◌∙◌, subst, arith, eq
 use Rattle.std.proofs.lemmas.List.{length-append}
 use Rattle.machine_effects.specs.fram_board.Effects.{Effect}
 use Rattle.machine_effects.specs.event_places.Places.{head_place, slot_place}
-use Rattle.machine_effects.specs.Inputs.{Look, Inputs}
+use Rattle.machine_effects.specs.Inputs.{Look, Inputs, first_look, other_looks}
 use Rattle.array_versions.specs.declared.operations.PlainOperation.{PlainOperation}
 use Rattle.array_versions.specs.declared.operations.LongOperation.{LongOperation}
 use Rattle.array_versions.specs.declared.operations.LongOperation.TheVariants.{ShiftLeft}
@@ -140,12 +140,11 @@ either_well false next a b h k = k
 
 event_well : (room : ℕ) (looks : List Look) (next : Place → Type 0) (q : Place) (s : WordState) → Moves room 0 1 next q → Matches q s
     → GoesWell next (event_pushed looks s).end
-event_well room [] next q s h m = tt
-event_well room (first ∷ []) next q s h m = tt
-event_well room (first ∷ (second ∷ more)) next q s h m =
-    let t = with_looks more s in
+event_well room looks next q s h m =
+    let others = other_looks looks in
+    let t = with_looks (other_looks others) s in
     let at = event_index s.fram in
-    either_well (at == first head_place) next (none_answered t) (word_answered (second (slot_place at)) t)
+    either_well (at == first_look looks head_place) next (none_answered t) (word_answered (first_look others (slot_place at)) t)
     (moved_well room 0 1 next q s _ h m (omega arith) refl) (moved_well room 0 1 next q s _ h m (omega arith) refl)
 
 -- words that are written leave the stack and the locals

@@ -9,8 +9,8 @@ use Rattle.machine_effects.specs.alp_words.Words.{AreWords, is_negative}
 use Rattle.machine_effects.specs.alp_words.declared.Width.TheVariants.{Word}
 use Rattle.machine_effects.specs.fram_board.Effects.{Effect}
 use Rattle.machine_effects.specs.World.{put}
-use Rattle.machine_effects.specs.Inputs.{Look, Inputs, TakesExactly}
-use Rattle.machine_effects.proofs.Interface.{left_are_words}
+use Rattle.machine_effects.specs.Inputs.{Look, Inputs, first_look, other_looks, TakesExactly}
+use Rattle.machine_effects.proofs.Interface.{left_are_words, first_small, others_small}
 use Rattle.array_versions.specs.declared.operations.UnaryOperation.{UnaryOperation}
 use Rattle.array_versions.specs.declared.operations.UnaryOperation.TheVariants.{Negate, Complement}
 use Rattle.array_versions.specs.declared.operations.BinaryOperation.{BinaryOperation}
@@ -164,10 +164,10 @@ pub input_words : (s : WordState) (es : List Effect) (left : Inputs) → TakesEx
 input_words s es left e w = record { stack = w.stack; locals = w.locals; fram = w.fram; inputs = left_are_words es s.inputs left e w.inputs }
 
 -- what is seen second
-pub second_look_words : (s : WordState) (first second : Look) (more : List Look) → s.inputs.looks ≡ first ∷ (second ∷ more) → IsStateOfWords s
-    → (a : ℕ) → second a < 0x10000
-second_look_words s first second more e w =
-    subst (λ (l : List Look). All (λ look. (a : ℕ) → look a < 0x10000) l) e w.inputs.looks 1 second (omega arith)
+pub second_look_words : (s : WordState) (looks : List Look) → s.inputs.looks ≡ looks → IsStateOfWords s → (a : ℕ)
+    → first_look (other_looks looks) a < 0x10000
+second_look_words s looks e w =
+    first_small (other_looks looks) (others_small looks (subst (λ (l : List Look). All (λ look. (a : ℕ) → look a < 0x10000) l) e w.inputs.looks))
 
 -- a place is an address
 pub place_high : (a : ℕ) → is_place a ≡ true → a < 0x10000

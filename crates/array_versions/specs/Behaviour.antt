@@ -6,7 +6,7 @@ use Rattle.machine_effects.specs.alp_words.Words.{word_sum}
 use Rattle.machine_effects.specs.event_places.Places.{tail_place, count_place, sent_place, answer_place, head_place, slot_place}
 use Rattle.machine_effects.specs.fram_board.Effects.{Effect, Store, Take}
 use Rattle.machine_effects.specs.World.{put}
-use Rattle.machine_effects.specs.Inputs.{Look, Inputs}
+use Rattle.machine_effects.specs.Inputs.{Look, Inputs, first_look, other_looks, look_effects}
 use Rattle.array_versions.specs.declared.program.ArrayPlace.{ArrayPlace}
 use Rattle.array_versions.specs.declared.program.ListPlace.{ListPlace}
 use Rattle.array_versions.specs.declared.operations.PlainOperation.{PlainOperation}
@@ -33,8 +33,8 @@ abbrev pub started : (ℕ → ℕ) → Inputs → WordState
 started fram inputs = record { stack = []; locals = λ n. None; fram = fram; inputs = inputs }
 
 -- how steps end: behind the last one; by a jump; where a reading is wanted and none is left; where an address isn't that of a
--- word of FRAM in front of a program's end, or a look is wanted and none is left; or where a word is taken from an empty stack, a local
--- is read before it is assigned, or a jump goes to an odd address
+-- word of FRAM in front of a program's end; or where a word is taken from an empty stack, a local is read before it is assigned, or a
+-- jump goes to an odd address
 pub data End : Type 0 where
   GoesOn : (state : WordState) → End
   Jumps : (to : ℕ) → (state : WordState) → End
@@ -55,7 +55,7 @@ behaves es e = record { effects = es; end = e }
 abbrev pub goes_on : List Effect → WordState → Behaviour
 goes_on es s = behaves es (GoesOn s)
 
--- an address isn't a place, or no look is left
+-- an address isn't a place
 abbrev pub strays : Behaviour
 strays = behaves [] Strays
 
@@ -165,11 +165,12 @@ event_answered first second s =
 abbrev pub with_looks : List Look → WordState → WordState
 with_looks looks s = record s { inputs = record s.inputs { looks = looks } }
 
--- takes two looks, and pushes the answer
+-- takes two looks, and pushes the answer; where none is left it sees nothing but 0
 abbrev pub event_pushed : List Look → WordState → Behaviour
-event_pushed [] s = strays
-event_pushed (first ∷ []) s = strays
-event_pushed (first ∷ (second ∷ more)) s = event_answered first second (with_looks more s)
+event_pushed looks s =
+    let others = other_looks looks in
+    behind_effects (look_effects looks)
+    (behind_effects (look_effects others) (event_answered (first_look looks) (first_look others) (with_looks (other_looks others) s)))
 
 -- TAIL as the transition leaves it: the index of the next word
 abbrev pub events_frozen : WordState → Behaviour

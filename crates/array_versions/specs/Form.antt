@@ -1,7 +1,7 @@
 -- What a program must have so that code can be made of it: each way through it, with conditions free and loops with their turns,
 -- ends in a jump, takes no word from an empty stack, and reads no local before it is assigned; and there is room.
 use Rattle.std.specs.Prelude.{ℕ, zero, suc, ◌+◌, ◌-◌, ◌*◌, ◌%◌, ◌≡◌, ◌≢◌, ◌<◌, ◌≤◌, ◌||◌, Bool, true, false, nat_eq, max}
-use Rattle.machine_effects.specs.address_space.Limits.{stack_top, HasStackRoom}
+use Rattle.machine_effects.specs.address_space.Limits.{stack_top, stack_start, HasStackRoom}
 use Rattle.machine_effects.specs.alp_words.Words.{IsWord}
 use Rattle.array_versions.specs.declared.program.ArrayPlace.{ArrayPlace}
 use Rattle.array_versions.specs.declared.program.ListPlace.{ListPlace}
@@ -244,3 +244,13 @@ pub record IsWhole (p : Program) : Type 0 where
   pub low_locals : LocalsBelow locals p
   pub loops_count : LoopsCount p
   pub ways : EachWay room p (λ q. ⊥) start
+
+-- it has room for a stack that begins where that of a source with events does: below its locals in RAM
+pub record FitsEvents (p : Program) (whole : IsWhole p) : Type 0 where
+  pub low : stack_start ≤ stack_base whole.locals
+  pub room : HasStackRoom stack_start whole.room
+
+-- a whole program whose stack has that room
+pub record FitsTheStack (p : Program) : Type 0 where
+  pub whole : IsWhole p
+  pub fits : FitsEvents p whole

@@ -47,10 +47,10 @@ rung_is (t ∷ ts) (suc k) = rung_is ts k
 abbrev pub copying : List CopyPair → (ℕ → ℕ) → Inputs → Deed
 copying xs f l = record { memory = f; inputs = l; effects = copied_in xs f; steps = length xs; cycles = 6 * length xs }
 
-pub copies_done : (code : Code) (tidy : IsTidy code) (xs : List CopyPair) (f : ℕ → ℕ) (l : Inputs) → All ArePairWords xs
-    → Does code (copies_in xs) (copying xs f l)
-copies_done code tidy [] f l ok p u h at = nothing code u _ (record { pc = at.pc ∙ omega arith; sp = at.sp; fram = at.fram; inputs = at.inputs })
-copies_done code tidy (x ∷ xs) f l ok p u h at =
+pub copies_done : (code : Code) (tidy : IsTidy code) (sp : ℕ) (xs : List CopyPair) (f : ℕ → ℕ) (l : Inputs) → All ArePairWords xs
+    → Does code sp (copies_in xs) (copying xs f l)
+copies_done code tidy sp [] f l ok p u h at = nothing code u _ (record { pc = at.pc ∙ omega arith; sp = at.sp; fram = at.fram; inputs = at.inputs })
+copies_done code tidy sp (x ∷ xs) f l ok p u h at =
     let g = put f x.copy (f x.home) in
     let words = All-head ArePairWords x xs ok in
     let s = core_at p f l u in
@@ -58,5 +58,5 @@ copies_done code tidy (x ∷ xs) f l ok p u h at =
     from_there u (record { pc = at.pc; fram = at.fram; inputs = at.inputs }) (recounted (omega arith) (omega arith) (so_ends
     (then_on (form_comes code tidy (Move (Fram x.home) (ToFram x.copy)) s next (Store x.copy (f x.home) ∷ []) 6 (λ v. v ≡ next) h.0
     (words.home, words.copy) refl refl)
-    (copies_done code tidy xs g l (All-tail ArePairWords x xs ok) (p + 6) next h.1 (record { pc = refl; sp = at.sp; fram = refl; inputs = refl })))
+    (copies_done code tidy sp xs g l (All-tail ArePairWords x xs ok) (p + 6) next h.1 (record { pc = refl; sp = at.sp; fram = refl; inputs = refl })))
     (λ v k. record { pc = k.pc ∙ omega arith; sp = k.sp; fram = k.fram; inputs = k.inputs })))

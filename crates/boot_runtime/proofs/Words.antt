@@ -7,10 +7,10 @@ use Rattle.runtime_code.specs.code_forms.Placed.{instructions, AreInstructions}
 use Rattle.runtime_code.proofs.code_forms.Interface.{forms_bytes-append}
 use Rattle.runtime_code.specs.runtime_effects.Places.{CopyPair}
 use Rattle.runtime_code.proofs.Interface.{if_any_most, code_bytes, are_instructions-append, ladder_bytes}
-use Rattle.runtime_code.proofs.Interface.{with_events_most, where_bytes, where_instructions}
+use Rattle.runtime_code.proofs.Interface.{with_events_most, with_events_sum, where_bytes, where_instructions}
 use Rattle.boot_runtime.specs.Listing.{TaskEntry, head, opening, dispatch, copies_in, stub_to, stub, stub_bytes, ladder_to, stubs}
 use Rattle.boot_runtime.specs.Listing.{rung_for, stubs_bytes, fixed_forms, boot_forms, ladder_offset, stubs_address}
-use Rattle.boot_runtime.specs.Listing.{end_tested, clearing, counts_set, event_count_set, events_counted}
+use Rattle.boot_runtime.specs.Listing.{interrupts_set, interrupts_enabled, gated_forms, end_tested, clearing, counts_set, event_count_set, events_counted}
 use Rattle.boot_runtime.specs.Laws.{StartsAreShort, ClearingIsDearest, BootIsShort, BootIsCode, BootFits, entry_room}
 use Rattle.boot_runtime.proofs.Entering.{stub_size}
 use Rattle.memory_map.specs.MemoryMap.{MemoryMap}
@@ -27,7 +27,11 @@ boot_is_short m commit tasks at =
     let one = forms_bytes-append (opening m) (dispatch m) in
     let two = forms_bytes-append (end_tested m ++ (clearing m ++ counts_set m)) (events_counted m) in
     let more = where_bytes m.runtime.events event_count_set in
-    let a : forms_bytes (boot_forms m commit tasks at) ≡ ladder_offset m + forms_bytes (l ++ stubs tasks) = omega (arith, fixed, one, two, more) in
+    let three = forms_bytes-append (interrupts_enabled m) (gated_forms m commit) in
+    let front = where_bytes m.runtime.events interrupts_set in
+    let sum = with_events_sum m.runtime.events 6 4 in
+    let a : forms_bytes (boot_forms m commit tasks at) ≡ ladder_offset m + forms_bytes (l ++ stubs tasks) =
+    omega (arith, fixed, one, two, three, more, front, sum) in
     let b = forms_bytes-append l (stubs tasks) in
     let c = ladder_bytes q (map rung_for tasks) in
     let count = length-map tasks rung_for in
@@ -71,8 +75,9 @@ boot_is_code m commit tasks at =
     let l = ladder_to q tasks in
     let d = dispatch m in
     are_instructions-append (fixed_forms m commit) (l ++ stubs tasks)
+    (are_instructions-append (interrupts_enabled m) (gated_forms m commit) (where_instructions m.runtime.events interrupts_set (tt, (tt, tt)))
     (are_instructions-append (head m commit) (opening m ++ d) (head_are m commit)
-    (are_instructions-append (opening m) d (opening_are m) (dispatch_are m)))
+    (are_instructions-append (opening m) d (opening_are m) (dispatch_are m))))
     (are_instructions-append l (stubs tasks) (ladder_are q tasks) (stubs_are tasks))
 
 entries_fit : (ts : List TaskEntry) → 4 * length ts + stubs_bytes ts ≤ 2 * entry_room ts
@@ -80,7 +85,7 @@ entries_fit [] = omega arith
 entries_fit (t ∷ ts) = let e = entries_fit ts in let once = if_any_most (length t.privates) 4 in omega (arith, e, once)
 
 pub boot_fits : BootFits
-boot_fits m tasks = let e = entries_fit tasks in let few = with_events_most m.runtime.events 4 in omega (arith, e, few)
+boot_fits m tasks = let e = entries_fit tasks in let few = with_events_most m.runtime.events 10 in omega (arith, e, few)
 
 pub starts_are_short : StartsAreShort
 starts_are_short events versions privates = let once = if_any_most privates 3 in omega (arith, once)

@@ -3,7 +3,8 @@ use Rattle.std.specs.Prelude.{ℕ, ◌+◌, ◌*◌, Bool, if◌then◌else◌, 
 use Rattle.runtime_code.specs.msp_isa.declared.instructions.TwoOp.TheVariants.{Add}
 use Rattle.runtime_code.specs.msp_isa.declared.instructions.Condition.TheVariants.{NotEqual}
 use Rattle.runtime_code.specs.msp_isa.declared.operands.Konst.TheVariants.{Zero, One, Two, MinusOne}
-use Rattle.runtime_code.specs.code_forms.Forms.{Form, Move, Calculate, Compare, Update, Branch, R4, R5}
+use Rattle.runtime_code.specs.code_forms.Forms.{Form, Move, Calculate, Compare, Update, SetStack, EnableInterrupts, Branch, R4, R5}
+use Rattle.memory_map.specs.address_space.Limits.{stack_start}
 use Rattle.runtime_code.specs.code_forms.Forms.{Number, Constant, Fram, ToRegister, ToFram, ToPointed}
 use Rattle.memory_map.specs.declared.words.RuntimeWord.TheVariants.{Gate, ListLength, EmitCount, Version}
 use Rattle.memory_map.specs.MemoryMap.{MemoryMap, word_place, where_events, with_events}
@@ -25,6 +26,14 @@ entry_at tasks k = get_or tasks k (record { privates = []; code = 0 })
 -- the words of the private scalars of a task by its number
 abbrev pub privates_in : List TaskEntry → ℕ → List CopyPair
 privates_in tasks k = (entry_at tasks k).privates
+
+-- SP := where the stack begins, and the CPU accepts interrupts
+abbrev pub interrupts_set : List Form
+interrupts_set = SetStack stack_start ∷ EnableInterrupts ∷ []
+
+-- the same where there are events
+abbrev pub interrupts_enabled : MemoryMap → List Form
+interrupts_enabled m = where_events m.runtime.events interrupts_set
 
 -- where GATE is 1 a branch to the commit
 abbrev pub head : MemoryMap → ℕ → List Form
@@ -107,7 +116,7 @@ stubs ts = all_stubs (map rung_for ts)
 
 -- the bytes before the ladder
 abbrev pub ladder_offset : MemoryMap → ℕ
-ladder_offset m = 68 + with_events m.runtime.events 4
+ladder_offset m = 68 + with_events m.runtime.events 10
 
 -- the ladder's place, by the place of the boot
 abbrev pub ladder_address : MemoryMap → ℕ → ℕ
@@ -117,9 +126,13 @@ ladder_address m at = at + ladder_offset m
 abbrev pub stubs_address : MemoryMap → List TaskEntry → ℕ → ℕ
 stubs_address m tasks at = ladder_address m at + 4 * length tasks
 
--- what stands before the ladder: the look at GATE, an attempt's opening, and the way to the ladder
+-- what stands from the look at GATE on, before the ladder: an attempt's opening, and the way to the ladder
+abbrev pub gated_forms : MemoryMap → ℕ → List Form
+gated_forms m commit = head m commit ++ (opening m ++ dispatch m)
+
+-- all that stands before the ladder
 abbrev pub fixed_forms : MemoryMap → ℕ → List Form
-fixed_forms m commit = head m commit ++ (opening m ++ dispatch m)
+fixed_forms m commit = interrupts_enabled m ++ gated_forms m commit
 
 -- boot, attempt start, ladder and stubs, to stand at an address
 abbrev pub boot_forms : MemoryMap → ℕ → List TaskEntry → ℕ → List Form
@@ -130,7 +143,7 @@ abbrev pub stubs_bytes : List TaskEntry → ℕ
 stubs_bytes [] = 0
 stubs_bytes (t ∷ ts) = stub_bytes t + stubs_bytes ts
 
--- the length of it all: 34 words, 2 more where there are events, and for each task 2, and where it has private scalars 2 more and 3 for each of
+-- the length of it all: 34 words, 5 more where there are events, and for each task 2, and where it has private scalars 2 more and 3 for each of
 -- their words
 abbrev pub boot_bytes : MemoryMap → List TaskEntry → ℕ
 boot_bytes m tasks = ladder_offset m + 4 * length tasks + stubs_bytes tasks

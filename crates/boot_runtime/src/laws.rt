@@ -4,7 +4,7 @@ ghost use Rattle.boot_runtime.specs.Laws.{PendingCommitIsFound, AttemptIsFound, 
 ghost use Rattle.boot_runtime.specs.Laws.{BootIsCode, BootFits, StartStoresInFram, TasksAreEntered};
 
 /// From its first instruction on, the boot comes to the commit where GATE is 1, and else to the start of an attempt, whatever the
-/// registers hold.
+/// registers hold. Where there are events it first sets SP and lets the CPU accept interrupts, where FRAM names the handler.
 #[tactic(auto, using(crate::proofs::Boot::pending_commit_is_found, crate::proofs::Boot::attempt_is_found))]
 pub fn boot_obeys_the_gate()
     ensures commit { PendingCommitIsFound }
@@ -17,8 +17,8 @@ pub fn start_is_made()
     ensures { StartIsMade }
 {}
 
-/// In a charge that begins with GATE not 1 and VER not 65535 the fifth instruction raises VER, and is the first that stores: however soon
-/// the next cut comes behind it, the next attempt has another number.
+/// In a charge that begins with GATE not 1 and VER not 65535 the fifth instruction raises VER, the seventh where there are events, and is the
+/// first that stores: however soon the next cut comes behind it, the next attempt has another number.
 #[tactic(auto, using(crate::proofs::Boot::version_is_raised))]
 pub fn version_is_raised()
     ensures { VersionIsRaised }
@@ -32,7 +32,7 @@ pub fn starts_are_short()
     ensures dearest { ClearingIsDearest }
 {}
 
-/// The code is 34 words long, 2 more where there are events, and for each task 2, and where it has private scalars 2 more and 3 for each of
+/// The code is 34 words long, 5 more where there are events, and for each task 2, and where it has private scalars 2 more and 3 for each of
 /// their words, which is within the allowance; each of its instructions has its words.
 pub fn boot_is_short()
     ensures short { BootIsShort }

@@ -6,16 +6,20 @@ mod laws;
 mod stubs;
 
 ghost use Rattle.std.specs.Prelude.{◌≡◌, ◌+◌, ◌<◌, ◌++◌, ℕ, IfOk, OnOk};
+ghost use Rattle.runtime_code.specs.Addresses.{stack_origin};
 ghost use Rattle.boot_runtime.specs.Entries.{task_entries};
 ghost use Rattle.boot_runtime.specs.Listing.{head, end_tested, clearing_begins, clear_turn, clear_loop, version_cleared, counts_set, events_counted};
-ghost use Rattle.boot_runtime.specs.Listing.{dispatch, fixed_forms, ladder_offset, boot_forms, boot_bytes};
+ghost use Rattle.boot_runtime.specs.Listing.{interrupts_enabled, dispatch, fixed_forms, ladder_offset, boot_forms, boot_bytes};
 
+use address_space::STACK_START;
 pub use laws::{
     boot_is_short, boot_obeys_the_gate, start_is_made, start_stores_in_fram, starts_are_short,
     tasks_are_entered, version_is_raised,
 };
 use memory_map::{EVENT_COUNT, Layout, RuntimeWord, STACK_TOP};
-use runtime_code::forms::Form::{Branch, Calculate, Compare, Move, SetStack, SkipBy, Update};
+use runtime_code::forms::Form::{
+    Branch, Calculate, Compare, EnableInterrupts, Move, SetStack, SkipBy, Update,
+};
 use runtime_code::forms::Source::{Constant, Fram, Number, Register};
 use runtime_code::forms::Target::{ToFram, ToPointed, ToRegister};
 use runtime_code::forms::WorkRegister::{R4, R5};
@@ -28,7 +32,17 @@ use stubs::{push_ladder, push_stubs};
 fn ladder_offset(layout: &Layout) -> u16
     ensures { result ≡ ladder_offset layout.now }
 {
-    if layout.runtime().events { 72 } else { 68 }
+    if layout.runtime().events { 78 } else { 68 }
+}
+
+// SP := where the stack begins, and the CPU accepts interrupts, where there are events.
+fn push_interrupts_enabled(code: &mut Vec<Form>, layout: &Layout) -> Result<(), AllocError>
+    ensures { OnOk result (code.new.items ≡ code.old.items ++ interrupts_enabled layout.now) }
+{
+    if layout.runtime().events {
+        code.extend_from_slice(&[SetStack(STACK_START), EnableInterrupts])?;
+    }
+    Ok(())
 }
 
 // Where GATE is 1 a branch to the commit, else over it.
@@ -114,13 +128,24 @@ fn push_events_counted(code: &mut Vec<Form>, layout: &Layout) -> Result<(), Allo
     Ok(())
 }
 
-// SP := its top; to the branch of the task that CUR names, in a ladder of branches of four bytes that stands right behind.
+// Where the stack begins: where there are events below the room for any locals.
+fn stack_origin(layout: &Layout) -> u16
+    ensures { result ≡ stack_origin layout.now.runtime.events }
+{
+    if layout.runtime().events {
+        STACK_START
+    } else {
+        STACK_TOP
+    }
+}
+
+// SP := where the stack begins; to the branch of the task that CUR names, in a ladder of branches of four bytes that stands right behind.
 fn dispatch(layout: &Layout) -> [Form; 5]
     ensures { result ≡ dispatch layout.now }
 {
     let current_task = Fram(layout.word_place(RuntimeWord::CurrentTask));
     [
-        SetStack(STACK_TOP),
+        SetStack(stack_origin(layout)),
         Move(current_task, ToRegister(R4)),
         Calculate(TwoOp::Add, Register(R4), R4),
         Calculate(TwoOp::Add, Register(R4), R4),
@@ -128,11 +153,13 @@ fn dispatch(layout: &Layout) -> [Form; 5]
     ]
 }
 
-// What stands before the ladder: the look at GATE, the opening of an attempt, and the way to the ladder.
+// What stands before the ladder: where there are events interrupts are enabled; the look at GATE, the opening of an attempt, and the way to the
+// ladder.
 fn fixed_code(alloc: Global, layout: &Layout) -> Result<Vec<Form>, AllocError>
     ensures { IfOk result (λ code. code.items ≡ fixed_forms layout.now layout.now.commit.address) }
 {
     let mut code = Vec::new(alloc);
+    push_interrupts_enabled(&mut code, layout)?;
     code.extend_from_slice(&head(layout))?;
     code.extend_from_slice(&end_tested(layout))?;
     code.extend_from_slice(&clearing_begins(layout))?;
@@ -146,9 +173,9 @@ fn fixed_code(alloc: Global, layout: &Layout) -> Result<Vec<Form>, AllocError>
 
 /// The instructions of the boot for a layout, to stand at an address; or no memory is left.
 ///
-/// First GATE is looked at: where it is 1 a branch leads to the commit. Else, and after a commit from 10 bytes behind the address on, an
-/// attempt starts. Where VER is 65535, every version word := 0, then VER := 0. Then VER := VER + 1, CLN := 0, EN := 0, and EC := 0, where there
-/// are events; and SP is set, and by CUR the private scalars of the task are copied, and a branch leads to its code. They take 34 words, 2 more
+/// Where there are events SP is set first, and GIE. Then GATE is looked at: where it is 1 a branch leads to the commit. Else, and after a commit
+/// from 10 bytes behind that look on, an attempt starts. Where VER is 65535, every version word := 0, then VER := 0. Then VER := VER + 1, CLN := 0, EN := 0, and EC := 0, where there
+/// are events; and SP is set, and by CUR the private scalars of the task are copied, and a branch leads to its code. They take 34 words, 5 more
 /// where there are events, and for each task 2, and where it has private scalars 2 more and 3 for each of their words.
 pub fn boot_code(alloc: Global, layout: &Layout, at: u16) -> Result<Vec<Form>, AllocError>
     requires { at + boot_bytes layout.now (task_entries layout.now) < 65536 }

@@ -6,18 +6,19 @@ use Rattle.std.proofs.lemmas.Bool.Decides.{nat_tests}
 use Rattle.std.proofs.lemmas.Option.{same_Some}
 use Rattle.machine_effects.specs.msp_step.declared.machine.Stop.{Stop}
 use Rattle.machine_effects.specs.msp_step.declared.machine.Stop.TheVariants as stop
-use Rattle.machine_effects.specs.msp_step.Effect.{status_with}
 use Rattle.machine_effects.specs.fram_board.Effects.{Effect}
 use Rattle.machine_effects.specs.Going.{Goes, Stops, Status, At, Halted, stretch, after_effects, continued, going, Leads}
-use Rattle.machine_effects.specs.Machine.{MachineBoard, MachineStretch, Code, step_with, exec, undisturbed, astray}
+use Rattle.machine_effects.specs.Machine.{MachineBoard, MachineStretch, Code, step_with, exec, undisturbed}
 use Rattle.machine_effects.proofs.Interface.{stay, one_step, join, join_stall, stall, after_after, after_nothing}
 use Rattle.code_forms.specs.Forms.{WorkRegister, Core, CoreOutcome, CoreStretch, board_of, outcome_of_core, source_read, Target, ToRegister, ToFram, ToRam}
+use Rattle.code_forms.specs.Forms.{source_effects, behind_source}
 use Rattle.code_forms.specs.Forms.{ToIndexed, ToPointed, ToOutnum, ToOutdata, target_written, Form, Move, Calculate, Compare, Update, Push, Modify, SetStack}
-use Rattle.code_forms.specs.Forms.{Sense, Jump, Skip, Branch, BranchIndexed, SkipBy, instruction_of, form_bytes, sensed, form_step, FormNeeds}
+use Rattle.code_forms.specs.Forms.{EnableInterrupts, Sense, Jump, Skip, Branch, BranchIndexed, SkipBy, instruction_of, form_bytes, sensed, form_step, FormNeeds}
 use Rattle.code_forms.specs.Code.{Stands, forms_bytes, IsStraight, AreStraight, forms_run, OfNext, FormsNeed, IsTidy, IsAtForm, OfState, StepsAreForms}
 use Rattle.code_forms.specs.Code.{Comes, Runs, Starves}
 use Rattle.code_forms.specs.Laws.{StraightCodeLeads}
 use Rattle.code_forms.proofs.Forms.{form_does}
+use Rattle.code_forms.proofs.Rules.{undisturbed_form}
 
 -- the first part stands where both do
 pub stands_front : (code : Code) (p : ℕ) (a b : List Form) → Stands code p (a ++ b) → Stands code p a
@@ -51,14 +52,14 @@ forms_at code p k n ms h = first_forms code (p + forms_bytes (take k ms)) n (dro
 
 -- the one behind the first k
 pub form_at : (code : Code) (p k : ℕ) (ms : List Form) (m : Form) → Stands code p ms → slice_get ms k ≡ Some m
-    → code (p + forms_bytes (take k ms)) ≡ Some (instruction_of m)
+    → code.at (p + forms_bytes (take k ms)) ≡ Some (instruction_of m)
 form_at code p k [] m h e = absurd (cc)
 form_at code p zero (i ∷ ms) m h e =
     let o : p ≡ p + 0 = omega arith in
-    subst (λ n. code n ≡ Some (instruction_of m)) o (h.0 ∙ ap (λ i. Some (instruction_of i)) (same_Some i m e))
+    subst (λ n. code.at n ≡ Some (instruction_of m)) o (h.0 ∙ ap (λ i. Some (instruction_of i)) (same_Some i m e))
 form_at code p (suc k) (i ∷ ms) m h e =
     let o : p + form_bytes i + forms_bytes (take k ms) ≡ p + (form_bytes i + forms_bytes (take k ms)) = omega arith in
-    subst (λ n. code n ≡ Some (instruction_of m)) o (form_at code (p + form_bytes i) k ms m h.1 e)
+    subst (λ n. code.at n ≡ Some (instruction_of m)) o (form_at code (p + form_bytes i) k ms m h.1 e)
 
 abbrev IsAt : ℕ → Core → Type 0
 IsAt p t = t.pc ≡ p
@@ -76,13 +77,21 @@ sensed_at : (ws : List ℕ) (b : WorkRegister) (u : Core) → OfNext (sensed ws 
 sensed_at [] b u = tt
 sensed_at (w ∷ ws) b u = refl
 
+at_behind : (es : List Effect) (o : CoreOutcome) (p : ℕ) → OfNext o (IsAt p) → OfNext (behind_source es o) (IsAt p)
+at_behind es (Goes [] c u) p h = h
+at_behind es (Goes (f ∷ fs) c u) p h = h
+at_behind es (Stops fs price e) p h = h
+
 goes_to : (m : Form) (u : Core) → IsStraight m → OfNext (form_step m u) (IsAt (u.pc + form_bytes m))
-goes_to (Move x y) u h = written_at y _ _ (record (source_read x u) { pc = u.pc + form_bytes (Move x y) })
+goes_to (Move x y) u h =
+    at_behind (source_effects x u) (target_written y _ _ (record (source_read x u) { pc = u.pc + form_bytes (Move x y) })) _
+    (written_at y _ _ (record (source_read x u) { pc = u.pc + form_bytes (Move x y) }))
 goes_to (Calculate op x b) u h = refl
 goes_to (Compare x a) u h = refl
 goes_to (Push x) u h = refl
 goes_to (Update op x a) u h = refl
 goes_to (SetStack n) u h = refl
+goes_to EnableInterrupts u h = refl
 goes_to (Modify t b) u h = refl
 goes_to (Sense b) u h = sensed_at u.inputs.readings b u
 goes_to (Jump c o) u h = elim h [ ]
@@ -137,40 +146,16 @@ pub comes_on : {code : Code} {es fs : List Effect} {n k c d : ℕ} {u : Core} {P
     → ((t : Core) → P t → Comes code fs k d t Q) → Comes code (es ++ fs) (n + k) (c + d) u Q
 comes_on a f = comes_then a (f a.end a.holds)
 
--- the CPU accepts no interrupt where SR has flags alone
-flags_quiet : (n z c v : Bool) → let sr = status_with 0 (record { n = n; z = z; c = c; v = v }) in ((sr / 16 % 2 == 0) && (sr / 8 % 2 == 1)) ≡ false
-flags_quiet true true true true = refl
-flags_quiet true true true false = refl
-flags_quiet true true false true = refl
-flags_quiet true true false false = refl
-flags_quiet true false true true = refl
-flags_quiet true false true false = refl
-flags_quiet true false false true = refl
-flags_quiet true false false false = refl
-flags_quiet false true true true = refl
-flags_quiet false true true false = refl
-flags_quiet false true false true = refl
-flags_quiet false true false false = refl
-flags_quiet false false true true = refl
-flags_quiet false false true false = refl
-flags_quiet false false false true = refl
-flags_quiet false false false false = refl
-
-undisturbed_core : (s : MachineBoard) (o : CoreOutcome) → undisturbed s (outcome_of_core o) ≡ outcome_of_core o
-undisturbed_core s (Goes es c t) =
-    ap (λ b. if b then Stops [] 0 (astray s) else Goes es c (board_of t)) (flags_quiet t.flags.n t.flags.z t.flags.c t.flags.v)
-undisturbed_core s (Stops es price e) = refl
-
 module _ (code : Code) (tidy : IsTidy code) where
   -- one form
-  pub does : (m : Form) (u : Core) → code u.pc ≡ Some (instruction_of m) → FormNeeds m u → exec code (board_of u) ≡ outcome_of_core (form_step m u)
+  pub does : (m : Form) (u : Core) → code.at u.pc ≡ Some (instruction_of m) → FormNeeds code.events m u → exec code (board_of u) ≡ outcome_of_core (form_step m u)
   does m u h k =
-      ap (λ o. undisturbed (board_of u) (step_with o (board_of u))) h
-      ∙ ap (undisturbed (board_of u)) (form_does m u (tidy u.pc (instruction_of m) h) k)
-      ∙ undisturbed_core (board_of u) (form_step m u)
+      ap (λ o. undisturbed code.events o (board_of u) (step_with o (board_of u))) h
+      ∙ ap (undisturbed code.events (Some (instruction_of m)) (board_of u)) (form_does code.events m u (tidy u.pc (instruction_of m) h) k)
+      ∙ undisturbed_form code.events m u k
 
-  block_on : (ms : List Form) (p k : ℕ) (o : CoreOutcome) → OfNext o (IsAt p) → OfNext o (FormsNeed ms)
-      → ((t : Core) → t.pc ≡ p → FormsNeed ms t → going (exec code) (length ms + k) (board_of t) ≡ carry (forms_run ms t)
+  block_on : (ms : List Form) (p k : ℕ) (o : CoreOutcome) → OfNext o (IsAt p) → OfNext o (FormsNeed code.events ms)
+      → ((t : Core) → t.pc ≡ p → FormsNeed code.events ms t → going (exec code) (length ms + k) (board_of t) ≡ carry (forms_run ms t)
       (λ v. going (exec code) k (board_of v)))
       → continued (outcome_of_core o) (going (exec code) (length ms + k)) ≡ carry (continued o (forms_run ms)) (λ v. going (exec code) k (board_of v))
   block_on ms p k (Goes fs d t) g w ih =
@@ -178,7 +163,7 @@ module _ (code : Code) (tidy : IsTidy code) where
       ∙ carry_after fs (forms_run ms t).effects d (forms_run ms t).cycles (forms_run ms t).status (λ v. going (exec code) k (board_of v))
   block_on ms p k (Stops es price x) g w ih = refl
 
-  block_all : (ms : List Form) (k : ℕ) (u : Core) → AreStraight ms → Stands code u.pc ms → FormsNeed ms u
+  block_all : (ms : List Form) (k : ℕ) (u : Core) → AreStraight ms → Stands code u.pc ms → FormsNeed code.events ms u
       → going (exec code) (length ms + k) (board_of u) ≡ carry (forms_run ms u) (λ v. going (exec code) k (board_of v))
   block_all [] k u st h w = ap (λ n. going (exec code) n (board_of u)) (zero-add k) ∙ sym (after_nothing (going (exec code) k (board_of u)))
   block_all (m ∷ ms) k u st h w =
@@ -188,23 +173,23 @@ module _ (code : Code) (tidy : IsTidy code) where
       (λ t e o. block_all ms k t st.1 (subst (λ p. Stands code p ms) (sym e) h.1) o)
 
   -- straight code ends where its forms do
-  pub block : (ms : List Form) (u t : Core) (es : List Effect) (c : ℕ) → AreStraight ms → Stands code u.pc ms → FormsNeed ms u
+  pub block : (ms : List Form) (u t : Core) (es : List Effect) (c : ℕ) → AreStraight ms → Stands code u.pc ms → FormsNeed code.events ms u
       → forms_run ms u ≡ stretch es c (At t) → Leads (exec code) (length ms) es c (board_of u) (board_of t)
   block ms u t es c st h w e = record { by = λ k. block_all ms k u st h w ∙ ap (λ r. carry r (λ v. going (exec code) k (board_of v))) e }
 
   -- what stands there is a form that has what it needs
-  at_form : (m : Form) (u : Core) → code u.pc ≡ Some (instruction_of m) → FormNeeds m u → StepsAreForms code 1 u
+  at_form : (m : Form) (u : Core) → code.at u.pc ≡ Some (instruction_of m) → FormNeeds code.events m u → StepsAreForms code 1 u
   at_form m u h w zero l = record { form = m; core = u; is = refl; stands = h; needs = w }
   at_form m u h w (suc n) l = absurd (omega (arith, l))
 
-  behind_form : (ms : List Form) (p n : ℕ) (o : CoreOutcome) → OfNext o (IsAt p) → OfNext o (FormsNeed ms)
-      → ((t : Core) → t.pc ≡ p → FormsNeed ms t → OfState (going (exec code) n (board_of t)).status (IsAtForm code))
+  behind_form : (ms : List Form) (p n : ℕ) (o : CoreOutcome) → OfNext o (IsAt p) → OfNext o (FormsNeed code.events ms)
+      → ((t : Core) → t.pc ≡ p → FormsNeed code.events ms t → OfState (going (exec code) n (board_of t)).status (IsAtForm code))
       → OfState (continued (outcome_of_core o) (going (exec code) n)).status (IsAtForm code)
   behind_form ms p n (Goes fs d t) g w ih = ih t g w
   behind_form ms p n (Stops es price x) g w ih = tt
 
   -- so is each form of straight code
-  at_forms : (ms : List Form) (u : Core) → AreStraight ms → Stands code u.pc ms → FormsNeed ms u → StepsAreForms code (length ms) u
+  at_forms : (ms : List Form) (u : Core) → AreStraight ms → Stands code u.pc ms → FormsNeed code.events ms u → StepsAreForms code (length ms) u
   at_forms [] u st h w n l = absurd (omega (arith, l))
   at_forms (m ∷ ms) u st h w zero l = at_form m u h.0 w.0 0 (omega arith)
   at_forms (m ∷ ms) u st h w (suc n) l =
@@ -213,7 +198,7 @@ module _ (code : Code) (tidy : IsTidy code) where
       (λ t e k. at_forms ms t st.1 (subst (λ p. Stands code p ms) (sym e) h.1) k n (omega (arith, l))))
 
   pub straight_comes : (ms : List Form) (u t : Core) (es : List Effect) (c : ℕ) (P : Core → Type 0) → AreStraight ms → Stands code u.pc ms
-      → FormsNeed ms u → forms_run ms u ≡ stretch es c (At t) → P t → Comes code es (length ms) c u P
+      → FormsNeed code.events ms u → forms_run ms u ≡ stretch es c (At t) → P t → Comes code es (length ms) c u P
   straight_comes ms u t es c P st h w e p = record { end = t; leads = block ms u t es c st h w e; forms = at_forms ms u st h w; holds = p }
 
   -- within so many cycles
@@ -221,7 +206,7 @@ module _ (code : Code) (tidy : IsTidy code) where
   runs_within {es} {n} {c} most a l = record { steps = n; cycles = c; within = l; comes = a }
 
   -- one form, a jump too
-  pub form_comes : (m : Form) (u t : Core) (es : List Effect) (c : ℕ) (P : Core → Type 0) → code u.pc ≡ Some (instruction_of m) → FormNeeds m u
+  pub form_comes : (m : Form) (u t : Core) (es : List Effect) (c : ℕ) (P : Core → Type 0) → code.at u.pc ≡ Some (instruction_of m) → FormNeeds code.events m u
       → form_step m u ≡ Goes es c t → P t → Comes code es 1 c u P
   form_comes m u t es c P h w e p = record {
     end = t;
@@ -230,7 +215,7 @@ module _ (code : Code) (tidy : IsTidy code) where
     holds = p;
   }
 
-  pub hop : (m : Form) (most : ℕ) (u t : Core) (es : List Effect) (c : ℕ) (P : Core → Type 0) → code u.pc ≡ Some (instruction_of m) → FormNeeds m u
+  pub hop : (m : Form) (most : ℕ) (u t : Core) (es : List Effect) (c : ℕ) (P : Core → Type 0) → code.at u.pc ≡ Some (instruction_of m) → FormNeeds code.events m u
       → form_step m u ≡ Goes es c t → c ≤ most → P t → Runs code es most u P
   hop m most u t es c P h w e l p = runs_within most (form_comes m u t es c P h w e p) l
 
@@ -257,7 +242,7 @@ module _ (code : Code) (tidy : IsTidy code) where
   then_to most more u t Q es fs a b = runs_on most more u (λ v. v ≡ t) Q es fs a (λ v e. subst (λ x. Runs code fs more x Q) (sym e) b)
 
   -- straight code that comes to a sensor with no reading left, and a stretch before such a place
-  pub starve : (m : Form) (most price : ℕ) (u : Core) (es : List Effect) → code u.pc ≡ Some (instruction_of m) → FormNeeds m u
+  pub starve : (m : Form) (most price : ℕ) (u : Core) (es : List Effect) → code.at u.pc ≡ Some (instruction_of m) → FormNeeds code.events m u
       → form_step m u ≡ Stops es price stop.NoReading → price ≤ most → Starves code es most u
   starve m most price u es h w e l =
       record {

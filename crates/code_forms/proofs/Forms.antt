@@ -1,6 +1,6 @@
 -- Each form does what its instruction does.
 use Rattle.std.proofs.Common.{◌≡◌, ◌/◌, ◌==◌, if◌then◌else◌, ◌+◌, ◌-◌, ◌*◌, ◌%◌, ◌≤◌, ℕ, refl, sym, ◌∙◌, ap, Bool, true, false, arith, List, [], ◌∷◌, Option}
-use Rattle.std.proofs.Common.{Some, None, length, nat_le, nat_lt, ◌<◌}
+use Rattle.std.proofs.Common.{Some, None, length, nat_le, nat_lt, ◌<◌, append-nil}
 use Rattle.std.proofs.lemmas.Bool.Decides.{nat_tests}
 use Rattle.machine_effects.specs.alp_words.declared.Flags.{Flags}
 use Rattle.machine_effects.specs.alp_words.declared.Width.{Width}
@@ -28,24 +28,24 @@ use Rattle.machine_effects.specs.msp_step.Effect.{after_source, two_operand_effe
 use Rattle.machine_effects.specs.msp_step.Step.{effect}
 use Rattle.machine_effects.specs.event_places.Places.{handler_place, head_place, ring_place, is_ring}
 use Rattle.machine_effects.specs.fram_board.Bus.{is_word, is_ram}
-use Rattle.machine_effects.specs.fram_board.Effects.{Store}
+use Rattle.machine_effects.specs.fram_board.Effects.{Effect, Store}
 use Rattle.machine_effects.specs.World.{put}
-use Rattle.machine_effects.specs.Going.{Goes, Stops}
+use Rattle.machine_effects.specs.Going.{Goes, Stops, step_behind}
 use Rattle.machine_effects.specs.msp_step.declared.machine.Stop.TheVariants as stop
 use Rattle.machine_effects.specs.msp_isa.declared.instructions.Instr.{Instr}
-use Rattle.machine_effects.specs.Inputs.{Look, first_look, other_looks, HasLook}
+use Rattle.machine_effects.specs.Inputs.{Look, first_look, other_looks, look_effects}
 use Rattle.machine_effects.specs.Machine.{MachineOutcome, MachineBus, machine_bus, machine_outcome, step_with, word_address, is_readable, IsPlace, IsRam}
 use Rattle.machine_effects.specs.Machine.{looks_there, source_looks, machine_executed, executed_looking, code_executed}
 use Rattle.code_forms.specs.Forms.{WorkRegister, work_number, index_of, Core, register_file, board_of, outcome_of_core, Source, Register, Number, Constant}
 use Rattle.code_forms.specs.Forms.{Fram, Ram, Pointed, PointedNext, Indexed, Popped, Head, Slot}
-use Rattle.code_forms.specs.Forms.{source_operand, source_bytes, source_value, source_read, SourceNeeds}
+use Rattle.code_forms.specs.Forms.{source_operand, source_bytes, source_value, source_read, source_effects, SourceNeeds, CoreOutcome, behind_source}
 use Rattle.code_forms.specs.Forms.{Target, ToRegister, ToFram, ToRam, ToIndexed, ToPointed, ToOutnum, ToOutdata, target_operand, target_bytes, target_written}
 use Rattle.code_forms.specs.Forms.{TargetNeeds, Move, Calculate, Compare, Update, Push, Modify, SetStack, Sense, Jump, Skip, Branch, BranchIndexed}
 use Rattle.code_forms.specs.Forms.{SkipBy, instruction_of, flags_after, calculated, sensed, form_step, FormNeeds, IsNotMov, HasPushRoom, IsCodeAddress, IsSlot}
-use Rattle.code_forms.specs.Forms.{Modification, modified}
+use Rattle.code_forms.specs.Forms.{EnableInterrupts, Modification, modified}
 use Rattle.instruction_forms.specs.declared.kinds.Modification.TheVariants as change
 use Rattle.code_forms.specs.Laws.{FormsDoAsInstructions}
-use Rattle.code_forms.proofs.Registers.{set_pc, set_sp, set_work, get_work, high, number, set_flags, flags_back, is_on, no_port}
+use Rattle.code_forms.proofs.Registers.{set_pc, set_sp, set_work, get_work, high, number, set_flags, flags_back, enable, is_on, no_port}
 
 -- the bus of an instruction that began with SP here, and sees this of the ring
 abbrev inside : ℕ → Option Look → Core → MachineBus
@@ -53,8 +53,7 @@ inside floor ring u = record { fram = u.fram; ram = u.ram; inputs = u.inputs; ou
 
 -- the bus as an instruction begins that takes the first of these looks, if it looks
 abbrev seen_by : List Look → Core → MachineBus
-seen_by [] u = inside u.sp None u
-seen_by (look ∷ more) u = inside u.sp (Some look) (record u { inputs = record u.inputs { looks = more } })
+seen_by looks u = inside u.sp (Some (first_look looks)) (record u { inputs = record u.inputs { looks = other_looks looks } })
 
 -- as one begins with this source
 abbrev begun : Source → Core → MachineBus
@@ -71,13 +70,9 @@ begun (Indexed b x) u = inside u.sp None u
 begun Popped u = inside u.sp None u
 
 -- what it sees of the ring
-abbrev ring_by : List Look → Option Look
-ring_by [] = None
-ring_by (look ∷ more) = Some look
-
 abbrev ring_of : Source → Core → Option Look
-ring_of Head u = ring_by u.inputs.looks
-ring_of (Slot b) u = ring_by u.inputs.looks
+ring_of Head u = Some (first_look u.inputs.looks)
+ring_of (Slot b) u = Some (first_look u.inputs.looks)
 ring_of (Register b) u = None
 ring_of (Number n) u = None
 ring_of (Constant k) u = None
@@ -89,7 +84,7 @@ ring_of (Indexed b x) u = None
 ring_of Popped u = None
 
 abbrev regs_in : Core → ℕ → Registers
-regs_in u p = register_file p u.sp u.flags u.work
+regs_in u p = register_file p u.sp u.enabled u.flags u.work
 
 -- a word of memory is read, and the bus stays
 is_word_fram : (a : ℕ) → IsPlace a → is_word a ≡ true
@@ -162,27 +157,25 @@ read_slot s look a e h = let t = slot_tests s.floor a h in rw (t.0, t.1.0, e, t.
 -- the source operand, with PC behind the operation word
 module _ (u : Core) (p : ℕ) where
   got : (b : WorkRegister) → regs_in u p (index_number (index_of b)) ≡ u.work (work_number b)
-  got b = ap (regs_in u p) (number b) ∙ get_work p u.sp (work_number b) u.flags u.work (high b)
+  got b = ap (regs_in u p) (number b) ∙ get_work p u.sp (work_number b) u.enabled u.flags u.work (high b)
 
-  up : (b : WorkRegister) (v : ℕ) → with_register (regs_in u p) (index_number (index_of b)) v ≡ register_file p u.sp u.flags (put u.work (work_number b) v)
-  up b v = ap (λ n. with_register (regs_in u p) n v) (number b) ∙ set_work p u.sp (work_number b) v u.flags u.work (high b)
+  up : (b : WorkRegister) (v : ℕ) → with_register (regs_in u p) (index_number (index_of b)) v ≡ register_file p u.sp u.enabled u.flags (put u.work (work_number b) v)
+  up b v = ap (λ n. with_register (regs_in u p) n v) (number b) ∙ set_work p u.sp (work_number b) v u.enabled u.flags u.work (high b)
 
   -- a word of the ring
-  from_head : (looks : List Look) → HasLook looks
+  from_head : (looks : List Look)
       → source machine_bus (regs_in u p) Word (source_operand Head) (seen_by looks u) ≡ Completed (first_look looks head_place, regs_in u p) (seen_by looks u)
-  from_head [] h = absurd h
-  from_head (look ∷ more) h = refl
+  from_head looks = refl
 
-  from_slot : (looks : List Look) (b : WorkRegister) → HasLook looks → IsSlot (u.work (work_number b) + ring_place)
+  from_slot : (looks : List Look) (b : WorkRegister) → IsSlot (u.work (work_number b) + ring_place)
       → source machine_bus (regs_in u p) Word (source_operand (Slot b)) (seen_by looks u) ≡
       Completed (first_look looks (u.work (work_number b) + ring_place), regs_in u p) (seen_by looks u)
-  from_slot [] b h at = absurd h
-  from_slot (look ∷ more) b h at =
+  from_slot looks b at =
       let e : word_sum (u.work (work_number b)) ring_place ≡ u.work (work_number b) + ring_place = let hi = at.high in omega arith in
-      let s = seen_by (look ∷ more) u in
-      rw (got b, e, read_slot s look (u.work (work_number b) + ring_place) refl at) refl
+      let s = seen_by looks u in
+      rw (got b, e, read_slot s (first_look looks) (u.work (work_number b) + ring_place) refl at) refl
 
-  pub from_source : (x : Source) → SourceNeeds x u
+  pub from_source : (x : Source) → SourceNeeds false x u
       → source machine_bus (regs_in u p) Word (source_operand x) (begun x u) ≡ Completed (source_value x u, regs_in (source_read x u) p) (begun x u)
   from_source (Register b) h = rw (got b) refl
   from_source (Number n) h = refl
@@ -197,11 +190,11 @@ module _ (u : Core) (p : ℕ) where
       let e : word_sum (u.work (work_number b)) x ≡ u.work (work_number b) + x = let hi = h.high in omega arith in
       rw (got b, e, read_fram (inside u.sp None u) (u.work (work_number b) + x) h) refl
   from_source Popped h =
-      let v = h.even in let l = h.high in
+      let v = h.0.even in let l = h.0.high in
       let e : word_sum u.sp 2 / 2 * 2 ≡ u.sp + 2 = omega arith in
-      rw (read_ram (inside u.sp None u) u.sp h (omega arith), set_sp p u.sp (word_sum u.sp 2) (u.sp + 2) u.flags u.work e) refl
-  from_source Head h = from_head u.inputs.looks h
-  from_source (Slot b) h = from_slot u.inputs.looks b h.0 h.1
+      rw (read_ram (inside u.sp None u) u.sp h.0 (omega arith), set_sp p u.sp (word_sum u.sp 2) (u.sp + 2) u.enabled u.flags u.work e) refl
+  from_source Head h = from_head u.inputs.looks
+  from_source (Slot b) h = from_slot u.inputs.looks b h
 
 pub from_length : (x : Source) → 2 * length (source_row (source_operand x)).extension ≡ source_bytes x
 from_length (Register b) = refl
@@ -237,12 +230,7 @@ from_small (Slot b) = (omega arith, refl)
 dest_small : (d : Dst) → length (destination_row d).extension ≤ 1
 dest_small d = grind arith
 
-behind_look : (looks : List Look) (u : Core) → HasLook looks
-    → inside u.sp (ring_by looks) (record u { inputs = record u.inputs { looks = other_looks looks } }) ≡ seen_by looks u
-behind_look [] u h = absurd h
-behind_look (look ∷ more) u h = refl
-
-read_same : (x : Source) (u : Core) → SourceNeeds x u → inside u.sp (ring_of x u) (source_read x u) ≡ begun x u
+read_same : (x : Source) (u : Core) → SourceNeeds false x u → inside u.sp (ring_of x u) (source_read x u) ≡ begun x u
 read_same (Register b) u h = refl
 read_same (Number n) u h = refl
 read_same (Constant k) u h = refl
@@ -252,8 +240,8 @@ read_same (Pointed b) u h = refl
 read_same (PointedNext b) u h = refl
 read_same (Indexed b x) u h = refl
 read_same Popped u h = refl
-read_same Head u h = behind_look u.inputs.looks u h
-read_same (Slot b) u h = behind_look u.inputs.looks u h.0
+read_same Head u h = refl
+read_same (Slot b) u h = refl
 
 -- a source that is no look, by its needs
 place_no_ring : (a : ℕ) → IsPlace a → is_ring a ≡ false
@@ -265,37 +253,43 @@ ram_no_ring a h = let l = h.high in grind (arith, nat_tests)
 below_no_ring : (a n : ℕ) → a + n < handler_place → is_ring n ≡ false
 below_no_ring a n l = grind (arith, nat_tests)
 
--- an instruction that looks where its source does begins so
-looking_begun : (looks : List Look) (u : Core) (i : Instr)
-    → executed_looking looks (board_of u) i ≡ machine_outcome u.pc (cycles_of i) (effect machine_bus i (regs_in u u.pc) (seen_by looks u))
-looking_begun [] u i = refl
-looking_begun (look ∷ more) u i = refl
+-- no effects in front of a step
+none_behind : (o : MachineOutcome) → o ≡ step_behind [] o
+none_behind (Goes es c t) = refl
+none_behind (Stops es price e) = refl
+
+-- effects in front of what a form does
+core_behind : (es : List Effect) (o : CoreOutcome) → step_behind es (outcome_of_core o) ≡ outcome_of_core (behind_source es o)
+core_behind es (Goes [] c u) = ap (λ l. Goes l c (board_of u)) (append-nil es)
+core_behind es (Goes (f ∷ fs) c u) = refl
+core_behind es (Stops fs price e) = refl
 
 by_test : (b : Bool) (o p : MachineOutcome) → b ≡ false → (if b then o else p) ≡ p
 by_test true o p e = absurd cc
 by_test false o p e = refl
 
-code_begun : (x : Source) (u : Core) (i : Instr) → SourceNeeds x u → looks_there i ≡ source_looks (source_operand x)
-    → code_executed (board_of u) i ≡ machine_outcome u.pc (cycles_of i) (effect machine_bus i (regs_in u u.pc) (begun x u))
-code_begun (Register b) u i h e = by_test (looks_there i) _ _ e
-code_begun (Number n) u i h e = by_test (looks_there i) _ _ e
-code_begun (Constant k) u i h e = by_test (looks_there i) _ _ e
-code_begun (Fram a) u i h e = by_test (looks_there i) _ _ (e ∙ place_no_ring a h)
-code_begun (Ram a) u i h e = by_test (looks_there i) _ _ (e ∙ ram_no_ring a h.0)
-code_begun (Pointed b) u i h e = by_test (looks_there i) _ _ e
-code_begun (PointedNext b) u i h e = by_test (looks_there i) _ _ e
-code_begun (Indexed b x) u i h e = by_test (looks_there i) _ _ (e ∙ below_no_ring (u.work (work_number b)) x h.high)
-code_begun Popped u i h e = by_test (looks_there i) _ _ e
+code_begun : (x : Source) (u : Core) (i : Instr) → SourceNeeds false x u → looks_there i ≡ source_looks (source_operand x)
+    → code_executed (board_of u) i
+    ≡ step_behind (source_effects x u) (machine_outcome u.pc (cycles_of i) (effect machine_bus i (regs_in u u.pc) (begun x u)))
+code_begun (Register b) u i h e = by_test (looks_there i) _ _ e ∙ none_behind _
+code_begun (Number n) u i h e = by_test (looks_there i) _ _ e ∙ none_behind _
+code_begun (Constant k) u i h e = by_test (looks_there i) _ _ e ∙ none_behind _
+code_begun (Fram a) u i h e = by_test (looks_there i) _ _ (e ∙ place_no_ring a h) ∙ none_behind _
+code_begun (Ram a) u i h e = by_test (looks_there i) _ _ (e ∙ ram_no_ring a h.0) ∙ none_behind _
+code_begun (Pointed b) u i h e = by_test (looks_there i) _ _ e ∙ none_behind _
+code_begun (PointedNext b) u i h e = by_test (looks_there i) _ _ e ∙ none_behind _
+code_begun (Indexed b x) u i h e = by_test (looks_there i) _ _ (e ∙ below_no_ring (u.work (work_number b)) x h.high) ∙ none_behind _
+code_begun Popped u i h e = by_test (looks_there i) _ _ e ∙ none_behind _
 code_begun Head u i h e =
-    ap (λ c. if c then executed_looking u.inputs.looks (board_of u) i else machine_executed (board_of u) i) e ∙ looking_begun u.inputs.looks u i
+    ap (λ c. if c then executed_looking u.inputs.looks (board_of u) i else machine_executed (board_of u) i) e
 code_begun (Slot b) u i h e =
-    ap (λ c. if c then executed_looking u.inputs.looks (board_of u) i else machine_executed (board_of u) i) e ∙ looking_begun u.inputs.looks u i
+    ap (λ c. if c then executed_looking u.inputs.looks (board_of u) i else machine_executed (board_of u) i) e
 
 abbrev ext_of : Source → Core → ℕ
 ext_of x u = word_sum (word_sum u.pc 2) (2 * length (source_row (source_operand x)).extension)
 
 -- an instruction with two operands, up to its destination
-pub two : (op : TwoOp) (x : Source) (d : Dst) (u : Core) → IsCodeAddress u.pc → SourceNeeds x u →
+pub two : (op : TwoOp) (x : Source) (d : Dst) (u : Core) → IsCodeAddress u.pc → SourceNeeds false x u →
     two_operand_effect machine_bus op Word (source_operand x) d (regs_in u u.pc) (begun x u) ≡
     after_source machine_bus op Word (destination_location (regs_in (source_read x u)
     (u.pc + (2 + source_bytes x + 2 * length (destination_row d).extension))) (ext_of x u) d) (source_value x u)
@@ -308,11 +302,11 @@ two op x d u c h =
     (2 + source_bytes x + 2 * length (destination_row d).extension) = omega (arith, l, s.0, s.1) in
     let t = source_read x u in
     rw (
-      set_pc u.pc u.sp (word_sum u.pc 2) (u.pc + 2) u.flags u.work a,
+      set_pc u.pc u.sp (word_sum u.pc 2) (u.pc + 2) u.enabled u.flags u.work a,
       from_source u (u.pc + 2) x h,
       set_pc (u.pc + 2) t.sp
           (word_sum (ext_of x u) (2 * length (destination_row d).extension)) (u.pc + (2 + source_bytes x + 2 * length (destination_row d).extension))
-          t.flags t.work b,
+          t.enabled t.flags t.work b,
     ) refl
 
 pub to_length : (y : Target) → 2 * length (destination_row (target_operand y)).extension ≡ target_bytes y
@@ -358,28 +352,31 @@ ok_pc ToOutnum t p h = h
 ok_pc ToOutdata t p h = h
 
 -- an instruction with two operands, where the machine is on
-on_two : (op : TwoOp) (x : Source) (d : Dst) (u : Core) → IsCodeAddress u.pc → SourceNeeds x u →
+on_two : (op : TwoOp) (x : Source) (d : Dst) (u : Core) → IsCodeAddress u.pc → SourceNeeds false x u →
     step_with (Some (instr.Two op Word (source_operand x) d)) (board_of u) ≡
-    machine_outcome u.pc (cycles_of (instr.Two op Word (source_operand x) d)) (after_source machine_bus op Word
+    step_behind (source_effects x u) (machine_outcome u.pc (cycles_of (instr.Two op Word (source_operand x) d)) (after_source machine_bus op Word
     (destination_location (regs_in (source_read x u) (u.pc + (2 + source_bytes x + 2 * length (destination_row d).extension))) (ext_of x u) d)
     (source_value x u) (regs_in (source_read x u) (u.pc + (2 + source_bytes x + 2 * length (destination_row d).extension)))
-    (inside u.sp (ring_of x u) (source_read x u)))
+    (inside u.sp (ring_of x u) (source_read x u))))
 unfolding effect
 on_two op x d u c h =
     let i = instr.Two op Word (source_operand x) d in
-    let e = is_on u.pc u.sp u.flags u.work in
+    let e = is_on u.pc u.sp u.enabled u.flags u.work in
     ap (λ b. if b then Stops [] 0 stop.Off else code_executed (board_of u) i) e
     ∙ code_begun x u i h refl
     ∙ rw (two op x d u c h, read_same x u h) refl
 
-moves : (x : Source) (y : Target) (u : Core) → IsCodeAddress u.pc → SourceNeeds x u → TargetNeeds y (source_read x u)
+moves : (x : Source) (y : Target) (u : Core) → IsCodeAddress u.pc → SourceNeeds false x u → TargetNeeds y (source_read x u)
     → step_with (Some (instruction_of (Move x y))) (board_of u) ≡ outcome_of_core (form_step (Move x y) u)
 moves x y u c h k =
     let n : Core = record (source_read x u) { pc = u.pc + (2 + source_bytes x + 2 * length (destination_row (target_operand y)).extension) } in
+    let out : ℕ → CoreOutcome = λ m.
+    target_written y (cycles_of (instruction_of (Move x y))) (source_value x u) (record (source_read x u) { pc = u.pc + (2 + source_bytes x + m) }) in
     on_two Mov x (target_operand y) u c h
-    ∙ written y (source_value x u) (ext_of x u) u.pc (cycles_of (instruction_of (Move x y))) u.sp (ring_of x u) n (ok_pc y (source_read x u) n.pc k)
-    ∙ ap (λ m. outcome_of_core (target_written y (cycles_of (instruction_of (Move x y))) (source_value x u)
-    (record (source_read x u) { pc = u.pc + (2 + source_bytes x + m) }))) (to_length y)
+    ∙ ap (step_behind (source_effects x u))
+    (written y (source_value x u) (ext_of x u) u.pc (cycles_of (instruction_of (Move x y))) u.sp (ring_of x u) n (ok_pc y (source_read x u) n.pc k)
+    ∙ ap (λ m. outcome_of_core (out m)) (to_length y))
+    ∙ core_behind (source_effects x u) (out (target_bytes y))
 
 -- the others read their destination
 reads : (op : TwoOp) → IsNotMov op → reads_destination op ≡ true
@@ -396,12 +393,12 @@ reads Bis n = refl
 reads Xor n = refl
 reads And n = refl
 
-with_new : (o : Option Flags) (t : Core) (p : ℕ) → with_flags (regs_in t p) o ≡ register_file p t.sp (flags_after o t.flags) t.work
+with_new : (o : Option Flags) (t : Core) (p : ℕ) → with_flags (regs_in t p) o ≡ register_file p t.sp t.enabled (flags_after o t.flags) t.work
 with_new None t p = refl
-with_new (Some g) t p = set_flags p t.sp t.flags g t.work
+with_new (Some g) t p = set_flags p t.sp t.enabled t.flags g t.work
 
 ends : (w : Bool) (b : WorkRegister) (o : Operated) (pc c floor : ℕ) (ring : Option Look) (t : Core) →
-    machine_outcome pc c (finish w machine_bus (register_file t.pc t.sp (flags_after o.flags t.flags) t.work) Word
+    machine_outcome pc c (finish w machine_bus (register_file t.pc t.sp t.enabled (flags_after o.flags t.flags) t.work) Word
     (destination_location (regs_in t t.pc) 0 (target_operand (ToRegister b))) o.value (inside floor ring t))
     ≡ Goes [] c (board_of (record t { flags = flags_after o.flags t.flags; work = if w then put t.work (work_number b) o.value else t.work }))
 ends true b o pc c floor ring t = rw (up (record t { flags = flags_after o.flags t.flags }) t.pc b o.value) refl
@@ -412,7 +409,7 @@ calculated_half : (op : TwoOp) (v ext pc c floor : ℕ) (ring : Option Look) (b 
     (regs_in t t.pc) (inside floor ring t)) ≡ outcome_of_core (Goes [] c (calculated op b (operated op Word (t.work (work_number b)) v t.flags) t))
 calculated_half op v ext pc c floor ring b t n =
     let o = operated op Word (t.work (work_number b)) v t.flags in
-    rw (n, got t t.pc b, flags_back t.flags, with_new o.flags t t.pc) (ends (writes_destination op) b o pc c floor ring t)
+    rw (n, got t t.pc b, flags_back t.enabled t.flags, with_new o.flags t t.pc) (ends (writes_destination op) b o pc c floor ring t)
 
 read_flags : (x : Source) (u : Core) → (source_read x u).flags ≡ u.flags
 read_flags (Register b) u = refl
@@ -427,24 +424,26 @@ read_flags Popped u = refl
 read_flags Head u = refl
 read_flags (Slot b) u = refl
 
-calculates : (op : TwoOp) (x : Source) (b : WorkRegister) (u : Core) → IsCodeAddress u.pc → IsNotMov op → SourceNeeds x u
+calculates : (op : TwoOp) (x : Source) (b : WorkRegister) (u : Core) → IsCodeAddress u.pc → IsNotMov op → SourceNeeds false x u
     → step_with (Some (instruction_of (Calculate op x b))) (board_of u) ≡ outcome_of_core (form_step (Calculate op x b) u)
 calculates op x b u c n h =
     let t : Core = record (source_read x u) { pc = u.pc + (2 + source_bytes x) } in
     on_two op x (target_operand (ToRegister b)) u c h
-    ∙ ap (λ p. machine_outcome u.pc (cycles_of (instruction_of (Calculate op x b)))
+    ∙ ap (step_behind (source_effects x u)) (ap (λ p. machine_outcome u.pc (cycles_of (instruction_of (Calculate op x b)))
     (after_source machine_bus op Word (destination_location (regs_in (source_read x u) p) (ext_of x u) (target_operand (ToRegister b)))
     (source_value x u) (regs_in (source_read x u) p) (inside u.sp (ring_of x u) (source_read x u))))
     (let e : u.pc + (2 + source_bytes x + 2 * 0) ≡ u.pc + (2 + source_bytes x) = omega arith in e)
     ∙ calculated_half op (source_value x u) (ext_of x u) u.pc (cycles_of (instruction_of (Calculate op x b))) u.sp (ring_of x u) b t (reads op n)
     ∙ ap (λ f. outcome_of_core (Goes [] (cycles_of (instruction_of (Calculate op x b)))
-    (calculated op b (operated op Word (t.work (work_number b)) (source_value x u) f) t))) (read_flags x u)
+    (calculated op b (operated op Word (t.work (work_number b)) (source_value x u) f) t))) (read_flags x u))
+    ∙ ap (λ es. outcome_of_core (Goes es (cycles_of (instruction_of (Calculate op x b)))
+    (calculated op b (operated op Word (t.work (work_number b)) (source_value x u) u.flags) t))) (append-nil (source_effects x u))
 
 compared_half : (v a ext pc c floor : ℕ) (ring : Option Look) (t : Core) → IsPlace a
     → machine_outcome pc c (after_source machine_bus Cmp Word (destination_location (regs_in t t.pc) ext (dst.Absolute a)) v (regs_in t t.pc)
     (inside floor ring t)) ≡ outcome_of_core (Goes [] c (record t { flags = flags_after (operated Cmp Word (t.fram a) v t.flags).flags t.flags }))
 compared_half v a ext pc c floor ring t h =
-    rw (read_fram (inside floor ring t) a h, set_flags t.pc t.sp t.flags (difference_of Word (t.fram a) v true).1 t.work) refl
+    rw (read_fram (inside floor ring t) a h, set_flags t.pc t.sp t.enabled t.flags (difference_of Word (t.fram a) v true).1 t.work) refl
 
 read_memory : (x : Source) (u : Core) → (source_read x u).fram ≡ u.fram
 read_memory (Register b) u = refl
@@ -459,13 +458,17 @@ read_memory Popped u = refl
 read_memory Head u = refl
 read_memory (Slot b) u = refl
 
-compares : (x : Source) (a : ℕ) (u : Core) → IsCodeAddress u.pc → SourceNeeds x u → IsPlace a
+compares : (x : Source) (a : ℕ) (u : Core) → IsCodeAddress u.pc → SourceNeeds false x u → IsPlace a
     → step_with (Some (instruction_of (Compare x a))) (board_of u) ≡ outcome_of_core (form_step (Compare x a) u)
 compares x a u c h k =
     let t : Core = record (source_read x u) { pc = u.pc + (2 + source_bytes x + 2) } in
     on_two Cmp x (dst.Absolute a) u c h
-    ∙ compared_half (source_value x u) a (ext_of x u) u.pc (cycles_of (instruction_of (Compare x a))) u.sp (ring_of x u) t k
-    ∙ ap (λ f. outcome_of_core (Goes [] (cycles_of (instruction_of (Compare x a))) (record t { flags = f }))) (rw (read_memory x u) refl)
+    ∙ ap (step_behind (source_effects x u))
+    (compared_half (source_value x u) a (ext_of x u) u.pc (cycles_of (instruction_of (Compare x a))) u.sp (ring_of x u) t k
+    ∙ ap (λ f. outcome_of_core (Goes [] (cycles_of (instruction_of (Compare x a))) (record t { flags = f }))) (rw (read_memory x u) refl))
+    ∙ ap (λ es. outcome_of_core (Goes es (cycles_of (instruction_of (Compare x a))) (record t {
+      flags = flags_after (operated Cmp Word (u.fram a) (source_value x u) u.flags).flags u.flags;
+    }))) (append-nil (source_effects x u))
 
 updated_half : (op : TwoOp) (v a ext pc c floor : ℕ) (ring : Option Look) (t : Core) → reads_destination op ≡ true → writes_destination op ≡ true → IsPlace a
     → machine_outcome pc c (after_source machine_bus op Word (destination_location (regs_in t t.pc) ext (dst.Absolute a)) v (regs_in t t.pc)
@@ -474,20 +477,21 @@ updated_half : (op : TwoOp) (v a ext pc c floor : ℕ) (ring : Option Look) (t :
 updated_half op v a ext pc c floor ring t n m h =
     let w = is_word_fram a h in let l = low_fram a h in let f = no_ram_fram a h in let g = even_fram a h in
     let o = operated op Word (t.fram a) v t.flags in
-    rw (n, read_fram (inside floor ring t) a h, flags_back t.flags, with_new o.flags t t.pc, m, w, l, f, g) refl
+    rw (n, read_fram (inside floor ring t) a h, flags_back t.enabled t.flags, with_new o.flags t t.pc, m, w, l, f, g) refl
 
-updates : (op : TwoOp) (x : Source) (a : ℕ) (u : Core) → IsCodeAddress u.pc → FormNeeds (Update op x a) u
+updates : (op : TwoOp) (x : Source) (a : ℕ) (u : Core) → IsCodeAddress u.pc → FormNeeds false (Update op x a) u
     → step_with (Some (instruction_of (Update op x a))) (board_of u) ≡ outcome_of_core (form_step (Update op x a) u)
 updates op x a u c h =
     let t : Core = record (source_read x u) { pc = u.pc + (2 + source_bytes x + 2) } in
     let out : (ℕ → ℕ) → Flags → MachineOutcome = λ f g. outcome_of_core (let o = operated op Word (f a) (source_value x u) g in Goes
     (Store a o.value ∷ []) (cycles_of (instruction_of (Update op x a))) (record t { flags = flags_after o.flags g; fram = put f a o.value })) in
     on_two op x (dst.Absolute a) u c h.2
-    ∙ updated_half op (source_value x u) a (ext_of x u) u.pc (cycles_of (instruction_of (Update op x a))) u.sp (ring_of x u) t (reads op h.0) h.1 h.3
-    ∙ ap (λ f. out f t.flags) (read_memory x u) ∙ ap (λ g. out u.fram g) (read_flags x u)
+    ∙ ap (step_behind (source_effects x u))
+    (updated_half op (source_value x u) a (ext_of x u) u.pc (cycles_of (instruction_of (Update op x a))) u.sp (ring_of x u) t (reads op h.0) h.1 h.3
+    ∙ ap (λ f. out f t.flags) (read_memory x u) ∙ ap (λ g. out u.fram g) (read_flags x u))
 
 -- no operand that is written
-push_half : (x : Source) (u : Core) → IsCodeAddress u.pc → SourceNeeds x u
+push_half : (x : Source) (u : Core) → IsCodeAddress u.pc → SourceNeeds false x u
     → push_effect machine_bus Word (source_operand x) (regs_in u u.pc) (begun x u) ≡ pushed machine_bus Word (source_value x u)
     (regs_in (source_read x u) (u.pc + (2 + source_bytes x))) (inside u.sp (ring_of x u) (source_read x u))
 push_half x u c h =
@@ -498,10 +502,10 @@ push_half x u c h =
     let t = source_read x u in
     let next : ℕ × Registers → MachineBus → Access MachineBus (Registers × Option Written) =
     λ y l. pushed machine_bus Word y.0 (with_register y.1 0 (ext_of x u)) l in
-    ap (λ q. then_do (source machine_bus q Word (source_operand x) (begun x u)) next) (set_pc u.pc u.sp (word_sum u.pc 2) (u.pc + 2) u.flags u.work a)
+    ap (λ q. then_do (source machine_bus q Word (source_operand x) (begun x u)) next) (set_pc u.pc u.sp (word_sum u.pc 2) (u.pc + 2) u.enabled u.flags u.work a)
     ∙ ap (λ y. then_do y next) (from_source u (u.pc + 2) x h)
     ∙ ap (λ r. pushed machine_bus Word (source_value x u) r (begun x u))
-    (set_pc (u.pc + 2) t.sp (ext_of x u) (u.pc + (2 + source_bytes x)) t.flags t.work p)
+    (set_pc (u.pc + 2) t.sp (ext_of x u) (u.pc + (2 + source_bytes x)) t.enabled t.flags t.work p)
     ∙ ap (λ l. pushed machine_bus Word (source_value x u) (regs_in t (u.pc + (2 + source_bytes x))) l) (sym (read_same x u h))
 
 pushed_at : (v pc c floor : ℕ) (ring : Option Look) (t : Core) → HasPushRoom t.sp
@@ -513,40 +517,51 @@ pushed_at v pc c floor ring t h =
     let word = is_word_ram (t.sp - 2) k in let below = low_ram (t.sp - 2) k in let ram = is_ram_ram (t.sp - 2) k in let g = even_ram (t.sp - 2) k in
     let l : word_sum t.sp 0xFFFE ≡ t.sp - 2 = omega arith in
     let m : (t.sp - 2) / 2 * 2 ≡ t.sp - 2 = omega arith in
-    rw (l, set_sp t.pc t.sp (t.sp - 2) (t.sp - 2) t.flags t.work m, word, below, ram, g) refl
+    rw (l, set_sp t.pc t.sp (t.sp - 2) (t.sp - 2) t.enabled t.flags t.work m, word, below, ram, g) refl
 
-pushes : (x : Source) (u : Core) → IsCodeAddress u.pc → FormNeeds (Push x) u
+pushes : (x : Source) (u : Core) → IsCodeAddress u.pc → FormNeeds false (Push x) u
     → step_with (Some (instruction_of (Push x))) (board_of u) ≡ outcome_of_core (form_step (Push x) u)
 unfolding effect
 pushes x u c h =
-    let on = is_on u.pc u.sp u.flags u.work in
+    let on = is_on u.pc u.sp u.enabled u.flags u.work in
     let t : Core = record (source_read x u) { pc = u.pc + (2 + source_bytes x) } in
+    let cycles = cycles_of (instruction_of (Push x)) in
+    let after : Core = record t { sp = t.sp - 2; ram = put t.ram (t.sp - 2) (source_value x u) } in
+    let made : machine_outcome u.pc cycles (effect machine_bus (instruction_of (Push x)) (regs_in u u.pc) (begun x u)) ≡ Goes [] cycles (board_of after) =
+    rw (push_half x u c h.0) (pushed_at (source_value x u) u.pc cycles u.sp (ring_of x u) t h.1) in
     ap (λ b. if b then Stops [] 0 stop.Off else code_executed (board_of u) (instruction_of (Push x))) on
     ∙ code_begun x u (instruction_of (Push x)) h.0 refl
-    ∙ rw (push_half x u c h.0) (pushed_at (source_value x u) u.pc (cycles_of (instruction_of (Push x))) u.sp (ring_of x u) t h.1)
+    ∙ ap (step_behind (source_effects x u)) made
+    ∙ ap (λ es. Goes es cycles (board_of after)) (append-nil (source_effects x u))
 
 sets_stack : (n : ℕ) (u : Core) → IsCodeAddress u.pc → n % 2 ≡ 0
     → step_with (Some (instruction_of (SetStack n))) (board_of u) ≡ outcome_of_core (form_step (SetStack n) u)
 sets_stack n u c h =
     let e : n / 2 * 2 ≡ n = omega arith in
     on_two Mov (Number n) (dst.Reg (reg.Index index.Sp)) u c tt
-    ∙ rw (set_sp (u.pc + 4) u.sp n n u.flags u.work e) refl
+    ∙ rw (set_sp (u.pc + 4) u.sp n n u.enabled u.flags u.work e) refl
+
+enables : (u : Core) → IsCodeAddress u.pc
+    → step_with (Some (instruction_of EnableInterrupts)) (board_of u) ≡ outcome_of_core (form_step EnableInterrupts u)
+enables u c =
+    on_two Bis (Constant konst.Eight) (dst.Reg reg.Sr) u c tt
+    ∙ rw (enable (u.pc + 2) u.sp u.enabled u.flags u.work) refl
 
 sense_on : (b : WorkRegister) (u : Core) (ws : List ℕ) → IsCodeAddress u.pc
     → let v : Core = record u { inputs = record u.inputs { readings = ws } } in
     step_with (Some (instruction_of (Sense b))) (board_of v) ≡ outcome_of_core (sensed ws b v)
 unfolding effect
-sense_on b u [] c = let on = is_on u.pc u.sp u.flags u.work in rw on refl
+sense_on b u [] c = let on = is_on u.pc u.sp u.enabled u.flags u.work in rw on refl
 sense_on b u (w ∷ ws) c =
     let even = c.even in let high = c.high in
-    let on = is_on u.pc u.sp u.flags u.work in
+    let on = is_on u.pc u.sp u.enabled u.flags u.work in
     let a : word_sum u.pc 2 / 2 * 2 ≡ u.pc + 2 = omega arith in
     let p : word_sum (word_sum (word_sum u.pc 2) 2) 0 / 2 * 2 ≡ u.pc + 4 = omega arith in
     rw (
       on,
-      set_pc u.pc u.sp (word_sum u.pc 2) (u.pc + 2) u.flags u.work a,
+      set_pc u.pc u.sp (word_sum u.pc 2) (u.pc + 2) u.enabled u.flags u.work a,
       set_pc (u.pc + 2) u.sp (word_sum (word_sum (word_sum u.pc 2) 2) 0)
-          (u.pc + 4) u.flags u.work p,
+          (u.pc + 4) u.enabled u.flags u.work p,
       up u (u.pc + 4) b w,
     ) refl
 
@@ -569,14 +584,14 @@ jumps : (c : Condition) (o : ℕ) (u : Core) → IsCodeAddress u.pc
 unfolding effect
 jumps k o u c =
     let even = c.even in let high = c.high in
-    let on = is_on u.pc u.sp u.flags u.work in
+    let on = is_on u.pc u.sp u.enabled u.flags u.work in
     let n : word_sum u.pc 2 ≡ u.pc + 2 = omega arith in
     let t = if is_met k u.flags then word_sum (u.pc + 2) (distance o) else u.pc + 2 in
     rw (
       on,
-      flags_back u.flags,
+      flags_back u.enabled u.flags,
       n,
-      set_pc u.pc u.sp t t u.flags u.work (jump_even (is_met k u.flags) (u.pc + 2) (distance o) (omega arith)
+      set_pc u.pc u.sp t t u.enabled u.flags u.work (jump_even (is_met k u.flags) (u.pc + 2) (distance o) (omega arith)
           (distance_even o)),
     ) refl
 
@@ -587,23 +602,23 @@ skips n u c h =
     let sum = sum_of Word (u.pc + 4) n false in
     let e : sum.0 / 2 * 2 ≡ sum.0 = omega arith in
     on_two Add (Number n) (dst.Reg reg.Pc) u c tt
-    ∙ rw (set_flags (u.pc + 4) u.sp u.flags sum.1 u.work, set_pc (u.pc + 4) u.sp sum.0 sum.0 sum.1 u.work e) refl
+    ∙ rw (set_flags (u.pc + 4) u.sp u.enabled u.flags sum.1 u.work, set_pc (u.pc + 4) u.sp sum.0 sum.0 u.enabled sum.1 u.work e) refl
 
 branches : (a : ℕ) (u : Core) → IsCodeAddress u.pc → a % 2 ≡ 0
     → step_with (Some (instruction_of (Branch a))) (board_of u) ≡ outcome_of_core (form_step (Branch a) u)
 branches a u c h =
     let e : a / 2 * 2 ≡ a = omega arith in
     on_two Mov (Number a) (dst.Reg reg.Pc) u c tt
-    ∙ rw (set_pc (u.pc + 4) u.sp a a u.flags u.work e) refl
+    ∙ rw (set_pc (u.pc + 4) u.sp a a u.enabled u.flags u.work e) refl
 
-branches_indexed : (b : WorkRegister) (x : ℕ) (u : Core) → IsCodeAddress u.pc → FormNeeds (BranchIndexed b x) u
+branches_indexed : (b : WorkRegister) (x : ℕ) (u : Core) → IsCodeAddress u.pc → FormNeeds false (BranchIndexed b x) u
     → step_with (Some (instruction_of (BranchIndexed b x))) (board_of u) ≡ outcome_of_core (form_step (BranchIndexed b x) u)
 branches_indexed b x u c h =
     let a = u.fram (u.work (work_number b) + x) in
     let even = h.1 in
     let e : a / 2 * 2 ≡ a = omega arith in
     on_two Mov (Indexed b x) (dst.Reg reg.Pc) u c h.0
-    ∙ rw (set_pc (u.pc + 4) u.sp a a u.flags u.work e) refl
+    ∙ rw (set_pc (u.pc + 4) u.sp a a u.enabled u.flags u.work e) refl
 
 skips_by : (b : WorkRegister) (u : Core) → IsCodeAddress u.pc → u.work (work_number b) % 2 ≡ 0
     → step_with (Some (instruction_of (SkipBy b))) (board_of u) ≡ outcome_of_core (form_step (SkipBy b) u)
@@ -612,13 +627,13 @@ skips_by b u c h =
     let sum = sum_of Word (u.pc + 2) (u.work (work_number b)) false in
     let e : sum.0 / 2 * 2 ≡ sum.0 = omega arith in
     on_two Add (Register b) (dst.Reg reg.Pc) u c tt
-    ∙ rw (set_flags (u.pc + 2) u.sp u.flags sum.1 u.work, set_pc (u.pc + 2) u.sp sum.0 sum.0 sum.1 u.work e) refl
+    ∙ rw (set_flags (u.pc + 2) u.sp u.enabled u.flags sum.1 u.work, set_pc (u.pc + 2) u.sp sum.0 sum.0 u.enabled sum.1 u.work e) refl
 
 -- an operation on one register
 modified_half : (f : Width → ℕ → Flags → Operated) (b : WorkRegister) (u : Core) → IsCodeAddress u.pc
     → read_modify_write machine_bus f Word (mode.Reg (source_register.Index (index_of b))) (regs_in u u.pc) (inside u.sp None u) ≡
     (let o = f Word (u.work (work_number b)) u.flags in Completed (
-      register_file (u.pc + 2) u.sp (flags_after o.flags u.flags)
+      register_file (u.pc + 2) u.sp u.enabled (flags_after o.flags u.flags)
           (put u.work (work_number b) o.value),
       None,
     ) (inside u.sp None u))
@@ -633,17 +648,17 @@ modified_half f b u c =
     let last : Registers → ℕ → Access MachineBus (Registers × Option Written) = λ r v. written_back machine_bus f Word l v r (inside u.sp None u) in
     let ends : Flags → Access MachineBus (Registers × Option Written) = λ g. store machine_bus
     (with_flags (regs_in u (u.pc + 2)) (f Word (u.work (work_number b)) g).flags) Word l (f Word (u.work (work_number b)) g).value (inside u.sp None u) in
-    ap next (set_pc u.pc u.sp (word_sum u.pc 2) (u.pc + 2) u.flags u.work a)
+    ap next (set_pc u.pc u.sp (word_sum u.pc 2) (u.pc + 2) u.enabled u.flags u.work a)
     ∙ ap (λ v. last (with_register (regs_in u (u.pc + 2)) 0 (word_sum (word_sum u.pc 2) 0)) v) (got u (u.pc + 2) b)
-    ∙ ap (λ r. last r (u.work (work_number b))) (set_pc (u.pc + 2) u.sp (word_sum (word_sum u.pc 2) 0) (u.pc + 2) u.flags u.work d)
-    ∙ ap ends (flags_back u.flags)
+    ∙ ap (λ r. last r (u.work (work_number b))) (set_pc (u.pc + 2) u.sp (word_sum (word_sum u.pc 2) 0) (u.pc + 2) u.enabled u.flags u.work d)
+    ∙ ap ends (flags_back u.enabled u.flags)
     ∙ ap (λ r. store machine_bus r Word l o.value (inside u.sp None u)) (with_new o.flags u (u.pc + 2))
     ∙ ap (λ r. Completed (r, None) (inside u.sp None u)) (up (record u { flags = flags_after o.flags u.flags }) (u.pc + 2) b o.value)
 
 modified_effect : (m : Modification) (b : WorkRegister) (u : Core) → IsCodeAddress u.pc
     → effect machine_bus (instruction_of (Modify m b)) (regs_in u u.pc) (inside u.sp None u) ≡
     (let o = modified m (u.work (work_number b)) u.flags in Completed
-    (register_file (u.pc + 2) u.sp (flags_after o.flags u.flags) (put u.work (work_number b) o.value), None) (inside u.sp None u))
+    (register_file (u.pc + 2) u.sp u.enabled (flags_after o.flags u.flags) (put u.work (work_number b) o.value), None) (inside u.sp None u))
 unfolding effect
 modified_effect change.Rra b u c = modified_half shifted b u c
 modified_effect change.Rrc b u c = modified_half rotated b u c
@@ -665,21 +680,36 @@ modified_blind change.Sxt b = refl
 modifies : (m : Modification) (b : WorkRegister) (u : Core) → IsCodeAddress u.pc
     → step_with (Some (instruction_of (Modify m b))) (board_of u) ≡ outcome_of_core (form_step (Modify m b) u)
 modifies m b u c =
-    let on = is_on u.pc u.sp u.flags u.work in
+    let on = is_on u.pc u.sp u.enabled u.flags u.work in
     rw (on, modified_blind m b, modified_effect m b u c, modified_cycles m b) refl
+
+-- what a source needs in code that may be interrupted it needs in other code
+needs_so : (events : Bool) (x : Source) (u : Core) → SourceNeeds events x u → SourceNeeds false x u
+needs_so events (Register b) u h = h
+needs_so events (Number n) u h = h
+needs_so events (Constant k) u h = h
+needs_so events (Fram a) u h = h
+needs_so events (Ram a) u h = h
+needs_so events (Pointed b) u h = h
+needs_so events (PointedNext b) u h = h
+needs_so events (Indexed b x) u h = h
+needs_so events Popped u h = (h.0, λ e. absurd cc)
+needs_so events Head u h = h
+needs_so events (Slot b) u h = h
 
 -- each form
 pub form_does : FormsDoAsInstructions
-form_does (Move x y) u c h = moves x y u c h.0 h.1
-form_does (Calculate op x b) u c h = calculates op x b u c h.0 h.1
-form_does (Compare x a) u c h = compares x a u c h.0 h.1
-form_does (Update op x a) u c h = updates op x a u c h
-form_does (Push x) u c h = pushes x u c h
-form_does (Modify m b) u c h = modifies m b u c
-form_does (SetStack n) u c h = sets_stack n u c h
-form_does (Sense b) u c h = senses b u c
-form_does (Jump k o) u c h = jumps k o u c
-form_does (Skip n) u c h = skips n u c h
-form_does (Branch a) u c h = branches a u c h
-form_does (BranchIndexed b x) u c h = branches_indexed b x u c h
-form_does (SkipBy b) u c h = skips_by b u c h
+form_does events (Move x y) u c h = moves x y u c (needs_so events x u h.0) h.1
+form_does events (Calculate op x b) u c h = calculates op x b u c h.0 (needs_so events x u h.1)
+form_does events (Compare x a) u c h = compares x a u c (needs_so events x u h.0) h.1
+form_does events (Update op x a) u c h = updates op x a u c (h.0, h.1, needs_so events x u h.2, h.3)
+form_does events (Push x) u c h = pushes x u c (needs_so events x u h.0, h.1)
+form_does events (Modify m b) u c h = modifies m b u c
+form_does events (SetStack n) u c h = sets_stack n u c h.0
+form_does events EnableInterrupts u c h = enables u c
+form_does events (Sense b) u c h = senses b u c
+form_does events (Jump k o) u c h = jumps k o u c
+form_does events (Skip n) u c h = skips n u c h
+form_does events (Branch a) u c h = branches a u c h
+form_does events (BranchIndexed b x) u c h = branches_indexed b x u c h
+form_does events (SkipBy b) u c h = skips_by b u c h

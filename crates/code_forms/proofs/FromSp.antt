@@ -1,5 +1,5 @@
 -- No form that has what it needs reads a word of RAM below SP.
-use Rattle.std.proofs.Common.{◌≡◌, ℕ, ◌≤◌, Some, arith, subst}
+use Rattle.std.proofs.Common.{◌≡◌, Bool, ℕ, ◌≤◌, Some, arith, subst}
 use Rattle.std.proofs.lemmas.Option.{same_Some}
 use Rattle.machine_effects.specs.msp_step.declared.machine.Stop.{Stop}
 use Rattle.machine_effects.specs.Going.{Status, At, Halted}
@@ -7,40 +7,41 @@ use Rattle.machine_effects.specs.Machine.{Code, MachineBoard}
 use Rattle.code_forms.specs.Forms.{Core, Source, Register, Number, Constant, Fram, Ram, Pointed, PointedNext, Indexed, Popped, Head, Slot, SourceNeeds}
 use Rattle.code_forms.specs.Forms.{source_ram}
 use Rattle.code_forms.specs.Forms.{Form, Move, Calculate, Compare, Update, Push, Modify, SetStack, Sense, Jump, Skip, Branch, BranchIndexed, SkipBy, FormNeeds}
-use Rattle.code_forms.specs.Forms.{ram_read}
+use Rattle.code_forms.specs.Forms.{EnableInterrupts, ram_read}
 use Rattle.code_forms.specs.Code.{IsAtForm, OfState}
 use Rattle.code_forms.specs.Laws.{ReadsFromSp, FormsReadFromSp}
 
-source_from_sp : (x : Source) (u : Core) (a : ℕ) → SourceNeeds x u → source_ram x u ≡ Some a → u.sp ≤ a
-source_from_sp (Ram b) u a h e = subst (λ n. u.sp ≤ n) (same_Some b a e) h.1
-source_from_sp Popped u a h e = let same = same_Some u.sp a e in omega (arith, same)
-source_from_sp (Register b) u a h e = absurd (cc)
-source_from_sp (Number n) u a h e = absurd (cc)
-source_from_sp (Constant k) u a h e = absurd (cc)
-source_from_sp (Fram b) u a h e = absurd (cc)
-source_from_sp (Pointed b) u a h e = absurd (cc)
-source_from_sp (PointedNext b) u a h e = absurd (cc)
-source_from_sp (Indexed b x) u a h e = absurd (cc)
-source_from_sp Head u a h e = absurd (cc)
-source_from_sp (Slot b) u a h e = absurd (cc)
+source_from_sp : (events : Bool) (x : Source) (u : Core) (a : ℕ) → SourceNeeds events x u → source_ram x u ≡ Some a → u.sp ≤ a
+source_from_sp events (Ram b) u a h e = subst (λ n. u.sp ≤ n) (same_Some b a e) h.1
+source_from_sp events Popped u a h e = let same = same_Some u.sp a e in omega (arith, same)
+source_from_sp events (Register b) u a h e = absurd (cc)
+source_from_sp events (Number n) u a h e = absurd (cc)
+source_from_sp events (Constant k) u a h e = absurd (cc)
+source_from_sp events (Fram b) u a h e = absurd (cc)
+source_from_sp events (Pointed b) u a h e = absurd (cc)
+source_from_sp events (PointedNext b) u a h e = absurd (cc)
+source_from_sp events (Indexed b x) u a h e = absurd (cc)
+source_from_sp events Head u a h e = absurd (cc)
+source_from_sp events (Slot b) u a h e = absurd (cc)
 
-form_from_sp : (m : Form) (u : Core) (a : ℕ) → FormNeeds m u → ram_read m u ≡ Some a → u.sp ≤ a
-form_from_sp (Move x y) u a h e = source_from_sp x u a h.0 e
-form_from_sp (Calculate op x b) u a h e = source_from_sp x u a h.1 e
-form_from_sp (Compare x b) u a h e = source_from_sp x u a h.0 e
-form_from_sp (Update op x b) u a h e = source_from_sp x u a h.2 e
-form_from_sp (Push x) u a h e = source_from_sp x u a h.0 e
-form_from_sp (Modify m b) u a h e = absurd (cc)
-form_from_sp (SetStack n) u a h e = absurd (cc)
-form_from_sp (Sense b) u a h e = absurd (cc)
-form_from_sp (Jump c o) u a h e = absurd (cc)
-form_from_sp (Skip n) u a h e = absurd (cc)
-form_from_sp (Branch b) u a h e = absurd (cc)
-form_from_sp (BranchIndexed b x) u a h e = absurd (cc)
-form_from_sp (SkipBy b) u a h e = absurd (cc)
+form_from_sp : (events : Bool) (m : Form) (u : Core) (a : ℕ) → FormNeeds events m u → ram_read m u ≡ Some a → u.sp ≤ a
+form_from_sp events (Move x y) u a h e = source_from_sp events x u a h.0 e
+form_from_sp events (Calculate op x b) u a h e = source_from_sp events x u a h.1 e
+form_from_sp events (Compare x b) u a h e = source_from_sp events x u a h.0 e
+form_from_sp events (Update op x b) u a h e = source_from_sp events x u a h.2 e
+form_from_sp events (Push x) u a h e = source_from_sp events x u a h.0 e
+form_from_sp events (Modify m b) u a h e = absurd (cc)
+form_from_sp events (SetStack n) u a h e = absurd (cc)
+form_from_sp events EnableInterrupts u a h e = absurd (cc)
+form_from_sp events (Sense b) u a h e = absurd (cc)
+form_from_sp events (Jump c o) u a h e = absurd (cc)
+form_from_sp events (Skip n) u a h e = absurd (cc)
+form_from_sp events (Branch b) u a h e = absurd (cc)
+form_from_sp events (BranchIndexed b x) u a h e = absurd (cc)
+form_from_sp events (SkipBy b) u a h e = absurd (cc)
 
 reads_at : (code : Code) (x : Status MachineBoard Stop) → OfState x (IsAtForm code) → OfState x (ReadsFromSp code)
-reads_at code (At s) h = record { at = h; from = λ a e. form_from_sp h.form h.core a h.needs e }
+reads_at code (At s) h = record { at = h; from = λ a e. form_from_sp code.events h.form h.core a h.needs e }
 reads_at code (Halted price x) h = tt
 
 pub forms_read_from_sp : FormsReadFromSp

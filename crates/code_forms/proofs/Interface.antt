@@ -6,10 +6,12 @@ pub use Rattle.code_forms.proofs.Registers.{powered_has_a_core}
 pub use Rattle.code_forms.proofs.Blocks.{stands_front, stands_back, forms_behind, first_forms, forms_at, form_at, does, block, runs_within, hop, runs_on}
 pub use Rattle.code_forms.proofs.Blocks.{dearer}
 pub use Rattle.code_forms.proofs.Blocks.{nothing, starve, starves_on, dearer_starves, end_of, no_steps, comes_on, straight_comes, form_comes}
+-- The rules of interrupts, in code that stays.
+pub use Rattle.code_forms.proofs.Rules.{vector_stays, code_goes_undisturbed, code_stays_prepared, code_stays_open}
 -- What they read stands at SP or above.
 pub use Rattle.code_forms.proofs.FromSp.{forms_read_from_sp}
 -- Instructions that stand one after another in FRAM, untouched, are what a machine fetches.
-pub use Rattle.code_forms.proofs.Placed.{bytes_are, form_small, holds_front, holds_back, fram_word, fram_no_ram, holds_stores, code_in_fram_steps}
-pub use Rattle.code_forms.proofs.Placed.{code_goes_undisturbed}
+pub use Rattle.code_forms.proofs.Placed.{bytes_are, form_small, placed_next, placed_within, holds_front, holds_back, fram_word, fram_no_ram}
+pub use Rattle.code_forms.proofs.Placed.{holds_stores, code_in_fram_steps}
 pub use Rattle.code_forms.proofs.Placed.{placed_is_tidy}
 pub use Rattle.code_forms.proofs.Placed.{forms_stand, forms_bytes-append, instructions-append, stands_at}

@@ -8,21 +8,21 @@ use Rattle.instruction_forms.specs.declared.kinds.Modification.TheVariants as ch
 use Rattle.machine_effects.specs.msp_step.declared.machine.Stop.{Stop}
 use Rattle.machine_effects.specs.msp_step.declared.machine.Stop.TheVariants as stop
 use Rattle.machine_effects.specs.msp_step.Effect.{word_sum}
-use Rattle.machine_effects.specs.msp_step.Step.{off_bit, is_interruptible, FetchedAt, IsStopped, IsCurrentInstruction}
+use Rattle.machine_effects.specs.msp_step.Step.{off_bit, FetchedAt, IsStopped, IsCurrentInstruction}
 use Rattle.machine_effects.proofs.msp_step.Interface.{same_current, not_stopped}
 use Rattle.machine_effects.specs.fram_board.Bus.{is_word, is_ram}
 use Rattle.machine_effects.specs.fram_board.Effects.{Effect, Store, Take, Outside}
 use Rattle.machine_effects.specs.World.{put, fram_after_one, fram_after, OfStore, EachStore}
 use Rattle.machine_effects.specs.Going.{Goes, Stops}
-use Rattle.machine_effects.specs.Machine.{MachineBoard, MachineOutcome, machine_bus, machine_opened, machine_fetched, machine_executed}
-use Rattle.machine_effects.specs.Machine.{looks_there, executed_looking, code_executed}
-use Rattle.machine_effects.specs.Machine.{IsMachineStep, NoInstruction, Executes, Code, step_with, exec, undisturbed, astray, word_address}
+use Rattle.machine_effects.specs.Machine.{MachineBoard, MachineOutcome, machine_bus, machine_opened, machine_fetched}
+use Rattle.machine_effects.specs.Machine.{code_executed}
+use Rattle.machine_effects.specs.Machine.{IsLookingStep, NoInstruction, Executes, Code, step_with, exec, is_exposed, undisturbed, astray, word_address}
 use Rattle.code_forms.specs.Forms.{Form, Move, Calculate, Compare, Update, Push, Modify, SetStack, Sense, Jump, Skip, Branch, BranchIndexed}
-use Rattle.code_forms.specs.Forms.{SkipBy, source_operand, Target, ToRegister, target_operand, target_bytes, instruction_of, form_bytes}
+use Rattle.code_forms.specs.Forms.{EnableInterrupts, SkipBy, source_operand, Target, ToRegister, target_operand, target_bytes, instruction_of, form_bytes}
 use Rattle.code_forms.specs.Forms.{Core}
 use Rattle.code_forms.specs.Code.{Stands, forms_bytes}
-use Rattle.code_forms.specs.Placed.{placed, words_of, instructions, Holds, AreInstructions, IsOutside}
-use Rattle.code_forms.specs.Laws.{FormsStandWherePlaced, PlacedIsTidy, IsNoHole, CodeInFramSteps, CodeGoesUndisturbed}
+use Rattle.code_forms.specs.Placed.{placed_at, placed, words_of, instructions, Holds, AreInstructions, IsOutside}
+use Rattle.code_forms.specs.Laws.{FormsStandWherePlaced, PlacedIsTidy, IsNoHole, CodeInFramSteps}
 use Rattle.code_forms.proofs.Forms.{from_small, from_length, to_length}
 
 -- a form's length is that of its instruction's words
@@ -38,6 +38,7 @@ bytes_are (Modify change.Rra b) = refl
 bytes_are (Modify change.Swpb b) = refl
 bytes_are (Modify change.Sxt b) = refl
 bytes_are (SetStack n) = refl
+bytes_are EnableInterrupts = refl
 bytes_are (Sense b) = refl
 bytes_are (Jump c o) = refl
 bytes_are (Skip n) = refl
@@ -58,6 +59,7 @@ form_small (Update op x a) = omega (arith, from_small x)
 form_small (Push x) = omega (arith, from_small x)
 form_small (Modify m b) = omega arith
 form_small (SetStack n) = omega arith
+form_small EnableInterrupts = omega arith
 form_small (Sense b) = omega arith
 form_small (Jump c o) = omega arith
 form_small (Skip n) = omega arith
@@ -111,13 +113,13 @@ fetched s p (w ∷ ws) e l b h =
 
 -- the instruction at an address of the list stands there
 pub placed_next : (s : MachineBoard) (is : List Instr) (p a : ℕ) (i : Instr) → AreInstructions is → p % 2 ≡ 0 → 0x4400 ≤ p
-    → p + 2 * length (words_of is) < 0x10000 → Holds s.fram p (words_of is) → placed p is a ≡ Some i
+    → p + 2 * length (words_of is) < 0x10000 → Holds s.fram p (words_of is) → placed_at p is a ≡ Some i
     → IsInstruction i × FetchedAt machine_bus (machine_opened s) a (encoding i)
 placed_next s [] p a i are e l b h q = cc
 placed_next s (j ∷ is) p a i are e l b h q =
     let long : length (words_of (j ∷ is)) ≡ length (encoding j) + length (words_of is) = length-append (encoding j) (words_of is) in
     let Is : Instr → Type 0 = λ x. IsInstruction x × FetchedAt machine_bus (machine_opened s) a (encoding x) in
-    (elim (a == p) as (λ x. (a == p) ≡ x → cond x (Some j) (placed (p + 2 * length (encoding j)) is a) ≡ Some i
+    (elim (a == p) as (λ x. (a == p) ≡ x → cond x (Some j) (placed_at (p + 2 * length (encoding j)) is a) ≡ Some i
     → IsInstruction i × FetchedAt machine_bus (machine_opened s) a (encoding i)) [
       | true ↦ λ t k.
           let at : a ≡ p = eqb-true a p t in
@@ -150,28 +152,15 @@ holds_stores [] f p ws s h = h
 holds_stores (e ∷ es) f p ws s h = holds_stores es (fram_after_one e f) p ws s.1 (holds_store f p ws e s.0 h)
 
 -- what isn't astray is as it is
-undisturbed_goes : (b : Bool) (s t : MachineBoard) (es : List Effect) (c : ℕ) → is_interruptible t.registers ≡ b → IsNoHole (undisturbed s (Goes es c t))
-    → undisturbed s (Goes es c t) ≡ Goes es c t
-undisturbed_goes true s t es c e hole = absurd (hole [] 0 _ _ (ap (λ b. if b then Stops [] 0 (astray s) else Goes es c t) e))
-undisturbed_goes false s t es c e hole = ap (λ b. if b then Stops [] 0 (astray s) else Goes es c t) e
+undisturbed_goes : (events b : Bool) (i : Option Instr) (s t : MachineBoard) (es : List Effect) (c : ℕ) → is_exposed events i s t ≡ b
+    → IsNoHole (undisturbed events i s (Goes es c t)) → undisturbed events i s (Goes es c t) ≡ Goes es c t
+undisturbed_goes events true i s t es c e hole = absurd (hole [] 0 _ _ (ap (λ b. if b then Stops [] 0 (astray s) else Goes es c t) e))
+undisturbed_goes events false i s t es c e hole = ap (λ b. if b then Stops [] 0 (astray s) else Goes es c t) e
 
-undisturbed_is : (s : MachineBoard) (o : MachineOutcome) → IsNoHole (undisturbed s o) → undisturbed s o ≡ o
-undisturbed_is s (Goes es c t) hole = undisturbed_goes (is_interruptible t.registers) s t es c refl hole
-undisturbed_is s (Stops es price e) hole = refl
-
-goes_by : (b : Bool) (s t u : MachineBoard) (es fs : List Effect) (c d : ℕ) → is_interruptible t.registers ≡ b
-    → ◌≡◌ {A = MachineOutcome} (if b then Stops [] 0 (astray s) else Goes es c t) (Goes fs d u) → is_interruptible u.registers ≡ false
-goes_by true s t u es fs c d e h = absurd cc
-goes_by false s t u es fs c d e h = let same : t ≡ u = cc in ap (λ v. is_interruptible v.registers) (sym same) ∙ e
-
-goes_on_undisturbed : (s u : MachineBoard) (o : MachineOutcome) (fs : List Effect) (d : ℕ) → undisturbed s o ≡ Goes fs d u
-    → is_interruptible u.registers ≡ false
-goes_on_undisturbed s u (Goes es c t) fs d h = goes_by (is_interruptible t.registers) s t u es fs c d refl h
-goes_on_undisturbed s u (Stops es price e) fs d h = absurd cc
-
--- where code that stays goes on, the CPU accepts no interrupt
-pub code_goes_undisturbed : CodeGoesUndisturbed
-code_goes_undisturbed code s t es c h = goes_on_undisturbed s t (step_with (code (s.registers 0)) s) es c h
+undisturbed_is : (events : Bool) (i : Option Instr) (s : MachineBoard) (o : MachineOutcome) → IsNoHole (undisturbed events i s o)
+    → undisturbed events i s o ≡ o
+undisturbed_is events i s (Goes es c t) hole = undisturbed_goes events (is_exposed events i s t) i s t es c refl hole
+undisturbed_is events i s (Stops es price e) hole = refl
 
 if_off : (n : ℕ) (o : MachineOutcome) → n ≡ 1 → Stops [] 0 stop.Off ≡ (if n == 1 then Stops [] 0 stop.Off else o)
 if_off n o e = rw e refl
@@ -179,17 +168,9 @@ if_off n o e = rw e refl
 if_on : (n : ℕ) (o : MachineOutcome) → n ≡ 0 → (if n == 1 then Stops [] 0 stop.Off else o) ≡ o
 if_on n o e = rw e refl
 
-blind_by : (b : Bool) (o p q : MachineOutcome) → o ≡ q → p ≡ q → (if b then o else p) ≡ q
-blind_by true o p q e f = e
-blind_by false o p q e f = f
-
--- where no look is left, an instruction of code is one that may not look
-blind_is : (s : MachineBoard) (i : Instr) → s.inputs.looks ≡ [] → code_executed s i ≡ machine_executed s i
-blind_is s i none = blind_by (looks_there i) _ _ _ (ap (λ l. executed_looking l s i) none) refl
-
 module _ (p : ℕ) (is : List Instr) (are : AreInstructions is) (even : p % 2 ≡ 0) (low : 0x4400 ≤ p) (high : p + 2 * length (words_of is) < 0x10000) where
-  abbrev there : Code
-  there = placed p is
+  abbrev there : ℕ → Option Instr
+  there = placed_at p is
 
   -- the instruction of the code is the machine's
   standing_at : (s : MachineBoard) (i : Instr) → Holds s.fram p (words_of is) → there (s.registers 0) ≡ Some i → off_bit s.registers ≡ 0
@@ -201,12 +182,11 @@ module _ (p : ℕ) (is : List Instr) (are : AreInstructions is) (even : p % 2 �
   stopped_at s None e on k h t hole = hole [] 0 _ _ (if_on (off_bit s.registers) _ on)
   stopped_at s (Some i) e on k h t hole = not_stopped machine_bus s.registers (machine_opened s) e i k (standing_at s i h t on)
 
-  executes_at : (s : MachineBoard) (q : Option Instr) (i : Instr) → s.inputs.looks ≡ [] → IsCurrentInstruction machine_bus s.registers (machine_opened s) i
-      → Holds s.fram p (words_of is) → there (s.registers 0) ≡ q → IsNoHole (step_with q s) → machine_executed s i ≡ step_with q s
-  executes_at s None i none c h t hole = absurd (hole [] 0 _ _ (if_on (off_bit s.registers) _ c.on))
-  executes_at s (Some j) i none c h t hole =
-      ap (λ x. machine_executed s x) (same_current machine_bus s.registers (machine_opened s) i j c (standing_at s j h t c.on))
-      ∙ sym (blind_is s j none)
+  executes_at : (s : MachineBoard) (q : Option Instr) (i : Instr) → IsCurrentInstruction machine_bus s.registers (machine_opened s) i
+      → Holds s.fram p (words_of is) → there (s.registers 0) ≡ q → IsNoHole (step_with q s) → code_executed s i ≡ step_with q s
+  executes_at s None i c h t hole = absurd (hole [] 0 _ _ (if_on (off_bit s.registers) _ c.on))
+  executes_at s (Some j) i c h t hole =
+      ap (λ x. code_executed s x) (same_current machine_bus s.registers (machine_opened s) i j c (standing_at s j h t c.on))
       ∙ sym (if_on (off_bit s.registers) (code_executed s j) c.on)
 
   none_at : (s : MachineBoard) (q : Option Instr) (e : Stop) → IsStopped machine_bus s.registers (machine_opened s) e → Holds s.fram p (words_of is)
@@ -216,31 +196,31 @@ module _ (p : ℕ) (is : List Instr) (are : AreInstructions is) (even : p % 2 �
   none_at s q (stop.Bus at a) k h t hole = absurd (stopped_at s q (stop.Bus at a) k.0 k h t hole)
   none_at s q stop.NoReading k h t hole = absurd k
 
-  step_as : (s : MachineBoard) (o : MachineOutcome) → s.inputs.looks ≡ [] → IsMachineStep s o → Holds s.fram p (words_of is)
+  step_as : (s : MachineBoard) (o : MachineOutcome) → IsLookingStep s o → Holds s.fram p (words_of is)
       → IsNoHole (step_with (there (s.registers 0)) s)
       → o ≡ step_with (there (s.registers 0)) s
-  step_as s o none (NoInstruction e k) h hole = none_at s (there (s.registers 0)) e k h refl hole
-  step_as s o none (Executes i c) h hole = executes_at s (there (s.registers 0)) i none c h refl hole
+  step_as s o (NoInstruction e k) h hole = none_at s (there (s.registers 0)) e k h refl hole
+  step_as s o (Executes i c) h hole = executes_at s (there (s.registers 0)) i c h refl hole
 
   -- a step of the machine is a step of the code that stays
-  step_is : (s : MachineBoard) (o : MachineOutcome) → s.inputs.looks ≡ [] → IsMachineStep s o → Holds s.fram p (words_of is) → IsNoHole (exec there s)
-      → o ≡ exec there s
-  step_is s o none is_step h hole =
-      let same = undisturbed_is s (step_with (there (s.registers 0)) s) hole in
-      step_as s o none is_step h (subst IsNoHole same hole) ∙ sym same
+  step_is : (events : Bool) (s : MachineBoard) (o : MachineOutcome) → IsLookingStep s o → Holds s.fram p (words_of is)
+      → IsNoHole (exec (placed events p is) s) → o ≡ exec (placed events p is) s
+  step_is events s o is_step h hole =
+      let same = undisturbed_is events (there (s.registers 0)) s (step_with (there (s.registers 0)) s) hole in
+      step_as s o is_step h (subst IsNoHole same hole) ∙ sym same
 
 -- code that stands in FRAM is executed as it stands
 pub code_in_fram_steps : CodeInFramSteps
-code_in_fram_steps p is s o are even low high none is_step h hole = step_is p is are even low high s o none is_step h hole
+code_in_fram_steps events p is s o are even low high is_step h hole = step_is p is are even low high events s o is_step h hole
 
 -- instructions stand at even addresses, within their bytes
-placed_within : (is : List Instr) (q : ℕ) → q % 2 ≡ 0 → (a : ℕ) (i : Instr) → placed q is a ≡ Some i
+pub placed_within : (is : List Instr) (q : ℕ) → q % 2 ≡ 0 → (a : ℕ) (i : Instr) → placed_at q is a ≡ Some i
     → (a % 2 ≡ 0) × (q ≤ a) × (a < q + 2 * length (words_of is))
 placed_within [] q e a i h = cc
 placed_within (j ∷ is) q e a i h =
     let long : length (words_of (j ∷ is)) ≡ length (encoding j) + length (words_of is) = length-append (encoding j) (words_of is) in
     let some = encoding_some j in
-    (elim (a == q) as (λ x. (a == q) ≡ x → cond x (Some j) (placed (q + 2 * length (encoding j)) is a) ≡ Some i → (a % 2 ≡ 0) × (q ≤ a) ×
+    (elim (a == q) as (λ x. (a == q) ≡ x → cond x (Some j) (placed_at (q + 2 * length (encoding j)) is a) ≡ Some i → (a % 2 ≡ 0) × (q ≤ a) ×
     (a < q + 2 * length (words_of (j ∷ is)))) [
       | true ↦ λ t k. let at : a ≡ q = eqb-true a q t in (omega arith, omega arith, omega (arith, long))
       | false ↦ λ t k. let r = placed_within is (q + 2 * length (encoding j)) (omega arith) a i k in let r0 = r.0 in let r1 = r.1 in let r2 = r.2 in
@@ -249,26 +229,26 @@ placed_within (j ∷ is) q e a i h =
 
 -- code that is placed is tidy
 pub placed_is_tidy : PlacedIsTidy
-placed_is_tidy is p e b a i h = let r = placed_within is p e a i h in let r0 = r.0 in let r2 = r.2 in record { even = r0; high = omega arith }
+placed_is_tidy events is p e b a i h = let r = placed_within is p e a i h in let r0 = r.0 in let r2 = r.2 in record { even = r0; high = omega arith }
 
-behind : (i : Instr) (is : List Instr) (p a : ℕ) → p < a → placed p (i ∷ is) a ≡ placed (p + 2 * length (encoding i)) is a
-behind i is p a l = ap (λ b. cond b (Some i) (placed (p + 2 * length (encoding i)) is a)) (ne_eqb a p (λ e. omega arith))
+behind : (i : Instr) (is : List Instr) (p a : ℕ) → p < a → placed_at p (i ∷ is) a ≡ placed_at (p + 2 * length (encoding i)) is a
+behind i is p a l = ap (λ b. cond b (Some i) (placed_at (p + 2 * length (encoding i)) is a)) (ne_eqb a p (λ e. omega arith))
 
-stands_behind : (ms : List Form) (q : ℕ) (i : Instr) (is : List Instr) (p : ℕ) → p < q → Stands (placed (p + 2 * length (encoding i)) is) q ms
-    → Stands (placed p (i ∷ is)) q ms
-stands_behind [] q i is p l h = tt
-stands_behind (m ∷ ms) q i is p l h = (behind i is p q l ∙ h.0, stands_behind ms (q + form_bytes m) i is p (omega arith) h.1)
+stands_behind : (events : Bool) (ms : List Form) (q : ℕ) (i : Instr) (is : List Instr) (p : ℕ) → p < q
+    → Stands (placed events (p + 2 * length (encoding i)) is) q ms → Stands (placed events p (i ∷ is)) q ms
+stands_behind events [] q i is p l h = tt
+stands_behind events (m ∷ ms) q i is p l h = (behind i is p q l ∙ h.0, stands_behind events ms (q + form_bytes m) i is p (omega arith) h.1)
 
 -- the forms stand where they are placed
 pub forms_stand : FormsStandWherePlaced
-forms_stand [] p = tt
-forms_stand (m ∷ ms) p =
+forms_stand events [] p = tt
+forms_stand events (m ∷ ms) p =
     let some = encoding_some (instruction_of m) in
     let are = bytes_are m in
     let e : p + 2 * length (encoding (instruction_of m)) ≡ p + form_bytes m = omega arith in (
-      ap (λ b. cond b (Some (instruction_of m)) (placed (p + 2 * length (encoding (instruction_of m))) (instructions ms) p)) (eq-eqb p p refl),
-      stands_behind ms (p + form_bytes m) (instruction_of m) (instructions ms) p (omega arith)
-          (subst (λ q. Stands (placed q (instructions ms)) (p + form_bytes m) ms) (sym e) (forms_stand ms (p + form_bytes m))),
+      ap (λ b. cond b (Some (instruction_of m)) (placed_at (p + 2 * length (encoding (instruction_of m))) (instructions ms) p)) (eq-eqb p p refl),
+      stands_behind events ms (p + form_bytes m) (instruction_of m) (instructions ms) p (omega arith)
+          (subst (λ q. Stands (placed events q (instructions ms)) (p + form_bytes m) ms) (sym e) (forms_stand events ms (p + form_bytes m))),
     )
 
 -- the bytes of forms behind forms

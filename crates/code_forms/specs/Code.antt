@@ -1,5 +1,5 @@
 -- Code that stays, made of forms: where it stands, what straight code does and needs, and what code makes from where it is begun.
-use Rattle.std.specs.Prelude.{ℕ, suc, ◌+◌, ◌-◌, ◌/◌, ◌≡◌, ◌<◌, ◌≤◌, List, [], ◌∷◌, Some}
+use Rattle.std.specs.Prelude.{ℕ, Bool, suc, ◌+◌, ◌-◌, ◌/◌, ◌≡◌, ◌<◌, ◌≤◌, List, [], ◌∷◌, Some}
 use Rattle.machine_effects.specs.msp_isa.declared.instructions.Instr.{Instr}
 use Rattle.machine_effects.specs.msp_isa.declared.instructions.Condition.{Condition}
 use Rattle.machine_effects.specs.msp_step.declared.machine.Stop.{Stop}
@@ -8,12 +8,12 @@ use Rattle.machine_effects.specs.fram_board.Effects.{Effect}
 use Rattle.machine_effects.specs.Going.{Goes, Stops, Status, At, Halted, stretch, continued, going, Leads, Stalls}
 use Rattle.machine_effects.specs.Machine.{Code, MachineBoard, exec}
 use Rattle.code_forms.specs.Forms.{Core, CoreOutcome, CoreStretch, board_of, Form, Move, Calculate, Compare, Update, Push, Modify, SetStack, Sense, Jump, Skip}
-use Rattle.code_forms.specs.Forms.{Branch, BranchIndexed, SkipBy, instruction_of, form_bytes, form_step, FormNeeds, IsCodeAddress}
+use Rattle.code_forms.specs.Forms.{EnableInterrupts, Branch, BranchIndexed, SkipBy, instruction_of, form_bytes, form_step, FormNeeds, IsCodeAddress}
 
 -- the forms stand in the code from this address on
 abbrev pub Stands : Code → ℕ → List Form → Type 0
 Stands code p [] = Unit {0}
-Stands code p (m ∷ ms) = (code p ≡ Some (instruction_of m)) × Stands code (p + form_bytes m) ms
+Stands code p (m ∷ ms) = (code.at p ≡ Some (instruction_of m)) × Stands code (p + form_bytes m) ms
 
 -- their length in bytes
 abbrev pub forms_bytes : List Form → ℕ
@@ -54,6 +54,7 @@ IsStraight (Update op x a) = Unit {0}
 IsStraight (Push x) = Unit {0}
 IsStraight (Modify m b) = Unit {0}
 IsStraight (SetStack n) = Unit {0}
+IsStraight EnableInterrupts = Unit {0}
 IsStraight (Sense b) = Unit {0}
 
 -- none in any of them
@@ -71,22 +72,22 @@ abbrev pub OfNext : CoreOutcome → (Core → Type 0) → Type 0
 OfNext (Goes es c t) P = P t
 OfNext (Stops es price e) P = Unit {0}
 
--- what straight code needs: each form, where it is come to
-abbrev pub FormsNeed : List Form → Core → Type 0
-FormsNeed [] u = Unit {0}
-FormsNeed (m ∷ ms) u = FormNeeds m u × OfNext (form_step m u) (FormsNeed ms)
+-- what straight code needs, which may take events or not: each form, where it is come to
+abbrev pub FormsNeed : Bool → List Form → Core → Type 0
+FormsNeed events [] u = Unit {0}
+FormsNeed events (m ∷ ms) u = FormNeeds events m u × OfNext (form_step m u) (FormsNeed events ms)
 
 -- instructions stand at even addresses alone, with room behind them
 abbrev pub IsTidy : Code → Type 0
-IsTidy code = (p : ℕ) (i : Instr) → code p ≡ Some i → IsCodeAddress p
+IsTidy code = (p : ℕ) (i : Instr) → code.at p ≡ Some i → IsCodeAddress p
 
 -- a machine that stands at a form, which has what it needs
 pub record IsAtForm (code : Code) (s : MachineBoard) : Type 0 where
   pub form : Form
   pub core : Core
   pub is : s ≡ board_of core
-  pub stands : code core.pc ≡ Some (instruction_of form)
-  pub needs : FormNeeds form core
+  pub stands : code.at core.pc ≡ Some (instruction_of form)
+  pub needs : FormNeeds code.events form core
 
 -- a fact of the machine at a status
 abbrev pub OfState : Status MachineBoard Stop → (MachineBoard → Type 0) → Type 0

@@ -1,8 +1,8 @@
 -- The forms of instructions that the compiler and its runtime write, on a machine whose registers are told apart: what each is
 -- as an instruction, how long it is, what it needs and what it does (SLAU049 and SLAU144, CPU chapter).
-use Rattle.std.specs.Prelude.{ℕ, ◌+◌, ◌-◌, ◌%◌, ◌≡◌, ◌<◌, ◌≤◌, true, false, ◌==◌, if◌then◌else◌, List, [], ◌∷◌, Option, Some, None}
-use Rattle.machine_effects.specs.address_space.Limits.{fram_end, stack_top, event_vector, HasStackRoom}
-use Rattle.machine_effects.specs.event_places.Places.{head_place, ring_place}
+use Rattle.std.specs.Prelude.{ℕ, ◌+◌, ◌-◌, ◌%◌, ◌≡◌, ◌<◌, ◌≤◌, Bool, true, false, ◌==◌, if◌then◌else◌, List, [], ◌∷◌, ◌++◌, Option, Some, None}
+use Rattle.machine_effects.specs.address_space.Limits.{fram_end, stack_top, stack_floor, stack_start, event_vector, HasStackRoom}
+use Rattle.machine_effects.specs.event_places.Places.{handler_place, head_place, ring_place}
 use Rattle.machine_effects.specs.alp_words.declared.Flags.{Flags}
 use Rattle.machine_effects.specs.alp_words.declared.Width.TheVariants.{Word}
 use Rattle.machine_effects.specs.msp_isa.declared.instructions.TwoOp.{TwoOp}
@@ -16,7 +16,8 @@ use Rattle.machine_effects.specs.msp_step.Effect.{status_with, operated, Operate
 use Rattle.machine_effects.specs.msp_step.Effect.{word_sum, distance, is_met}
 use Rattle.machine_effects.specs.fram_board.Effects.{Store, Take, Outside, Offered}
 use Rattle.machine_effects.specs.World.{put}
-use Rattle.machine_effects.specs.Inputs.{Inputs, first_look, other_looks, HasLook}
+use Rattle.machine_effects.specs.fram_board.Effects.{Effect}
+use Rattle.machine_effects.specs.Inputs.{Inputs, first_look, other_looks, look_effects}
 use Rattle.machine_effects.specs.Going.{StepOutcome, Goes, Stops, Stretch}
 use Rattle.machine_effects.specs.Machine.{MachineBoard, MachineOutcome, IsPlace, IsRam}
 pub use Rattle.instruction_forms.specs.Encoding.{index_of, source_operand, source_bytes, target_operand, target_bytes, modification_operand}
@@ -32,7 +33,7 @@ pub use Rattle.instruction_forms.specs.declared.kinds.Modification.{Modification
 use Rattle.instruction_forms.specs.declared.kinds.Modification.TheVariants as change
 pub use Rattle.instruction_forms.specs.declared.kinds.Form.{Form}
 pub use Rattle.instruction_forms.specs.declared.kinds.Form.TheVariants.{Move, Calculate, Compare, Update, Push, Modify, SetStack, Sense, Jump, Skip, Branch}
-pub use Rattle.instruction_forms.specs.declared.kinds.Form.TheVariants.{BranchIndexed, SkipBy}
+pub use Rattle.instruction_forms.specs.declared.kinds.Form.TheVariants.{EnableInterrupts, BranchIndexed, SkipBy}
 
 -- the numbers of the registers for work
 abbrev pub work_number : WorkRegister → ℕ
@@ -49,10 +50,11 @@ work_number R13 = 13
 work_number R14 = 14
 work_number R15 = 15
 
--- a machine with its registers told apart; the control bits of SR are 0
+-- a machine with its registers told apart; of the control bits of SR only GIE may be set
 pub record Core : Type 0 where
   pub pc : ℕ
   pub sp : ℕ
+  pub enabled : Bool  -- GIE: the CPU accepts interrupts
   pub flags : Flags
   pub work : ℕ → ℕ  -- by the register's number
   pub fram : ℕ → ℕ
@@ -60,13 +62,24 @@ pub record Core : Type 0 where
   pub inputs : Inputs
   pub outnum : ℕ
 
+-- SR but for its flags
+abbrev pub control : Bool → ℕ
+control enabled = if enabled then 8 else 0
+
 -- the register file of these registers
-abbrev pub register_file : ℕ → ℕ → Flags → (ℕ → ℕ) → Registers
-register_file pc sp f work = λ n. if n == 0 then pc else if n == 1 then sp else if n == 2 then status_with 0 f else if n == 3 then 0 else work n
+abbrev pub register_file : ℕ → ℕ → Bool → Flags → (ℕ → ℕ) → Registers
+register_file pc sp enabled f work = λ n.
+    if n == 0 then pc else if n == 1 then sp else if n == 2 then status_with (control enabled) f else if n == 3 then 0 else work n
 
 -- the machine
 abbrev pub board_of : Core → MachineBoard
-board_of u = record { registers = register_file u.pc u.sp u.flags u.work; fram = u.fram; ram = u.ram; inputs = u.inputs; outnum = u.outnum }
+board_of u = record {
+  registers = register_file u.pc u.sp u.enabled u.flags u.work;
+  fram = u.fram;
+  ram = u.ram;
+  inputs = u.inputs;
+  outnum = u.outnum;
+}
 
 -- no flag is set
 abbrev pub clear_flags : Flags
@@ -77,6 +90,7 @@ abbrev pub core_of : MachineBoard → Core
 core_of s = record {
   pc = s.registers 0;
   sp = s.registers 1;
+  enabled = false;
   flags = clear_flags;
   work = s.registers;
   fram = s.fram;
@@ -130,25 +144,39 @@ source_read (Indexed b x) u = u
 source_read Head u = look_taken u
 source_read (Slot b) u = look_taken u
 
+-- the effects of reading it: those of a look
+abbrev pub source_effects : Source → Core → List Effect
+source_effects (Register b) u = []
+source_effects (Number n) u = []
+source_effects (Constant k) u = []
+source_effects (Fram a) u = []
+source_effects (Ram a) u = []
+source_effects (Pointed b) u = []
+source_effects (PointedNext b) u = []
+source_effects (Indexed b x) u = []
+source_effects Popped u = []
+source_effects Head u = look_effects u.inputs.looks
+source_effects (Slot b) u = look_effects u.inputs.looks
+
 -- the address of a slot of the ring
 pub record IsSlot (a : ℕ) : Type 0 where
   pub even : a % 2 ≡ 0
   pub low : ring_place ≤ a
   pub high : a < event_vector
 
--- what it needs
-abbrev pub SourceNeeds : Source → Core → Type 0
-SourceNeeds (Register b) u = Unit {0}
-SourceNeeds (Number n) u = Unit {0}
-SourceNeeds (Constant k) u = Unit {0}
-SourceNeeds (Fram a) u = IsPlace a
-SourceNeeds (Ram a) u = IsRam a × (u.sp ≤ a)
-SourceNeeds (Pointed b) u = IsPlace (u.work (work_number b))
-SourceNeeds (PointedNext b) u = IsPlace (u.work (work_number b))
-SourceNeeds (Indexed b x) u = IsPlace (u.work (work_number b) + x)
-SourceNeeds Popped u = IsRam u.sp
-SourceNeeds Head u = HasLook u.inputs.looks
-SourceNeeds (Slot b) u = HasLook u.inputs.looks × IsSlot (u.work (work_number b) + ring_place)
+-- what it needs, in code that may take events or not
+abbrev pub SourceNeeds : Bool → Source → Core → Type 0
+SourceNeeds events (Register b) u = Unit {0}
+SourceNeeds events (Number n) u = Unit {0}
+SourceNeeds events (Constant k) u = Unit {0}
+SourceNeeds events (Fram a) u = IsPlace a
+SourceNeeds events (Ram a) u = IsRam a × (u.sp ≤ a)
+SourceNeeds events (Pointed b) u = IsPlace (u.work (work_number b))
+SourceNeeds events (PointedNext b) u = IsPlace (u.work (work_number b))
+SourceNeeds events (Indexed b x) u = IsPlace (u.work (work_number b) + x)
+SourceNeeds events Popped u = IsRam u.sp × (events ≡ true → u.sp + 2 ≤ stack_start)
+SourceNeeds events Head u = Unit {0}
+SourceNeeds events (Slot b) u = IsSlot (u.work (work_number b) + ring_place)
 
 -- the address in RAM at which it reads, if it does
 abbrev pub source_ram : Source → Core → Option ℕ
@@ -167,6 +195,12 @@ target_written (ToIndexed b x) c v u =
 target_written (ToPointed b) c v u = Goes (Store (u.work (work_number b)) v ∷ []) c (record u { fram = put u.fram (u.work (work_number b)) v })
 target_written ToOutnum c v u = Goes [] c (record u { outnum = v })
 target_written ToOutdata c v u = Goes (Outside (Offered u.outnum v) ∷ []) c u
+
+-- a write behind the effects of the source
+abbrev pub behind_source : List Effect → CoreOutcome → CoreOutcome
+behind_source es (Goes [] c u) = Goes es c u
+behind_source es (Goes (f ∷ fs) c u) = Goes (es ++ f ∷ fs) c u
+behind_source es (Stops fs price e) = Stops (es ++ fs) price e
 
 -- what it needs
 abbrev pub TargetNeeds : Target → Core → Type 0
@@ -203,27 +237,31 @@ sensed (w ∷ ws) b u = Goes (Take w ∷ []) 3 (record u { pc = u.pc + 4; work =
 abbrev pub form_step : Form → Core → CoreOutcome
 form_step (Move x y) u =
     let t = source_read x u in
-    target_written y (cycles_of (instruction_of (Move x y))) (source_value x u) (record t { pc = u.pc + (2 + source_bytes x + target_bytes y) })
+    behind_source (source_effects x u)
+    (target_written y (cycles_of (instruction_of (Move x y))) (source_value x u) (record t { pc = u.pc + (2 + source_bytes x + target_bytes y) }))
 form_step (Calculate op x b) u =
     let t = source_read x u in
     let o = operated op Word (t.work (work_number b)) (source_value x u) u.flags in
-    Goes [] (cycles_of (instruction_of (Calculate op x b))) (calculated op b o (record t { pc = u.pc + (2 + source_bytes x) }))
+    Goes (source_effects x u) (cycles_of (instruction_of (Calculate op x b))) (calculated op b o (record t { pc = u.pc + (2 + source_bytes x) }))
 form_step (Compare x a) u =
     let t = source_read x u in
     let o = operated Cmp Word (u.fram a) (source_value x u) u.flags in
-    Goes [] (cycles_of (instruction_of (Compare x a))) (record t { pc = u.pc + (2 + source_bytes x + 2); flags = flags_after o.flags u.flags })
+    let after : Core = record t { pc = u.pc + (2 + source_bytes x + 2); flags = flags_after o.flags u.flags } in
+    Goes (source_effects x u) (cycles_of (instruction_of (Compare x a))) after
 form_step (Update op x a) u =
     let t = source_read x u in
     let o = operated op Word (u.fram a) (source_value x u) u.flags in
     let after : Core = record t { pc = u.pc + (2 + source_bytes x + 2); flags = flags_after o.flags u.flags; fram = put u.fram a o.value } in
-    Goes (Store a o.value ∷ []) (cycles_of (instruction_of (Update op x a))) after
+    Goes (source_effects x u ++ Store a o.value ∷ []) (cycles_of (instruction_of (Update op x a))) after
 form_step (Push x) u =
     let t = source_read x u in
-    Goes [] (cycles_of (instruction_of (Push x))) (record t { pc = u.pc + (2 + source_bytes x); sp = t.sp - 2; ram = put t.ram (t.sp - 2) (source_value x u) })
+    let after : Core = record t { pc = u.pc + (2 + source_bytes x); sp = t.sp - 2; ram = put t.ram (t.sp - 2) (source_value x u) } in
+    Goes (source_effects x u) (cycles_of (instruction_of (Push x))) after
 form_step (Modify m b) u =
     let o = modified m (u.work (work_number b)) u.flags in
     Goes [] 1 (record u { pc = u.pc + 2; flags = flags_after o.flags u.flags; work = put u.work (work_number b) o.value })
 form_step (SetStack n) u = Goes [] 2 (record u { pc = u.pc + 4; sp = n })
+form_step EnableInterrupts u = Goes [] 1 (record u { pc = u.pc + 2; enabled = true })
 form_step (Sense b) u = sensed u.inputs.readings b u
 form_step (Jump c offset) u = Goes [] 2 (record u { pc = if is_met c u.flags then word_sum (u.pc + 2) (distance offset) else u.pc + 2 })
 form_step (Skip n) u =
@@ -241,26 +279,33 @@ pub record HasPushRoom (sp : ℕ) : Type 0 where
   pub room : HasStackRoom sp 1
   pub high : sp ≤ stack_top
 
+-- a handler is named, and has room in RAM below SP
+pub record IsPrepared (u : Core) : Type 0 where
+  pub vector : u.fram event_vector ≡ handler_place
+  pub low : stack_floor ≤ u.sp
+  pub high : u.sp ≤ stack_start
+
 -- an operation that reads its destination
 abbrev pub IsNotMov : TwoOp → Type 0
 IsNotMov Mov = ⊥
 IsNotMov _ = Unit {0}
 
--- what a form needs
-abbrev pub FormNeeds : Form → Core → Type 0
-FormNeeds (Move x y) u = SourceNeeds x u × TargetNeeds y (source_read x u)
-FormNeeds (Calculate op x b) u = IsNotMov op × SourceNeeds x u
-FormNeeds (Compare x a) u = SourceNeeds x u × IsPlace a
-FormNeeds (Update op x a) u = IsNotMov op × (writes_destination op ≡ true) × SourceNeeds x u × IsPlace a
-FormNeeds (Push x) u = SourceNeeds x u × HasPushRoom (source_read x u).sp
-FormNeeds (Modify m b) u = Unit {0}
-FormNeeds (SetStack n) u = n % 2 ≡ 0
-FormNeeds (Sense b) u = Unit {0}
-FormNeeds (Jump c offset) u = Unit {0}
-FormNeeds (Skip n) u = n % 2 ≡ 0
-FormNeeds (Branch a) u = a % 2 ≡ 0
-FormNeeds (BranchIndexed b x) u = IsPlace (u.work (work_number b) + x) × (u.fram (u.work (work_number b) + x) % 2 ≡ 0)
-FormNeeds (SkipBy b) u = u.work (work_number b) % 2 ≡ 0
+-- what a form needs, in code that may take events or not
+abbrev pub FormNeeds : Bool → Form → Core → Type 0
+FormNeeds events (Move x y) u = SourceNeeds events x u × TargetNeeds y (source_read x u)
+FormNeeds events (Calculate op x b) u = IsNotMov op × SourceNeeds events x u
+FormNeeds events (Compare x a) u = SourceNeeds events x u × IsPlace a
+FormNeeds events (Update op x a) u = IsNotMov op × (writes_destination op ≡ true) × SourceNeeds events x u × IsPlace a
+FormNeeds events (Push x) u = SourceNeeds events x u × HasPushRoom (source_read x u).sp
+FormNeeds events (Modify m b) u = Unit {0}
+FormNeeds events (SetStack n) u = (n % 2 ≡ 0) × (events ≡ true → n ≡ stack_start)
+FormNeeds events EnableInterrupts u = (events ≡ true) × IsPrepared u
+FormNeeds events (Sense b) u = Unit {0}
+FormNeeds events (Jump c offset) u = Unit {0}
+FormNeeds events (Skip n) u = n % 2 ≡ 0
+FormNeeds events (Branch a) u = a % 2 ≡ 0
+FormNeeds events (BranchIndexed b x) u = IsPlace (u.work (work_number b) + x) × (u.fram (u.work (work_number b) + x) % 2 ≡ 0)
+FormNeeds events (SkipBy b) u = u.work (work_number b) % 2 ≡ 0
 
 -- the address in RAM at which a form reads, if it does
 abbrev pub ram_read : Form → Core → Option ℕ

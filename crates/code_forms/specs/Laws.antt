@@ -1,5 +1,5 @@
 -- Laws of the forms and of code that stands in FRAM.
-use Rattle.std.specs.Prelude.{◌≡◌, ◌≢◌, false, ℕ, ◌+◌, ◌*◌, ◌%◌, ◌<◌, ◌≤◌, List, [], length, Some}
+use Rattle.std.specs.Prelude.{◌≡◌, ◌≢◌, Bool, true, false, ℕ, ◌+◌, ◌*◌, ◌%◌, ◌<◌, ◌≤◌, List, [], length, Some}
 use Rattle.machine_effects.specs.address_space.Limits.{fram_first, fram_end}
 use Rattle.machine_effects.specs.msp_isa.declared.instructions.Instr.{Instr}
 use Rattle.machine_effects.specs.msp_step.declared.machine.Stop.TheVariants as stop
@@ -7,7 +7,7 @@ use Rattle.machine_effects.specs.msp_step.Step.{is_interruptible}
 use Rattle.machine_effects.specs.fram_board.Board.{PowerState}
 use Rattle.machine_effects.specs.fram_board.Effects.{Effect}
 use Rattle.machine_effects.specs.Going.{Goes, Stops, At, stretch, Leads, going}
-use Rattle.machine_effects.specs.Machine.{Code, MachineBoard, MachineOutcome, IsMachineStep, exec, step_with, machine_powered}
+use Rattle.machine_effects.specs.Machine.{Code, MachineBoard, MachineOutcome, IsLookingStep, exec, step_with, is_prepared, machine_powered}
 use Rattle.code_forms.specs.Forms.{Core, board_of, core_of, outcome_of_core, Form, instruction_of, form_step, FormNeeds, ram_read, IsCodeAddress}
 use Rattle.code_forms.specs.Code.{Stands, AreStraight, forms_run, FormsNeed, IsTidy, IsAtForm, OfState, StepsAreForms}
 use Rattle.code_forms.specs.Placed.{placed, words_of, instructions, Holds, AreInstructions}
@@ -18,13 +18,13 @@ PoweredHasACore = (s : MachineBoard) (p : PowerState) → machine_powered s p �
 
 -- a form does as its instruction
 abbrev pub FormsDoAsInstructions : Type 0
-FormsDoAsInstructions = (m : Form) (u : Core) → IsCodeAddress u.pc → FormNeeds m u
+FormsDoAsInstructions = (events : Bool) (m : Form) (u : Core) → IsCodeAddress u.pc → FormNeeds events m u
     → step_with (Some (instruction_of m)) (board_of u) ≡ outcome_of_core (form_step m u)
 
 -- straight code leads where its forms do
 abbrev pub StraightCodeLeads : Type 0
 StraightCodeLeads = (code : Code) (ms : List Form) (u t : Core) (es : List Effect) (c : ℕ)
-    → IsTidy code → AreStraight ms → Stands code u.pc ms → FormsNeed ms u
+    → IsTidy code → AreStraight ms → Stands code u.pc ms → FormsNeed code.events ms u
     → forms_run ms u ≡ stretch es c (At t) → Leads (exec code) (length ms) es c (board_of u) (board_of t)
 
 -- a machine that stands at a form which reads no word of RAM below SP
@@ -42,22 +42,33 @@ FormsReadFromSp = (code : Code) (steps : ℕ) (u : Core) → StepsAreForms code 
 
 -- forms stand where they are placed
 abbrev pub FormsStandWherePlaced : Type 0
-FormsStandWherePlaced = (ms : List Form) (p : ℕ) → Stands (placed p (instructions ms)) p ms
+FormsStandWherePlaced = (events : Bool) (ms : List Form) (p : ℕ) → Stands (placed events p (instructions ms)) p ms
 
 -- code that is placed is tidy
 abbrev pub PlacedIsTidy : Type 0
-PlacedIsTidy = (is : List Instr) (p : ℕ) → p % 2 ≡ 0 → p + 2 * length (words_of is) + 6 ≤ fram_end → IsTidy (placed p is)
+PlacedIsTidy = (events : Bool) (is : List Instr) (p : ℕ) → p % 2 ≡ 0 → p + 2 * length (words_of is) + 6 ≤ fram_end → IsTidy (placed events p is)
 
 -- it doesn't go astray
 abbrev pub IsNoHole : MachineOutcome → Type 0
 IsNoHole o = (es : List Effect) (price pc word : ℕ) → o ≢ Stops es price (stop.Illegal pc word)
 
--- a machine whose FRAM holds instructions, and for which no look is ready, steps as the code that they are, where that doesn't go astray
+-- a machine whose FRAM holds instructions steps as the code that they are, where that doesn't go astray
 abbrev pub CodeInFramSteps : Type 0
-CodeInFramSteps = (p : ℕ) (is : List Instr) (s : MachineBoard) (o : MachineOutcome)
+CodeInFramSteps = (events : Bool) (p : ℕ) (is : List Instr) (s : MachineBoard) (o : MachineOutcome)
     → AreInstructions is → p % 2 ≡ 0 → fram_first ≤ p → p + 2 * length (words_of is) < fram_end
-    → s.inputs.looks ≡ [] → IsMachineStep s o → Holds s.fram p (words_of is) → IsNoHole (exec (placed p is) s) → o ≡ exec (placed p is) s
+    → IsLookingStep s o → Holds s.fram p (words_of is) → IsNoHole (exec (placed events p is) s) → o ≡ exec (placed events p is) s
 
--- where code that stays goes on, the CPU accepts no interrupt
+-- where code without events goes on, and the CPU accepted no interrupt before, it accepts none
 abbrev pub CodeGoesUndisturbed : Type 0
-CodeGoesUndisturbed = (code : Code) (s t : MachineBoard) (es : List Effect) (c : ℕ) → exec code s ≡ Goes es c t → is_interruptible t.registers ≡ false
+CodeGoesUndisturbed = (code : Code) (s t : MachineBoard) (es : List Effect) (c : ℕ) → code.events ≡ false → exec code s ≡ Goes es c t
+    → is_interruptible s.registers ≡ false → is_interruptible t.registers ≡ false
+
+-- where code with events goes on and the CPU accepts interrupts, the machine is prepared for them
+abbrev pub CodeStaysPrepared : Type 0
+CodeStaysPrepared = (code : Code) (s t : MachineBoard) (es : List Effect) (c : ℕ) → code.events ≡ true → exec code s ≡ Goes es c t
+    → (is_interruptible s.registers ≡ true → is_prepared s ≡ true) → is_interruptible t.registers ≡ true → is_prepared t ≡ true
+
+-- once it accepts them it does so on
+abbrev pub CodeStaysOpen : Type 0
+CodeStaysOpen = (code : Code) (s t : MachineBoard) (es : List Effect) (c : ℕ) → code.events ≡ true → exec code s ≡ Goes es c t
+    → is_interruptible s.registers ≡ true → is_interruptible t.registers ≡ true

@@ -1,5 +1,5 @@
 -- Instructions one after another in FRAM.
-use Rattle.std.specs.Prelude.{◌≡◌, ◌≢◌, ℕ, ◌+◌, ◌*◌, ◌<◌, ◌≤◌, ◌==◌, ◌⊎◌, if◌then◌else◌, List, [], ◌∷◌, ◌++◌, length, Some, None}
+use Rattle.std.specs.Prelude.{◌≡◌, ◌≢◌, ℕ, Bool, Option, ◌+◌, ◌*◌, ◌<◌, ◌≤◌, ◌==◌, ◌⊎◌, if◌then◌else◌, List, [], ◌∷◌, ◌++◌, length, Some, None}
 use Rattle.machine_effects.specs.msp_isa.declared.instructions.Instr.{Instr}
 use Rattle.machine_effects.specs.msp_isa.Encoding.{encoding, IsInstruction}
 use Rattle.machine_effects.specs.msp_step.declared.machine.Stop.TheVariants as stop
@@ -8,10 +8,14 @@ use Rattle.machine_effects.specs.Going.{Halted}
 use Rattle.machine_effects.specs.Machine.{Code, MachineStretch}
 use Rattle.code_forms.specs.Forms.{Form, instruction_of}
 
--- the code that these instructions are from an address on
-abbrev pub placed : ℕ → List Instr → Code
-placed p [] a = None
-placed p (i ∷ more) a = if a == p then Some i else placed (p + 2 * length (encoding i)) more a
+-- the instruction at an address, where these stand from an address on
+abbrev pub placed_at : ℕ → List Instr → ℕ → Option Instr
+placed_at p [] a = None
+placed_at p (i ∷ more) a = if a == p then Some i else placed_at (p + 2 * length (encoding i)) more a
+
+-- the code that they are, which may take events or not
+abbrev pub placed : Bool → ℕ → List Instr → Code
+placed events p is = record { at = placed_at p is; events = events }
 
 -- their words
 abbrev pub words_of : List Instr → List ℕ

@@ -1,7 +1,7 @@
 //! Laws of the forms. The functions do nothing: their contracts are the laws.
 
 ghost use Rattle.code_forms.specs.Laws.{PoweredHasACore, FormsDoAsInstructions, StraightCodeLeads, FormsReadFromSp, FormsStandWherePlaced, PlacedIsTidy};
-ghost use Rattle.code_forms.specs.Laws.{CodeInFramSteps, CodeGoesUndisturbed};
+ghost use Rattle.code_forms.specs.Laws.{CodeInFramSteps, CodeGoesUndisturbed, CodeStaysPrepared, CodeStaysOpen};
 
 /// A machine that was powered up has SR and R3 at 0, so that its registers can be told apart.
 pub fn powered_machine_has_a_core()
@@ -27,16 +27,21 @@ pub fn forms_read_from_sp()
 {}
 
 /// Forms stand where they are placed, at even addresses with room behind them.
-#[tactic(auto, using(crate::proofs::Placed::forms_stand, crate::proofs::Placed::placed_is_tidy))]
 pub fn placed_code_stands()
     ensures stands { FormsStandWherePlaced }
     ensures tidy { PlacedIsTidy }
 {}
 
-/// A machine whose FRAM holds instructions steps as the code that they are, where that doesn't go astray; and behind each
-/// step of such code the CPU accepts no interrupt.
-#[tactic(auto, using(crate::proofs::Placed::code_in_fram_steps, crate::proofs::Placed::code_goes_undisturbed))]
+/// A machine whose FRAM holds instructions steps as the code that they are, where that doesn't go astray.
+#[tactic(auto, using(crate::proofs::Placed::code_in_fram_steps))]
 pub fn code_in_fram_steps()
-    ensures same { CodeInFramSteps }
+    ensures { CodeInFramSteps }
+{}
+
+/// Where the CPU accepts no interrupt in front of a step of code without events, it accepts none behind it. Where it accepts one behind a
+/// step of code with events, FRAM names a handler and SP has room for it; from there on the CPU accepts interrupts behind each step.
+pub fn code_keeps_the_rules_of_interrupts()
     ensures undisturbed { CodeGoesUndisturbed }
+    ensures prepared { CodeStaysPrepared }
+    ensures open { CodeStaysOpen }
 {}

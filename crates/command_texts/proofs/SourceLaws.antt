@@ -1,9 +1,7 @@
 -- No text is a source and refused as one.
 use Rattle.std.proofs.Common.{◌≡◌, ◌∙◌, Some, None, sym, ap, ℕ, List}
 use Rattle.source_meaning.specs.Laws.{OneAnswer}
-use Rattle.source_meaning.specs.Events.{HasNoEvent}
-use Rattle.source_meaning.proofs.Interface.{refused_by_pass}
-use Rattle.command_texts.specs.Sources.{source_refusal, IsSourceText, RefusesSource, RefusesBuild}
+use Rattle.command_texts.specs.Sources.{source_refusal, IsSourceText, RefusesSource}
 use Rattle.command_answers.specs.source_values.Runs.{CheckedProgram}
 use Rattle.command_answers.specs.Refusals.{Refusal}
 
@@ -16,8 +14,3 @@ sources_exclude law text p r said refused =
     let memory = law text p said.allow refused.cause said.accepted refused.refused in
     let none : Some r ≡ None = sym refused.told ∙ ap (source_refusal text) memory in
     cc
-
--- and none is a source without events and kept from being compiled
-pub builds_exclude : SourcesExclude → (text : List ℕ) (p : CheckedProgram) (r : Refusal) → IsSourceText text p → HasNoEvent text → RefusesBuild text r → ⊥
-builds_exclude law text p r said none fails =
-    law text p r said (record { cause = fails.cause; refused = refused_by_pass text fails.cause none fails.refused; told = fails.told })

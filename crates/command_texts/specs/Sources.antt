@@ -13,7 +13,7 @@ use Rattle.command_answers.specs.source_values.Runs.{CheckedProgram}
 use Rattle.source_meaning.specs.declared.fault.SourceFault.{SourceFault}
 use Rattle.source_meaning.specs.declared.fault.SourceFault.TheVariants as fault
 use Rattle.source_meaning.specs.Acceptance.{IsAcceptedText, IsRefusedText}
-use Rattle.source_meaning.specs.Events.{HasNoEvent, IsUncompiled}
+use Rattle.source_meaning.specs.Events.{HasNoEvent}
 use Rattle.command_answers.specs.Refusals.{Refusal, number, plain, named}
 
 -- the text is accepted as this program
@@ -64,7 +64,6 @@ source_refusal text (fault.Lex f) = lex_refusal f
 source_refusal text (fault.Syntax line) = Some (plain line (codes "Syntax"))
 source_refusal text (fault.Check f) = check_refusal text f
 source_refusal text (fault.Over f) = Some (over_refusal f)
-source_refusal text (fault.NotYet line) = Some (plain line (codes "NotYet"))
 source_refusal text fault.Memory = None
 
 -- the first pass that refuses the text does so
@@ -73,16 +72,10 @@ pub record RefusesSource (text : List ℕ) (r : Refusal) : Type 0 where
   pub refused : IsRefusedText text cause
   pub told : source_refusal text cause ≡ Some r
 
--- the text isn't compiled: the first pass that refuses it does so, or behind all of them `NotYet` at its first `next_event`
-pub record RefusesBuild (text : List ℕ) (r : Refusal) : Type 0 where
-  pub cause : SourceFault
-  pub refused : IsUncompiled text cause
-  pub told : source_refusal text cause ≡ Some r
-
 -- a text is a source
 abbrev pub SaysSource : List ℕ → Type 0
 SaysSource text = (program : CheckedProgram) × IsSourceText text program
 
--- a text is a source without `next_event`: one that is compiled, and whose reports are audited
+-- a text is a source without `next_event`: one whose reports are audited
 abbrev pub SaysSourceWithoutEvents : List ℕ → Type 0
 SaysSourceWithoutEvents text = SaysSource text × HasNoEvent text

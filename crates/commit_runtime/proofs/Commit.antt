@@ -91,7 +91,7 @@ module _ (code : Code) (tidy : IsTidy code) (m : MemoryMap) (places : AreInFram 
         ((home, tt), ((copy, tt), ((count, tt), tt))) refl in
         let at_count : Core = record read { pc = p + 22 } in
         let begins : Comes code [] 1 2 read (λ v. v ≡ at_count) =
-        jumps code tidy Always (forms_bytes word_moved / 2) (p + 22) (p + 16) true read (ap code (omega arith) ∙ words.0) (omega arith) (omega arith) refl in
+        jumps code tidy Always (forms_bytes word_moved / 2) (p + 22) (p + 16) true read (ap code.at (omega arith) ∙ words.0) (omega arith) (omega arith) refl in
         record {
           to = to;
           effects = es;

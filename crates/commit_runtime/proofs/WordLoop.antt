@@ -49,8 +49,8 @@ module _ (code : Code) (tidy : IsTidy code) (m : MemoryMap) (p : ℕ) (high : p 
   counts : (b : Bool) (u : Core) → u.pc ≡ p + 8 → nat_le 0x10000 (u.work 8 + 65534 + 1) ≡ b
       → Comes code [] 2 3 u (λ v. v ≡ record (behind word_counted u) { pc = if b then p + 2 else p + 12 })
   counts b u e c =
-      then_on (straight code tidy word_counted u (tt, tt) (ap code e ∙ count_there.0, tt) ((tt, tt), tt) refl)
-      (jumps code tidy Carry back (p + 2) (p + 12) b (behind word_counted u) (ap (λ x. code (x + 2)) e ∙ count_there.1.0)
+      then_on (straight code tidy word_counted u (tt, tt) (ap code.at e ∙ count_there.0, tt) ((tt, tt), tt) refl)
+      (jumps code tidy Carry back (p + 2) (p + 12) b (behind word_counted u) (ap (λ x. code.at (x + 2)) e ∙ count_there.1.0)
       (ap (λ x. word_sum (x + 2 + 2) (distance back)) e ∙ there) (ap (λ x. x + 2 + 2) e ∙ omega arith) c)
 
   -- so many words go home

@@ -127,8 +127,8 @@ fn closing(layout: &Layout) -> [Form; 3]
 /// are events, CUR, BASE and GATE, in this order; the last one is a branch to the start of an attempt. GATE is 1 until all else is done, so that
 /// a boot in between finds it and begins the commit anew. They take 41 words, 44 where there are events, and may stand anywhere.
 pub fn commit_code(alloc: Global, layout: &Layout) -> Result<Vec<Form>, AllocError>
-    requires { layout.now.boot.address + 10 < 65536 }
-    ensures { IfOk result (λ code. code.items ≡ commit_forms layout.now (start_address layout.now.boot.address)) }
+    requires { layout.now.boot.address + 16 < 65536 }
+    ensures { IfOk result (λ code. code.items ≡ commit_forms layout.now (start_address layout.now.runtime.events layout.now.boot.address)) }
 {
     let mut code = Vec::new(alloc);
     code.extend_from_slice(&copies_begin(layout))?;
@@ -137,6 +137,7 @@ pub fn commit_code(alloc: Global, layout: &Layout) -> Result<Vec<Form>, AllocErr
     push_sends(&mut code, layout)?;
     push_events_taken(&mut code, layout)?;
     code.extend_from_slice(&closing(layout))?;
-    code.push(Branch(start_address(layout.boot().address)))?;
+    let start = start_address(layout.runtime().events, layout.boot().address);
+    code.push(Branch(start))?;
     Ok(code)
 }

@@ -30,7 +30,7 @@ use Rattle.runtime_code.proofs.Interface.{if_any_most, with_events_most}
 use Rattle.compiled_model.specs.Parts.{task_program}
 use Rattle.compiled_model.specs.Needs.{whole_cycles}
 use Rattle.compiled_bounds.specs.Laws.{TasksKeepToTheBound}
-use Rattle.memory_map.specs.MemoryMap.{MemoryMap, TaskPlace}
+use Rattle.memory_map.specs.MemoryMap.{MemoryMap, TaskPlace, with_events}
 use Rattle.memory_map.specs.Spots.{places_of, private_words}
 use Rattle.compiled_bounds.proofs.Bounds.{bound_is_the_sources}
 use Rattle.compiled_bounds.proofs.Commits.{commit_within_bound}
@@ -45,12 +45,12 @@ entries_cost l layout Broken = omega arith
 
 -- a boot, a start with the clearing of versions and the copies of private words, the place of the stack, the body, the entries, and the commit
 all_within : (events : Bool) (v1 v2 privates scalars body price list emits : ℕ) → v1 ≡ v2 → privates ≤ scalars → body ≤ price + 26 * privates
-    → 9 + start_cycles events true v1 privates + (stack_cycles + body) + commit_cycles events list list emits
+    → with_events events 3 + 9 + start_cycles events true v1 privates + (stack_cycles + body) + commit_cycles events list list emits
     ≤ 400 + 12 * v2 + 72 * scalars + price + 40 * list + 40 * emits
 all_within events v1 v2 privates scalars body price list emits v e b =
-    let start = with_events_most events 4 in let commit = with_events_most events 6 in
+    let boot = with_events_most events 3 in let start = with_events_most events 4 in let commit = with_events_most events 6 in
     let clears = if_any_most v1 2 in let copies = if_any_most privates 3 in let lists = if_any_most list 2 in let sends = if_any_most emits 2 in
-    omega (arith, v, e, b, clears, copies, lists, sends, start, commit)
+    omega (arith, v, e, b, clears, copies, lists, sends, boot, start, commit)
 
 module _ (p : CheckedProgram) (allow : Allow) (plans : List TaskPlanValue) (l : MemoryMap) (allowed : IsAllowed p allow) (few : PrivatesAreCounted p l)
     (layout : IsLayout p allow plans l) (t : ℕ) (fram : ℕ → ℕ) (inputs : Inputs) (task : CheckedTask) (own : TaskPlace)

@@ -7,7 +7,7 @@ use Rattle.source_values.specs.Running.{IsRunnable}
 use Rattle.source_meaning.proofs.Interface.{accepted_texts_run}
 use Rattle.war_analysis.specs.PlanValue.{TaskPlanValue}
 use Rattle.array_versions.specs.Program.{Program}
-use Rattle.array_versions.specs.Form.{IsWhole, OfWords}
+use Rattle.array_versions.specs.Form.{FitsTheStack, OfWords}
 use Rattle.memory_map.specs.MemoryMap.{MemoryMap}
 use Rattle.stands_for.proofs.Interface.{each_weaker}
 use Rattle.lower.proofs.Interface.{program_at}
@@ -31,12 +31,12 @@ module _ (text : List ℕ) (p : CheckedProgram) (allow : Allow) (plans : List Ta
   laid = record { allowed = t.accepted.allowed; plan = t.plan; layout = t.layout; few = privates_are_few text p allow plans l t }
 
   -- the program of a task is whole, and of words
-  one_whole : (k : ℕ) → k < length p.tasks → IsWhole (task_program p l k) × OfWords (task_program p l k)
+  one_whole : (k : ℕ) → k < length p.tasks → FitsTheStack (task_program p l k) × OfWords (task_program p l k)
   one_whole k below =
       let task = element p.tasks k below in
       let count = t.layout.tasks.count in
       let own = element l.tasks k (omega (arith, below, count)) in
-      let P : Program → Type 0 = λ q. IsWhole q × OfWords q in
+      let P : Program → Type 0 = λ q. FitsTheStack q × OfWords q in
       subst P (sym (program_at l p.tasks l.tasks k task.0 own.0 task.1 own.1)) (tasks_are_whole text p allow plans l t k task.0 own.0 task.1 own.1)
 
   code : CanRun p l

@@ -12,7 +12,7 @@ use Rattle.war_analysis.specs.PlanValue.{TaskPlanValue}
 use Rattle.source_values.specs.Runs.{CheckedProgram, State}
 use Rattle.memory_map.specs.MemoryMap.{MemoryMap}
 use Rattle.crash_rules.specs.Model.{ModelLaws, Short}
-use Rattle.crash_rules.specs.History.{History, observe, behind_boot, first_history, inputs_from}
+use Rattle.crash_rules.specs.History.{History, observe, behind_boot, first_history, given_since}
 use Rattle.crash_rules.specs.Runs.{ProgramLaws, Charge, IsSpentFrom}
 use Rattle.crash_rules.specs.Laws.{Origin, Resting, StandsFor, IsLawful, Matches, Begins, HasRun, PowersUpBehind, AcceptedWords, AreConsecutive}
 use Rattle.run_charges.specs.Charges.{AlwaysLeaves}
@@ -53,7 +53,7 @@ RunsStopWhereTheSourceIsShort = OfSources (λ p l. (readings : List ℕ) (origin
     → (n price : ℕ) (e : Stop) → (going (compiled_program p l).step n b).status ≡ Halted price e
     → let k = observe (compiled_model p l).marks (going (compiled_program p l).step n b).effects (behind_boot up.history) in
     (e ≡ stop.NoReading) × ((st : StandsFor (compiled_model p l) readings origin k)
-    × ((compiled_model p l).task st.state (inputs_from readings k.since) ≡ Short)))
+    × ((compiled_model p l).task st.state (given_since (compiled_model p l).marks readings k) ≡ Short)))
 
 -- words are accepted only between a decide and its done, each once
 abbrev pub WordsAreSentOnce : Type 0

@@ -6,9 +6,9 @@ use Rattle.cost_bound.specs.Allowance.{task_bound, uses_events, versions_of, lis
 use Rattle.cost_bound.specs.Counts.{emits_of}
 use Rattle.source_values.specs.Runs.{CheckedProgram, State, task_body}
 use Rattle.array_versions.specs.Behaviour.{End, GoesOn, Jumps, Short, Strays, Broken, behaviour, started}
-use Rattle.array_versions.specs.Form.{IsWhole, OfWords}
+use Rattle.array_versions.specs.Form.{FitsTheStack, OfWords}
 use Rattle.word_code.specs.Code.{code_spent}
-use Rattle.memory_map.specs.MemoryMap.{MemoryMap}
+use Rattle.memory_map.specs.MemoryMap.{MemoryMap, with_events}
 use Rattle.runtime_effects.specs.Needs.{IsEventWord}
 use Rattle.boot_runtime.specs.Entries.{task_entries}
 use Rattle.boot_runtime.specs.Listing.{privates_in, start_cycles}
@@ -17,11 +17,16 @@ use Rattle.crash_rules.specs.Model.{Model, bound}
 use Rattle.stands_for.specs.StandsFor.{HoldsWords}
 use Rattle.compiled_model.specs.Parts.{task_program, compiled_model, IsStarted}
 
--- a task, from a power-up up to the end of its commit: a boot, which takes 9 cycles at most, a start with the clearing of the version
--- words, the body and the commit, of as many entries as words: each may be a run of its own
+-- a boot, at most
+abbrev pub boot_cycles : MemoryMap → ℕ
+boot_cycles l = with_events l.runtime.events 3 + 9
+
+-- a task, from a power-up up to the end of its commit: a boot, a start with the clearing of the version words, the body and the commit, of as many
+-- entries as words: each may be a run of its own
 abbrev pub whole_cycles : CheckedProgram → MemoryMap → ℕ → (ℕ → ℕ) → Inputs → ℕ
 whole_cycles p l t fram inputs =
-    9 + start_cycles l.runtime.events true l.versions.words (length (privates_in (task_entries l) t)) + code_spent (task_program p l t) (started fram inputs)
+    boot_cycles l + start_cycles l.runtime.events true l.versions.words (length (privates_in (task_entries l) t))
+    + code_spent (task_program p l t) (started fram inputs)
     + commit_cycles l.runtime.events (list_of p.shared (task_body p t)) (list_of p.shared (task_body p t)) (emits_of (task_body p t))
 
 -- each task keeps to its bound, whatever FRAM holds and whatever the inputs are; and where there is a task, a boot with the commit of a
@@ -29,7 +34,8 @@ whole_cycles p l t fram inputs =
 pub record CostsAreWithin (p : CheckedProgram) (l : MemoryMap) : Type 0 where
   pub within : (t : ℕ) (fram : ℕ → ℕ) (inputs : Inputs) → t < length p.tasks → HoldsWords fram → InputsAreWords inputs
       → whole_cycles p l t fram inputs ≤ task_bound (uses_events p) (versions_of p) p.shared (task_body p t)
-  pub commits : (t : ℕ) → t < length p.tasks → 9 + commit_cycles l.runtime.events l.entries l.entries l.emits.words ≤ bound (compiled_model p l)
+  pub commits : (t : ℕ) → t < length p.tasks
+      → boot_cycles l + commit_cycles l.runtime.events l.entries l.entries l.emits.words ≤ bound (compiled_model p l)
 
 -- a program's end: it leaves for an address, or is short of readings
 abbrev pub LeavesFor : ℕ → End → Type 0
@@ -44,9 +50,9 @@ pub record TasksLeave (p : CheckedProgram) (l : MemoryMap) : Type 0 where
   pub leave : (s : State) (x : World) (inputs : Inputs) → InputsAreWords inputs → IsStarted p l s x
       → LeavesFor l.commit.address (behaviour (task_program p l s.task) (started x.fram inputs)).end
 
--- each task's program is one of which code can be made
+-- each task's program is one of which code can be made, with room for its stack
 pub record ProgramsAreWhole (p : CheckedProgram) (l : MemoryMap) : Type 0 where
-  pub whole : (t : ℕ) → t < length p.tasks → IsWhole (task_program p l t)
+  pub whole : (t : ℕ) → t < length p.tasks → FitsTheStack (task_program p l t)
   pub of_words : (t : ℕ) → t < length p.tasks → OfWords (task_program p l t)
 
 -- each attempt of a model stores only so

@@ -1,7 +1,6 @@
 -- A compiled source as the crash theorem takes it: its tasks, its start, its tasks' programs, and the cycles that each is allowed.
 use Rattle.std.specs.Prelude.{ℕ, Bool, true, false, List, ◌++◌, length, Option, Some, None, get_or}
 use Rattle.fram_board.specs.Effects.{Effect}
-use Rattle.machine_effects.specs.Inputs.{Look, Inputs}
 use Rattle.machine_effects.specs.World.{World}
 use Rattle.cost_bound.specs.Allowance.{task_bound, uses_events, versions_of}
 use Rattle.source_values.specs.Runs.{CheckedProgram, State, Completion, completion_of, attempt_of, task_body}
@@ -17,21 +16,22 @@ use Rattle.runtime_effects.specs.Stages.{start_effects}
 use Rattle.boot_runtime.specs.Entries.{task_entries}
 use Rattle.boot_runtime.specs.Listing.{privates_in}
 use Rattle.lower.specs.Lowered.{lowered}
-use Rattle.crash_rules.specs.Model.{Model, Outcome, Ends, Short, ProgramEffects, program_effects}
-use Rattle.stands_for.specs.Program.{ProgramParts, program_model}
+use Rattle.crash_rules.specs.Model.{Model, Given, Outcome, Ends, Short, ProgramEffects, program_effects}
+use Rattle.stands_for.specs.Program.{ProgramParts, answer_word, program_model}
 use Rattle.stands_for.specs.StandsFor.{StartedAt}
 use Rattle.compiled_model.specs.Places.{program_places}
 use Rattle.compiled_model.specs.View.{state_view}
 
--- the state behind a whole task, with what is left over of the inputs: the readings, and these looks
-abbrev pub outcome_of : List Look → State → Option Completion → Outcome State
-outcome_of looks s None = Short
-outcome_of looks s (Some c) =
-    Ends (record { shared = c.shared; task = c.next; emitted = s.emitted ++ c.emitted }) (record { readings = c.left; looks = looks })
+-- the state behind a whole task, with what is left over of what it was given
+abbrev pub outcome_of : State → Option Completion → Outcome State
+outcome_of s None = Short
+outcome_of s (Some c) =
+    Ends (record { shared = c.shared; task = c.next; emitted = s.emitted ++ c.emitted }) (record { readings = c.left; answers = c.answers })
 
--- a state's current task, run whole on inputs; it leaves the looks as they are
-abbrev pub whole_task : CheckedProgram → State → Inputs → Outcome State
-whole_task p s inputs = outcome_of inputs.looks s (completion_of (attempt_of p s.task s.shared inputs.readings))
+-- a state's current task, run whole on what it is given: its `next_event()` take the answers, and are 0 where none is left
+abbrev pub whole_task : CheckedProgram → State → Given → Outcome State
+whole_task p s given =
+    outcome_of s (completion_of (attempt_of p s.task s.shared (record { readings = given.readings; answers = given.answers })))
 
 -- whether a program came to its jump
 abbrev pub has_jumped : End → Bool
@@ -89,7 +89,7 @@ model_by logging role p l = let chosen = model_under logging role p l in record 
   tasks = length p.tasks;
   task_cost = (program_parts p l).cost;
   delay = λ inputs. 0;
-  marks = record { gate = word_place l Gate };
+  marks = record { gate = word_place l Gate; answer = answer_word l };
   commit = chosen.commit;
   recover = chosen.recover;
   attempt = chosen.attempt;

@@ -29,18 +29,19 @@ code_is_placed p l f =
     let k = linked_is_code l (lowered l p) f in
     let a = apart_of l f.rules in
     let end = k.end in
-    let high = f.high in
+    let last = a.high in
     let even = (even_of l f.rules).boot in
     record {
       instructions = k.instructions;
       even = even;
       low = omega arith;
-      high = omega (arith, end, high);
+      high = omega (arith, end, last);
       steps = refl;
-      powers = λ s q w h e. record {
+      powers = λ s q w h e named. record {
         core = core_of (machine_powered s q);
         is = powered_has_a_core s q;
         pc = let half : s.fram 0xFFFE / 2 * 2 ≡ l.boot.address = omega (arith, e, even) in half;
+        named = named;
       };
     }
 
@@ -59,14 +60,13 @@ scripts_store_below p l apart =
     })
 
 pub runs_leave_the_code : RunsLeaveTheCode
-runs_leave_the_code p l r laws below readings origin x s begins charges t k charged q powered fram left n =
+runs_leave_the_code p l r laws below readings origin x s begins charges t k charged q powered from n =
     let up : PowersUpBehind (compiled_model p l) (compiled_program p l) readings origin q = record {
       board = t;
       history = k;
       run = record { world = x; start = s; begins = begins; charges = charges; leads = charged };
       powered = powered;
-      fram = fram;
-      inputs_left = left;
+      from = from;
     } in
     let m = compiled_model p l in
     let c = compiled_program p l in

@@ -12,26 +12,26 @@ use Rattle.code_forms.specs.Forms.{Core, board_of}
 use Rattle.code_forms.specs.Code.{Runs, Starves}
 use Rattle.crash_rules.proofs.Interface.{world_fram}
 use Rattle.source_values.specs.Runs.{CheckedProgram, State}
-use Rattle.array_versions.specs.Behaviour.{WordState, Behaviour, End, GoesOn, Jumps, Short as Lacks, Strays, Broken, behaviour, started}
+use Rattle.array_versions.specs.Behaviour.{WordState, Behaviour, End, GoesOn, Jumps, Short as Starving, Strays, Broken, behaviour, started}
 use Rattle.word_code.specs.Code.{code_spent}
 use Rattle.array_versions.specs.Laws.{EndsByEffects}
 use Rattle.array_versions.proofs.Interface.{behaves_by_effects}
 use Rattle.word_code.specs.Laws.{HasJumped, ComesTo}
 use Rattle.memory_map.specs.declared.words.RuntimeWord.TheVariants.{CurrentTask, Gate, ListLength, EmitCount, SentBase, Version}
-use Rattle.memory_map.specs.MemoryMap.{MemoryMap, word_place}
+use Rattle.memory_map.specs.MemoryMap.{MemoryMap, word_place, with_events}
 use Rattle.runtime_effects.specs.Places.{CopyPair, listed}
 use Rattle.runtime_effects.specs.Stages.{is_at_end, start_effects, commit_effects}
 use Rattle.runtime_effects.specs.Needs.{CanCommit}
-use Rattle.address_space.specs.Limits.{stack_top}
-use Rattle.runtime_code.specs.Addresses.{start_address}
+use Rattle.runtime_code.specs.Addresses.{start_address, stack_origin}
 use Rattle.runtime_code.specs.Comes.{Comes, IsAt, Enters}
 use Rattle.runtime_code.proofs.Interface.{nothing as no_steps}
 use Rattle.boot_runtime.specs.Entries.{task_entries}
 use Rattle.boot_runtime.specs.Listing.{TaskEntry, entry_at, privates_in, start_steps, start_cycles}
+use Rattle.boot_runtime.specs.Laws.{NamesHandler}
 use Rattle.boot_runtime.proofs.Interface.{clearing_is_dearest}
 use Rattle.commit_runtime.specs.Listing.{commit_steps, commit_cycles}
 use Rattle.lower.specs.Lowered.{lowered}
-use Rattle.crash_rules.specs.Model.{Model, Outcome, Ends, Short, ProgramEffects, program_effects, bound, ModelLaws, AttemptContract, with_commit}
+use Rattle.crash_rules.specs.Model.{Model, ProgramEffects, program_effects, bound, ModelLaws, AttemptContract, Comes as Decides, Lacks, with_commit}
 use Rattle.crash_rules.specs.Runs.{Program, ProgramLaws, Makes}
 use Rattle.stands_for.specs.Program.{StartContract}
 use Rattle.stands_for.specs.StandsFor.{HoldsWords, StartedAt}
@@ -42,7 +42,7 @@ use Rattle.memory_map.specs.declared.runtime.Logging.{Logging}
 use Rattle.memory_map.specs.declared.runtime.Role.{Role}
 use Rattle.compiled_model.specs.Parts.{has_jumped, task_program, redo_model, started_under}
 use Rattle.compiled_model.proofs.Interface.{is_redo, under_map}
-use Rattle.compiled_model.specs.Needs.{whole_cycles, LeavesFor}
+use Rattle.compiled_model.specs.Needs.{boot_cycles, whole_cycles, LeavesFor}
 use Rattle.linked_code.specs.Linked.{ProgramsAreWhole}
 use Rattle.commit_runtime.proofs.Interface.{commit_grows}
 use Rattle.linked_code.proofs.Interface.{programs_count, to_start, to_task, DoesBody, body_there, commit_there, to_commit}
@@ -73,7 +73,7 @@ module _ (source : Source) where
   tasks = task_entries l
 
   abbrev start_at : ℕ
-  start_at = start_address l.boot.address
+  start_at = start_address l.runtime.events l.boot.address
 
   abbrev privates : ℕ → List CopyPair
   privates = privates_in tasks
@@ -93,13 +93,20 @@ module _ (source : Source) where
     pub is : b ≡ board_of core
     pub steps : ℕ
     pub cycles : ℕ
-    pub within : cycles ≤ 6
+    pub within : cycles ≤ with_events l.runtime.events 3 + 6
     pub comes : Comes code [] steps cycles core (IsAt start_at core.fram core.inputs)
 
   from_boot : (b : MachineBoard) → IsBooting l b → b.fram (word_place l Gate) ≡ 0 → ReachesStart b
   from_boot b k z =
       let zero : k.core.fram (word_place l Gate) ≡ 0 = ap (λ s. s.fram (word_place l Gate)) (sym k.is) ∙ z in
-      record { core = k.core; is = k.is; steps = 2; cycles = 6; within = omega arith; comes = to_start l (lowered l p) r.fits are_whole k.core k.pc zero }
+      record {
+        core = k.core;
+        is = k.is;
+        steps = with_events l.runtime.events 2 + 2;
+        cycles = with_events l.runtime.events 3 + 6;
+        within = omega arith;
+        comes = to_start l (lowered l p) r.fits are_whole k.core k.pc k.named zero;
+      }
 
   from_start : (b : MachineBoard) → IsStarting l b → ReachesStart b
   from_start b k =
@@ -135,21 +142,22 @@ module _ (source : Source) where
 
   -- what a commit takes behind a boot, at most
   abbrev CommitWithin : (ℕ → ℕ) → ℕ → Type 0
-  CommitWithin f most = 9 + commit_cycles l.runtime.events (f (word_place l ListLength)) (length (listed l f)) (f (word_place l EmitCount)) ≤ most
+  CommitWithin f most =
+      boot_cycles l + commit_cycles l.runtime.events (f (word_place l ListLength)) (length (listed l f)) (f (word_place l EmitCount)) ≤ most
 
   -- a pending commit, from a boot on
-  commit_from_boot : (to : State) (accepted : List ℕ) (u : Core) → u.pc ≡ l.boot.address
+  commit_from_boot : (to : State) (accepted : List ℕ) (u : Core) → u.pc ≡ l.boot.address → NamesHandler l u.fram
       → (d : m.Committing to (record { fram = u.fram; accepted = accepted })) → (most : ℕ) → CommitWithin u.fram most
       → Makes c m.delay most (program_effects (m.commit u.fram u.inputs) true) (board_of u)
-  commit_from_boot to accepted u e d most within =
+  commit_from_boot to accepted u e named d most within =
       let x : World = record { fram = u.fram; accepted = accepted } in
       let q = d.pending in
-      let a = to_commit l (lowered l p) r.fits are_whole u e q.gate (pending_can_commit (program_places p l) x r.apart q)
+      let a = to_commit l (lowered l p) r.fits are_whole u e named q.gate (pending_can_commit (program_places p l) x r.apart q)
       (q.words (word_place l SentBase)) in
       let n = u.fram (word_place l ListLength) in let ws = length (listed l u.fram) in let k = u.fram (word_place l EmitCount) in
       record {
-        steps = 3 + commit_steps l.runtime.events n ws k;
-        cycles = 9 + commit_cycles l.runtime.events n ws k;
+        steps = with_events l.runtime.events 2 + 3 + commit_steps l.runtime.events n ws k;
+        cycles = boot_cycles l + commit_cycles l.runtime.events n ws k;
         ends = λ t. record {
           end = board_of a.end;
           within = omega (arith, within);
@@ -167,7 +175,7 @@ module _ (source : Source) where
       let d' : m.Committing to (record { fram = u.fram; accepted = x.accepted }) =
       subst (λ g. m.Committing to (record { fram = g; accepted = x.accepted })) f d in
       subst (λ q. Makes c m.delay most (program_effects (m.commit q.fram q.inputs) true) q) (sym k.is)
-      (commit_from_boot to x.accepted u k.pc d' most (subst (λ g. CommitWithin g most) f within))
+      (commit_from_boot to x.accepted u k.pc k.named d' most (subst (λ g. CommitWithin g most) f within))
 
   -- any commit: the list and the words to send have room, and the bound has the cycles for all that has
   makes_commit : (to : State) (x : World) (b : MachineBoard) → IsBooting l b → b.fram ≡ x.fram → m.Committing to x
@@ -203,9 +211,9 @@ module _ (source : Source) where
     pub decided : m.Decided s next world
     pub fram : world.fram ≡ fram_after es f
 
-  decided_behind : (s : State) (x : World) (inputs : Inputs) (o : Outcome State) (q : ProgramEffects) → AttemptContract m s inputs x o q → q.ends ≡ true
+  decided_behind : (s : State) (x : World) (inputs : Inputs) (q : ProgramEffects) → AttemptContract m s inputs x q → q.ends ≡ true
       → IsDecidedBehind s x.fram q.effects
-  decided_behind s x inputs (Ends next left) q d t =
+  decided_behind s x inputs q (Decides next d) t =
       let before = d.before in
       let es : List Effect = Store (word_place l Gate) 1 ∷ [] in
       record {
@@ -216,7 +224,7 @@ module _ (source : Source) where
             ∙ sym (fram_after-append before es x.fram)
             ∙ ap (λ k. fram_after k.effects x.fram) (sym d.is);
       }
-  decided_behind s x inputs Short q d t = absurd (let e = d.is in cc (t, e))
+  decided_behind s x inputs q (Lacks d) t = absurd (let e = d.is in cc (t, e))
 
   -- an undecided world, and a machine with its FRAM from which the start of an attempt is reached
   record Attempting : Type 0 where
@@ -227,7 +235,7 @@ module _ (source : Source) where
     undecided : m.Undecided state (record { fram = core.fram; accepted = accepted })
     steps : ℕ
     cycles : ℕ
-    few : cycles ≤ 6
+    few : cycles ≤ with_events l.runtime.events 3 + 6
     comes : Comes code [] steps cycles core (IsAt start_at core.fram core.inputs)
 
   module _ (at : Attempting) where
@@ -279,7 +287,7 @@ module _ (source : Source) where
     within : whole_cycles p l k g u.inputs ≤ cost k
     within = r.costs.within k g u.inputs named start_words words
 
-    contract : AttemptContract m s u.inputs x (m.task s u.inputs) (m.attempt u.fram u.inputs)
+    contract : AttemptContract m s u.inputs x (m.attempt u.fram u.inputs)
     contract = laws.attempts s x u.inputs words und
 
     -- the attempt's effects with its commit, by how its program ends
@@ -300,7 +308,7 @@ module _ (source : Source) where
         ≤ start_cycles l.runtime.events true l.versions.words (length (privates k))
     at_most = clearing_is_dearest l.runtime.events clears l.versions.words (length (privates k))
 
-    there : Comes code es to_steps to_cycles u (Enters (entry_at tasks k).code stack_top g u.inputs)
+    there : Comes code es to_steps to_cycles u (Enters (entry_at tasks k).code (stack_origin l.runtime.events) g u.inputs)
     there = to_task l (lowered l p) r.fits are_whole u steps cycles comes program_named (und.is_open.words (word_place l Version))
 
     body : DoesBody l (lowered l p) r.fits are_whole there.end k g u.inputs
@@ -341,7 +349,7 @@ module _ (source : Source) where
         }
 
     lacks_on : Starves code b.effects (code_spent (task_program p l k) (started g u.inputs)) there.end
-        → Makes c m.delay (cost k) (script_by Lacks) (board_of u)
+        → Makes c m.delay (cost k) (script_by Starving) (board_of u)
     lacks_on q =
         let all = join_stall (exec code) to_steps q.steps es b.effects to_cycles q.cycles (board_of u) (board_of there.end) q.price stop.NoReading
         there.leads q.stalls in
@@ -359,8 +367,8 @@ module _ (source : Source) where
     by_end : (e : End) → b.end ≡ e → LeavesFor l.commit.address e
         → ComesTo code (code_spent (task_program p l k) (started g u.inputs)) there.end b.effects e → Makes c m.delay (cost k) (script_by e) (board_of u)
     by_end (Jumps to w) e t q =
-        jumps_on to w e t q (decided_behind s x u.inputs (m.task s u.inputs) (m.attempt u.fram u.inputs) contract (ap has_jumped e))
-    by_end Lacks e t q = lacks_on q
+        jumps_on to w e t q (decided_behind s x u.inputs (m.attempt u.fram u.inputs) contract (ap has_jumped e))
+    by_end Starving e t q = lacks_on q
     by_end (GoesOn w) e t q = absurd t
     by_end Strays e t q = absurd t
     by_end Broken e t q = absurd t

@@ -4,7 +4,7 @@ use Rattle.machine_effects.specs.Going.{At, going}
 use Rattle.machine_effects.proofs.Interface.{put_same}
 use Rattle.code_forms.specs.Forms.{board_of}
 use Rattle.memory_map.specs.declared.words.RuntimeWord.TheVariants.{Gate, Version}
-use Rattle.memory_map.specs.MemoryMap.{word_place}
+use Rattle.memory_map.specs.MemoryMap.{word_place, with_events}
 use Rattle.lower.specs.Lowered.{lowered}
 use Rattle.linked_code.specs.Linked.{ProgramsAreWhole}
 use Rattle.linked_code.proofs.Interface.{programs_count, to_raised}
@@ -24,9 +24,12 @@ power_ups_raise_version p l r b boots gate below t leads =
     let zero : u.fram (word_place l Gate) ≡ 0 = ap (λ s. s.fram (word_place l Gate)) (sym boots.is) ∙ gate in
     let version : u.fram a ≡ b.fram a = ap (λ s. s.fram a) (sym boots.is) in
     let low : u.fram a < 0xFFFF = omega (arith, version, below) in
-    let raised = to_raised l (lowered l p) r.fits whole u boots.pc zero low in
-    let made : (going step 5 (board_of u)).status ≡ At (board_of raised.end) = ap (λ q. q.status) (raised.leads.by 0) in
-    let there : At t ≡ At (board_of raised.end) = sym leads ∙ ap (λ s. (going step 5 s).status) boots.is ∙ made in
+    let raised = to_raised l (lowered l p) r.fits whole u boots.pc boots.named zero low in
+    let steps = with_events l.runtime.events 2 + 5 in
+    let all : steps ≡ steps + 0 = omega arith in
+    let made : (going step steps (board_of u)).status ≡ At (board_of raised.end) =
+    ap (λ n. (going step n (board_of u)).status) all ∙ ap (λ q. q.status) (raised.leads.by 0) in
+    let there : At t ≡ At (board_of raised.end) = sym leads ∙ ap (λ s. (going step steps s).status) boots.is ∙ made in
     let same : t ≡ board_of raised.end = cc there in
     let stored : raised.end.fram a ≡ u.fram a + 1 = ap (λ f. f a) raised.holds.fram ∙ put_same u.fram a (u.fram a + 1) in
     ap (λ s. s.fram a) same ∙ stored ∙ ap (λ n. n + 1) version

@@ -15,12 +15,12 @@ use Rattle.msp_cycles.specs.Cycles.{CycleRow, operand_cycles, source_cycles, des
 use Rattle.msp_step.specs.Registers.{Registers}
 use Rattle.msp_step.specs.Access.{Access, Completed, Faulted}
 use Rattle.msp_step.specs.Effect.{Written}
-use Rattle.msp_step.specs.Step.{effect, is_interruptible, off_bit}
+use Rattle.msp_step.specs.Step.{effect, off_bit}
 use Rattle.machine_effects.specs.Going.{Goes, Stops}
 use Rattle.machine_effects.specs.Inputs.{Look}
 use Rattle.machine_effects.specs.Machine.{Code, MachineBus, MachineBoard, MachineOutcome, machine_bus, machine_opened_seeing, machine_outcome, standing}
 use Rattle.machine_effects.specs.Machine.{step_with, looks_there, machine_executed_seeing, executed_looking}
-use Rattle.machine_effects.specs.Machine.{astray, undisturbed, exec}
+use Rattle.machine_effects.specs.Machine.{astray, is_exposed, undisturbed, exec}
 use Rattle.crash_rules.specs.Runs.{TakesCycles}
 
 -- each column for an operand has a cycle at least
@@ -94,13 +94,13 @@ standing_takes : (i : Option Instr) (s : MachineBoard) → TakesCycles (standing
 standing_takes (Some i) s = either_takes (looks_there i) _ _ (looking_takes s.inputs.looks s i) (executed_takes None s i)
 standing_takes None s = λ q. absurd (cc (q))
 
-undisturbed_takes : (s : MachineBoard) (o : MachineOutcome) → TakesCycles o → TakesCycles (undisturbed s o)
-undisturbed_takes s (Goes es c t) h =
-    either_takes (is_interruptible t.registers) (Stops [] 0 (astray s)) (Goes es c t) (λ q. absurd (cc (q))) h
-undisturbed_takes s (Stops es price e) h = h
+undisturbed_takes : (events : Bool) (i : Option Instr) (s : MachineBoard) (o : MachineOutcome) → TakesCycles o → TakesCycles (undisturbed events i s o)
+undisturbed_takes events i s (Goes es c t) h =
+    either_takes (is_exposed events i s t) (Stops [] 0 (astray s)) (Goes es c t) (λ q. absurd (cc (q))) h
+undisturbed_takes events i s (Stops es price e) h = h
 
 pub code_takes : (code : Code) (s : MachineBoard) → TakesCycles (exec code s)
 code_takes code s =
-    let i = code (s.registers 0) in
-    undisturbed_takes s (step_with i s)
+    let i = code.at (s.registers 0) in
+    undisturbed_takes code.events i s (step_with i s)
     (either_takes (off_bit s.registers == 1) (Stops [] 0 stop.Off) (standing i s) (λ q. absurd (cc (q))) (standing_takes i s))

@@ -9,7 +9,7 @@ use Rattle.cost_bound.specs.Allowance.{IsAllowed}
 use Rattle.war_analysis.specs.PlanValue.{TaskPlanValue}
 use Rattle.source_values.specs.Runs.{CheckedProgram, State}
 use Rattle.memory_map.specs.declared.words.RuntimeWord.TheVariants.{Gate, Version}
-use Rattle.memory_map.specs.MemoryMap.{MemoryMap, word_place}
+use Rattle.memory_map.specs.MemoryMap.{MemoryMap, word_place, with_events}
 use Rattle.privatise.specs.Layouts.{IsLayout}
 use Rattle.boot_runtime.specs.Entries.{task_entries}
 use Rattle.boot_runtime.specs.Listing.{privates_in}
@@ -44,15 +44,15 @@ abbrev pub CodeKeepsTheLaws : Type 0
 CodeKeepsTheLaws = (p : CheckedProgram) (l : MemoryMap) → CanRun p l → ModelLaws (compiled_model p l)
     → ProgramLaws (compiled_model p l) (compiled_program p l)
 
--- it is instructions placed in FRAM, and a power-up with the boot's address in the reset vector comes to its entry
+-- it is instructions placed in FRAM in front of the handler, and a power-up with the boot's address in the reset vector comes to its entry
 abbrev pub CodeIsPlaced : Type 0
 CodeIsPlaced = (p : CheckedProgram) (l : MemoryMap) → CodeFits l (lowered l p)
-    → IsPlacedProgram (compiled_program p l) l.boot.address (source_code p l) l.boot.address
+    → IsPlacedProgram (compiled_program p l) l.runtime.events l.boot.address (source_code p l) l.boot.address
 
--- from a power-up with GATE 0 and VER not at its end, the fifth instruction raises VER
+-- from a power-up with GATE 0 and VER not at its end, the fifth instruction raises VER, the seventh where there are events
 abbrev pub PowerUpsRaiseVersion : Type 0
 PowerUpsRaiseVersion = (p : CheckedProgram) (l : MemoryMap) → CanRun p l → (b : MachineBoard) → IsBooting l b → b.fram (word_place l Gate) ≡ 0
-    → b.fram (word_place l Version) < 0xFFFF → (t : MachineBoard) → (going (compiled_program p l).step 5 b).status ≡ At t
+    → b.fram (word_place l Version) < 0xFFFF → (t : MachineBoard) → (going (compiled_program p l).step (with_events l.runtime.events 2 + 5) b).status ≡ At t
     → t.fram (word_place l Version) ≡ b.fram (word_place l Version) + 1
 
 -- a run stores nowhere on the code, nor on the reset vector, and never comes to where no instruction stands

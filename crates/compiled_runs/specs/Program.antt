@@ -3,13 +3,13 @@ use Rattle.std.specs.Prelude.{◌≡◌, List}
 use Rattle.msp_isa.specs.declared.instructions.Instr.{Instr}
 use Rattle.machine_effects.specs.Machine.{Code, MachineBoard, exec}
 use Rattle.code_forms.specs.Forms.{Core, board_of}
-use Rattle.code_forms.specs.Placed.{placed}
 use Rattle.source_values.specs.Runs.{CheckedProgram}
 use Rattle.memory_map.specs.MemoryMap.{MemoryMap}
 use Rattle.runtime_code.specs.Addresses.{start_address}
+use Rattle.boot_runtime.specs.Laws.{NamesHandler}
 use Rattle.lower.specs.Lowered.{lowered}
 use Rattle.crash_rules.specs.Runs.{Program}
-use Rattle.linked_code.specs.Linked.{linked}
+use Rattle.linked_code.specs.Linked.{linked, linked_code}
 
 -- the code of a source with its layout
 abbrev pub source_code : CheckedProgram → MemoryMap → List Instr
@@ -17,19 +17,20 @@ source_code p l = linked l (lowered l p)
 
 -- the same, in FRAM
 abbrev pub placed_code : CheckedProgram → MemoryMap → Code
-placed_code p l = placed l.boot.address (source_code p l)
+placed_code p l = linked_code l (lowered l p)
 
--- a machine whose registers are told apart, at the boot
+-- a machine whose registers are told apart, at the boot, with the handler where there are events
 pub record IsBooting (l : MemoryMap) (b : MachineBoard) : Type 0 where
   pub core : Core
   pub is : b ≡ board_of core
   pub pc : core.pc ≡ l.boot.address
+  pub named : NamesHandler l core.fram
 
 -- the same, at the start of an attempt
 pub record IsStarting (l : MemoryMap) (b : MachineBoard) : Type 0 where
   pub core : Core
   pub is : b ≡ board_of core
-  pub pc : core.pc ≡ start_address l.boot.address
+  pub pc : core.pc ≡ start_address l.runtime.events l.boot.address
 
 -- the code of a source, as a program that runs
 abbrev pub compiled_program : CheckedProgram → MemoryMap → Program

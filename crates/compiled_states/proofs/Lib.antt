@@ -7,6 +7,7 @@ mod Listed
 mod Sound
 mod Ends
 mod Rows
+mod Ring
 mod States
 mod Migrated
 mod Suited

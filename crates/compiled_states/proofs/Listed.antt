@@ -2,12 +2,12 @@
 use Rattle.compiled_states.proofs.Names.{◌≡◌, inl, inr, ℕ, zero, suc, ◌+◌, ◌*◌, ◌%◌, ◌<◌, ◌≤◌, true, List, [], ◌∷◌, ◌++◌, length, refl, sym, ap, ◌∙◌, subst}
 use Rattle.compiled_states.proofs.Names.{⊎_elim, arith, length-append, nat_le, list_all, leb-true, le-leb, eqb-true, eq-eqb, and_parts, and_from, end_of}
 use Rattle.compiled_states.proofs.Names.{even_of, CopyPair, run_pairs, entries_from, ProgramPlaces, IsSharedWord, IsCopyWord, IsAmong, program_places, MapValue}
-use Rattle.compiled_states.proofs.Names.{IsFramWord, IsFram, fram_of, Entry, lies_in, copies_words, is_shared, word_in, words_from, entries_of, are_shared}
+use Rattle.compiled_states.proofs.Names.{IsFramWord, IsFram, fram_of, steady, Entry, lies_in, copies_words, is_shared, word_in, words_from, entries_of, are_shared}
 use Rattle.compiled_states.proofs.Names.{is_even, is_entry, words_of, first_entry, among_either, among_front, among_back}
 use Rattle.std.proofs.lemmas.List.Sums.{sum_by-cons}
 use Rattle.runtime_effects.proofs.Interface.{run_length}
 use Rattle.fram_state.specs.Stretch.{words_at}
-use Rattle.compiled_states.proofs.Words.{fram_at}
+use Rattle.compiled_states.proofs.Words.{steady_at}
 use Rattle.compiled_states.proofs.Named.{Mapped, its_map, shared_is, is_a_shared}
 
 -- ---- pairs
@@ -163,7 +163,7 @@ module _ (own : Mapped) where
 -- ---- the entries in the FRAM
 module _ (words : List ℕ) (all : length words ≡ 24064) where
   abbrev f : ℕ → ℕ
-  f = fram_of words
+  f = steady (fram_of words)
 
   -- the entries of so many from an address on
   abbrev pub entries_at : ℕ → ℕ → List Entry
@@ -176,7 +176,7 @@ module _ (words : List ℕ) (all : length words ≡ 24064) where
   abbrev entry_at : ℕ → Entry
   entry_at a = record { home = word_in words a; copy = word_in words (a + 2); words = word_in words (a + 4) }
 
-  module _ (a n : ℕ) (even : a % 2 ≡ 0) (low : 0x4400 ≤ a) (high : a + 6 * suc n ≤ 0x10000) where
+  module _ (a n : ℕ) (even : a % 2 ≡ 0) (low : 0x4400 ≤ a) (high : a + 6 * suc n ≤ 0xFF20) where
     is_here : IsFram a
     is_here = record { even = even; low = low; high = omega (arith, high) }
 
@@ -187,18 +187,18 @@ module _ (words : List ℕ) (all : length words ≡ 24064) where
     is_count = record { even = omega (arith, even); low = omega (arith, low); high = omega (arith, high) }
 
     pub count_is : f (a + 4) ≡ word_in words (a + 4)
-    count_is = fram_at words (a + 4) is_count
+    count_is = steady_at words (a + 4) is_count (omega (arith, high))
 
     pub entries_split : entries_at (suc n) a ≡ entry_at a ∷ entries_at n (a + 6)
     entries_split = first_entry words a n all (is_word a is_here) (omega (arith, high))
 
     pub pairs_split : run_pairs (f (a + 4)) (f a) (f (a + 2)) ≡ pairs_of (entry_at a)
     pairs_split =
-        ap (λ k. run_pairs k (f a) (f (a + 2))) count_is ∙ ap (λ h. run_pairs (word_in words (a + 4)) h (f (a + 2))) (fram_at words a is_here)
-        ∙ ap (λ c. run_pairs (word_in words (a + 4)) (word_in words a) c) (fram_at words (a + 2) is_copy)
+        ap (λ k. run_pairs k (f a) (f (a + 2))) count_is ∙ ap (λ h. run_pairs (word_in words (a + 4)) h (f (a + 2))) (steady_at words a is_here (omega (arith, high)))
+        ∙ ap (λ c. run_pairs (word_in words (a + 4)) (word_in words a) c) (steady_at words (a + 2) is_copy (omega (arith, high)))
 
   -- the pairs that entries name are those of the entries
-  pub pairs_are : (n a : ℕ) → a % 2 ≡ 0 → 0x4400 ≤ a → a + 6 * n ≤ 0x10000 → entries_from n a f ≡ all_pairs (entries_at n a)
+  pub pairs_are : (n a : ℕ) → a % 2 ≡ 0 → 0x4400 ≤ a → a + 6 * n ≤ 0xFF20 → entries_from n a f ≡ all_pairs (entries_at n a)
   pairs_are zero a even low high = refl
   pairs_are (suc n) a even low high =
       ap (λ ps. ps ++ entries_from n (a + 6) f) (pairs_split a n even low high)
@@ -206,7 +206,7 @@ module _ (words : List ℕ) (all : length words ≡ 24064) where
       ∙ ap all_pairs (sym (entries_split a n even low high))
 
   -- each of them has a word
-  pub counts_some : (n a : ℕ) → a % 2 ≡ 0 → 0x4400 ≤ a → a + 6 * n ≤ 0x10000 → HaveWords (entries_at n a) → (i : ℕ) → i < n → 0 < f (a + 6 * i + 4)
+  pub counts_some : (n a : ℕ) → a % 2 ≡ 0 → 0x4400 ≤ a → a + 6 * n ≤ 0xFF20 → HaveWords (entries_at n a) → (i : ℕ) → i < n → 0 < f (a + 6 * i + 4)
   counts_some zero a even low high h i lt = absurd (omega (arith, lt))
   counts_some (suc n) a even low high h zero lt =
       let all_words : HaveWords (entry_at a ∷ entries_at n (a + 6)) = subst HaveWords (entries_split a n even low high) h in
@@ -219,7 +219,7 @@ module _ (words : List ℕ) (all : length words ≡ 24064) where
       let at : a + 6 * suc i + 4 ≡ (a + 6) + 6 * i + 4 = omega arith in
       let same = ap f at in omega (arith, same, rest)
 
-  pub some_counts : (n a : ℕ) → a % 2 ≡ 0 → 0x4400 ≤ a → a + 6 * n ≤ 0x10000 → ((i : ℕ) → i < n → 0 < f (a + 6 * i + 4)) → HaveWords (entries_at n a)
+  pub some_counts : (n a : ℕ) → a % 2 ≡ 0 → 0x4400 ≤ a → a + 6 * n ≤ 0xFF20 → ((i : ℕ) → i < n → 0 < f (a + 6 * i + 4)) → HaveWords (entries_at n a)
   some_counts zero a even low high h = tt
   some_counts (suc n) a even low high h =
       let here : 0 < word_in words (a + 4) =

@@ -1,11 +1,12 @@
--- What the map of a source names: the words of the runtime, the buffers, the variables and the copies, which are all in front of the code.
+-- What the map of a source names: the words of the runtime, the buffers, the variables and the copies, which are all in front of the code; and the
+-- ring, where the source takes events.
 use Rattle.compiled_states.proofs.Names.{◌≡◌, ◌⊎◌, inl, inr, ℕ, zero, suc, ◌+◌, ◌*◌, ◌%◌, ◌<◌, ◌≤◌, ◌||◌, Bool, true, false, List, [], ◌∷◌, length, Some, None}
 use Rattle.compiled_states.proofs.Names.{map, refl, sym, ap, arith, slice_get, false≢true, cases_lt, or_cases, or_from, or_left, or_right, Extent}
 use Rattle.compiled_states.proofs.Names.{SharedDeclaration, Allow, CheckedProgram, TaskPlanValue, VariablePlace, Scalar, Array, MemoryMap, end_of, scalar_words}
 use Rattle.compiled_states.proofs.Names.{home_region, AreInOrder, AreApart, apart_of, in_order_end, IsSharedWord, program_places, shared_words_are_of_variables}
 use Rattle.compiled_states.proofs.Names.{IsFram, length_of, map_words, map_list, map_buffer, value_type_of, variable_of, variables_of, map_of, IsOfKind}
 use Rattle.compiled_states.proofs.Names.{ArePlacesOf, MapValue, word_count, holds, is_held, place_words, list_words, variable_words, runtime_words, buffers}
-use Rattle.compiled_states.proofs.Names.{is_shared, is_named}
+use Rattle.compiled_states.proofs.Names.{is_in_ring, is_shared, is_named, map_ring}
 use Rattle.task_ast.specs.declared.WordType.TheVariants as word
 use Rattle.task_ast.specs.declared.Extent.TheVariants as extent
 use Rattle.layout_facts.specs.Facts.{HasLayout}
@@ -128,9 +129,9 @@ module _ (own : Mapped) where
       by_test true e =
           absurd (nowhere outside (shared_between text p.shared l.variables l.homes.address (end_of l.homes) a kinds laid.layout.rules.homes e))
 
-  -- the code, and what stands behind it, has no name
-  pub unnamed : (a : ℕ) → l.boot.address ≤ a → is_named m a ≡ false
-  unnamed a from =
+  -- the code, and what stands behind it but for the ring, has no name
+  pub unnamed : (a : ℕ) → l.boot.address ≤ a → is_in_ring (map_ring l) a ≡ false → is_named m a ≡ false
+  unnamed a from off =
       let k = apart in
       let row : l.row + 16 ≤ a = omega (arith, k, from) in
       let list : l.list.address + 6 * l.entries ≤ a = omega (arith, k, from) in
@@ -138,7 +139,7 @@ module _ (own : Mapped) where
       let versions : end_of l.versions ≤ a = omega (arith, k, from) in
       let homes : end_of l.homes ≤ a = omega (arith, k, from) in
       let copies : end_of l.copies ≤ a = omega (arith, k, from) in
-      or_from (is_held (runtime_words (map_words l)) a) (is_held (buffers m) a || is_shared m.variables a)
+      or_from (is_held (runtime_words (map_words l)) a) (is_held (buffers m) a || (is_in_ring (map_ring l) a || is_shared m.variables a))
       (none_held (runtime_words (map_words l)) a (
         omega (arith, row),
         (
@@ -152,14 +153,22 @@ module _ (own : Mapped) where
           ),
         ),
       ))
-      (or_from (is_held (buffers m) a) (is_shared m.variables a)
-      (none_held (buffers m) a (omega (arith, list), (emits, (versions, (copies, tt))))) (not_shared a (inr homes)))
+      (or_from (is_held (buffers m) a) (is_in_ring (map_ring l) a || is_shared m.variables a)
+      (none_held (buffers m) a (omega (arith, list), (emits, (versions, (copies, tt)))))
+      (or_from (is_in_ring (map_ring l) a) (is_shared m.variables a) off (not_shared a (inr homes))))
 
   -- one that a buffer has
   of_buffers : (a : ℕ) → is_held (buffers m) a ≡ true → is_named m a ≡ true
   of_buffers a h =
-      or_right (is_held (runtime_words (map_words l)) a) (is_held (buffers m) a || is_shared m.variables a)
-      (or_left (is_held (buffers m) a) (is_shared m.variables a) h)
+      or_right (is_held (runtime_words (map_words l)) a) (is_held (buffers m) a || (is_in_ring (map_ring l) a || is_shared m.variables a))
+      (or_left (is_held (buffers m) a) (is_in_ring (map_ring l) a || is_shared m.variables a) h)
+
+  -- one of the ring
+  pub of_ring : (a : ℕ) → is_in_ring (map_ring l) a ≡ true → is_named m a ≡ true
+  of_ring a h =
+      or_right (is_held (runtime_words (map_words l)) a) (is_held (buffers m) a || (is_in_ring (map_ring l) a || is_shared m.variables a))
+      (or_right (is_held (buffers m) a) (is_in_ring (map_ring l) a || is_shared m.variables a)
+      (or_left (is_in_ring (map_ring l) a) (is_shared m.variables a) h))
 
   -- all in front of the code has one
   pub named : (a : ℕ) → IsFram a → a < l.boot.address → is_named m a ≡ true
@@ -175,9 +184,9 @@ module _ (own : Mapped) where
 
       by_homes : l.homes.address ≤ a → (a < end_of l.homes) ⊎ (end_of l.homes ≤ a) → is_named m a ≡ true
       by_homes from (inl lt) =
-          or_right (is_held (runtime_words (map_words l)) a) (is_held (buffers m) a || is_shared m.variables a)
-          (or_right (is_held (buffers m) a) (is_shared m.variables a)
-          (is_a_shared a (record { even = is.even; from = from; below = lt })))
+          or_right (is_held (runtime_words (map_words l)) a) (is_held (buffers m) a || (is_in_ring (map_ring l) a || is_shared m.variables a))
+          (or_right (is_held (buffers m) a) (is_in_ring (map_ring l) a || is_shared m.variables a)
+          (or_right (is_in_ring (map_ring l) a) (is_shared m.variables a) (is_a_shared a (record { even = is.even; from = from; below = lt }))))
       by_homes from (inr ge) = by_copies ge
 
       by_versions : end_of l.emits ≤ a → (a < end_of l.versions) ⊎ (end_of l.versions ≤ a) → is_named m a ≡ true
@@ -204,7 +213,7 @@ module _ (own : Mapped) where
       by_row : (a < l.list.address) ⊎ (l.list.address ≤ a) → is_named m a ≡ true
       by_row (inl lt) =
           let k = full in let low = is.low in
-          or_left (is_held (runtime_words (map_words l)) a) (is_held (buffers m) a || is_shared m.variables a)
+          or_left (is_held (runtime_words (map_words l)) a) (is_held (buffers m) a || (is_in_ring (map_ring l) a || is_shared m.variables a))
           (all_held (runtime_words (map_words l)) l.row (l.row + 16) a (
             omega arith,
             (

@@ -29,6 +29,9 @@ pub use Rattle.fram_board.specs.Run.{Spent, Stopped, TooDear, price, run_outcome
 pub use Rattle.fram_board.specs.Saved.{saved}
 pub use Rattle.machine_effects.specs.Machine.{IsFram, fram_of}
 pub use Rattle.machine_effects.specs.Runs.{last_board}
+pub use Rattle.event_places.specs.Places.{is_ring}
+pub use Rattle.program_view.specs.View.{steady}
+pub use Rattle.program_view.proofs.Interface.{steady_low, steady_off}
 pub use Rattle.machine_effects.specs.World.{World}
 pub use Rattle.runtime_effects.specs.Places.{CopyPair, entries_from, listed, run_pairs}
 pub use Rattle.stands_for.specs.Layout.{IsAmong, IsCopyWord, IsSharedWord, ProgramPlaces}
@@ -44,11 +47,11 @@ pub use Rattle.war_analysis.specs.PlanValue.{TaskPlanValue}
 pub use Rattle.privatise.specs.Layouts.{IsLayout, IsTaskLayout}
 pub use Rattle.source_values.specs.Runs.{first_state, initial_words}
 pub use Rattle.source_runs.specs.Naming.{length_of}
-pub use Rattle.source_maps.specs.Maps.{map_buffer, map_list, map_of, map_words, shared_name, task_value_of, tasks_of, value_type_of, variable_of, variables_of}
+pub use Rattle.source_maps.specs.Maps.{map_buffer, map_list, map_of, map_ring, map_words, shared_name, task_value_of, tasks_of, value_type_of, variable_of, variables_of}
 pub use Rattle.source_maps.specs.Placing.{ArePlacesOf, IsOfKind}
 pub use Rattle.fram_state.proofs.Interface.{edition_of_state, first_entry, row_length}
 pub use Rattle.fram_state.specs.Migrated.{EditionValue, IsMigrated, IsPendingAt, IsStateOf, edition_with, row_of, rows_of, shared_word}
-pub use Rattle.fram_state.specs.Named.{buffers, copies_words, is_named, is_shared, list_words, place_words, runtime_words, variable_words}
+pub use Rattle.fram_state.specs.Named.{buffers, copies_words, is_in_ring, is_named, is_shared, list_words, place_words, runtime_words, variable_words}
 pub use Rattle.fram_state.specs.Runtime.{runtime_of, word_in, words_from}
 pub use Rattle.fram_state.specs.Sound.{are_at_most, are_entries, are_shared, are_versions, entries_of, is_base, is_entry, is_even, is_list, is_pending}
 pub use Rattle.fram_state.specs.Sound.{is_ring_at, words_of}
@@ -62,8 +65,8 @@ pub use Rattle.image_laws.proofs.Interface.{half, images_are_fresh, laid_out, wo
 pub use Rattle.image_laws.specs.Compiled.{IsCompiled, IsImageOf}
 pub use Rattle.image_laws.specs.Laws.{IsFreshImage, fresh_world}
 pub use Rattle.image_reports.proofs.Interface.{images_belong, images_resume, made}
-pub use Rattle.image_reports.specs.Resumed.{BelongsTo, IsResumedRun, IsToldOnward, known_from}
+pub use Rattle.image_reports.specs.Resumed.{BelongsTo, IsResumedRun, IsToldOnward, is_event_word, known_from}
 -- this crate
 pub use Rattle.compiled_states.specs.Laws.{FreshStatesBelong, ImagesSuitTheirSources, MigratedStatesBelong, StatesAreTold, StatesAreWorlds, StatesGoOn}
 pub use Rattle.compiled_states.specs.Laws.{StatesStay, WorldsAreStates}
-pub use Rattle.compiled_states.specs.Worlds.{BelongsAt, HasCodeWords, HasFramWords, LeavesItsStates, MayHaveAccepted, board_of, state_with, world_of}
+pub use Rattle.compiled_states.specs.Worlds.{BelongsAt, HasCodeWords, HasFramWords, KeepsRing, LeavesItsStates, MayHaveAccepted, board_of, state_with, world_of}

@@ -2,7 +2,7 @@
 use Rattle.compiled_states.proofs.Names.{place_words, list_words, copies_words, word_in, words_from, runtime_of, entries_of, is_entry, words_of, are_entries}
 use Rattle.compiled_states.proofs.Names.{is_pending, is_base, are_at_most, are_versions, is_list, is_ring_at, fits_fram, Entry, parts_in_fram, words_stand}
 use Rattle.compiled_states.proofs.Names.{MapValue}
-use Rattle.compiled_states.proofs.Names.{fram_of, World, program_places, PartsInFram, word_place, end_of, CurrentTask, NextTask, Gate, ListLength, EmitCount}
+use Rattle.compiled_states.proofs.Names.{fram_of, steady, World, program_places, PartsInFram, word_place, end_of, CurrentTask, NextTask, Gate, ListLength, EmitCount}
 use Rattle.compiled_states.proofs.Names.{Base, SentBase, Version, RuntimeWord, CopyPair, listed, ProgramPlaces, IsSharedWord, IsCopyWord, IsAmong, IsAtRest}
 use Rattle.compiled_states.proofs.Names.{IsPendingCommit, IsSound, SoundAtRest, SoundPending, VersionsWithin, ap, length, refl, sym, ◌∙◌, subst, arith, All}
 use Rattle.compiled_states.proofs.Names.{◌≡◌, ◌⊎◌, inl, inr, ℕ, zero, suc, ◌+◌, ◌-◌, ◌*◌, ◌%◌, ◌<◌, ◌≤◌, ◌==◌, ◌&&◌, ◌||◌, if◌then◌else◌, Bool, true, false}
@@ -13,7 +13,7 @@ use Rattle.fram_state.specs.Sound.{keeps}
 use Rattle.fram_state.specs.declared.fault.Rule.TheVariants as rule
 use Rattle.fram_state.specs.declared.fault.Rule.{Rule}
 use Rattle.fram_state.specs.declared.runtime.Runtime.{Runtime}
-use Rattle.compiled_states.proofs.Words.{fram_at, fram_small, each_at_most, all_at_most}
+use Rattle.compiled_states.proofs.Words.{steady_at, steady_small, each_at_most, all_at_most}
 use Rattle.compiled_states.proofs.Named.{Mapped, its_map}
 use Rattle.compiled_states.proofs.Listed.{all_length, good_entries, good_words, good_homes, good_copies, pairs_are, counts_some, all_pairs, entries_at, AreGood}
 use Rattle.compiled_states.proofs.Listed.{are_good_entries, by_pairs, some_counts}
@@ -70,6 +70,14 @@ base_at_rest m words number sound rests =
     let r = runtime_of m.words words in
     eqb-true r.base number (sym (ap (base_by r number) (ne_eqb r.gate 1 rests)) ∙ (rules_of m words number sound).base)
 
+-- and its ring keeps the rule
+pub ring_at_rest : (m : MapValue) (words : List ℕ) (number : ℕ) → state.IsSound m words number → (word_in words m.words.gate ≡ 1 → ⊥)
+    → is_ring_at m.ring words false ≡ true
+ring_at_rest m words number sound rests =
+    let r = runtime_of m.words words in
+    let P : Bool → Type 0 = λ pending. is_ring_at m.ring words pending ≡ true in
+    subst P (ne_eqb r.gate 1 rests) (rules_of m words number sound).ring
+
 -- a state: the words of its FRAM, the number that its receiver takes next, and the words that this accepted before
 pub record Saved : Type 0 where
   pub words : List ℕ
@@ -89,7 +97,7 @@ module _ (own : Mapped) (saved : Saved) where
   places = program_places p l
 
   abbrev f : ℕ → ℕ
-  f = fram_of words
+  f = steady (fram_of words)
 
   abbrev x : World
   x = record { fram = f; accepted = accepted }
@@ -103,9 +111,11 @@ module _ (own : Mapped) (saved : Saved) where
   -- a word of the runtime
   at : (w : RuntimeWord) → f (word_place l w) ≡ word_in words (word_place l w)
   at w =
-      let is = (words_stand l w laid.layout.rules).is_fram in
+      let word = words_stand l w laid.layout.rules in
+      let is = word.is_fram in
       let low = is.low in let high = is.high in
-      fram_at words (word_place l w) (record { even = is.even; low = omega (arith, low); high = omega (arith, high) })
+      let below = word.below in let room = laid.layout.rules.list in let end = parts.list.end in
+      steady_at words (word_place l w) (record { even = is.even; low = omega (arith, low); high = omega (arith, high) }) (omega (arith, below, room, end))
 
   -- BASE, by whether a commit is pending
   base_is : (pending : Bool) → is_pending r ≡ pending → is_base r number ≡ base_by r number pending
@@ -118,10 +128,10 @@ module _ (own : Mapped) (saved : Saved) where
   abbrev entries : List Entry
   entries = entries_at words whole n l.list.address
 
-  list_end : l.list.address + 6 * l.entries ≤ 65536
+  list_end : l.list.address + 6 * l.entries ≤ 0xFF20
   list_end = let end = parts.list.end in let room = laid.layout.rules.list in omega (arith, end, room)
 
-  list_fits : n ≤ l.entries → l.list.address + 6 * n ≤ 0x10000
+  list_fits : n ≤ l.entries → l.list.address + 6 * n ≤ 0xFF20
   list_fits most = let end = list_end in omega (arith, end, most)
 
   same_pairs : n ≤ l.entries → listed l f ≡ all_pairs entries
@@ -159,7 +169,8 @@ module _ (own : Mapped) (saved : Saved) where
         let v = parts.versions in
         let even = v.even in let low = v.from in let high = v.end in
         let most = each_at_most l.versions.words words l.versions.address r.version whole even low (omega (arith, high)) both.1 i lt in
-        let here = fram_at words a (record { even = omega (arith, even); low = omega (arith, low); high = omega (arith, high, lt) }) in
+        let here = steady_at words a (record { even = omega (arith, even); low = omega (arith, low); high = omega (arith, high, lt) })
+        (omega (arith, high, lt)) in
         let there = at Version in
         omega (arith, most, here, there)
 
@@ -170,7 +181,7 @@ module _ (own : Mapped) (saved : Saved) where
         let none : is_pending r ≡ false = ne_eqb r.gate 1 (λ e. omega (arith, is, gate, e)) in
         let same = eqb-true r.base number (sym (base_is false none) ∙ rules.base) in
         record {
-          words = fram_small words small;
+          words = steady_small words small;
           current_task = current_task;
           gate = gate;
           base = omega (arith, base, same, counted);
@@ -197,7 +208,7 @@ module _ (own : Mapped) (saved : Saved) where
 
       number_is : length accepted % 0x10000 ≡ (f (word_place l SentBase) + sent) % 0x10000
       number_is =
-          let is = at SentBase in let word = fram_small words small (word_place l SentBase) in
+          let is = at SentBase in let word = steady_small words small (word_place l SentBase) in
           omega (arith, is, word, counted)
 
       either_base : (f (word_place l Base) ≡ f (word_place l SentBase))
@@ -244,7 +255,7 @@ module _ (own : Mapped) (saved : Saved) where
 
       pending_commit : IsPendingCommit places x
       pending_commit = record {
-        words = fram_small words small;
+        words = steady_small words small;
         gate = gate;
         current_task = current_task;
         next_task = next_task;
@@ -279,7 +290,8 @@ module _ (own : Mapped) (saved : Saved) where
 
   -- ---- a sound world within its capacities keeps the rules
 
-  module _ (list : n ≤ l.entries) (emits : f (word_place l EmitCount) ≤ l.emits.words) (versions : VersionsWithin places f) where
+  module _ (list : n ≤ l.entries) (emits : f (word_place l EmitCount) ≤ l.emits.words) (versions : VersionsWithin places f)
+      (ring : is_ring_at m.ring words (is_pending r) ≡ true) where
     -- the rules that hold whether or not a commit is pending
 
     keeps_versions : are_versions m words r.version ≡ true
@@ -289,8 +301,8 @@ module _ (own : Mapped) (saved : Saved) where
         and_from (fits_fram (place_words m.versions)) (are_at_most (words_from words l.versions.address l.versions.words) r.version)
         (le-leb (end_of l.versions) 65536 (omega (arith, high)))
         (all_at_most l.versions.words words l.versions.address r.version whole even low (omega (arith, high)) (λ i lt.
-        let here = fram_at words (l.versions.address + 2 * i)
-        (record { even = omega (arith, even); low = omega (arith, low); high = omega (arith, high, lt) }) in
+        let here = steady_at words (l.versions.address + 2 * i)
+        (record { even = omega (arith, even); low = omega (arith, low); high = omega (arith, high, lt) }) (omega (arith, high, lt)) in
         let there = at Version in let most = versions i lt in omega (arith, here, there, most)))
 
     keeps_list_length : (fits_fram (list_words m.list) && nat_le r.list_length m.list.capacity) ≡ true
@@ -331,7 +343,7 @@ module _ (own : Mapped) (saved : Saved) where
             next_task = not_asked (nat_lt r.next_task (length m.tasks));
             sent_base = not_asked (nat_le ((number + 65536 - r.sent_base) % 65536) r.emit_count);
             list = not_asked (is_list m words r.list_length);
-            ring = refl;
+            ring = ring;
           }
 
     -- and where one is
@@ -396,7 +408,7 @@ module _ (own : Mapped) (saved : Saved) where
             sent_base = kept (nat_le ((number + 65536 - r.sent_base) % 65536) r.emit_count)
                 (le-leb ((number + 65536 - r.sent_base) % 65536) r.emit_count sent_most);
             list = kept (is_list m words r.list_length) pending_list;
-            ring = refl;
+            ring = ring;
           }
 
     pub keeps_rules : IsSound places x → state.IsSound m words number

@@ -1,9 +1,10 @@
 -- States that belong to the image of an accepted source are its worlds, and go on as it says.
 use Rattle.compiled_states.proofs.Names.{◌≡◌, ◌⊎◌, inl, inr, ℕ, ◌%◌, ◌<◌, ◌≤◌, false, List, [], ◌++◌, length, Option, Some, refl, sym, ap, ◌∙◌, subst, arith}
-use Rattle.compiled_states.proofs.Names.{append-nil, replicate, length-map, length-replicate, cases_lt, State, is_named, MemoryMap, MapValue, ImageValue}
+use Rattle.compiled_states.proofs.Names.{Bool, true, apart_of, is_ring, steady_low, steady_off, append-nil, replicate, length-map, length-replicate, cases_lt, State, is_named, MemoryMap, MapValue, ImageValue}
 use Rattle.compiled_states.proofs.Names.{BoardValue, BoardCharge, Moment, RunOutcome, Run, saved, World, IsFram, fram_of, last_board}
 use Rattle.compiled_states.proofs.Names.{Allow, CheckedProgram, map_of, IsCompiled, IsImageOf, IsFreshImage, laid_out, images_are_fresh}
 use Rattle.compiled_states.proofs.Names.{BelongsTo, known_from, IsToldOnward, IsResumedRun, made, images_belong, images_resume, world_of}
+use Rattle.compiled_states.proofs.Names.{steady, is_in_ring, map_ring, is_ring_at, is_pending, runtime_of, KeepsRing, IfSome}
 use Rattle.compiled_states.proofs.Names.{MayHaveAccepted, HasFramWords, HasCodeWords, board_of, LeavesItsStates, StatesAreWorlds, WorldsAreStates}
 use Rattle.compiled_states.proofs.Names.{FreshStatesBelong, StatesGoOn, StatesAreTold, StatesStay}
 use Rattle.fram_state.specs.Sound as state
@@ -19,10 +20,14 @@ use Rattle.energy_trace.specs.TraceValue.{Event}
 use Rattle.source_runs.specs.Traces.{AreInputs}
 use Rattle.source_runs.proofs.Interface.{traces_are_few, trace_inputs}
 use Rattle.source_maps.specs.Laws.{IsSourceMap}
-use Rattle.compiled_runs.proofs.Interface.{code_is_placed}
+use Rattle.image_laws.specs.Words.{code_words as words_of_code}
+use Rattle.image_laws.proofs.Interface.{code_end}
+use Rattle.source_meaning.proofs.Interface.{accepted_texts_run}
 use Rattle.image_reports.specs.ImageLaw.{KeepsCode}
 use Rattle.compiled_states.proofs.Words.{fram_at}
-use Rattle.compiled_states.proofs.Named.{Mapped, its_map, named, unnamed}
+use Rattle.compiled_states.proofs.Named.{Mapped, its_map, named, of_ring, unnamed}
+use Rattle.compiled_states.proofs.Ring.{low_off, vector_off, interrupts_off, event_off, ring_off, handler_off, between_off, handler_stands}
+use Rattle.compiled_states.proofs.Ring.{fresh_keeps_ring}
 use Rattle.compiled_states.proofs.Sound.{Saved, list_within, emits_within, versions_within, is_sound, keeps_rules}
 use Rattle.compiled_states.proofs.Ends.{run_saved}
 
@@ -67,18 +72,33 @@ module _ (text : List ℕ) (image : ImageValue) (of : IsImageOf text image) wher
 
   -- from the code on a state that belongs has the image's words
   code_words : (s : State) (n : MapValue) → image.map ≡ Some n → SameBut n image.words s.image.words → HasCodeWords l image s
-  code_words s n has same a is from =
-      let free : is_named n a ≡ false = ap (λ k. is_named k a) (one_map n has) ∙ unnamed mapped a from in
+  code_words s n has same a is from off =
+      let free : is_named n a ≡ false = ap (λ k. is_named k a) (one_map n has) ∙ unnamed mapped a from off in
       fram_at s.image.words a is ∙ same.each a (record { low = is.low; high = is.high; even = is.even }) free ∙ sym (fram_at image.words a is)
 
+  -- where the code begins, and that it ends in front of the words that count events
+  code_begins : 0x4400 ≤ l.boot.address
+  code_begins = let k = apart_of l c.is_layout.rules in omega (arith, k)
+
+  code_ends : l.boot.address + 2 * length (words_of_code p l) ≤ 0xFF18
+  code_ends =
+      let k = apart_of l c.is_layout.rules in
+      let end = code_end text p allow image ok (accepted_texts_run text p allow ok) c in omega (arith, k, end)
+
   -- so it keeps the code
-  pub keeps_code : (s : State) → HasCodeWords l image s → KeepsCode p l image (fram_of s.image.words)
+  pub keeps_code : (s : State) → HasCodeWords l image s → KeepsCode p l image (steady (fram_of s.image.words))
   keeps_code s code =
-      let placed = code_is_placed p l new.fits in
-      let low = placed.low in let high = placed.high in
+      let low = code_begins in let end = code_ends in
       record {
-        code = λ a even from to. code a (record { even = even; low = omega (arith, low, from); high = omega (arith, high, to) }) from;
-        vector = code 0xFFFE (record { even = refl; low = omega arith; high = omega arith }) (omega (arith, high));
+        code = λ a even from to.
+            steady_low (fram_of s.image.words) a (omega (arith, end, to))
+            ∙ code a (record { even = even; low = omega (arith, low, from); high = omega (arith, end, to) }) from (low_off l a (omega (arith, end, to)));
+        vector = code 0xFFFE (record { even = refl; low = omega arith; high = omega arith }) (omega (arith, end)) (vector_off l);
+        handler = λ on. handler_stands (steady (fram_of s.image.words)) (fram_of image.words) (λ a even from to.
+            steady_off (fram_of s.image.words) a (handler_off a to)
+            ∙ code a (record { even = even; low = omega (arith, from); high = omega (arith, to) }) (omega (arith, end, from)) (between_off l a from to))
+            (steady_off (fram_of s.image.words) 0xFFF0 refl
+            ∙ code 0xFFF0 (record { even = refl; low = omega arith; high = omega arith }) (omega (arith, end)) (interrupts_off l)) (new.handler on);
       }
 
   -- a state with the words that were accepted before
@@ -102,23 +122,35 @@ module _ (text : List ℕ) (image : ImageValue) (of : IsImageOf text image) wher
         sound = is_sound mapped saved small sound;
       }
 
-  -- a world of the image is a state that belongs
+  -- what its ring keeps, by the source's map
+  ring_of_map : (s : State) → s.image.map ≡ Some m → KeepsRing s → is_ring_at m.ring s.image.words (is_pending (runtime_of m.words s.image.words)) ≡ true
+  ring_of_map s has ring =
+      let P : Option MapValue → Type 0 = λ o. IfSome o (λ n. is_ring_at n.ring s.image.words (is_pending (runtime_of n.words s.image.words)) ≡ true) in
+      subst P has ring
+
+  -- a world of the image is a state that belongs, if its ring keeps its rule
   pub as_state : (s : State) (accepted : List ℕ) → MayHaveAccepted s accepted → length s.image.words ≡ 24064 → s.image.map ≡ image.map
-      → HasCodeWords l image s → BelongsTo p l image (world_of s accepted) → Belongs image s
-  as_state s accepted counted whole same_map code w = record {
+      → HasCodeWords l image s → KeepsRing s → BelongsTo p l image (world_of s accepted) → Belongs image s
+  as_state s accepted counted whole same_map code ring w = record {
     map = m;
     have = record { of_image = c.map; of_state = same_map ∙ c.map };
     others = record {
       each = λ a word free.
           let is : IsFram a = record { even = word.even; low = word.low; high = word.high } in
-          sym (fram_at s.image.words a is) ∙ code a is (behind a is free (cases_lt a l.boot.address)) ∙ fram_at image.words a is;
+          sym (fram_at s.image.words a is) ∙ code a is (behind a is free (cases_lt a l.boot.address)) (no_ring a free (is_in_ring (map_ring l) a) refl)
+          ∙ fram_at image.words a is;
     };
-    sound = keeps_rules mapped (saved_of s accepted counted whole) w.capacities.list w.capacities.emits w.capacities.versions w.sound;
+    sound = keeps_rules mapped (saved_of s accepted counted whole) w.capacities.list w.capacities.emits w.capacities.versions
+        (ring_of_map s (same_map ∙ c.map) ring) w.sound;
   }
     where
       behind : (a : ℕ) → IsFram a → is_named m a ≡ false → (a < l.boot.address) ⊎ (l.boot.address ≤ a) → l.boot.address ≤ a
       behind a is free (inl lt) = let name = named mapped a is lt in absurd (cc (name, free))
       behind a is free (inr ge) = ge
+
+      no_ring : (a : ℕ) → is_named m a ≡ false → (b : Bool) → is_in_ring (map_ring l) a ≡ b → b ≡ false
+      no_ring a free false e = refl
+      no_ring a free true e = let name = of_ring mapped a e in absurd (cc (name, free))
 
 -- an image with the source that it is of
 abbrev pub image_of : (text : List ℕ) (p : CheckedProgram) (allow : Allow) (image : ImageValue) → IsAcceptedText text p allow → IsCompiled text p allow image
@@ -129,13 +161,13 @@ pub states_are_worlds : StatesAreWorlds
 states_are_worlds text p allow image ok c s accepted whole number b = as_world text image (image_of text p allow image ok c) s accepted number whole b
 
 pub worlds_are_states : WorldsAreStates
-worlds_are_states text p allow image ok c s accepted count number same_map code w =
-    as_state text image (image_of text p allow image ok c) s accepted number count same_map code w
+worlds_are_states text p allow image ok c s accepted count number same_map code ring w =
+    as_state text image (image_of text p allow image ok c) s accepted number count same_map code ring w
 
 pub fresh_states_belong : FreshStatesBelong
 fresh_states_belong text image of =
-    as_state text image of (record { image = image; receiver = 0 }) [] refl of.compiled.words.count refl (λ a is from. refl)
-    (images_belong text of.program of.allow image of.accepted of.compiled)
+    as_state text image of (record { image = image; receiver = 0 }) [] refl of.compiled.words.count refl (λ a is from off. refl)
+    (fresh_keeps_ring text image of) (images_belong text of.program of.allow image of.accepted of.compiled)
 
 -- ---- runs
 
@@ -172,20 +204,29 @@ module _ (on : StateRun) where
       images_resume text p allow image ok c s.image.words whole.count whole.are_words s.receiver accepted counted
       (as_world text image of s accepted counted whole b) cs starts readings events inputs r run
 
-  board_belongs : (ms rest : List Moment) → r.moments ≡ ms ++ rest → Belongs image (saved (last_board first ms) s.image.map)
-  board_belongs ms rest e =
+  -- off the ring each word from the code on is as at first
+  kept_by : (ms rest : List Moment) → r.moments ≡ ms ++ rest → (a : ℕ) → c.layout.boot.address ≤ a → is_in_ring (map_ring c.layout) a ≡ false
+      → (d : Bool) → is_ring a ≡ d → fram_of (last_board first ms).fram a ≡ fram_of s.image.words a
+  kept_by ms rest e a from off true d = lawful.ringless (ring_off c.layout a off d) ms rest e a d
+  kept_by ms rest e a from off false d =
+      sym (steady_off (fram_of (last_board first ms).fram) a d) ∙ (lawful.fronts ms rest e).kept a from (event_off c.layout a off)
+      ∙ steady_off (fram_of s.image.words) a d
+
+  board_belongs : (ms rest : List Moment) → r.moments ≡ ms ++ rest → let left = saved (last_board first ms) s.image.map in KeepsRing left
+      → Belongs image left
+  board_belongs ms rest e ring =
       let k = lawful.fronts ms rest e in
       let t = last_board first ms in
       let heard = (known_from c.layout x ms).world.accepted in
       let code = code_words text image of s b.map b.have.of_image b.others in
       let Kept : (ℕ → ℕ) → Type 0 = λ f. BelongsTo p c.layout image (record { fram = f; accepted = heard }) in
       as_state text image of (saved t s.image.map) heard k.number k.whole.board.fram (b.have.of_state ∙ sym b.have.of_image)
-      (λ a is from. k.kept a from ∙ code a is from) (subst Kept k.fram k.belongs)
+      (λ a is from off. kept_by ms rest e a from off (is_ring a) refl ∙ code a is from off) ring (subst Kept k.fram k.belongs)
 
   leaves : LeavesItsStates image s first r
   leaves = record {
     boards = board_belongs;
-    end = subst (λ y. Belongs image y) (sym (run_saved s.image.map cs first r run)) (board_belongs r.moments [] (sym (append-nil r.moments)));
+    end = subst (λ y. KeepsRing y → Belongs image y) (sym (run_saved s.image.map cs first r run)) (board_belongs r.moments [] (sym (append-nil r.moments)));
   }
 
 pub states_go_on : StatesGoOn

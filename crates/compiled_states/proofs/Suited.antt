@@ -41,8 +41,13 @@ tasks_are text shared (t ∷ ts) (plan ∷ plans) (place ∷ places) e f h =
     ap₂ (λ (v : TaskValue) (vs : List TaskValue). v ∷ vs) (task_is text shared t plan place (h 0 t plan place refl refl refl))
     (tasks_are text shared ts plans places (omega (arith, e)) (omega (arith, f)) (λ k task p q a b c. h (suc k) task p q a b c))
 
+-- there is a ring where the runtime takes events
+ring_is : (events : Bool) → is_some (if events then Some event_ring else None) ≡ events
+ring_is true = refl
+ring_is false = refl
+
 pub images_suit_their_sources : ImagesSuitTheirSources
-images_suit_their_sources text p allow image ok c no_events = record {
+images_suit_their_sources text p allow image ok c = record {
   plans = c.plans;
   is_plan = c.is_plan;
   named = map_of text p c.layout allow;
@@ -50,6 +55,6 @@ images_suit_their_sources text p allow image ok c no_events = record {
   lines = record {
     variables = lines_are text p.shared c.layout.variables (source_map text image (image_of text p allow image ok c)).places;
     tasks = tasks_are text p.shared p.tasks c.plans c.layout.tasks c.is_plan.count c.is_layout.tasks.count c.is_layout.tasks.each;
-    ring = sym no_events;
+    ring = ring_is c.layout.runtime.events ∙ ap (λ r. r.events) c.is_layout.runtime;
   };
 }

@@ -1,7 +1,7 @@
 -- The words of a state at addresses, one by one.
 use Rattle.compiled_states.proofs.Names.{◌≡◌, ℕ, zero, suc, ◌+◌, ◌*◌, ◌%◌, ◌<◌, ◌≤◌, ◌==◌, ◌&&◌, true, List, ◌∷◌, length, get_or, take, drop, refl, sym, ap}
 use Rattle.compiled_states.proofs.Names.{◌∙◌, All, arith, nat_le, nat_lt, slice_index, leb-true, le-leb, lt-ltb, eq-eqb, and_parts, and_from, cond-true}
-use Rattle.compiled_states.proofs.Names.{cond_both, place_of, is_fram, IsFram, fram_of, word_in, words_from, are_at_most}
+use Rattle.compiled_states.proofs.Names.{cond_both, place_of, is_fram, IsFram, fram_of, steady, is_ring, steady_low, word_in, words_from, are_at_most}
 use Rattle.std.proofs.Math.Seq.{drop-cons}
 use Rattle.machine_effects.proofs.Interface.{index_small}
 
@@ -16,6 +16,13 @@ fram_at words a is =
 pub fram_small : (words : List ℕ) → All (λ w. w < 0x10000) words → (a : ℕ) → fram_of words a < 0x10000
 fram_small words all a =
     cond_both ((a % 2 == 0) && is_fram a) (slice_index words (place_of a)) 0 (λ w. w < 0x10000) (λ e. index_small words (place_of a) all) (λ e. omega arith)
+
+-- and of one in front of the handler, also where HEAD and the ring are left out
+pub steady_at : (words : List ℕ) (a : ℕ) → IsFram a → a < 0xFF20 → steady (fram_of words) a ≡ word_in words a
+steady_at words a is low = steady_low (fram_of words) a low ∙ fram_at words a is
+
+pub steady_small : (words : List ℕ) → All (λ w. w < 0x10000) words → (a : ℕ) → steady (fram_of words) a < 0x10000
+steady_small words all a = cond_both (is_ring a) 0 (fram_of words a) (λ w. w < 0x10000) (λ e. omega arith) (λ e. fram_small words all a)
 
 -- the first of the words from an address on
 pub first_word : (words : List ℕ) (a n : ℕ) → length words ≡ 24064 → IsFram a

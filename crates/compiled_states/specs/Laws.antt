@@ -1,5 +1,5 @@
 -- What holds of the states of images of accepted sources.
-use Rattle.std.specs.Prelude.{◌≡◌, ℕ, false, List, length, Some, IfSome}
+use Rattle.std.specs.Prelude.{◌≡◌, ℕ, List, length, Some, IfSome}
 use Rattle.address_space.specs.Limits.{fram_words}
 use Rattle.state_text.specs.declared.state.State.{State}
 use Rattle.fram_state.specs.Belongs.{Belongs}
@@ -16,12 +16,11 @@ use Rattle.board_run.specs.Report.{report_of}
 use Rattle.run_charges.specs.Charges.{ArePowerStates}
 use Rattle.source_runs.specs.Traces.{AreInputs, IsTraceOfWords}
 use Rattle.cost_bound.specs.declared.allowance.Allow.{Allow}
-use Rattle.cost_bound.specs.Allowance.{uses_events}
 use Rattle.source_values.specs.Runs.{CheckedProgram}
 use Rattle.source_meaning.specs.Acceptance.{IsAcceptedText}
 use Rattle.image_laws.specs.Compiled.{IsCompiled, IsImageOf}
 use Rattle.image_reports.specs.Resumed.{BelongsTo, IsResumedRun}
-use Rattle.compiled_states.specs.Worlds.{world_of, MayHaveAccepted, HasFramWords, HasCodeWords, BelongsAt, board_of, IsToldByItsSource, LeavesItsStates}
+use Rattle.compiled_states.specs.Worlds.{world_of, MayHaveAccepted, HasFramWords, HasCodeWords, KeepsRing, BelongsAt, board_of, IsToldByItsSource, LeavesItsStates}
 
 -- what holds of each image of an accepted source
 abbrev OfImages : ((text : List ℕ) (p : CheckedProgram) (allow : Allow) (image : ImageValue) → IsCompiled text p allow image → Type 0) → Type 0
@@ -33,10 +32,10 @@ abbrev pub StatesAreWorlds : Type 0
 StatesAreWorlds = OfImages (λ text p allow image c. (s : State) (accepted : List ℕ) → HasFramWords s → MayHaveAccepted s accepted → Belongs image s
     → BelongsTo p c.layout image (world_of s accepted))
 
--- and a state of the image's map, with such a world and with the image's words from the code on, belongs to the image
+-- and a state of the image's map, with such a world, a ring that keeps its rule, and the image's words from the code on, belongs to the image
 abbrev pub WorldsAreStates : Type 0
 WorldsAreStates = OfImages (λ text p allow image c. (s : State) (accepted : List ℕ) → length s.image.words ≡ fram_words → MayHaveAccepted s accepted
-    → s.image.map ≡ image.map → HasCodeWords c.layout image s → BelongsTo p c.layout image (world_of s accepted) → Belongs image s)
+    → s.image.map ≡ image.map → HasCodeWords c.layout image s → KeepsRing s → BelongsTo p c.layout image (world_of s accepted) → Belongs image s)
 
 -- the image, before anything was done, is a state that belongs to it
 abbrev pub FreshStatesBelong : Type 0
@@ -64,9 +63,9 @@ StatesStay = (text : List ℕ) (image : ImageValue) → IsImageOf text image →
     → IsTraceOfWords trace → (r : RunOutcome) → Run (charges_of trace.charges) (board_of s trace.readings trace.events) r
     → LeavesItsStates image s (board_of s trace.readings trace.events) r
 
--- the image suits its source, where this uses no events: no image has a ring yet
+-- the image suits its source
 abbrev pub ImagesSuitTheirSources : Type 0
-ImagesSuitTheirSources = OfImages (λ text p allow image c. uses_events p ≡ false → Suits text p image)
+ImagesSuitTheirSources = OfImages (λ text p allow image c. Suits text p image)
 
 -- A state rests in place of an old one: whatever source the old one is of, and whatever accepted source's edition, with its image, it was migrated
 -- to, the new one belongs to that image, and rests at the state of that source whose shared words are those that are kept of the old state, or

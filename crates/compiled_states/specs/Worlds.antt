@@ -1,8 +1,11 @@
 -- States as worlds, the source's states that they have, and the runs that go on from them as sources tell them.
-use Rattle.std.specs.Prelude.{◌≡◌, ℕ, ◌%◌, ◌<◌, ◌≤◌, List, ◌++◌, length, All}
+use Rattle.std.specs.Prelude.{◌≡◌, ℕ, ◌%◌, ◌<◌, ◌≤◌, true, false, List, ◌++◌, length, All, IfSome}
 use Rattle.address_space.specs.Limits.{fram_words}
 use Rattle.state_text.specs.declared.state.State.{State}
 use Rattle.fram_state.specs.Belongs.{Belongs}
+use Rattle.fram_state.specs.Named.{is_in_ring}
+use Rattle.fram_state.specs.Runtime.{runtime_of}
+use Rattle.fram_state.specs.Sound.{is_pending, is_ring_at}
 use Rattle.image_text.specs.ImageValue.{ImageValue}
 use Rattle.energy_trace.specs.TraceValue.{Event, TraceValue}
 use Rattle.fram_board.specs.Board.{BoardValue, started}
@@ -16,16 +19,17 @@ use Rattle.cost_bound.specs.declared.allowance.Allow.{Allow}
 use Rattle.source_values.specs.Runs.{CheckedProgram}
 use Rattle.source_values.specs.Runs as runs
 use Rattle.source_meaning.specs.Acceptance.{IsAcceptedText}
-use Rattle.source_maps.specs.Maps.{map_of}
+use Rattle.source_maps.specs.Maps.{map_of, map_ring}
 use Rattle.memory_map.specs.MemoryMap.{MemoryMap}
 use Rattle.compiled_model.specs.View.{state_in}
 use Rattle.compiled_model.specs.Parts.{compiled_model}
 use Rattle.image_laws.specs.Compiled.{IsCompiled}
+use Rattle.image_reports.specs.ImageLaw.{world_with}
 use Rattle.image_reports.specs.Resumed.{IsToldOnward}
 
 -- the world of a state whose receiver accepted these words before
 abbrev pub world_of : State → List ℕ → World
-world_of s accepted = record { fram = fram_of s.image.words; accepted = accepted }
+world_of s accepted = world_with s.image.words accepted
 
 -- these may be the words that it accepted before: it takes next the word behind them
 abbrev pub MayHaveAccepted : State → List ℕ → Type 0
@@ -37,9 +41,13 @@ pub record HasFramWords (s : State) : Type 0 where
   pub are_words : All (λ w. w < 0x10000) s.image.words
   pub receiver : s.receiver < 0x10000
 
--- from the first word of the code on a state has the words of an image
+-- from the first word of the code on a state has the words of an image, but for its ring
 abbrev pub HasCodeWords : MemoryMap → ImageValue → State → Type 0
-HasCodeWords l image s = (a : ℕ) → IsFram a → l.boot.address ≤ a → fram_of s.image.words a ≡ fram_of image.words a
+HasCodeWords l image s = (a : ℕ) → IsFram a → l.boot.address ≤ a → is_in_ring (map_ring l) a ≡ false → fram_of s.image.words a ≡ fram_of image.words a
+
+-- the ring of a state, where its map has one, keeps the rule of rings
+abbrev pub KeepsRing : State → Type 0
+KeepsRing s = IfSome s.image.map (λ m. is_ring_at m.ring s.image.words (is_pending (runtime_of m.words s.image.words)) ≡ true)
 
 -- a state of a source: these shared words, this task, and these words emitted so far
 abbrev pub state_with : (shared : List (List ℕ)) (task : ℕ) (emitted : List ℕ) → runs.State
@@ -65,7 +73,8 @@ IsToldByItsSource image s trace r report = (text : List ℕ) (p : CheckedProgram
     → IsToldOnward text p (map_of text p c.layout allow) c.layout (world_of s accepted) (charges_of trace.charges)
     (board_of s trace.readings trace.events) r report
 
--- what is saved of each board of a run from a state belongs to the image, and so does what is saved at its end
+-- what is saved of each board of a run from a state belongs to the image, and so does what is saved at its end; where the image has a ring, if that
+-- keeps its rule there
 pub record LeavesItsStates (image : ImageValue) (s : State) (b : BoardValue) (r : RunOutcome) : Type 0 where
-  pub boards : (ms rest : List Moment) → r.moments ≡ ms ++ rest → Belongs image (saved (last_board b ms) s.image.map)
-  pub end : Belongs image (saved r.board s.image.map)
+  pub boards : (ms rest : List Moment) → r.moments ≡ ms ++ rest → let left = saved (last_board b ms) s.image.map in KeepsRing left → Belongs image left
+  pub end : let left = saved r.board s.image.map in KeepsRing left → Belongs image left

@@ -7,7 +7,6 @@ use Rattle.plain_commands.specs.energy_trace.Reading.{trace_of}
 use Rattle.plain_commands.specs.image_text.ImageValue.{ImageValue}
 use Rattle.plain_commands.specs.source_values.Runs.{CheckedProgram}
 use Rattle.plain_commands.specs.source_meaning.Acceptance.{IsAcceptedText}
-use Rattle.plain_commands.specs.source_meaning.Events.{HasNoEvent}
 use Rattle.plain_commands.specs.command_answers.Ending.{well}
 use Rattle.compiler_commands.specs.Build.{IsBuilt, Builds}
 use Rattle.compiler_commands.specs.Try.{Tries}
@@ -17,17 +16,16 @@ use Rattle.plain_commands.specs.RunReport.{IsRunReport}
 use Rattle.compiler_commands.specs.ToldRuns.{IsTold}
 
 pub builds : ImagesKeepTheLaws → (source text file : List ℕ) (p : CheckedProgram) (allow : Allow) (image : ImageValue) → text ≡ source
-    → IsAcceptedText source p allow → HasNoEvent source → (built : IsBuilt text p allow image file)
+    → IsAcceptedText source p allow → (built : IsBuilt text p allow image file)
     → ((trace : TraceValue) → IsTraceOfWords trace → IsTold text p built.map image trace)
     → (output : List ℕ) → output ≡ bound_line allow.cycles → Builds source file output
-builds law source text file p allow image kept accepted none built told output bound =
+builds law source text file p allow image kept accepted built told output bound =
     let own = subst (λ x. IsAcceptedText x p allow) (sym kept) accepted in
     let made : Builds text file output = record {
       program = p;
       allow = allow;
       image = image;
       accepted = own;
-      no_event = subst HasNoEvent (sym kept) none;
       built = built;
       bound = bound;
       told = told;
@@ -35,17 +33,16 @@ builds law source text file p allow image kept accepted none built told output b
     } in subst (λ x. Builds x file output) kept made
 
 pub tries : (source trace text file : List ℕ) (p : CheckedProgram) (allow : Allow) (image : ImageValue) (charges : TraceValue) → text ≡ source
-    → IsAcceptedText source p allow → HasNoEvent source → trace_of trace ≡ Ok charges → (built : IsBuilt text p allow image file)
+    → IsAcceptedText source p allow → trace_of trace ≡ Ok charges → (built : IsBuilt text p allow image file)
     → IsTold text p built.map image charges
     → (output : List ℕ) → IsRunReport image charges well output → Tries source trace file output
-tries source trace text file p allow image charges kept accepted none said built told output report =
+tries source trace text file p allow image charges kept accepted said built told output report =
     let tried : Tries text trace file output = record {
       program = p;
       allow = allow;
       image = image;
       charges = charges;
       accepted = subst (λ x. IsAcceptedText x p allow) (sym kept) accepted;
-      no_event = subst HasNoEvent (sym kept) none;
       trace_said = said;
       built = built;
       report = report;

@@ -1,15 +1,16 @@
 -- What `try` prints is a report that its source could have told; and `audit` answers so.
-use Rattle.std.specs.Prelude.{◌≡◌, ℕ, List, []}
+use Rattle.std.specs.Prelude.{◌≡◌, ℕ, false, List, []}
+use Rattle.plain_commands.specs.cost_bound.Allowance.{uses_events}
 use Rattle.plain_commands.specs.report_audit.Good.{IsGoodReport}
 use Rattle.compiler_commands.specs.Try.{Tries}
 use Rattle.plain_commands.specs.Audited.{IsAnsweredYes}
 
--- the report of `try` is good, by the source and the trace that it was made of, if that has no events
+-- the report of `try` is good, by the source and the trace that it was made of, if the source takes no events and the trace has none
 abbrev pub TriedReportsAreGood : Type 0
 TriedReportsAreGood = (source trace file output : List ℕ) (t : Tries source trace file output)
-    → t.charges.events ≡ [] → (n : ℕ) × IsGoodReport source t.program t.allow.cycles t.charges.readings output n
+    → uses_events t.program ≡ false → t.charges.events ≡ [] → (n : ℕ) × IsGoodReport source t.program t.allow.cycles t.charges.readings output n
 
 -- whatever an audit says of the report of `try` on a source and a trace without events, it is `yes`
 abbrev pub TriedReportsAreAnsweredYes : Type 0
 TriedReportsAreAnsweredYes = (source trace file output : List ℕ) (t : Tries source trace file output)
-    → t.charges.events ≡ [] → IsAnsweredYes source trace output
+    → uses_events t.program ≡ false → t.charges.events ≡ [] → IsAnsweredYes source trace output

@@ -9,7 +9,6 @@ use Rattle.text_parts.specs.Printed.{printed}
 use Rattle.plain_commands.specs.alp_io.Report.{bound_line}
 use Rattle.plain_commands.specs.cost_bound.declared.allowance.Allow.{Allow}
 use Rattle.plain_commands.specs.source_meaning.Acceptance.{IsAcceptedText}
-use Rattle.plain_commands.specs.source_meaning.Events.{HasNoEvent}
 use Rattle.image_laws.specs.Compiled.{IsCompiled}
 use Rattle.image_reports.specs.ImageLaw.{IsLawful}
 use Rattle.plain_commands.specs.source_values.Runs.{CheckedProgram}
@@ -17,7 +16,7 @@ use Rattle.source_runs.specs.Naming.{IsMapOf}
 use Rattle.source_runs.specs.Traces.{IsTraceOfWords}
 use Rattle.plain_commands.specs.command_answers.Ending.{well}
 use Rattle.compiler_commands.specs.ToldRuns.{IsTold}
-use Rattle.plain_commands.specs.command_texts.Sources.{RefusesBuild, SaysSourceWithoutEvents}
+use Rattle.plain_commands.specs.command_texts.Sources.{RefusesSource, SaysSource}
 use Rattle.plain_commands.specs.command_answers.Promises.{Promise, OfOneText}
 
 -- These bytes are the image text that is printed of an image, and they read back. The image has a map, which names the source's
@@ -31,14 +30,13 @@ pub record IsBuilt (source : List ℕ) (program : CheckedProgram) (allow : Allow
   pub bound : map.bound ≡ allow.cycles
   pub compiled : IsCompiled source program allow image
 
--- The text is a source without `next_event`, these bytes are the image text of its image, and this is the line of its bound. On any trace the run of that
+-- The text is a source, these bytes are the image text of its image, and this is the line of its bound. On any trace the run of that
 -- image is told by the source; and the law of images holds of it, wherever its power is cut.
 pub record Builds (source file output : List ℕ) : Type 0 where
   pub program : CheckedProgram
   pub allow : Allow
   pub image : ImageValue
   pub accepted : IsAcceptedText source program allow
-  pub no_event : HasNoEvent source
   pub built : IsBuilt source program allow image file
   pub bound : output ≡ bound_line allow.cycles
   pub told : (trace : TraceValue) → IsTraceOfWords trace → IsTold source program built.map image trace
@@ -50,7 +48,7 @@ build_promise source image = record {
   reads = source ∷ [];
   judges = source ∷ [];
   puts = Some image;
-  takes = OfOneText SaysSourceWithoutEvents;
+  takes = OfOneText SaysSource;
   makes = λ texts p. OfOneText (λ s. IsSomeAnd p.file (λ file. Builds s file p.output) × (p.ending ≡ well)) texts;
-  refuses = λ texts place r. OfOneText (λ s. RefusesBuild s r × (place ≡ 0)) texts;
+  refuses = λ texts place r. OfOneText (λ s. RefusesSource s r × (place ≡ 0)) texts;
 }

@@ -7,18 +7,17 @@ use Rattle.plain_commands.specs.fram_board.Board.{fresh}
 use Rattle.plain_commands.specs.board_run.Charges.{charges_of}
 use Rattle.plain_commands.specs.cost_bound.declared.allowance.Allow.{Allow}
 use Rattle.plain_commands.specs.source_meaning.Acceptance.{IsAcceptedText}
-use Rattle.plain_commands.specs.source_meaning.Events.{HasNoEvent}
 use Rattle.plain_commands.specs.source_values.Runs.{CheckedProgram}
 use Rattle.source_runs.specs.Tells.{IsToldBySource}
 use Rattle.plain_commands.specs.command_answers.Ending.{well}
 use Rattle.plain_commands.specs.RunReport.{IsRunReport}
-use Rattle.plain_commands.specs.command_texts.Sources.{IsSourceText, RefusesBuild, SaysSourceWithoutEvents}
+use Rattle.plain_commands.specs.command_texts.Sources.{IsSourceText, RefusesSource, SaysSource}
 use Rattle.plain_commands.specs.command_texts.Texts.{RefusesTrace, SaysTrace}
 use Rattle.plain_commands.specs.command_answers.Refusals.{Refusal}
 use Rattle.plain_commands.specs.command_answers.Promises.{Promise, OfTwoTexts}
 use Rattle.compiler_commands.specs.Build.{IsBuilt}
 
--- The texts are a source without `next_event` and a trace. These bytes are the image text of the source's image, and this is the report of the run of that
+-- The texts are a source and a trace. These bytes are the image text of the source's image, and this is the report of the run of that
 -- image on the trace, which ends well. And it is what the source tells of that run.
 pub record Tries (source trace file output : List ℕ) : Type 0 where
   pub program : CheckedProgram
@@ -26,15 +25,14 @@ pub record Tries (source trace file output : List ℕ) : Type 0 where
   pub image : ImageValue
   pub charges : TraceValue
   pub accepted : IsAcceptedText source program allow
-  pub no_event : HasNoEvent source
   pub trace_said : trace_of trace ≡ Ok charges
   pub built : IsBuilt source program allow image file
   pub report : IsRunReport image charges well output
   pub told : IsToldBySource source program built.map (charges_of charges.charges) (fresh image.words charges.readings charges.events) report.outcome output
 
--- the text of `try` at this place, from 0, is the first that is refused, and so; a `next_event` before the trace is read
+-- the text of `try` at this place, from 0, is the first that is refused, and so
 pub data TryRefuses (source trace : List ℕ) : ℕ → Refusal → Type 0 where
-  the_tried_source : (r : Refusal) → RefusesBuild source r → TryRefuses source trace 0 r
+  the_tried_source : (r : Refusal) → RefusesSource source r → TryRefuses source trace 0 r
   the_tried_trace : (program : CheckedProgram) (r : Refusal) → IsSourceText source program → RefusesTrace trace r → TryRefuses source trace 1 r
 
 -- what it promises
@@ -43,7 +41,7 @@ try_promise source trace image = record {
   reads = source ∷ trace ∷ [];
   judges = source ∷ trace ∷ [];
   puts = Some image;
-  takes = OfTwoTexts (λ s t. SaysSourceWithoutEvents s × SaysTrace t);
+  takes = OfTwoTexts (λ s t. SaysSource s × SaysTrace t);
   makes = λ texts p. OfTwoTexts (λ s t. IsSomeAnd p.file (λ file. Tries s t file p.output) × (p.ending ≡ well)) texts;
   refuses = λ texts place r. OfTwoTexts (λ s t. TryRefuses s t place r) texts;
 }

@@ -14,7 +14,7 @@ use plain_commands::answers::{
 use plain_commands::board_runs::Watch;
 use plain_commands::boards::Board;
 use plain_commands::outside::{Failed, Shelf, Sink};
-use plain_commands::texts::{Trace, compiled_source_of, trace_of};
+use plain_commands::texts::{Trace, source_of, trace_of};
 use plain_commands::{RunEnding, write_report};
 use std::alloc::Global;
 
@@ -88,7 +88,7 @@ pub fn try_texts<'t, H: Shelf, O: Sink>(
         (record { old = H.files shelf.old; new = H.files shelf.new; counts_old = H.counts shelf.old; counts_new = H.counts shelf.new })
         (record { old = O.contents out.old; new = O.contents out.new; faults_old = O.faults out.old; faults_new = O.faults out.new })) }
 {
-    let source = compiled_source_of(alloc, names.source, texts.source)?;
+    let source = source_of(alloc, names.source, texts.source)?;
     let trace = trace_of(alloc, names.trace, texts.trace)?;
     let built = built_of(alloc, &source)?;
     let mut board = Board::new(alloc, &built.image, trace.readings(), trace.events())?;

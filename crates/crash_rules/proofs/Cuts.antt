@@ -3,15 +3,16 @@ use Rattle.std.proofs.Common.{◌≡◌, ℕ, ◌+◌, List, [], ◌∷◌, ◌+
 use Rattle.std.proofs.Common.{append_assoc, append-nil, All, Bool}
 use Rattle.std.proofs.lemmas.List.Elements.{All-drop}
 use Rattle.machine_effects.specs.fram_board.Effects.{Effect, Store}
-use Rattle.machine_effects.specs.World.{World, world_after, fram_after, readings_taken, IsPrefix, EachStore}
-use Rattle.machine_effects.proofs.Interface.{world_after-append}
-use Rattle.crash_rules.specs.Model.{Model, ModelLaws, Outcome, Ends, Short, ProgramEffects, program_effects, IsWord, IsElsewhere}
-use Rattle.crash_rules.specs.Model.{Inputs, InputsAreWords, inputs_behind, inputs_taken, no_inputs, with_commit, attempt_from, script, Decides, RunsShort}
-use Rattle.crash_rules.specs.Model.{AttemptContract, CommitKeeps}
+use Rattle.machine_effects.specs.World.{World, world_after, fram_after, readings_taken, looks_taken, IsPrefix, EachStore}
+use Rattle.machine_effects.specs.Inputs.{Look, SeeWords}
+use Rattle.machine_effects.proofs.Interface.{world_after-append, readings_taken-append}
+use Rattle.crash_rules.specs.Model.{Model, ModelLaws, Given, nothing_given, given_by, answers_in, Ends, Short, ProgramEffects, program_effects, IsWord}
+use Rattle.crash_rules.specs.Model.{IsElsewhere, Inputs, InputsAreWords, inputs_behind, with_commit, attempt_from, script, Decides, RunsShort}
+use Rattle.crash_rules.specs.Model.{AttemptContract, Comes, Lacks, CommitKeeps}
 use Rattle.crash_rules.specs.History.{Done, History, with_effect, behind_decide, behind_done, observe_one, observe, behind_boot, inputs_from}
-use Rattle.crash_rules.specs.History.{decided_inputs, done_inputs}
+use Rattle.crash_rules.specs.History.{decided_given, done_given}
 use Rattle.crash_rules.specs.Laws.{Origin, Resting, Pending, SourceRun, HasNoSpan, Reaches, IsPending, IsSettled, Transits, Phase, UndecidedPhase, DecidedPhase}
-use Rattle.crash_rules.specs.Laws.{CommittingPhase, StandsFor, IsLawful, AreConsecutive, TaskCosts, CoversTasks}
+use Rattle.crash_rules.specs.Laws.{CommittingPhase, StandsFor, IsOfScript, IsLawful, IsShort, AreConsecutive, TaskCosts, CoversTasks}
 use Rattle.crash_rules.proofs.Lists.{world_fram, each_prefix, holds_prefix, holds_end, prefix_cases, prefix_one, nothing_first, range_of}
 use Rattle.crash_rules.proofs.Front.{in_front}
 use Rattle.crash_rules.proofs.Observed.{observe-append, with_effects, observe_quiet, observe_done, observe_decide}
@@ -29,21 +30,21 @@ pub record Setting (St : Type 0) : Type 1 where
 module _ {St : Type 0} (given : Setting St) where
   open given use {model as m, laws, readings, words, origin}
 
-  run_more : (s t u : St) (ds : List Done) (d : Done) → SourceRun m readings s ds t → m.task t (done_inputs readings d) ≡ Ends u no_inputs → m.Rests u d.world
+  run_more : (s t u : St) (ds : List Done) (d : Done) → SourceRun m readings s ds t → m.task t (done_given readings d) ≡ Ends u nothing_given → m.Rests u d.world
       → SourceRun m readings s (ds ++ d ∷ []) u
-  run_more s t u [] d h e r = (u, ap (λ x. m.task x (done_inputs readings d)) (sym h) ∙ e, r, refl)
+  run_more s t u [] d h e r = (u, ap (λ x. m.task x (done_given readings d)) (sym h) ∙ e, r, refl)
   run_more s t u (c ∷ ds) d h e r = (h.0, h.1, h.2, run_more h.0 t u ds d h.3 e r)
 
   -- one transition more
-  reaches_more : (o : Origin St) (ds : List Done) (s next : St) (d : Done) → Reaches m readings o ds s → Transits m o ds (done_inputs readings d) s next
+  reaches_more : (o : Origin St) (ds : List Done) (s next : St) (d : Done) → Reaches m readings o ds s → Transits m o ds (done_given readings d) s next
       → m.Rests next d.world → Reaches m readings o (ds ++ d ∷ []) next
   reaches_more (Resting a) ds s next d h t r = run_more a s next ds d h t r
   reaches_more (Pending a) [] s next d h t r = absurd t
   reaches_more (Pending a) (c ∷ ds) s next d h t r = (h.0, h.1, run_more a s next ds d h.2 t r)
 
   -- the first one, of the commit that was pending at the start
-  reaches_first : (o : Origin St) (ds : List Done) (s : St) (d : Done) → Reaches m readings o ds s → IsPending o ds → HasNoSpan d.span_from d.span_to
-      → m.Rests s d.world → Reaches m readings o (ds ++ d ∷ []) s
+  reaches_first : (o : Origin St) (ds : List Done) (s : St) (d : Done) → Reaches m readings o ds s → IsPending o ds
+      → HasNoSpan d.span_from d.span_to d.answers → m.Rests s d.world → Reaches m readings o (ds ++ d ∷ []) s
   reaches_first (Resting a) ds s d h p n r = absurd p
   reaches_first (Pending a) [] s d h p n r = (n, subst (λ u. m.Rests u d.world) h r, h)
   reaches_first (Pending a) (c ∷ ds) s d h p n r = absurd p
@@ -54,14 +55,14 @@ module _ {St : Type 0} (given : Setting St) where
   settled_more (Pending a) (c ∷ ds) d = tt
 
   -- where nothing is pending, transitions are the task's
-  transits_task : (o : Origin St) (ds : List Done) (rs : Inputs) (s next : St) → IsSettled o ds → m.task s rs ≡ Ends next no_inputs → Transits m o ds rs s next
+  transits_task : (o : Origin St) (ds : List Done) (rs : Given) (s next : St) → IsSettled o ds → m.task s rs ≡ Ends next nothing_given → Transits m o ds rs s next
   transits_task (Resting a) ds rs s next k e = e
   transits_task (Pending a) [] rs s next k e = absurd k
   transits_task (Pending a) (c ∷ ds) rs s next k e = e
 
   -- a history that follows its script would also with these effects more
   abbrev pub MayGoOn : History → List Effect → Type 0
-  MayGoOn v es = IsPrefix (v.effects ++ es) (script m v.booted v.start.fram (inputs_from readings v.since)).effects
+  MayGoOn v es = IsOfScript m readings v.since v.booted v.start.fram (v.effects ++ es)
 
   -- its world is that of its effects
   abbrev pub IsTold : History → Type 0
@@ -69,7 +70,7 @@ module _ {St : Type 0} (given : Setting St) where
 
   -- the done at the end of a history that was decided
   abbrev pub done_of : History → World → Done
-  done_of v x = record { span_from = v.span_from; span_to = v.span_to; world = x }
+  done_of v x = record { span_from = v.span_from; span_to = v.span_to; answers = v.answers; world = x }
 
   -- from v to k no done came, or one, at which no reading more was taken
   pub data Grows (v k : History) : Type 0 where
@@ -106,7 +107,7 @@ module _ {St : Type 0} (given : Setting St) where
       record {
         world = sym p.start ∙ ap (λ es. world_after es h.start) (sym p.none);
         stands = p.stands;
-        follows = subst (λ es. IsPrefix es (script m h.booted h.start.fram (inputs_from readings h.since)).effects) (sym p.none) (nothing_first _);
+        follows = subst (λ es. IsOfScript m readings h.since h.booted h.start.fram es) (sym p.none) (record { left = []; follows = nothing_first _ });
       }
 
   told_more : (v : History) (es : List Effect) → IsTold v → world_after es v.world ≡ world_after (v.effects ++ es) v.start
@@ -133,7 +134,7 @@ module _ {St : Type 0} (given : Setting St) where
 
   -- behind a decide
   due_decided : (v : History) (s next : St) → Reaches m readings origin v.completed s → v.decided ≡ true
-      → Transits m origin v.completed (decided_inputs readings v) s next → m.Decided s next v.world → IsDue v s next (m.Decided s next)
+      → Transits m origin v.completed (decided_given readings v) s next → m.Decided s next v.world → IsDue v s next (m.Decided s next)
   due_decided v s next reached g t d =
       record {
         decided = g;
@@ -147,7 +148,7 @@ module _ {St : Type 0} (given : Setting St) where
 
   -- at the start of the run
   due_first : (v : History) (to : St) → Reaches m readings origin v.completed to → v.decided ≡ true → IsPending origin v.completed
-      → HasNoSpan v.span_from v.span_to → m.Committing to v.world → IsDue v to to (m.Committing to)
+      → HasNoSpan v.span_from v.span_to v.answers → m.Committing to v.world → IsDue v to to (m.Committing to)
   due_first v to reached g p n d =
       record {
         decided = g;
@@ -176,7 +177,7 @@ module _ {St : Type 0} (given : Setting St) where
         let one : u.world.fram m.marks.gate ≡ 1 = laws.committing_gate next y (due.committing y (holds_end Kept before v.world p.kept)) in
         let is : observe m.marks (before ++ Store m.marks.gate 0 ∷ []) v ≡ k = observe-append m.marks before (Store m.marks.gate 0 ∷ []) v
         ∙ ap (observe_one m.marks (Store m.marks.gate 0)) (observe_quiet m.marks before v p.elsewhere) ∙ observe_done m.marks u one in
-        let none : length (readings_taken before) ≡ 0 = ap length p.takes_none in
+        let none : length (readings_taken before) ≡ 0 = ap (λ i. length i.readings) p.takes_none in
         let there : m.Settled next k.world = laws.rests_settled next k.world p.rests in
         subst (Whole v) (sym is)
         (record {
@@ -272,9 +273,13 @@ module _ {St : Type 0} (given : Setting St) where
       stayed_by (Stayed a b) = record { dones = []; completed = a ∙ sym (append-nil h.completed); follow = clash }
       stayed_by (Finished a b) = record { dones = done_of h k.world ∷ []; completed = a; follow = λ z. absurd (cc (d, z)) }
 
-  -- the inputs at a point
-  abbrev pub inputs_at : History → Inputs
-  inputs_at h = inputs_from readings h.taken
+  -- the inputs at a point, with these looks
+  abbrev pub inputs_at : History → List Look → Inputs
+  inputs_at h looks = inputs_from readings h.taken looks
+
+  -- effects take some of the first looks
+  abbrev pub TakesFirst : List Effect → List Look → Type 0
+  TakesFirst es looks = (left : List Look) × (looks_taken es ++ left ≡ looks)
 
   -- a point where all is undecided
   pub record AtUndecided (h : History) : Type 0 where
@@ -286,8 +291,8 @@ module _ {St : Type 0} (given : Setting St) where
     pub holds : m.Undecided state h.world
     pub ready : h.booted ≡ false → m.Settled state h.world
 
-  module _ (h : History) (u : AtUndecided h) (next : St) (left : Inputs) (r : ProgramEffects)
-      (c : Decides m u.state next left (inputs_at h) h.world r) where
+  module _ (h : History) (looks : List Look) (u : AtUndecided h) (next : St) (r : ProgramEffects)
+      (c : Decides m u.state next (inputs_at h looks) h.world r) where
     abbrev s : St
     s = u.state
 
@@ -299,7 +304,7 @@ module _ {St : Type 0} (given : Setting St) where
 
     -- the history behind the decide
     abbrev at_gate : History
-    at_gate = behind_decide (with_effect (Store m.marks.gate 1) (with_effects c.before h))
+    at_gate = behind_decide m.marks (with_effect (Store m.marks.gate 1) (with_effects c.before h))
 
     chose : observe m.marks to_gate h ≡ at_gate
     chose =
@@ -315,13 +320,19 @@ module _ {St : Type 0} (given : Setting St) where
     taken_there : at_gate.taken ≡ h.taken + length (readings_taken c.before)
     taken_there = omega arith
 
-    transits : Transits m origin h.completed (decided_inputs readings at_gate) s next
+    answers_there : at_gate.answers ≡ answers_in m.marks to_gate
+    answers_there = ap (λ l. answers_in m.marks ((l ++ c.before) ++ Store m.marks.gate 1 ∷ [])) pt.none
+
+    transits : Transits m origin h.completed (decided_given readings at_gate) s next
     transits =
-        let reads : readings_taken c.before ++ left.readings ≡ drop h.since readings = c.reads.readings
+        let reads : readings_taken c.before ++ c.left.readings ≡ drop h.since readings = c.reads.readings
         ∙ ap (λ n. drop n readings) (sym pt.since) in
         let to : at_gate.taken ≡ h.since + length (readings_taken c.before) = taken_there ∙ ap (λ n. n + length (readings_taken c.before)) (sym pt.since) in
-        let taken = range_of readings (readings_taken c.before) left.readings h.since at_gate.taken reads to in
-        let same : decided_inputs readings at_gate ≡ inputs_taken c.before = λ i. record { readings = taken i; looks = [] } in
+        let taken = range_of readings (readings_taken c.before) c.left.readings h.since at_gate.taken reads to in
+        let whole : readings_taken to_gate ≡ readings_taken c.before =
+        readings_taken-append c.before (Store m.marks.gate 1 ∷ []) ∙ append-nil (readings_taken c.before) in
+        let read = taken ∙ sym whole in
+        let same : decided_given readings at_gate ≡ given_by m.marks to_gate = λ i. record { readings = read i; answers = answers_there i } in
         transits_task origin h.completed _ s next u.settled (ap (m.task s) same ∙ c.exact)
 
     gate_due : IsDue at_gate s next (m.Decided s next)
@@ -334,12 +345,12 @@ module _ {St : Type 0} (given : Setting St) where
     gate_told = sym gate_world ∙ told_more h to_gate (point_lawful h pt).world ∙ ap (λ l. world_after l h.start) (sym gate_effects)
 
     gate_goes : (fs : List Effect) → MayGoOn h (to_gate ++ fs) → MayGoOn at_gate fs
-    gate_goes fs g = subst (λ l. IsPrefix l (script m h.booted h.start.fram (inputs_from readings h.since)).effects)
+    gate_goes fs g = subst (λ l. IsOfScript m readings h.since h.booted h.start.fram l)
         (sym (ap (λ l. l ++ fs) gate_effects ∙ append_assoc h.effects to_gate fs)) g
 
     -- what is left for the commit
     abbrev inputs_there : Inputs
-    inputs_there = inputs_behind to_gate (inputs_at h)
+    inputs_there = inputs_behind to_gate (inputs_at h looks)
 
     abbrev commit_then : List Effect
     commit_then = m.commit (fram_after to_gate h.world.fram) inputs_there
@@ -362,9 +373,10 @@ module _ {St : Type 0} (given : Setting St) where
         quiet_cut s h es (each_prefix (IsElsewhere m.marks.gate) es c.before p c.elsewhere) (point_lawful h pt).world go u.reached
         (UndecidedPhase u.undecided u.settled (holds_prefix (m.Undecided s) es c.before h.world p c.undecided))
 
-    decides_part : (es : List Effect) → IsPrefix es (with_commit m h.world.fram (inputs_at h) r).effects → MayGoOn h es → Cut h (observe m.marks es h)
+    decides_part : (es : List Effect) → IsPrefix es (with_commit m h.world.fram (inputs_at h looks) r).effects → MayGoOn h es
+        → Cut h (observe m.marks es h)
     decides_part es p0 go =
-        let p : IsPrefix es (to_gate ++ commit_then) = subst (λ q. IsPrefix es (with_commit m h.world.fram (inputs_at h) q).effects) c.is p0 in
+        let p : IsPrefix es (to_gate ++ commit_then) = subst (λ q. IsPrefix es (with_commit m h.world.fram (inputs_at h looks) q).effects) c.is p0 in
         ⊎_elim
         (λ a. ⊎_elim
         (λ b. before_gate es b go)
@@ -376,7 +388,7 @@ module _ {St : Type 0} (given : Setting St) where
         (λ a. past_gate es a.0 a.1 a.2 go)
         (prefix_cases es to_gate commit_then p)
 
-    decides_whole : Next h (observe m.marks (with_commit m h.world.fram (inputs_at h) r).effects h)
+    decides_whole : Next h (observe m.marks (with_commit m h.world.fram (inputs_at h looks) r).effects h)
     decides_whole =
         let cm = commit_then in
         let w0 = commit_whole s next (m.Decided s next) at_gate gate_due inputs_there in
@@ -393,30 +405,32 @@ module _ {St : Type 0} (given : Setting St) where
           span = λ z. (refl, sym w.taken ∙ sym w.point.since);
           since = λ z. let nd = u.undecided in absurd (cc (nd, z));
         }) in
-        subst (λ q. Next h (observe m.marks (with_commit m h.world.fram (inputs_at h) q).effects h)) (sym c.is) all
+        subst (λ q. Next h (observe m.marks (with_commit m h.world.fram (inputs_at h looks) q).effects h)) (sym c.is) all
 
   -- an attempt that runs short, and that comes to no end
-  pub short_effects : (s : St) (f : ℕ → ℕ) (inputs : Inputs) (x : World) (r : ProgramEffects) → RunsShort m s x r
+  pub short_effects : (s : St) (f : ℕ → ℕ) (inputs : Inputs) (x : World) (r : ProgramEffects) → RunsShort m s inputs x r
       → (with_commit m f inputs r).effects ≡ r.effects
   short_effects s f inputs x r c =
       ap (λ b. r.effects ++ cond b (m.commit (fram_after r.effects f) (inputs_behind r.effects inputs)) []) c.is ∙ append-nil r.effects
 
-  short_part : (h : History) (u : AtUndecided h) (r : ProgramEffects) (es : List Effect) → RunsShort m u.state h.world r → IsPrefix es r.effects
-      → MayGoOn h es → Cut h (observe m.marks es h)
-  short_part h u r es c p go =
+  short_part : (h : History) (looks : List Look) (u : AtUndecided h) (r : ProgramEffects) (es : List Effect)
+      → RunsShort m u.state (inputs_at h looks) h.world r → IsPrefix es r.effects → MayGoOn h es → Cut h (observe m.marks es h)
+  short_part h looks u r es c p go =
       quiet_cut u.state h es (each_prefix (IsElsewhere m.marks.gate) es r.effects p c.elsewhere) (point_lawful h u.point).world go u.reached
       (UndecidedPhase u.undecided u.settled (holds_prefix (m.Undecided u.state) es r.effects h.world p c.undecided))
 
-  attempt_part : (h : History) (u : AtUndecided h) (es : List Effect) (a : Outcome St) (r : ProgramEffects)
-      → AttemptContract m u.state (inputs_at h) h.world a r → IsPrefix es (with_commit m h.world.fram (inputs_at h) r).effects → MayGoOn h es
+  attempt_part : (h : History) (looks : List Look) (u : AtUndecided h) (es : List Effect) (r : ProgramEffects)
+      → AttemptContract m u.state (inputs_at h looks) h.world r → IsPrefix es (with_commit m h.world.fram (inputs_at h looks) r).effects → MayGoOn h es
       → Cut h (observe m.marks es h)
-  attempt_part h u es (Ends next left) r c p go = decides_part h u next left r c es p go
-  attempt_part h u es Short r c p go = short_part h u r es c (subst (IsPrefix es) (short_effects u.state h.world.fram (inputs_at h) h.world r c) p) go
+  attempt_part h looks u es r (Comes next c) p go = decides_part h looks u next r c es p go
+  attempt_part h looks u es r (Lacks c) p go =
+      short_part h looks u r es c (subst (IsPrefix es) (short_effects u.state h.world.fram (inputs_at h looks) h.world r c) p) go
 
-  attempt_whole : (h : History) (u : AtUndecided h) (a : Outcome St) (r : ProgramEffects) → AttemptContract m u.state (inputs_at h) h.world a r
-      → r.ends ≡ true → Next h (observe m.marks (with_commit m h.world.fram (inputs_at h) r).effects h)
-  attempt_whole h u (Ends next left) r c e = decides_whole h u next left r c
-  attempt_whole h u Short r c e = absurd (cc (c.is, e))
+  attempt_whole : (h : History) (looks : List Look) (u : AtUndecided h) (r : ProgramEffects)
+      → AttemptContract m u.state (inputs_at h looks) h.world r → r.ends ≡ true
+      → Next h (observe m.marks (with_commit m h.world.fram (inputs_at h looks) r).effects h)
+  attempt_whole h looks u r (Comes next c) e = decides_whole h looks u next r c
+  attempt_whole h looks u r (Lacks c) e = absurd (cc (c.is, e))
 
   -- whose commit is due: that of the task of the state of the last done; or one that was pending at the start
   pub data CommitOf (h : History) : Type 0 where
@@ -424,7 +438,7 @@ module _ {St : Type 0} (given : Setting St) where
     OfStart : IsPending origin h.completed → CommitOf h
 
   -- where nothing is pending
-  transits_settled : (o : Origin St) (ds : List Done) (rs : Inputs) (s next : St) → Transits m o ds rs s next → IsSettled o ds
+  transits_settled : (o : Origin St) (ds : List Done) (rs : Given) (s next : St) → Transits m o ds rs s next → IsSettled o ds
   transits_settled (Resting a) ds rs s next t = tt
   transits_settled (Pending a) [] rs s next t = absurd t
   transits_settled (Pending a) (c ∷ ds) rs s next t = tt
@@ -461,7 +475,7 @@ module _ {St : Type 0} (given : Setting St) where
           inl (record { point = p; state = s; reached = r; undecided = d; settled = k; holds = u; ready = λ z. (w z).settled })
       by_phase s r (DecidedPhase next d t u) w =
           inr (at_commit h s next (m.Decided s next)
-          (OfTask s next r (transits_settled origin h.completed (decided_inputs readings h) s next t) u)
+          (OfTask s next r (transits_settled origin h.completed (decided_given readings h) s next t) u)
           (due_decided h s next r d t u) (λ z. (w z).undecided))
       by_phase s r (CommittingPhase d p n u) w = inr (at_commit h s s (m.Committing s) (OfStart p) (due_first h s r d p n u) (λ z. (w z).undecided))
 
@@ -478,77 +492,92 @@ module _ {St : Type 0} (given : Setting St) where
   script_undecided booted f inputs e = ap (λ n. cond (n == 1) (program_effects (m.commit f inputs) true) (undecided_script booted f inputs)) e
 
   -- the script at a point, and the attempt of one where all is undecided
-  abbrev pub script_at : History → ProgramEffects
-  script_at h = script m h.booted h.world.fram (inputs_at h)
+  abbrev pub script_at : History → List Look → ProgramEffects
+  script_at h looks = script m h.booted h.world.fram (inputs_at h looks)
 
-  abbrev pub attempt_at : History → ProgramEffects
-  attempt_at h = attempt_from m h.booted h.world.fram (inputs_at h)
+  abbrev pub attempt_at : History → List Look → ProgramEffects
+  attempt_at h looks = attempt_from m h.booted h.world.fram (inputs_at h looks)
 
-  pub words_left : (h : History) → InputsAreWords (inputs_at h)
-  words_left h = record { readings = All-drop IsWord h.taken readings words; looks = λ k d low. absurd (omega (arith, low)) }
+  pub words_left : (h : History) (looks : List Look) → SeeWords looks → InputsAreWords (inputs_at h looks)
+  words_left h looks see = record { readings = All-drop IsWord h.taken readings words; looks = see }
 
   -- behind a boot as behind a done an attempt keeps the contract
   pub owed_from : (booted : Bool) (s : St) (x : World) (inputs : Inputs) → InputsAreWords inputs → m.Undecided s x
-      → (booted ≡ false → m.Settled s x) → AttemptContract m s inputs x (m.task s inputs) (attempt_from m booted x.fram inputs)
+      → (booted ≡ false → m.Settled s x) → AttemptContract m s inputs x (attempt_from m booted x.fram inputs)
   owed_from false s x inputs ws u k = laws.attempts s x inputs ws (k refl)
   owed_from true s x inputs ws u k =
       let r = laws.recovers s x u in
       let rec : List Effect = m.recover x.fram in
       let y : World = world_after rec x in
-      in_front m s x inputs rec (m.task s inputs) (m.attempt (fram_after rec x.fram) inputs) r.stays
-      (subst (λ f. AttemptContract m s inputs y (m.task s inputs) (m.attempt f inputs)) (world_fram rec x) (laws.attempts s y inputs ws r.settled))
+      in_front m s x inputs rec (m.attempt (fram_after rec x.fram) inputs) r.stays
+      (subst (λ f. AttemptContract m s inputs y (m.attempt f inputs)) (world_fram rec x) (laws.attempts s y inputs ws r.settled))
 
-  owed : (h : History) (u : AtUndecided h) → AttemptContract m u.state (inputs_at h) h.world (m.task u.state (inputs_at h)) (attempt_at h)
-  owed h u = owed_from h.booted u.state h.world (inputs_at h) (words_left h) u.holds u.ready
+  owed : (h : History) (looks : List Look) → SeeWords looks → (u : AtUndecided h)
+      → AttemptContract m u.state (inputs_at h looks) h.world (attempt_at h looks)
+  owed h looks see u = owed_from h.booted u.state h.world (inputs_at h looks) (words_left h looks see) u.holds u.ready
 
-  pub script_u : (h : History) (u : AtUndecided h) → script_at h ≡ with_commit m h.world.fram (inputs_at h) (attempt_at h)
-  script_u h u = script_undecided h.booted h.world.fram (inputs_at h) (laws.undecided_gate u.state h.world u.holds)
+  pub script_u : (h : History) (looks : List Look) (u : AtUndecided h)
+      → script_at h looks ≡ with_commit m h.world.fram (inputs_at h looks) (attempt_at h looks)
+  script_u h looks u = script_undecided h.booted h.world.fram (inputs_at h looks) (laws.undecided_gate u.state h.world u.holds)
 
-  pub script_d : (h : History) (d : AtCommit h) → script_at h ≡ program_effects (m.commit h.world.fram (inputs_at h)) true
-  script_d h d = script_decided h.booted h.world.fram (inputs_at h) (laws.committing_gate d.to h.world d.holds)
+  pub script_d : (h : History) (looks : List Look) (d : AtCommit h) → script_at h looks ≡ program_effects (m.commit h.world.fram (inputs_at h looks)) true
+  script_d h looks d = script_decided h.booted h.world.fram (inputs_at h looks) (laws.committing_gate d.to h.world d.holds)
 
-  -- charges as whole scripts and a prefix of one
-  pub data ChargeEffects : History → List Effect → Type 0 where
-    partial : {h : History} {es : List Effect} → IsPrefix es (script_at h).effects → ChargeEffects h es
-    complete : {h : History} {es : List Effect} → (script_at h).ends ≡ true → ChargeEffects (observe m.marks (script_at h).effects h) es
-        → ChargeEffects h ((script_at h).effects ++ es)
+  -- charges as whole scripts and a prefix of one, from these looks on
+  pub data ChargeEffects : History → List Look → List Effect → Type 0 where
+    partial : {h : History} {looks : List Look} {es : List Effect} → IsPrefix es (script_at h looks).effects → TakesFirst es looks
+        → ChargeEffects h looks es
+    complete : {h : History} {looks : List Look} {es : List Effect} (left : List Look) → SeeWords left → (script_at h looks).ends ≡ true
+        → ChargeEffects (observe m.marks (script_at h looks).effects h) left es
+        → ChargeEffects h looks ((script_at h looks).effects ++ es)
 
-  may_go_on : (h : History) (es : List Effect) → Point h → IsPrefix es (script_at h).effects → MayGoOn h es
-  may_go_on h es p pre =
-      subst (λ l. IsPrefix (l ++ es) (script m h.booted h.start.fram (inputs_from readings h.since)).effects) (sym p.none)
-      (subst (λ x. IsPrefix es (script m h.booted x.fram (inputs_from readings h.since)).effects) (sym p.start)
-      (subst (λ n. IsPrefix es (script m h.booted h.world.fram (inputs_from readings n)).effects) (sym p.since) pre))
+  may_go_on : (h : History) (looks : List Look) (es : List Effect) → Point h → IsPrefix es (script_at h looks).effects → TakesFirst es looks → MayGoOn h es
+  may_go_on h looks es p pre first =
+      let all = looks_taken es ++ first.0 in
+      let P : List Effect → Type 0 = λ l. IsOfScript m readings h.since h.booted h.start.fram (l ++ es) in
+      subst P (sym p.none) (record {
+        left = first.0;
+        follows =
+            subst (λ x. IsPrefix es (script m h.booted x.fram (inputs_from readings h.since all)).effects) (sym p.start)
+            (subst (λ n. IsPrefix es (script m h.booted h.world.fram (inputs_from readings n all)).effects) (sym p.since)
+            (subst (λ l. IsPrefix es (script_at h l).effects) (sym first.1) pre));
+      })
 
   -- from a point on, the script cut anywhere
-  pub point_part : (h : History) (es : List Effect) → Point h → IsPrefix es (script_at h).effects → Cut h (observe m.marks es h)
-  point_part h es p pre =
-      let go = may_go_on h es p pre in
+  pub point_part : (h : History) (looks : List Look) (es : List Effect) → SeeWords looks → Point h → IsPrefix es (script_at h looks).effects
+      → TakesFirst es looks → Cut h (observe m.marks es h)
+  point_part h looks es see p pre first =
+      let go = may_go_on h looks es p pre first in
       ⊎_elim
-      (λ u. attempt_part h u es _ _ (owed h u) (subst (λ q. IsPrefix es q.effects) (script_u h u) pre) go)
+      (λ u. attempt_part h looks u es _ (owed h looks see u) (subst (λ q. IsPrefix es q.effects) (script_u h looks u) pre) go)
       (λ d.
-      let k = d.part (inputs_at h) es (subst (λ q. IsPrefix es q.effects) (script_d h d) pre) (point_lawful h p).world go in
+      let k = d.part (inputs_at h looks) es (subst (λ q. IsPrefix es q.effects) (script_d h looks d) pre) (point_lawful h p).world go in
       record { lawful = k.lawful; spans = stayed_spans h _ k d.decided })
       (phase_of h p)
 
   -- from a pending commit on no done comes, or one, at which no reading more was taken
-  pub point_grows : (h : History) (es : List Effect) → Point h → h.decided ≡ true → IsPrefix es (script_at h).effects → Grows h (observe m.marks es h)
-  point_grows h es p decided pre =
+  pub point_grows : (h : History) (looks : List Look) (es : List Effect) → Point h → h.decided ≡ true → IsPrefix es (script_at h looks).effects
+      → TakesFirst es looks → Grows h (observe m.marks es h)
+  point_grows h looks es p decided pre first =
       ⊎_elim {C = Grows h (observe m.marks es h)}
       (λ u. absurd (cc (u.undecided, decided)))
-      (λ d. (d.part (inputs_at h) es (subst (λ q. IsPrefix es q.effects) (script_d h d) pre) (point_lawful h p).world (may_go_on h es p pre)).grows)
+      (λ d.
+      (d.part (inputs_at h looks) es (subst (λ q. IsPrefix es q.effects) (script_d h looks d) pre) (point_lawful h p).world
+      (may_go_on h looks es p pre first)).grows)
       (phase_of h p)
 
   -- and the whole script
-  pub point_whole : (h : History) → Point h → (script_at h).ends ≡ true → Next h (observe m.marks (script_at h).effects h)
-  point_whole h p e =
+  pub point_whole : (h : History) (looks : List Look) → SeeWords looks → Point h → (script_at h looks).ends ≡ true
+      → Next h (observe m.marks (script_at h looks).effects h)
+  point_whole h looks see p e =
       ⊎_elim
       (λ u.
-      let is = script_u h u in
-      subst (λ q. Next h (observe m.marks q.effects h)) (sym is) (attempt_whole h u _ _ (owed h u)
+      let is = script_u h looks u in
+      subst (λ q. Next h (observe m.marks q.effects h)) (sym is) (attempt_whole h looks u _ (owed h looks see u)
       (subst (λ q. q.ends ≡ true) is e)))
       (λ d.
-      let w = d.whole (inputs_at h) in
-      let n : Next h (observe m.marks (m.commit h.world.fram (inputs_at h)) h) = record {
+      let w = d.whole (inputs_at h looks) in
+      let n : Next h (observe m.marks (m.commit h.world.fram (inputs_at h looks)) h) = record {
         point = w.point;
         done = done_of h _;
         completed = w.completed;
@@ -557,13 +586,13 @@ module _ {St : Type 0} (given : Setting St) where
         span = λ z. absurd (cc (d.decided, z));
         since = λ z. w.point.since ∙ w.taken;
       } in
-      subst (λ q. Next h (observe m.marks q.effects h)) (sym (script_d h d)) n)
+      subst (λ q. Next h (observe m.marks q.effects h)) (sym (script_d h looks d)) n)
       (phase_of h p)
 
   -- a whole script makes something
-  pub point_some : (h : History) → Point h → (script_at h).ends ≡ true → (script_at h).effects ≡ [] → ⊥
-  point_some h p e none =
-      let n = point_whole h p e in
+  pub point_some : (h : History) (looks : List Look) → SeeWords looks → Point h → (script_at h looks).ends ≡ true → (script_at h looks).effects ≡ [] → ⊥
+  point_some h looks see p e none =
+      let n = point_whole h looks see p e in
       let same : h.completed ≡ h.completed ++ n.done ∷ [] = ap (λ l. (observe m.marks l h).completed) (sym none) ∙ n.completed in
       no_longer h.completed n.done same
     where
@@ -575,13 +604,21 @@ module _ {St : Type 0} (given : Setting St) where
   pub record EndsShort (h : History) : Type 0 where
     pub stands : StandsFor m readings origin h
     pub undecided : h.decided ≡ false
-    pub short : m.task stands.state (inputs_from readings h.since) ≡ Short
+    pub short : IsShort m readings stands.state h
 
-  short_by : (h : History) (u : AtUndecided h) (a : Outcome St) (r : ProgramEffects) → m.task u.state (inputs_at h) ≡ a
-      → AttemptContract m u.state (inputs_at h) h.world a r → r.ends ≡ false
-      → EndsShort (observe m.marks (with_commit m h.world.fram (inputs_at h) r).effects h)
-  short_by h u (Ends next left) r e c lacking = absurd (cc (ap (λ q. q.ends) c.is, lacking))
-  short_by h u Short r e c lacking =
+  short_by : (h : History) (looks : List Look) (u : AtUndecided h) (r : ProgramEffects)
+      → AttemptContract m u.state (inputs_at h looks) h.world r → r.ends ≡ false
+      → EndsShort (observe m.marks (with_commit m h.world.fram (inputs_at h looks) r).effects h)
+  short_by h looks u r (Comes next c) lacking = absurd (cc (ap (λ q. q.ends) c.is, lacking))
+  short_by h looks u r (Lacks c) lacking =
+      let made : (with_commit m h.world.fram (inputs_at h looks) r).effects ≡ r.effects =
+      short_effects u.state h.world.fram (inputs_at h looks) h.world r c in
+      let since : drop h.since readings ≡ drop h.taken readings = ap (λ n. drop n readings) u.point.since in
+      let answers : answers_in m.marks (h.effects ++ r.effects) ≡ answers_in m.marks r.effects =
+      ap (λ l. answers_in m.marks (l ++ r.effects)) u.point.none in
+      let given : ◌≡◌ {A = Given} (record { readings = drop h.since readings; answers = answers_in m.marks (h.effects ++ r.effects) })
+      (record { readings = drop h.taken readings; answers = answers_in m.marks r.effects }) =
+      λ i. record { readings = since i; answers = answers i } in
       let k : EndsShort (with_effects r.effects h) =
       record {
         stands = record {
@@ -590,20 +627,21 @@ module _ {St : Type 0} (given : Setting St) where
           phase = UndecidedPhase u.undecided u.settled (holds_end (m.Undecided u.state) r.effects h.world c.undecided);
         };
         undecided = u.undecided;
-        short = ap (λ n. m.task u.state (inputs_from readings n)) u.point.since ∙ e;
+        short = ap (m.task u.state) given ∙ c.short;
       } in
-      let is : observe m.marks (with_commit m h.world.fram (inputs_at h) r).effects h ≡ with_effects r.effects h = ap (λ l. observe m.marks l h)
-      (short_effects u.state h.world.fram (inputs_at h) h.world r c) ∙ observe_quiet m.marks r.effects h c.elsewhere in
+      let is : observe m.marks (with_commit m h.world.fram (inputs_at h looks) r).effects h ≡ with_effects r.effects h =
+      ap (λ l. observe m.marks l h) made ∙ observe_quiet m.marks r.effects h c.elsewhere in
       subst EndsShort (sym is) k
 
-  pub point_short : (h : History) → Point h → (script_at h).ends ≡ false → EndsShort (observe m.marks (script_at h).effects h)
-  point_short h p lacking =
+  pub point_short : (h : History) (looks : List Look) → SeeWords looks → Point h → (script_at h looks).ends ≡ false
+      → EndsShort (observe m.marks (script_at h looks).effects h)
+  point_short h looks see p lacking =
       ⊎_elim
       (λ u.
-      let is = script_u h u in
+      let is = script_u h looks u in
       subst (λ q. EndsShort (observe m.marks q.effects h)) (sym is)
-      (short_by h u _ (attempt_at h) refl (owed h u) (subst (λ q. q.ends ≡ false) is lacking)))
-      (λ d. absurd (cc (ap (λ q. q.ends) (script_d h d), lacking)))
+      (short_by h looks u (attempt_at h looks) (owed h looks see u) (subst (λ q. q.ends ≡ false) is lacking)))
+      (λ d. absurd (cc (ap (λ q. q.ends) (script_d h looks d), lacking)))
       (phase_of h p)
 
   -- a boot

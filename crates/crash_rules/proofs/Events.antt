@@ -63,10 +63,11 @@ same_positions v taken p =
     })
     (cond c (record { since = p.since; span_from = p.since; span_to = taken; spans = p.spans }) p)) (not_done v) (not_decide v)
 
-gate_positions : (before now : ℕ) (h : History) → positions_of (behind_gate before now h) ≡ positions_behind before now h.taken (positions_of h)
-gate_positions before now h =
+gate_positions : (marks : Marks) (before now : ℕ) (h : History)
+    → positions_of (behind_gate marks before now h) ≡ positions_behind before now h.taken (positions_of h)
+gate_positions marks before now h =
     elim (is_done before now) as (λ d. positions_of (cond d (behind_done h)
-    (cond (is_decide before now) (behind_decide h) h)) ≡ cond d (record {
+    (cond (is_decide before now) (behind_decide marks h) h)) ≡ cond d (record {
       since = h.taken;
       span_from = h.span_from;
       span_to = h.span_to;
@@ -77,9 +78,10 @@ gate_positions before now h =
           (map-append (λ (d : Done). (d.span_from, d.span_to)) h.completed (record {
             span_from = h.span_from;
             span_to = h.span_to;
+            answers = h.answers;
             world = h.world;
           } ∷ []))
-      | false ↦ elim (is_decide before now) as (λ c. positions_of (cond c (behind_decide h) h) ≡ cond c (record {
+      | false ↦ elim (is_decide before now) as (λ c. positions_of (cond c (behind_decide marks h) h) ≡ cond c (record {
         since = h.since;
         span_from = h.since;
         span_to = h.taken;
@@ -111,7 +113,7 @@ module _ (marks : Marks) (us : List Effect) (off : EachStore (IsElsewhere marks.
       let more : (with_effect (Store a w) k).taken ≡ k.taken = omega arith in
       let same : one.taken ≡ k.taken = observed_taken marks (Store a w ∷ []) k ∙ omega arith in
       record {
-        positions = ap positions_of (observe_quiet marks us one off) ∙ gate_positions (k.world.fram marks.gate) (y.fram marks.gate) (with_effect (Store a w) k)
+        positions = ap positions_of (observe_quiet marks us one off) ∙ gate_positions marks (k.world.fram marks.gate) (y.fram marks.gate) (with_effect (Store a w) k)
             ∙ ap (λ t. positions_behind (k.world.fram marks.gate) (y.fram marks.gate) t (positions_of k)) more
             ∙ ap (λ n. positions_behind (k.world.fram marks.gate) n k.taken (positions_of k)) (sym (ap (λ f. f marks.gate) (still y)));
         taken = none_more one ∙ same;

@@ -151,11 +151,11 @@ module _ (step : MachineBoard → MachineOutcome) (takes : (s : MachineBoard) �
 module _ {St : Type 0} (given : Setting St) (c : Program) (code : ProgramLaws given.model c) where
   open given use {model as m, costs}
 
-  abbrev script_there : History → ProgramEffects
-  script_there h = script_at given h
+  abbrev script_there : History → MachineBoard → ProgramEffects
+  script_there h b = script_at given h b.inputs.looks
 
-  abbrev behind_script : History → History
-  behind_script h = observe m.marks (script_there h).effects h
+  abbrev behind_script : History → MachineBoard → History
+  behind_script h b = observe m.marks (script_there h b).effects h
 
   abbrev cost_due : History → ℕ
   cost_due h = due given c code h
@@ -177,12 +177,12 @@ module _ {St : Type 0} (given : Setting St) (c : Program) (code : ProgramLaws gi
   -- a whole script, and what the rest of the charge was spent on
   round_spent : (amount : ℕ) (h : History) (b : MachineBoard) (r : Round given c code h b) (spent : SpentFrom amount b)
       → ((more : SpentFrom (amount - r.cycles) r.board) → r.steps + more.steps ≡ spent.steps
-      → SpentOn (amount - r.cycles) r.board (behind_script h) (going c.step more.steps r.board).effects)
+      → SpentOn (amount - r.cycles) r.board (behind_script h b) (going c.step more.steps r.board).effects)
       → SpentOn amount b h (going c.step spent.steps b).effects
   round_spent amount h b r spent next =
       let k = spent.steps in
       let sp = spent.spends in
-      let es = (script_there h).effects in
+      let es = (script_there h b).effects in
       let end = leads_end c.step r.steps es r.cycles b r.board r.leads in
       let within = r.within in
       ⊎_elim
@@ -209,15 +209,15 @@ module _ {St : Type 0} (given : Setting St) (c : Program) (code : ProgramLaws gi
         };
       } in
       let on = next more i in
-      let is : observe m.marks (going c.step k b).effects h ≡ observe m.marks (going c.step j r.board).effects (behind_script h) = ap
+      let is : observe m.marks (going c.step k b).effects h ≡ observe m.marks (going c.step j r.board).effects (behind_script h b) = ap
       (λ z. observe m.marks z.effects h) there ∙ observe-append m.marks es (going c.step j r.board).effects h in
-      let last : next_cost costs.behind costs.first (behind_script h).completed ≡ costs.behind r.next.done.world =
+      let last : next_cost costs.behind costs.first (behind_script h b).completed ≡ costs.behind r.next.done.world =
       ap (next_cost costs.behind costs.first) r.next.completed ∙ next_is_last costs.behind costs.first h.completed r.next.done in
       let less = subst (λ n. amount - r.cycles < costs_of costs.behind n on.dones + m.delay r.board.inputs) last on.less in
       record {
         dones = r.next.done ∷ on.dones;
         completed = subst (λ z. z.completed ≡ h.completed ++ (r.next.done ∷ on.dones)) (sym is)
-            (one_more h.completed (behind_script h).completed _ on.dones r.next.done r.next.completed on.completed);
+            (one_more h.completed (behind_script h b).completed _ on.dones r.next.done r.next.completed on.completed);
         less = omega (arith, less, within);
       })
       (cases_lt k r.steps)
@@ -227,14 +227,14 @@ module _ {St : Type 0} (given : Setting St) (c : Program) (code : ProgramLaws gi
   spent_from zero amount h b t spent le = absurd (omega (arith, le))
   spent_from (suc fuel) amount h b t spent le =
       let mk = makes_script given c code h b t in
-      by_value (script_there h).ends
+      by_value (script_there h b).ends
       (λ e. let r = round given c code h b t mk e in let some = r.some in
       round_spent amount h b r spent
-      (λ more i. spent_from fuel (amount - r.cycles) (behind_script h) r.board r.there more (omega (arith, le, some, i))))
+      (λ more i. spent_from fuel (amount - r.cycles) (behind_script h b) r.board r.there more (omega (arith, le, some, i))))
       (λ e. ⊎_elim
       (λ little. too_little amount b h (going c.step spent.steps b).effects little)
       (λ enough.
       let l = mk.lacks e in
       let most = l.within in
-      absurd (stall_paid c.step code.takes_cycles amount mk.steps mk.cycles l.price (script_there h).effects b spent l.stalls (omega (arith, most, enough))))
+      absurd (stall_paid c.step code.takes_cycles amount mk.steps mk.cycles l.price (script_there h b).effects b spent l.stalls (omega (arith, most, enough))))
       (cases_lt amount (cost_due h + m.delay b.inputs)))

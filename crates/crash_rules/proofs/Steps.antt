@@ -3,7 +3,7 @@ use Rattle.std.proofs.Common.{◌≡◌, ℕ, zero, suc, ◌+◌, ◌≤◌, Lis
 use Rattle.std.proofs.Common.{suc-add, zero-add}
 use Rattle.machine_effects.specs.fram_board.Effects.{Effect}
 use Rattle.machine_effects.specs.World.{fram_after, IsPrefix}
-use Rattle.machine_effects.specs.Inputs.{TakesExactly}
+use Rattle.machine_effects.specs.Inputs.{Inputs, TakesExactly}
 use Rattle.machine_effects.specs.Going.{StepOutcome, Goes, Stops, At, Halted, Stretch, stretch, after_effects, continued, going, Leads, Stalls}
 use Rattle.machine_effects.specs.Machine.{MachineBoard, MachineOutcome}
 use Rattle.machine_effects.specs.Laws.{ChangesByEffects}
@@ -93,6 +93,17 @@ module _ (step : MachineBoard → MachineOutcome) (changes : (s : MachineBoard) 
         inputs = takes_through es fs s.inputs t.inputs q.inputs h.1 k.inputs;
       }
   changed_from n s q (Stops es price x) h ih e = absurd cc
+
+  -- so many steps take exactly what their effects tell, also where the machine halts
+  taken_from : (n : ℕ) (s : MachineBoard) (o : MachineOutcome) → ChangesByEffects s o
+      → ((t : MachineBoard) → (left : Inputs) × TakesExactly (going step n t).effects t.inputs left)
+      → (left : Inputs) × TakesExactly (continued o (going step n)).effects s.inputs left
+  taken_from n s (Goes es c t) h ih = let k = ih t in (k.0, takes_through es (going step n t).effects s.inputs t.inputs k.0 h.1 k.1)
+  taken_from n s (Stops es price x) h ih = h.1
+
+  pub taken_by : (n : ℕ) (s : MachineBoard) → (left : Inputs) × TakesExactly (going step n s).effects s.inputs left
+  taken_by zero s = (s.inputs, takes_nothing s.inputs)
+  taken_by (suc n) s = taken_from n s (step s) (changes s) (λ t. taken_by n t)
 
   -- any number of steps changes FRAM and the inputs by its effects
   pub changed : (n : ℕ) (s q : MachineBoard) → (going step n s).status ≡ At q → Changed s (going step n s).effects q

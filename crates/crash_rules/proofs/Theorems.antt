@@ -4,10 +4,11 @@ use Rattle.machine_effects.specs.msp_step.declared.machine.Stop.{Stop}
 use Rattle.machine_effects.specs.fram_board.Effects.{Effect}
 use Rattle.machine_effects.specs.World.{World}
 use Rattle.machine_effects.specs.Going.{Halted, going}
+use Rattle.machine_effects.specs.Inputs.{Look, SeeWords}
 use Rattle.machine_effects.specs.Machine.{MachineBoard}
 use Rattle.crash_rules.specs.Model.{Model, ModelLaws, Marks, IsWord, IsBetween, bound}
-use Rattle.crash_rules.specs.History.{Done, History, observe, behind_boot, first_history, decided_inputs}
-use Rattle.crash_rules.specs.Runs.{Program, ProgramLaws, Charge, Charged}
+use Rattle.crash_rules.specs.History.{Done, History, observe, behind_boot, first_history, decided_given}
+use Rattle.crash_rules.specs.Runs.{Program, ProgramLaws, Charge, IsPoweredFrom, Charged}
 use Rattle.crash_rules.specs.Laws.{Origin, Resting, Pending, Reaches, IsPending, IsSettled, Transits, Phase, UndecidedPhase, DecidedPhase, CommittingPhase}
 use Rattle.crash_rules.specs.Laws.{StandsFor, IsLawful, Matches, Begins, HasRun, PowersUpBehind, AcceptedDecided, AcceptedWords, AreConsecutive, CrashTheorem}
 use Rattle.crash_rules.specs.Laws.{StopsShort, NeverLost, SentOnce, PendingSends, SpansFollow, FollowFirst, PendingSpansFollow, ProgressLaw, StoresOnly}
@@ -27,11 +28,12 @@ module _ {St : Type 0} (given : Setting St) (c : Program) (code : ProgramLaws gi
   IsAt p h = IsThere given c code p h
 
   -- a power-up behind a lawful history
-  powered_there : (s p : MachineBoard) (h : History) → IsLawful m readings origin h → Matches readings s h → c.IsPoweredUp p → p.fram ≡ s.fram
-      → p.inputs ≡ s.inputs → IsAt p (behind_boot h)
-  powered_there s p h k mt up f l = record {
+  powered_there : (s p : MachineBoard) (h : History) → IsLawful m readings origin h → Matches readings s h → c.IsPoweredUp p → IsPoweredFrom s p
+      → IsAt p (behind_boot h)
+  powered_there s p h k mt up from = record {
     entry = up;
-    matches = record { fram = f ∙ mt.fram; inputs_left = l ∙ mt.inputs_left };
+    matches = record { fram = from.fram ∙ mt.fram; readings_left = from.readings ∙ mt.readings_left };
+    see = from.looks;
     point = booted given h k.stands;
   }
 
@@ -45,16 +47,19 @@ module _ {St : Type 0} (given : Setting St) (c : Program) (code : ProgramLaws gi
   )
   charged_on (e ∷ es) s t h k mt l run =
       let p = e.powered in
-      let q = run.3.0 in
-      let there = powered_there s p h l mt run.0 run.1 run.2 in
+      let q = run.2.0 in
+      let there = powered_there s p h l mt run.0 run.1 in
       let made = (going c.step e.steps p).effects in
       charged_on es q t (observe m.marks made (behind_boot h)) k
-      (matches_more given c code p q (behind_boot h) made there.matches (changed c.step code.changes e.steps p q run.3.1))
-      (lawful_from given c code e.steps (behind_boot h) p there) run.3.2
+      (matches_more given c code p q (behind_boot h) made there.matches (changed c.step code.changes e.steps p q run.2.1))
+      (lawful_from given c code e.steps (behind_boot h) p there) run.2.2
 
   begun : (x : World) (s : MachineBoard) → Begins m readings origin x s
       → IsLawful m readings origin (first_history m.marks x) × Matches readings s (first_history m.marks x)
-  begun x s b = (record { world = refl; stands = b.stands; follows = nothing_first _ }, record { fram = b.fram; inputs_left = b.inputs_left })
+  begun x s b = (
+    record { world = refl; stands = b.stands; follows = record { left = []; follows = nothing_first _ } },
+    record { fram = b.fram; readings_left = b.readings_left },
+  )
 
   ran : (t : MachineBoard) (h : History) → HasRun m c readings origin t h → IsLawful m readings origin h × Matches readings t h
   ran t h run =
@@ -63,7 +68,7 @@ module _ {St : Type 0} (given : Setting St) (c : Program) (code : ProgramLaws gi
 
   -- a charge behind charges
   ready : (p : MachineBoard) (up : PowersUpBehind m c readings origin p) → IsAt p (behind_boot up.history)
-  ready p up = let k = ran up.board up.history up.run in powered_there up.board p up.history k.0 k.1 up.powered up.fram up.inputs_left
+  ready p up = let k = ran up.board up.history up.run in powered_there up.board p up.history k.0 k.1 up.powered up.from
 
   -- a machine that halts, behind charges
   halts_short : (p : MachineBoard) (up : PowersUpBehind m c readings origin p) (n price : ℕ) (e : Stop) → (going c.step n p).status ≡ Halted price e
@@ -121,7 +126,7 @@ never_lost {St} m laws readings origin h l d = by_phase l.stands.state l.stands.
 
 -- the words accepted in a commit, behind a decide and at the start of a run
 accepted_decided : {St : Type 0} (m : Model St) (readings : List ℕ) (h : History) (s next : St) (o : Origin St) (ds : List Done)
-    → Transits m o ds (decided_inputs readings h) s next → IsBetween (m.emitted s) (m.emitted next) h.world.accepted → AcceptedDecided m readings o ds h s
+    → Transits m o ds (decided_given readings h) s next → IsBetween (m.emitted s) (m.emitted next) h.world.accepted → AcceptedDecided m readings o ds h s
 accepted_decided m readings h s next (Resting a) ds t b = (next, t, b)
 accepted_decided m readings h s next (Pending a) [] t b = absurd t
 accepted_decided m readings h s next (Pending a) (d ∷ ds) t b = (next, t, b)
@@ -150,7 +155,7 @@ charged_more c marks [] s t h k run = ([], ap (λ z. z.world.accepted) run.1 ∙
 charged_more c marks (e ∷ es) s t h k run =
     let made = (going c.step e.steps e.powered).effects in
     let one = accepted_more marks made (behind_boot h) in
-    let rest = charged_more c marks es run.3.0 t (observe marks made (behind_boot h)) k run.3.2 in
+    let rest = charged_more c marks es run.2.0 t (observe marks made (behind_boot h)) k run.2.2 in
     (one.0 ++ rest.0, rest.1 ∙ ap (λ l. l ++ rest.0) one.1 ∙ append_assoc h.world.accepted one.0 rest.0)
 
 -- while the first commit is pending, words are accepted that its state has beyond those of the start
@@ -177,7 +182,7 @@ pending_sends {St} m c laws code readings to t h run none =
     by_phase : (z : St) → z ≡ to → Phase m readings (Pending to) z h → IsBetween x.accepted (m.emitted to) h.world.accepted
     by_phase z e (UndecidedPhase u k w) = absurd (subst (IsSettled (Pending to)) none k)
     by_phase z e (DecidedPhase next u q w) =
-        absurd (subst (λ ds. Transits m (Pending to) ds (decided_inputs readings h) z next) none q)
+        absurd (subst (λ ds. Transits m (Pending to) ds (decided_given readings h) z next) none q)
     by_phase z e (CommittingPhase u p n w) = between (laws.committing_words to h.world (subst (λ y. m.Committing y h.world) e w))
 
 first_undecided : {St : Type 0} (m : Model St) → ModelLaws m → (readings : List ℕ) (s0 : St) (x : World)
@@ -202,7 +207,9 @@ module _ {St : Type 0} (given : Setting St) (c : Program) (code : ProgramLaws gi
   record IsOfCharge : Type 0 where
     effects : List Effect
     is : h ≡ observe m.marks effects (behind_boot first)
-    charge : IsCharge given c code (behind_boot first) effects
+    looks : List Look
+    see : SeeWords looks
+    charge : IsCharge given c code (behind_boot first) looks effects
     point : AtPoint given c code (behind_boot first)
 
   of_charge : (e : Charge) → run.charges ≡ e ∷ [] → IsOfCharge
@@ -210,10 +217,12 @@ module _ {St : Type 0} (given : Setting St) (c : Program) (code : ProgramLaws gi
       let led : Charged c m.marks run.start first (e ∷ []) t h = subst (λ es. Charged c m.marks run.start first es t h) one run.leads in
       let start = begun given c code run.world run.start run.begins in
       let p = e.powered in
-      let there = powered_there given c code run.start p first start.0 start.1 led.0 led.1 led.2 in
+      let there = powered_there given c code run.start p first start.0 start.1 led.0 led.1 in
       record {
         effects = (going c.step e.steps p).effects;
-        is = led.3.2.1;
+        is = led.2.2.1;
+        looks = p.inputs.looks;
+        see = there.see;
         charge = plays_from given c code (suc e.steps) e.steps (behind_boot first) p (omega arith) there;
         point = there.point;
       }
@@ -225,7 +234,7 @@ spans_follow m c laws code readings s t h run u e one =
     let k = of_charge given c code t h run e one in
     let first = first_history m.marks run.world in
     let d = first_undecided m laws readings s run.world run.begins.stands u in
-    let sp = charge_spans given c code (behind_boot first) k.effects k.charge k.point d in
+    let sp = charge_spans given c code (behind_boot first) k.looks k.effects k.charge k.see k.point d in
     subst (λ h. AreConsecutive 0 h.completed h.since) (sym k.is)
     (subst (λ ds. AreConsecutive 0 ds (observe m.marks k.effects (behind_boot first)).since) (sym sp.completed) (sp.follow d))
 
@@ -234,7 +243,8 @@ pub pending_spans_follow : {St : Type 0} (m : Model St) (c : Program) → Pendin
 pending_spans_follow {St} m c laws code readings to t h run e one =
     let given = setting m laws readings run.begins.words (Pending to) in
     let k = of_charge given c code t h run e one in
-    let past = charge_past given c code (behind_boot first) k.effects k.charge k.point (first_decided run.begins.stands.state run.begins.stands.phase) in
+    let decided = first_decided run.begins.stands.state run.begins.stands.phase in
+    let past = charge_past given c code (behind_boot first) k.looks k.effects k.charge k.see k.point decided in
     subst (λ h. FollowFirst h.completed h.since) (sym k.is) (follow _ past)
   where
     first : History
@@ -275,7 +285,8 @@ pub stores_only : {St : Type 0} (m : Model St) (c : Program) (P : ℕ → ℕ �
 stores_only m c P laws code scripts readings origin p up n =
     let given = setting m laws readings up.run.begins.words origin in
     let r = ready given c code p up in
-    charge_stores given c code P scripts (behind_boot up.history) _ (plays_from given c code (suc n) n (behind_boot up.history) p (omega arith) r) r.point
+    charge_stores given c code P scripts (behind_boot up.history) p.inputs.looks _
+    (plays_from given c code (suc n) n (behind_boot up.history) p (omega arith) r) r.see r.point
 
 -- a run may begin with any readings
 pub runs_may_begin : {St : Type 0} (m : Model St) → RunsMayBegin m
@@ -284,6 +295,6 @@ runs_may_begin m laws readings = record {
   pending = λ to x d. record {
     state = to;
     reached = refl;
-    phase = CommittingPhase (ap (λ n. n == 1) (laws.committing_gate to x d)) tt (refl, refl) d;
+    phase = CommittingPhase (ap (λ n. n == 1) (laws.committing_gate to x d)) tt (refl, refl, refl) d;
   };
 }

@@ -7,13 +7,14 @@ use Rattle.machine_effects.specs.fram_board.Board.{BoardValue, BoardOutcome}
 use Rattle.machine_effects.specs.fram_board.Effects.{Effect, effects_of}
 pub use Rattle.machine_effects.specs.fram_board.Gate.{is_decide, is_done}
 use Rattle.machine_effects.specs.World.{World, world_after_one, world_after, readings_taken}
-use Rattle.machine_effects.specs.Inputs.{Inputs}
-use Rattle.crash_rules.specs.Model.{Marks}
+use Rattle.machine_effects.specs.Inputs.{Look, Inputs}
+use Rattle.crash_rules.specs.Model.{Marks, Given, answers_in}
 
--- a done: the span of the decide before it, and FRAM and the accepted words behind it
+-- a done: the span and the answers of the decide before it, and FRAM and the accepted words behind it
 pub record Done : Type 0 where
   pub span_from : ℕ
   pub span_to : ℕ
+  pub answers : List ℕ
   pub world : World
 
 -- what is known of a run so far
@@ -26,6 +27,7 @@ pub record History : Type 0 where
   pub effects : List Effect  -- the effects since
   pub span_from : ℕ  -- the span of the last decide: the readings taken between the last boot or done before it and the decide
   pub span_to : ℕ
+  pub answers : List ℕ  -- the answers of the last decide: the words stored to ANS between the same
   pub decided : Bool  -- whether no done came since the last decide
   pub completed : List Done  -- the dones, in order
 
@@ -38,8 +40,8 @@ with_effect e h = record h {
 }
 
 -- the history behind a decide
-abbrev pub behind_decide : History → History
-behind_decide h = record h { span_from = h.since; span_to = h.taken; decided = true }
+abbrev pub behind_decide : Marks → History → History
+behind_decide marks h = record h { span_from = h.since; span_to = h.taken; answers = answers_in marks h.effects; decided = true }
 
 -- the history behind a done
 abbrev pub behind_done : History → History
@@ -49,16 +51,16 @@ behind_done h = record h {
   start = h.world;
   effects = [];
   decided = false;
-  completed = h.completed ++ record { span_from = h.span_from; span_to = h.span_to; world = h.world } ∷ [];
+  completed = h.completed ++ record { span_from = h.span_from; span_to = h.span_to; answers = h.answers; world = h.world } ∷ [];
 }
 
 -- the history behind a change of GATE
-abbrev pub behind_gate : ℕ → ℕ → History → History
-behind_gate before now h = if is_done before now then behind_done h else if is_decide before now then behind_decide h else h
+abbrev pub behind_gate : Marks → ℕ → ℕ → History → History
+behind_gate marks before now h = if is_done before now then behind_done h else if is_decide before now then behind_decide marks h else h
 
 -- the history behind one effect, by these marks
 abbrev pub observe_one : Marks → Effect → History → History
-observe_one marks e h = behind_gate (h.world.fram marks.gate) ((world_after_one e h.world).fram marks.gate) (with_effect e h)
+observe_one marks e h = behind_gate marks (h.world.fram marks.gate) ((world_after_one e h.world).fram marks.gate) (with_effect e h)
 
 -- the history behind effects, the first one first
 abbrev pub observe : Marks → List Effect → History → History
@@ -80,6 +82,7 @@ first_history marks x = record {
   effects = [];
   span_from = 0;
   span_to = 0;
+  answers = [];
   decided = x.fram marks.gate == 1;
   completed = [];
 }
@@ -92,16 +95,20 @@ decided_readings readings h = slice_range readings h.span_from h.span_to
 abbrev pub done_readings : List ℕ → Done → List ℕ
 done_readings readings d = slice_range readings d.span_from d.span_to
 
--- what is left of a run's readings from a position on, as inputs: no look is ready
-abbrev pub inputs_from : List ℕ → ℕ → Inputs
-inputs_from readings from = record { readings = drop from readings; looks = [] }
+-- what is left of a run's readings from a position on, as inputs with these looks. Readings are a run's; the looks of each charge are its own
+abbrev pub inputs_from : List ℕ → ℕ → List Look → Inputs
+inputs_from readings from looks = record { readings = drop from readings; looks = looks }
 
--- what the last decide took, and what a done committed
-abbrev pub decided_inputs : List ℕ → History → Inputs
-decided_inputs readings h = record { readings = decided_readings readings h; looks = [] }
+-- what the task of the last decide was given, and that of a done
+abbrev pub decided_given : List ℕ → History → Given
+decided_given readings h = record { readings = decided_readings readings h; answers = h.answers }
 
-abbrev pub done_inputs : List ℕ → Done → Inputs
-done_inputs readings d = record { readings = done_readings readings d; looks = [] }
+abbrev pub done_given : List ℕ → Done → Given
+done_given readings d = record { readings = done_readings readings d; answers = d.answers }
+
+-- what a task was given since the last boot or done, if it asks for no reading more: all that are left from there on
+abbrev pub given_since : Marks → List ℕ → History → Given
+given_since marks readings h = record { readings = drop h.since readings; answers = answers_in marks h.effects }
 
 -- the positions of a history: those at the last boot or done and of the last decide, and from where to where each done has its span
 pub record Positions : Type 0 where

@@ -2,12 +2,15 @@
 use Rattle.std.specs.Prelude.{◌≡◌, ℕ, ◌+◌, ◌*◌, ◌<◌, ◌≤◌, Bool, true, false, List, [], ◌∷◌, ◌++◌, length, drop, All}
 use Rattle.machine_effects.specs.msp_step.declared.machine.Stop.{Stop}
 use Rattle.machine_effects.specs.msp_step.declared.machine.Stop.TheVariants as stop
-use Rattle.machine_effects.specs.World.{World, world_after, IsPrefix, EachStore}
+use Rattle.machine_effects.specs.fram_board.Effects.{Effect}
+use Rattle.machine_effects.specs.World.{World, world_after, looks_taken, IsPrefix, EachStore}
+use Rattle.machine_effects.specs.Inputs.{Look}
 use Rattle.machine_effects.specs.Going.{At, Halted, going}
 use Rattle.machine_effects.specs.Machine.{MachineBoard}
-use Rattle.crash_rules.specs.Model.{Model, ModelLaws, Ends, Short, IsWord, IsBetween, Inputs, no_inputs, InputsAreWords, bound, script}
-use Rattle.crash_rules.specs.History.{Done, History, observe, behind_boot, first_history, inputs_from, decided_inputs, done_inputs}
-use Rattle.crash_rules.specs.Runs.{Program, ProgramLaws, Charge, Charged, IsSpentFrom}
+use Rattle.crash_rules.specs.Model.{Model, ModelLaws, Given, nothing_given, Ends, Short, IsWord, IsBetween, Inputs, InputsAreWords, bound, script}
+use Rattle.crash_rules.specs.History.{Done, History, observe, behind_boot, first_history, inputs_from, decided_given, done_given}
+use Rattle.crash_rules.specs.History.{given_since}
+use Rattle.crash_rules.specs.Runs.{Program, ProgramLaws, Charge, IsPoweredFrom, Charged, IsSpentFrom}
 
 -- how a run begins: at a state, or with a commit that is pending, and the state that it leaves
 pub data Origin (St : Type 0) : Type 0 where
@@ -15,21 +18,21 @@ pub data Origin (St : Type 0) : Type 0 where
   Pending : (to : St) → Origin St
 
 -- the source's run on these dones, from a state to a state: a whole task for each, which takes exactly the done's committed
--- readings; behind the done the world rests at the task's state
+-- readings and answers; behind the done the world rests at the task's state
 abbrev pub SourceRun : {St : Type 0} → Model St → List ℕ → St → List Done → St → Type 0
 SourceRun m readings s [] t = t ≡ s
-SourceRun {St} m readings s (d ∷ ds) t = (u : St) × (m.task s (done_inputs readings d) ≡ Ends u no_inputs) × m.Rests u d.world × SourceRun m readings u ds t
+SourceRun {St} m readings s (d ∷ ds) t = (u : St) × (m.task s (done_given readings d) ≡ Ends u nothing_given) × m.Rests u d.world × SourceRun m readings u ds t
 
--- a commit that was pending at the start has no readings of its own
-abbrev pub HasNoSpan : ℕ → ℕ → Type 0
-HasNoSpan from to = (from ≡ 0) × (to ≡ 0)
+-- a commit that was pending at the start has no readings of its own, and no answers
+abbrev pub HasNoSpan : ℕ → ℕ → List ℕ → Type 0
+HasNoSpan from to answers = (from ≡ 0) × (to ≡ 0) × (answers ≡ [])
 
 -- the state of the last done: that of the source's run. Behind a pending commit the run goes on from the state that this leaves, which
 -- is the state before its done too
 abbrev pub Reaches : {St : Type 0} → Model St → List ℕ → Origin St → List Done → St → Type 0
 Reaches m readings (Resting s) ds t = SourceRun m readings s ds t
 Reaches m readings (Pending to) [] t = t ≡ to
-Reaches m readings (Pending to) (d ∷ ds) t = HasNoSpan d.span_from d.span_to × m.Rests to d.world × SourceRun m readings to ds t
+Reaches m readings (Pending to) (d ∷ ds) t = HasNoSpan d.span_from d.span_to d.answers × m.Rests to d.world × SourceRun m readings to ds t
 
 -- the commit that was pending at the start isn't done yet
 abbrev pub IsPending : {St : Type 0} → Origin St → List Done → Type 0
@@ -43,19 +46,19 @@ IsSettled (Resting s) ds = Unit {0}
 IsSettled (Pending to) [] = ⊥
 IsSettled (Pending to) (d ∷ ds) = Unit {0}
 
--- the transition to come leads from s to this next state by the task on these inputs, once nothing is pending
-abbrev pub Transits : {St : Type 0} → Model St → Origin St → List Done → Inputs → St → St → Type 0
-Transits m (Resting o) ds inputs s next = m.task s inputs ≡ Ends next no_inputs
-Transits m (Pending to) [] inputs s next = ⊥
-Transits m (Pending to) (d ∷ ds) inputs s next = m.task s inputs ≡ Ends next no_inputs
+-- the transition to come leads from s to this next state by the task on what it was given, once nothing is pending
+abbrev pub Transits : {St : Type 0} → Model St → Origin St → List Done → Given → St → St → Type 0
+Transits m (Resting o) ds given s next = m.task s given ≡ Ends next nothing_given
+Transits m (Pending to) [] given s next = ⊥
+Transits m (Pending to) (d ∷ ds) given s next = m.task s given ≡ Ends next nothing_given
 
--- the world is undecided at the state of the last done, or decided from it to what the task gives on the readings of the decide; or the
+-- the world is undecided at the state of the last done, or decided from it to what the task gives on the readings and answers of the decide; or the
 -- commit that was pending at the start isn't done, and leaves the state
 pub data Phase {St : Type 0} (m : Model St) (readings : List ℕ) (origin : Origin St) (s : St) (h : History) : Type 0 where
   UndecidedPhase : h.decided ≡ false → IsSettled origin h.completed → m.Undecided s h.world → Phase m readings origin s h
-  DecidedPhase : (next : St) → h.decided ≡ true → Transits m origin h.completed (decided_inputs readings h) s next → m.Decided s next h.world
+  DecidedPhase : (next : St) → h.decided ≡ true → Transits m origin h.completed (decided_given readings h) s next → m.Decided s next h.world
       → Phase m readings origin s h
-  CommittingPhase : h.decided ≡ true → IsPending origin h.completed → HasNoSpan h.span_from h.span_to → m.Committing s h.world
+  CommittingPhase : h.decided ≡ true → IsPending origin h.completed → HasNoSpan h.span_from h.span_to h.answers → m.Committing s h.world
       → Phase m readings origin s h
 
 -- a history stands for a run of the source
@@ -64,10 +67,15 @@ pub record StandsFor {St : Type 0} (m : Model St) (readings : List ℕ) (origin 
   pub reached : Reaches m readings origin h.completed state
   pub phase : Phase m readings origin state h
 
--- the effects since the last boot or done are a prefix of the script there: the commit, or the start, the task on the readings
--- from there on, and the commit; behind a boot the recovery in front of the start
+-- effects are a prefix of a script: the commit, or the start, the task on the readings from a position on and on the looks that these
+-- effects take, with some behind them, and the commit; behind a boot the recovery in front of the start
+pub record IsOfScript {St : Type 0} (m : Model St) (readings : List ℕ) (since : ℕ) (booted : Bool) (fram : ℕ → ℕ) (es : List Effect) : Type 0 where
+  pub left : List Look
+  pub follows : IsPrefix es (script m booted fram (inputs_from readings since (looks_taken es ++ left))).effects
+
+-- those since the last boot or done are a prefix of the script there
 abbrev pub FollowsScript : {St : Type 0} → Model St → List ℕ → History → Type 0
-FollowsScript m readings h = IsPrefix h.effects (script m h.booted h.start.fram (inputs_from readings h.since)).effects
+FollowsScript m readings h = IsOfScript m readings h.since h.booted h.start.fram h.effects
 
 -- what holds of each history of a run
 pub record IsLawful {St : Type 0} (m : Model St) (readings : List ℕ) (origin : Origin St) (h : History) : Type 0 where
@@ -78,12 +86,12 @@ pub record IsLawful {St : Type 0} (m : Model St) (readings : List ℕ) (origin :
 -- a machine that holds what a history says
 pub record Matches (readings : List ℕ) (s : MachineBoard) (h : History) : Type 0 where
   pub fram : s.fram ≡ h.world.fram
-  pub inputs_left : s.inputs ≡ inputs_from readings h.taken
+  pub readings_left : s.inputs.readings ≡ drop h.taken readings
 
 -- a run may begin like this
 pub record Begins {St : Type 0} (m : Model St) (readings : List ℕ) (origin : Origin St) (x : World) (s : MachineBoard) : Type 0 where
   pub fram : s.fram ≡ x.fram
-  pub inputs_left : s.inputs ≡ inputs_from readings 0
+  pub readings_left : s.inputs.readings ≡ readings
   pub words : All IsWord readings
   pub stands : StandsFor m readings origin (first_history m.marks x)
 
@@ -108,14 +116,13 @@ pub record HasRun {St : Type 0} (m : Model St) (c : Program) (readings : List �
   pub charges : List Charge
   pub leads : RunsTo m c world start charges t h
 
--- a board that a further power-up leaves behind a run: FRAM and the inputs stay
+-- a board that a further power-up leaves behind a run: FRAM and the readings stay
 pub record PowersUpBehind {St : Type 0} (m : Model St) (c : Program) (readings : List ℕ) (origin : Origin St) (p : MachineBoard) : Type 0 where
   pub board : MachineBoard
   pub history : History
   pub run : HasRun m c readings origin board history
   pub powered : c.IsPoweredUp p
-  pub fram : p.fram ≡ board.fram
-  pub inputs_left : p.inputs ≡ board.inputs
+  pub from : IsPoweredFrom board p
 
 -- after any charges, each cut behind any number of steps: the board stands for a run of the source, and the effects since the
 -- last boot or done follow the script
@@ -123,13 +130,16 @@ abbrev pub CrashTheorem : {St : Type 0} → Model St → Program → Type 0
 CrashTheorem {St} m c = ModelLaws m → ProgramLaws m c → (readings : List ℕ) (origin : Origin St) (t : MachineBoard) (h : History)
     → HasRun m c readings origin t h → IsLawful m readings origin h × Matches readings t h
 
--- a machine stops for want of a reading alone, and there the source is short too: at the state of the last done, on the readings
--- from the last boot or done on
+-- the source is short at the state of the last done, on the readings from the last boot or done on and the answers since then
+abbrev pub IsShort : {St : Type 0} → Model St → List ℕ → St → History → Type 0
+IsShort m readings s h = m.task s (given_since m.marks readings h) ≡ Short
+
+-- a machine stops for want of a reading alone, and there the source is short too
 abbrev pub StopsShort : {St : Type 0} → Model St → Program → Type 0
 StopsShort {St} m c = ModelLaws m → ProgramLaws m c → (readings : List ℕ) (origin : Origin St) (p : MachineBoard)
     → (up : PowersUpBehind m c readings origin p) → (n price : ℕ) (e : Stop) → (going c.step n p).status ≡ Halted price e
     → let k = observe m.marks (going c.step n p).effects (behind_boot up.history) in
-    (e ≡ stop.NoReading) × ((st : StandsFor m readings origin k) × (k.decided ≡ false) × (m.task st.state (inputs_from readings k.since) ≡ Short))
+    (e ≡ stop.NoReading) × ((st : StandsFor m readings origin k) × (k.decided ≡ false) × IsShort m readings st.state k)
 
 -- where a decide came and no done since, or the first commit is still pending, GATE is 1, and the world is undecided at no state, whatever
 -- boots stand between
@@ -142,7 +152,7 @@ NeverLost {St} m = ModelLaws m → (readings : List ℕ) (origin : Origin St) (h
 abbrev pub AcceptedDecided : {St : Type 0} → Model St → List ℕ → Origin St → List Done → History → St → Type 0
 AcceptedDecided m readings (Pending to) [] h s = IsBetween [] (m.emitted s) h.world.accepted
 AcceptedDecided {St} m readings origin ds h s =
-    (next : St) × Transits m origin ds (decided_inputs readings h) s next × IsBetween (m.emitted s) (m.emitted next) h.world.accepted
+    (next : St) × Transits m origin ds (decided_given readings h) s next × IsBetween (m.emitted s) (m.emitted next) h.world.accepted
 
 -- the accepted words are those of the state of the last done; between a decide and its done, these with some of the task's words
 -- behind them

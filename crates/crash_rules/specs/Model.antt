@@ -1,14 +1,22 @@
 -- What the crash theorem needs to know of a source, of its runtime and of what FRAM stands for: the model, and what each layer
 -- owes. Nothing here knows where anything is in FRAM.
-use Rattle.std.specs.Prelude.{◌≡◌, ◌≢◌, ℕ, zero, suc, ◌<◌, ◌==◌, if◌then◌else◌, nat_lt, Bool, true, false, List, [], ◌∷◌, ◌++◌}
+use Rattle.std.specs.Prelude.{◌≡◌, ◌≢◌, ℕ, zero, suc, ◌<◌, ◌==◌, if◌then◌else◌, nat_lt, Bool, true, false, List, [], ◌∷◌, ◌++◌, Option, Some, None}
 pub use Rattle.machine_effects.specs.alp_words.Words.{IsWord}
-use Rattle.machine_effects.specs.fram_board.Effects.{Effect, Store}
+use Rattle.machine_effects.specs.fram_board.Effects.{Effect, Store, Take, Outside}
 use Rattle.machine_effects.specs.World.{World, world_after_one, world_after, fram_after, readings_taken, EachStore}
 pub use Rattle.machine_effects.specs.Inputs.{Inputs, inputs_taken, no_inputs, inputs_behind, InputsAreWords, TakesExactly}
 
--- how a whole task ends: in a state of the source, with inputs left over, or for want of a reading
+-- what a task is given: readings, and the answers of its `next_event()`
+pub record Given : Type 0 where
+  pub readings : List ℕ
+  pub answers : List ℕ
+
+abbrev pub nothing_given : Given
+nothing_given = record { readings = []; answers = [] }
+
+-- how a whole task ends: in a state of the source, with what is left over of what it was given, or for want of a reading
 pub data Outcome (St : Type 0) : Type 0 where
-  Ends : (state : St) → (left : Inputs) → Outcome St
+  Ends : (state : St) → (left : Given) → Outcome St
   Short : Outcome St
 
 -- the effects of a program, and whether it comes to its end; if not, it wants a reading that isn't left
@@ -32,10 +40,31 @@ HoldsThroughout P (e ∷ es) x = P x × HoldsThroughout P es (world_after_one e 
 -- the addresses of the words of FRAM that tell what happens in a run
 pub record Marks : Type 0 where
   pub gate : ℕ  -- GATE
+  pub answer : Option ℕ  -- ANS, the word to which each answer of `next_event()` is stored, where the source takes events
+
+-- the words that effects store at an address, in order
+abbrev pub words_stored : ℕ → List Effect → List ℕ
+words_stored address [] = []
+words_stored address (Store a w ∷ es) = if a == address then w ∷ words_stored address es else words_stored address es
+words_stored address (Take w ∷ es) = words_stored address es
+words_stored address (Outside o ∷ es) = words_stored address es
+
+-- those that they store to ANS, if there is such a word
+abbrev pub answers_at : Option ℕ → List Effect → List ℕ
+answers_at None es = []
+answers_at (Some address) es = words_stored address es
+
+-- the answers that effects store
+abbrev pub answers_in : Marks → List Effect → List ℕ
+answers_in marks es = answers_at marks.answer es
+
+-- what a task is given that has these effects: the readings that they take, and the answers that they store
+abbrev pub given_by : Marks → List Effect → Given
+given_by marks es = record { readings = readings_taken es; answers = answers_in marks es }
 
 -- a source with its runtime. St is what a state of the source is: its shared words, its current task and the words emitted so far
 pub record Model (St : Type 0) : Type 1 where
-  pub task : St → Inputs → Outcome St  -- the state's current task, run whole on these inputs
+  pub task : St → Given → Outcome St  -- the state's current task, run whole on what it is given
   pub task_number : St → ℕ  -- the number of the current task
   pub emitted : St → List ℕ  -- the words emitted so far
   pub tasks : ℕ  -- how many tasks there are
@@ -80,30 +109,34 @@ abbrev pub IsElsewhere : ℕ → ℕ → ℕ → Type 0
 IsElsewhere address a w = a ≢ address
 
 -- an attempt that comes to a transition: its last effect stores 1 to GATE, which decides from s to the next state; up to there the
--- world is undecided at s. It takes exactly the inputs on which the task comes to the next state
-pub record Decides {St : Type 0} (m : Model St) (s next : St) (left inputs : Inputs) (x : World) (p : ProgramEffects) : Type 0 where
+-- world is undecided at s. It takes some of the inputs, and on exactly the readings that it takes and the answers that it stores the task
+-- comes to the next state
+pub record Decides {St : Type 0} (m : Model St) (s next : St) (inputs : Inputs) (x : World) (p : ProgramEffects) : Type 0 where
   pub before : List Effect
+  pub left : Inputs
   pub is : p ≡ program_effects (before ++ Store m.marks.gate 1 ∷ []) true
   pub elsewhere : EachStore (IsElsewhere m.marks.gate) before
   pub reads : TakesExactly before inputs left
   pub undecided : HoldsThroughout (m.Undecided s) before x
   pub decided : m.Decided s next (world_after_one (Store m.marks.gate 1) (world_after before x))
-  pub exact : m.task s (inputs_taken before) ≡ Ends next no_inputs
+  pub exact : m.task s (given_by m.marks (before ++ Store m.marks.gate 1 ∷ [])) ≡ Ends next nothing_given
 
--- an attempt that wants a reading too many: the world is undecided all along
-pub record RunsShort {St : Type 0} (m : Model St) (s : St) (x : World) (p : ProgramEffects) : Type 0 where
+-- an attempt that wants a reading too many: the world is undecided all along, and the task is short on all the readings and the answers so far
+pub record RunsShort {St : Type 0} (m : Model St) (s : St) (inputs : Inputs) (x : World) (p : ProgramEffects) : Type 0 where
   pub is : p.ends ≡ false
   pub elsewhere : EachStore (IsElsewhere m.marks.gate) p.effects
   pub undecided : HoldsThroughout (m.Undecided s) p.effects x
+  pub short : m.task s (record { readings = inputs.readings; answers = answers_in m.marks p.effects }) ≡ Short
 
--- what an attempt owes, by the outcome of the task: it decides, or is short exactly where the task is
-abbrev pub AttemptContract : {St : Type 0} → Model St → St → Inputs → World → Outcome St → ProgramEffects → Type 0
-AttemptContract m s inputs x (Ends next left) p = Decides m s next left inputs x p
-AttemptContract m s inputs x Short p = RunsShort m s x p
+-- what an attempt owes: it decides, or is short where the task is
+pub data AttemptContract {St : Type 0} (m : Model St) (s : St) (inputs : Inputs) (x : World) (p : ProgramEffects) : Type 0 where
+  Comes : (next : St) → Decides m s next inputs x p → AttemptContract m s inputs x p
+  Lacks : RunsShort m s inputs x p → AttemptContract m s inputs x p
 
--- effects that take no reading, leave GATE alone and keep the world undecided throughout
+-- effects that take nothing of what is ready, store no answer, leave GATE alone and keep the world undecided throughout
 pub record StaysUndecided {St : Type 0} (m : Model St) (s : St) (x : World) (es : List Effect) : Type 0 where
-  pub takes_none : readings_taken es ≡ []
+  pub takes_none : inputs_taken es ≡ no_inputs
+  pub answers_none : answers_in m.marks es ≡ []
   pub elsewhere : EachStore (IsElsewhere m.marks.gate) es
   pub undecided : HoldsThroughout (m.Undecided s) es x
 
@@ -113,12 +146,12 @@ pub record RecoveryKeeps {St : Type 0} (m : Model St) (s : St) (x : World) : Typ
   pub settled : m.Settled s (world_after (m.recover x.fram) x)
 
 -- what a commit owes on these inputs: its last effect stores 0 to GATE; up to there the world stays as it is said to be, and behind it
--- rests at a state. It takes no reading
+-- rests at a state. It takes nothing of what is ready
 pub record CommitKeeps {St : Type 0} (m : Model St) (Kept : World → Type 0) (to : St) (inputs : Inputs) (x : World) : Type 0 where
   pub before : List Effect
   pub is : m.commit x.fram inputs ≡ before ++ Store m.marks.gate 0 ∷ []
   pub elsewhere : EachStore (IsElsewhere m.marks.gate) before
-  pub takes_none : readings_taken before ≡ []
+  pub takes_none : inputs_taken before ≡ no_inputs
   pub kept : HoldsThroughout Kept before x
   pub rests : m.Rests to (world_after_one (Store m.marks.gate 0) (world_after before x))
 
@@ -150,4 +183,4 @@ pub record ModelLaws {St : Type 0} (m : Model St) : Type 0 where
   pub commits : (to : St) (x : World) (inputs : Inputs) → m.Committing to x → CommitKeeps m (m.Committing to) to inputs x
   pub recovers : (s : St) (x : World) → m.Undecided s x → RecoveryKeeps m s x
   pub attempts : (s : St) (x : World) (inputs : Inputs) → InputsAreWords inputs → m.Settled s x
-      → AttemptContract m s inputs x (m.task s inputs) (m.attempt x.fram inputs)
+      → AttemptContract m s inputs x (m.attempt x.fram inputs)

@@ -3,6 +3,7 @@ use Rattle.std.specs.Prelude.{◌≡◌, ℕ, ◌+◌, ◌-◌, ◌<◌, ◌≤�
 use Rattle.machine_effects.specs.msp_step.declared.machine.Stop.TheVariants as stop
 use Rattle.machine_effects.specs.fram_board.Effects.{Effect}
 use Rattle.machine_effects.specs.World.{World}
+use Rattle.machine_effects.specs.Inputs.{SeeWords}
 use Rattle.machine_effects.specs.Going.{Goes, Stops, At, going, Leads, Stalls}
 use Rattle.machine_effects.specs.Machine.{MachineBoard, MachineOutcome}
 use Rattle.machine_effects.specs.Laws.{ChangesByEffects}
@@ -65,10 +66,16 @@ pub record Charge : Type 0 where
   pub powered : MachineBoard
   pub steps : ℕ
 
--- charges that lead from a board to a board, and the histories before and behind them. A power-up keeps FRAM and the inputs
+-- a machine that a power-up left, from one before it: FRAM and the readings that are left are as they were. The looks of its charge are any
+pub record IsPoweredFrom (s p : MachineBoard) : Type 0 where
+  pub fram : p.fram ≡ s.fram
+  pub readings : p.inputs.readings ≡ s.inputs.readings
+  pub looks : SeeWords p.inputs.looks
+
+-- charges that lead from a board to a board, and the histories before and behind them
 abbrev pub Charged : Program → Marks → MachineBoard → History → List Charge → MachineBoard → History → Type 0
 Charged c marks s h [] t k = (t ≡ s) × (k ≡ h)
-Charged c marks s h (e ∷ es) t k = c.IsPoweredUp e.powered × (e.powered.fram ≡ s.fram) × (e.powered.inputs ≡ s.inputs)
+Charged c marks s h (e ∷ es) t k = c.IsPoweredUp e.powered × IsPoweredFrom s e.powered
     × ((q : MachineBoard) × ((going c.step e.steps e.powered).status ≡ At q)
     × Charged c marks q (observe marks (going c.step e.steps e.powered).effects (behind_boot h)) es t k)
 

@@ -2,7 +2,7 @@
 -- as far as the handler has come.
 use Rattle.std.specs.Prelude.{◌≡◌, ℕ, ◌-◌, ◌*◌, ◌/◌, ◌%◌, ◌≤◌, ◌==◌, Bool, true, false, if◌then◌else◌, List, [], ◌∷◌, Option, Some, None}
 use Rattle.msp_step.specs.alp_words.Words.{word_sum, word_difference}
-use Rattle.fram_board.specs.address_space.Limits.{stack_top}
+use Rattle.fram_board.specs.address_space.Limits.{stack_floor, stack_top}
 use Rattle.fram_board.specs.msp_step.Registers.{Registers, registers_of}
 use Rattle.fram_board.specs.msp_step.Effect.{flags_of}
 use Rattle.fram_board.specs.declared.events.Heard.{Heard}
@@ -17,10 +17,6 @@ use Rattle.event_places.specs.Places.{tail_place, head_place, slot_place, ring_s
 use Rattle.event_handler.specs.Handler.{Stage, SaveR4, SaveR5, TakeEvent, LoadHead, SubtractTail, CompareRoom, LeaveIfFull, LoadHeadAgain, CutToSlots}
 use Rattle.event_handler.specs.Handler.{DoubleIndex, StoreWord, RaiseHead, RestoreR5, RestoreR4, Return, HasHandler, place_at}
 
--- the lowest SP at which a board with a handler accepts an event
-abbrev pub lowest_stack : ℕ
-lowest_stack = 0x1C20
-
 abbrev pub stack_of : BoardValue → ℕ
 stack_of b = registers_of b.cpu 1
 
@@ -30,7 +26,7 @@ pub record IsInterrupted (from : BoardValue) : Type 0 where
   pub words : IsOfWords from
   pub accepting : is_accepting from ≡ true
   pub handler : HasHandler (fram_of from.fram)
-  pub low : lowest_stack ≤ stack_of from
+  pub low : stack_floor ≤ stack_of from
   pub high : stack_of from ≤ stack_top
 
 -- the word that waits in EVENT

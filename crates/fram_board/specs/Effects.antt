@@ -10,11 +10,14 @@ use Rattle.fram_board.specs.declared.receiver.Receiver.{Receiver}
 use Rattle.fram_board.specs.Bus.{is_fram}
 use Rattle.fram_board.specs.Board.{BoardValue, BoardOutcome, offered_to}
 
--- what a step does to something outside the board
+-- what a step has to do with the outside
 pub data OutsideEffect : Type 0 where
   Offered : (number word : ℕ) → OutsideEffect  -- a word is offered to the receiver
+  -- a program looks at words that a handler writes while it runs, and sees this there, by address. No step of the board tells it: to the
+  -- board they are words of FRAM
+  Looked : (seen : ℕ → ℕ) → OutsideEffect
 
--- a store to FRAM, a reading taken, an effect outside the board
+-- a store to FRAM, a reading taken, what has to do with the outside
 pub data Effect : Type 0 where
   Store : (address word : ℕ) → Effect  -- a word of FRAM, at its even address
   Take : (reading : ℕ) → Effect
@@ -60,9 +63,10 @@ stored (Store a w ∷ es) fram = stored es (slice_set fram (place_of a) w)
 stored (Take w ∷ es) fram = stored es fram
 stored (Outside o ∷ es) fram = stored es fram
 
--- the receiver after an effect outside the board
+-- the receiver after such an effect
 abbrev pub receiver_behind : OutsideEffect → Receiver → Receiver
 receiver_behind (Offered n w) r = offered_to n r
+receiver_behind (Looked seen) r = r
 
 -- the receiver after the sends among them
 abbrev pub heard : List Effect → Receiver → Receiver

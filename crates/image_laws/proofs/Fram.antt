@@ -2,6 +2,7 @@
 use Rattle.image_laws.proofs.Names.{◌≡◌, ◌∙◌, ◌+◌, ◌*◌, ◌%◌, ◌<◌, ◌≤◌, ◌==◌, ◌&&◌, ℕ, suc, true, false, cond, nat_lt, nat_le, List, [], ◌∷◌, map, length, refl}
 use Rattle.image_laws.proofs.Names.{ap, arith, slice_index, nat_tests, fram_first, place_of, is_fram, IsFram, IsPlace, fram_of, VariablePlace, end_of, home_region}
 use Rattle.image_laws.proofs.Names.{AreInOrder, is_within, word_of_row, shared_word}
+use Rattle.memory_map.proofs.Interface.{in_order_end}
 use Rattle.code_forms.specs.Placed.{Holds}
 use Rattle.memory_map.specs.declared.place.Region.{Region}
 
@@ -32,6 +33,9 @@ within r a low high = grind (arith, nat_tests, low, high)
 pub outside_before : (r : Region) (a : ℕ) → a < r.address → is_within r a ≡ false
 outside_before r a h = grind (arith, nat_tests, h)
 
+pub outside_behind : (r : Region) (a : ℕ) → end_of r ≤ a → is_within r a ≡ false
+outside_behind r a h = grind (arith, nat_tests, h)
+
 -- words one behind another are held
 pub holds_by : (f : ℕ → ℕ) (p : ℕ) (ws : List ℕ) → ((i : ℕ) → i < length ws → f (p + 2 * i) ≡ slice_index ws i) → Holds f p ws
 holds_by f p [] h = tt
@@ -47,3 +51,13 @@ none_before from end a (v ∷ vs) (row ∷ rows) order l =
     let low = order.0.from in
     ap (λ b. cond b (word_of_row (home_region v) row a) (shared_word vs rows a)) (outside_before (home_region v) a (omega (arith, l, low)))
     ∙ none_before (end_of (home_region v)) end a vs rows order.1 (omega (arith, l, low))
+
+-- nor behind the last
+pub none_behind : (from end a : ℕ) (vs : List VariablePlace) (rows : List (List ℕ)) → AreInOrder from (map home_region vs) end → end ≤ a
+    → shared_word vs rows a ≡ 0
+none_behind from end a [] rows order l = refl
+none_behind from end a (v ∷ vs) [] order l = refl
+none_behind from end a (v ∷ vs) (row ∷ rows) order l =
+    let last = in_order_end (end_of (home_region v)) end (map home_region vs) order.1 in
+    ap (λ b. cond b (word_of_row (home_region v) row a) (shared_word vs rows a)) (outside_behind (home_region v) a (omega (arith, l, last)))
+    ∙ none_behind (end_of (home_region v)) end a vs rows order.1 l

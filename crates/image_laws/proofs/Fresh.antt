@@ -4,7 +4,9 @@ use Rattle.image_laws.proofs.Names.{true, false, List, length, All, nat_tests, s
 use Rattle.image_laws.proofs.Names.{IsAcceptedText, ImageValue, place_of, is_fram, IsFram, fram_of, IsSharedWord, HoldsWords, RestsAt, privates_are_few}
 use Rattle.image_laws.proofs.Names.{HasLayout, tasks_match, program_places, is_within, shared_word, state_view, Model, is_redo, code_words, code_region}
 use Rattle.image_laws.proofs.Names.{data_word, IsCompiled, fresh_world, IsFreshImage, ImagesAreFresh, reset_vector, CurrentTask, Gate, Base, MemoryMap}
-use Rattle.image_laws.proofs.Names.{word_place, end_of, IsLaidOut}
+use Rattle.image_laws.proofs.Names.{word_place, end_of, IsLaidOut, Bool, ⊎_elim, ◌⊎◌, nat_le, nat_lt, event_vector, program_end, handler_place, head_place, is_ring}
+use Rattle.image_laws.proofs.Names.{HasHandler, handler_length, handler_words, handler_region, with_handler}
+use Rattle.std.proofs.lemmas.Bool.{and_parts}
 use Rattle.source_values.specs.Running.{IsRunnable}
 use Rattle.source_meaning.proofs.Interface.{accepted_texts_run}
 use Rattle.machine_effects.proofs.Interface.{index_small}
@@ -16,7 +18,7 @@ use Rattle.compiled_runs.proofs.Interface.{sources_have_room}
 use Rattle.memory_map.specs.declared.words.RuntimeWord.{RuntimeWord}
 use Rattle.memory_map.proofs.Interface.{apart_of, even_of}
 use Rattle.runtime_code.proofs.Interface.{places_are_in_fram}
-use Rattle.image_laws.proofs.Fram.{place_in_fram, within, outside_before, none_before, holds_by}
+use Rattle.image_laws.proofs.Fram.{place_in_fram, within, outside_before, outside_behind, none_before, none_behind, holds_by}
 use Rattle.image_laws.proofs.Initial.{initial_rows_are}
 use Rattle.image_laws.proofs.States.{finds_state}
 use Rattle.image_laws.proofs.Laid.{laid_out}
@@ -26,6 +28,22 @@ holds_words words all a = zero_unless ((a % 2 == 0) && is_fram a) (slice_index w
 
 pub half : (p k : ℕ) → (p + 2 * k - p) / 2 ≡ k
 half p k = omega arith
+
+-- a word that is neither the vector of interrupts nor in the handler
+beside_handler : (events : Bool) (a w : ℕ) → a ≢ event_vector → is_within handler_region a ≡ false → with_handler events a w ≡ w
+beside_handler false a w other out = refl
+beside_handler true a w other out =
+    ap (λ b. cond b handler_place (cond (is_within handler_region a) (slice_index handler_words ((a - handler_place) / 2)) w)) (ne_eqb a event_vector other)
+    ∙ ap (λ b. cond b (slice_index handler_words ((a - handler_place) / 2)) w) out
+
+-- one of the handler's
+in_handler : (k w : ℕ) → k < handler_length → with_handler true (handler_place + 2 * k) w ≡ slice_index handler_words k
+in_handler k w below =
+    let a = handler_place + 2 * k in
+    ap (λ b. cond b handler_place (cond (is_within handler_region a) (slice_index handler_words ((a - handler_place) / 2)) w))
+    (ne_eqb a event_vector (λ e. omega (arith, below, e)))
+    ∙ ap (λ b. cond b (slice_index handler_words ((a - handler_place) / 2)) w) (within handler_region a (omega arith) (omega (arith, below)))
+    ∙ ap (slice_index handler_words) (half handler_place k)
 
 module _ (text : List ℕ) (p : CheckedProgram) (allow : Allow) (image : ImageValue) (ok : IsAcceptedText text p allow) (runs : IsRunnable p)
     (c : IsCompiled text p allow image) where
@@ -50,20 +68,30 @@ module _ (text : List ℕ) (p : CheckedProgram) (allow : Allow) (image : ImageVa
   fits = sources_have_room p allow c.plans l ok.allowed c.is_layout c.is_plan.count
       (λ k task own at own_at. (tasks_match p allow c.plans l laid k task own (record { is_task = at; is_layout = own_at })).count)
 
-  code_end : l.boot.address + 2 * length (code_words p l) ≤ end_of l.code
+  pub code_end : l.boot.address + 2 * length (code_words p l) ≤ end_of l.code
   code_end = (linked_is_code l (lowered l p) fits).end
+
+  -- a word that is code or data, if it isn't the handler's
+  own_word : ℕ → ℕ
+  own_word a = if is_within (code_region p l) a then slice_index (code_words p l) ((a - l.boot.address) / 2) else data_word p l a
+
+  own_at : (a : ℕ) → IsFram a → a < event_vector → is_within handler_region a ≡ false → f a ≡ own_word a
+  own_at a is below out =
+      let other : (a == reset_vector) ≡ false = ne_eqb a reset_vector (λ e. omega (arith, below, e)) in
+      c.words.each a is
+      ∙ ap (λ b. cond b l.boot.address (with_handler l.runtime.events a (own_word a))) other
+      ∙ beside_handler l.runtime.events a (own_word a) (λ e. omega (arith, below, e)) out
+
+  low_word : (a : ℕ) → IsFram a → a < handler_place → f a ≡ own_word a
+  low_word a is below = own_at a is (omega (arith, below)) (outside_before handler_region a below)
 
   -- the word before the code
   data_at : (a : ℕ) → IsFram a → a < l.boot.address → f a ≡ data_word p l a
   data_at a is low =
       let high = (apart_of l rules).high in
       let end = code_end in
-      let other : (a == reset_vector) ≡ false = ne_eqb a reset_vector (λ e. omega (arith, low, high, end, e)) in
-      let out : is_within (code_region p l) a ≡ false = outside_before (code_region p l) a low in
-      c.words.each a is
-      ∙ ap (λ b. cond b l.boot.address (if is_within (code_region p l) a then slice_index (code_words p l) ((a - l.boot.address) / 2) else data_word p l a))
-      other
-      ∙ ap (λ b. cond b (slice_index (code_words p l) ((a - l.boot.address) / 2)) (data_word p l a)) out
+      low_word a is (omega (arith, low, high, end))
+      ∙ ap (λ b. cond b (slice_index (code_words p l) ((a - l.boot.address) / 2)) (data_word p l a)) (outside_before (code_region p l) a low)
 
   -- a word of the code
   code_at : (k : ℕ) → k < length (code_words p l) → f (l.boot.address + 2 * k) ≡ slice_index (code_words p l) k
@@ -74,16 +102,49 @@ module _ (text : List ℕ) (p : CheckedProgram) (allow : Allow) (image : ImageVa
       let end = code_end in
       let is : IsFram a = record { even = omega (arith, even); low = omega (arith, apart); high = omega (arith, apart, end, below) } in
       let high = apart.high in
-      let other : (a == reset_vector) ≡ false = ne_eqb a reset_vector (λ e. omega (arith, high, end, below, e)) in
       let there : is_within (code_region p l) a ≡ true = within (code_region p l) a (omega arith) (omega (arith, below)) in
-      c.words.each a is
-      ∙ ap (λ b. cond b l.boot.address (if is_within (code_region p l) a then slice_index (code_words p l) ((a - l.boot.address) / 2) else data_word p l a))
-      other
+      low_word a is (omega (arith, high, end, below))
       ∙ ap (λ b. cond b (slice_index (code_words p l) ((a - l.boot.address) / 2)) (data_word p l a)) there
       ∙ ap (slice_index (code_words p l)) (half l.boot.address k)
 
   vector : f reset_vector ≡ l.boot.address
   vector = c.words.each reset_vector (record { even = refl; low = omega arith; high = omega arith })
+
+  -- the handler, where the source takes events
+  handler : l.runtime.events ≡ true → HasHandler f
+  handler on = record { words = word_of_handler; vector = to_handler }
+    where
+      word_of_handler : (k : ℕ) → k < handler_length → f (handler_place + 2 * k) ≡ slice_index handler_words k
+      word_of_handler k below =
+          let a = handler_place + 2 * k in
+          let other : (a == reset_vector) ≡ false = ne_eqb a reset_vector (λ e. omega (arith, below, e)) in
+          c.words.each a (record { even = omega arith; low = omega arith; high = omega (arith, below) })
+          ∙ ap (λ b. cond b l.boot.address (with_handler l.runtime.events a (own_word a))) other
+          ∙ ap (λ e. with_handler e a (own_word a)) on ∙ in_handler k (own_word a) below
+
+      to_handler : f event_vector ≡ handler_place
+      to_handler = c.words.each event_vector (record { even = refl; low = omega arith; high = omega arith })
+          ∙ ap (λ e. with_handler e event_vector (own_word event_vector)) on
+
+  -- no code and no variable stands behind the end of programs: what counts events, and the ring, is 0
+  zero_behind : (a : ℕ) → IsFram a → program_end ≤ a → a < event_vector → is_within handler_region a ≡ false → f a ≡ 0
+  zero_behind a is behind below out =
+      let apart = apart_of l rules in
+      let end = code_end in
+      let current : (a == (word_place l CurrentTask)) ≡ false = ne_eqb a (word_place l CurrentTask) (λ e. omega (arith, apart, behind, e)) in
+      own_at a is below out
+      ∙ ap (λ b. cond b (slice_index (code_words p l) ((a - l.boot.address) / 2)) (data_word p l a))
+      (outside_behind (code_region p l) a (omega (arith, apart, end, behind)))
+      ∙ ap (λ b. cond b p.entry.task (shared_word l.variables (initial_rows p) a)) current
+      ∙ none_behind l.homes.address (end_of l.homes) a l.variables (initial_rows p) rules.homes (omega (arith, apart, behind))
+
+  ring : (a : ℕ) → IsFram a → program_end ≤ a → a < handler_place ⊎ is_ring a ≡ true → f a ≡ 0
+  ring a is behind there = ⊎_elim {C = f a ≡ 0}
+      (λ below. zero_behind a is behind (omega (arith, below)) (outside_before handler_region a below))
+      (λ of_ring. let bounds = and_parts (nat_le head_place a) (nat_lt a event_vector) of_ring in
+      let from : head_place ≤ a = grind (arith, nat_tests, bounds.0) in
+      let below : a < event_vector = grind (arith, nat_tests, bounds.1) in
+      zero_behind a is behind below (outside_behind handler_region a (omega (arith, from)))) there
 
   -- the runtime's words are words of FRAM
   words_are : (w : RuntimeWord) → IsFram (word_place l w)
@@ -154,6 +215,8 @@ module _ (text : List ℕ) (p : CheckedProgram) (allow : Allow) (image : ImageVa
     fits = fits;
     code = holds_by f l.boot.address (code_words p l) code_at;
     vector = vector;
+    handler = handler;
+    ring = ring;
     rests = (let P : Model State → Type 0 = λ m. m.Rests (first_state p) (fresh_world image) in subst P (sym (is_redo p l)) rests);
     has_words = finds_state text p allow c.plans l laid (first_state p) (fresh_world image) rests;
   }

@@ -1,13 +1,15 @@
 -- The names that the proofs here share, from the rooms below and from this one's specs.
 -- std
-pub use Rattle.std.proofs.Common.{All, List, Some, [], ap, ap₂, arith, cond, eqb-true, false, get_or, if◌then◌else◌, length, map, nat_le, nat_lt, ne_eqb, refl}
+pub use Rattle.std.proofs.Common.{All, Bool, List, ⊎_elim, ◌⊎◌, Some, [], ap, ap₂, arith, cond, eqb-true, false, get_or, if◌then◌else◌, length, map, nat_le, nat_lt, ne_eqb, refl}
 pub use Rattle.std.proofs.Common.{replicate, slice_index, slice_index_or, subst, suc, sym, true, zero, ℕ, ◌%◌, ◌&&◌, ◌*◌, ◌++◌, ◌+◌, ◌-◌, ◌/◌, ◌<◌, ◌==◌, ◌^◌}
 pub use Rattle.std.proofs.Common.{◌∙◌, ◌∷◌, ◌≡◌, ◌≢◌, ◌≤◌}
 pub use Rattle.std.proofs.lemmas.Bool.Decides.{nat_tests}
 pub use Rattle.std.proofs.lemmas.List.{get_or_default, length-replicate, same_lists}
 pub use Rattle.std.specs.Prelude.{slice_get}
 -- the machine
-pub use Rattle.address_space.specs.Limits.{fram_first, fram_words, reset_vector}
+pub use Rattle.address_space.specs.Limits.{event_vector, fram_first, fram_words, program_end, reset_vector}
+pub use Rattle.event_places.specs.Places.{handler_place, head_place, is_ring}
+pub use Rattle.event_handler.specs.Handler.{HasHandler, handler_length, handler_words}
 pub use Rattle.memory_map.specs.MemoryMap.{MemoryMap, word_place}
 pub use Rattle.memory_map.specs.Places.{AreInOrder, IsLaidOut, end_of, home_region, scalar_words}
 pub use Rattle.memory_map.specs.declared.place.VariablePlace.{VariablePlace}
@@ -42,4 +44,4 @@ pub use Rattle.layout_facts.specs.Facts.{HasLayout}
 -- this crate
 pub use Rattle.image_laws.specs.Compiled.{IsCompiled}
 pub use Rattle.image_laws.specs.Laws.{ImagesAreFresh, ImagesAreOne, ImagesHaveStates, IsFreshImage, MapsFindStates, fresh_world}
-pub use Rattle.image_laws.specs.Words.{AreImageWords, code_region, code_words, data_word, image_word}
+pub use Rattle.image_laws.specs.Words.{AreImageWords, code_region, code_words, data_word, handler_region, image_word, with_handler}

@@ -1,12 +1,14 @@
 -- What holds of the image of an accepted source.
-use Rattle.std.specs.Prelude.{◌≡◌, ℕ, List, []}
-use Rattle.address_space.specs.Limits.{reset_vector}
+use Rattle.std.specs.Prelude.{◌≡◌, ◌<◌, ◌≤◌, ◌⊎◌, ℕ, true, List, []}
+use Rattle.address_space.specs.Limits.{program_end, reset_vector}
+use Rattle.event_places.specs.Places.{handler_place, is_ring}
+use Rattle.event_handler.specs.Handler.{HasHandler}
 use Rattle.cost_bound.specs.declared.allowance.Allow.{Allow}
 use Rattle.source_values.specs.Runs.{CheckedProgram, State, first_state}
 use Rattle.source_meaning.specs.Acceptance.{IsAcceptedText}
 use Rattle.image_text.specs.ImageValue.{ImageValue}
 use Rattle.machine_effects.specs.World.{World}
-use Rattle.machine_effects.specs.Machine.{fram_of}
+use Rattle.machine_effects.specs.Machine.{IsFram, fram_of}
 use Rattle.code_forms.specs.Placed.{Holds}
 use Rattle.memory_map.specs.MemoryMap.{MemoryMap}
 use Rattle.stands_for.specs.StandsFor.{HoldsWords, IsAtRest, IsPendingCommit}
@@ -24,12 +26,14 @@ use Rattle.image_laws.specs.Compiled.{IsCompiled, IsImageOf}
 abbrev pub fresh_world : ImageValue → World
 fresh_world image = record { fram = fram_of image.words; accepted = [] }
 
--- a fresh image: the code has room in the layout and stands from the boot's address on, which is the reset vector; its world rests at
--- the source's first state, and has that state's words
+-- a fresh image: the code has room in the layout and stands from the boot's address on, which is the reset vector; where the source takes
+-- events the handler stands, and its ring is empty; its world rests at the source's first state, and has that state's words
 pub record IsFreshImage (text : List ℕ) (p : CheckedProgram) (allow : Allow) (l : MemoryMap) (image : ImageValue) : Type 0 where
   pub fits : CodeFits l (lowered l p)
   pub code : Holds (fram_of image.words) l.boot.address (code_words p l)
   pub vector : fram_of image.words reset_vector ≡ l.boot.address
+  pub handler : l.runtime.events ≡ true → HasHandler (fram_of image.words)
+  pub ring : (a : ℕ) → IsFram a → program_end ≤ a → a < handler_place ⊎ is_ring a ≡ true → fram_of image.words a ≡ 0
   pub rests : (compiled_model p l).Rests (first_state p) (fresh_world image)
   pub has_words : HasWordsOf (map_of text p l allow) (fresh_world image) (first_state p)
 

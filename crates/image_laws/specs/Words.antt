@@ -1,6 +1,8 @@
 -- The words of a compiled image.
-use Rattle.std.specs.Prelude.{◌≡◌, ◌<◌, ℕ, ◌-◌, ◌/◌, ◌==◌, if◌then◌else◌, List, length, All, slice_index}
-use Rattle.address_space.specs.Limits.{fram_words, reset_vector}
+use Rattle.std.specs.Prelude.{◌≡◌, ◌<◌, ℕ, ◌-◌, ◌/◌, ◌==◌, ◌&&◌, Bool, if◌then◌else◌, List, length, All, slice_index}
+use Rattle.address_space.specs.Limits.{fram_words, event_vector, reset_vector}
+use Rattle.event_places.specs.Places.{handler_place}
+use Rattle.event_handler.specs.Handler.{handler_words, handler_length}
 use Rattle.source_values.specs.Runs.{CheckedProgram, initial_rows}
 use Rattle.machine_effects.specs.Machine.{IsFram, fram_of}
 use Rattle.code_forms.specs.Placed.{words_of}
@@ -23,11 +25,20 @@ code_region p l = record { address = l.boot.address; words = length (code_words 
 abbrev pub data_word : CheckedProgram → MemoryMap → ℕ → ℕ
 data_word p l a = if a == (word_place l CurrentTask) then p.entry.task else shared_word l.variables (initial_rows p) a
 
--- the word at an even address of the FRAM: the reset vector, code, or data
+-- where the handler's words stand in the image of each source that takes events
+abbrev pub handler_region : Region
+handler_region = record { address = handler_place; words = handler_length }
+
+-- the word at an address of such an image: the vector of interrupts leads to the handler, and the handler's words stand; all others are this one
+abbrev pub with_handler : Bool → ℕ → ℕ → ℕ
+with_handler events a w = if events && (a == event_vector) then handler_place
+    else if events && is_within handler_region a then slice_index handler_words ((a - handler_place) / 2)
+    else w
+
+-- the word at an even address of the FRAM: the reset vector, the handler, code, or data
 abbrev pub image_word : CheckedProgram → MemoryMap → ℕ → ℕ
 image_word p l a = if a == reset_vector then l.boot.address
-    else if is_within (code_region p l) a then slice_index (code_words p l) ((a - l.boot.address) / 2)
-    else data_word p l a
+    else with_handler l.runtime.events a (if is_within (code_region p l) a then slice_index (code_words p l) ((a - l.boot.address) / 2) else data_word p l a)
 
 -- all are words
 abbrev pub AreWords : List ℕ → Type 0

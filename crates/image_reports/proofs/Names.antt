@@ -41,7 +41,8 @@ pub use Rattle.model_runs.specs.Runs.{BearsModel, all_amounts}
 pub use Rattle.cost_bound.specs.declared.allowance.Allow.{Allow}
 pub use Rattle.source_values.specs.Running.{IsRunnable}
 pub use Rattle.source_values.specs.Runs.{CheckedProgram, Completion, EndsWell, State, Transition, TransitionComes, attempt_of, body_of, completion_of, exactly}
-pub use Rattle.source_values.specs.Runs.{first_state, fresh_attempt, state_after, transition_of}
+pub use Rattle.source_values.specs.Runs.{TaskInputs, first_state, fresh_attempt, state_after, transition_of, without_answers}
+pub use Rattle.source_values.proofs.Interface.{readings_left_over_lem}
 pub use Rattle.source_meaning.proofs.Interface.{accepted_texts_run}
 pub use Rattle.source_meaning.specs.Acceptance.{IsAcceptedText}
 pub use Rattle.source_runs.proofs.Interface.{charges_pay, resumed_runs_are_told, runs_are_told, state_within, task_costs, trace_inputs, traces_are_few}

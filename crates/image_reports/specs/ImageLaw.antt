@@ -1,10 +1,14 @@
 -- What holds of each run of the image of an accepted source, on the board itself, cut wherever power fails, whatever events arise: the
--- effects since the last boot or done, what the board stands for, the words accepted, the counts, the code that is fetched, how it ends,
--- and its report. No event is accepted, and nothing is read of EVENT.
-use Rattle.std.specs.Prelude.{◌≡◌, ◌≢◌, ℕ, ◌+◌, ◌*◌, ◌^◌, ◌%◌, ◌<◌, ◌≤◌, true, List, ◌∷◌, ◌++◌, length}
+-- effects since the last boot or done, what the board stands for, the words accepted, the counts, the code that is fetched, what became of
+-- the events, how it ends, and its report. Where the source takes events a handler runs between any two instructions of the code: it is the
+-- image's, and what holds of the code is said of what happens outside it.
+use Rattle.std.specs.Prelude.{◌≡◌, ◌≢◌, ℕ, ◌+◌, ◌*◌, ◌^◌, ◌%◌, ◌<◌, ◌≤◌, true, false, if◌then◌else◌, List, [], ◌∷◌, ◌++◌, length, Option, Some, None}
+use Rattle.address_space.specs.Limits.{stack_floor, stack_top}
+use Rattle.event_places.specs.Places.{answer_place, handler_place}
 use Rattle.msp_isa.specs.declared.instructions.Instr.{Instr}
 use Rattle.msp_isa.specs.Encoding.{encoding}
 use Rattle.msp_step.specs.Registers.{registers_of}
+use Rattle.msp_step.specs.Step.{is_interruptible}
 use Rattle.msp_step.specs.declared.machine.Stop.{Stop}
 use Rattle.msp_step.specs.declared.machine.Stop.TheVariants as stop
 use Rattle.energy_trace.specs.TraceValue.{Event}
@@ -12,13 +16,17 @@ use Rattle.image_text.specs.ImageValue.{ImageValue}
 use Rattle.fram_board.specs.declared.board.NextStep.TheVariants as next_step
 use Rattle.fram_board.specs.Events.{words_in}
 use Rattle.fram_board.specs.Board.{BoardValue, fresh, IsNextStep}
-use Rattle.fram_board.specs.Run.{BoardCharge, PowerUp, Moment, Stopped, RunOutcome, Run, accepted_words}
+use Rattle.fram_board.specs.declared.board.Stepped.{Stepped}
+use Rattle.fram_board.specs.Run.{BoardCharge, PowerUp, Execute, Returning, Moment, Stopped, RunOutcome, Run, accepted_words, word_list}
+use Rattle.image_map.specs.MapValue.{MapValue}
 use Rattle.board_run.specs.History.{start_of}
-use Rattle.board_run.specs.Events.{NeverReads}
+use Rattle.board_run.specs.Events.{Hand, NeverReads, hand_behind, hand_after, head_of, no_hand}
 use Rattle.board_run.specs.Report.{report_of}
 use Rattle.machine_effects.specs.World.{World}
 use Rattle.machine_effects.specs.Machine.{fram_of}
 use Rattle.machine_effects.specs.Runs.{last_board}
+use Rattle.event_handler.specs.Handler.{Stage, HasHandler, instruction_at, place_at}
+use Rattle.event_handler.specs.Boundaries.{is_ring_full}
 use Rattle.code_forms.specs.Placed.{Holds}
 use Rattle.cost_bound.specs.declared.allowance.Allow.{Allow}
 use Rattle.source_values.specs.Runs.{CheckedProgram, State, first_state}
@@ -31,8 +39,8 @@ use Rattle.memory_map.specs.MemoryMap.{MemoryMap, word_place}
 use Rattle.crash_rules.specs.Model.{Marks, CommitContract}
 use Rattle.crash_rules.specs.History.{History, first_history}
 use Rattle.crash_rules.specs.Laws.{Resting, StandsFor, FollowsScript, AcceptedWords}
-use Rattle.run_charges.specs.View.{outside_of}
-use Rattle.run_charges.specs.Charges.{ArePowerStates, AreInstructionMoments, observed}
+use Rattle.program_view.specs.View.{steady, outside_of}
+use Rattle.run_charges.specs.Charges.{ArePowerStates, AreInstructionMoments, observed, program_steps}
 use Rattle.memory_map.specs.Laws.{AreApart}
 use Rattle.compiled_model.specs.Parts.{compiled_model, start_of as start_due}
 use Rattle.compiled_bounds.specs.Laws.{KeepsCapacities}
@@ -41,16 +49,20 @@ use Rattle.image_laws.specs.Words.{code_words}
 use Rattle.image_laws.specs.Compiled.{IsCompiled}
 use Rattle.image_laws.specs.Laws.{fresh_world}
 
--- the words by which what happens in a run is told
+-- the words by which what happens in a run is told: GATE, and ANS where the source takes events
 abbrev pub runtime_marks : MemoryMap → Marks
-runtime_marks l = record { gate = word_place l Gate }
+runtime_marks l = record { gate = word_place l Gate; answer = if l.runtime.events then Some answer_place else None }
+
+-- the world of words of FRAM whose receiver accepted these before: HEAD and the ring are no part of it, which the handler alone writes
+abbrev pub world_with : List ℕ → List ℕ → World
+world_with words accepted = record { fram = steady (fram_of words); accepted = accepted }
 
 -- what is read off the effects of a run's moments, behind them, where an image's fresh board began it
 abbrev pub known_behind : MemoryMap → ImageValue → List Moment → History
-known_behind l image ms = observed (runtime_marks l) ms (first_history (runtime_marks l) (fresh_world image))
+known_behind l image ms = observed (runtime_marks l) ms (first_history (runtime_marks l) (world_with image.words []))
 
--- what is known behind these moments is of the board behind them: its FRAM, the words that its receiver accepted, in order, and how many
--- readings were taken
+-- what is known behind these moments is of the board behind them: its FRAM but for HEAD and the ring, the words that its receiver accepted, in
+-- order, and how many readings were taken
 pub record TellsOfBoard (b : BoardValue) (ms : List Moment) (h : History) : Type 0 where
   pub fram : h.world.fram ≡ (outside_of b).fram
   pub accepted : h.world.accepted ≡ accepted_words ms
@@ -64,10 +76,11 @@ VersionsBelow l f = (i : ℕ) → i < l.versions.words → f (l.versions.address
 abbrev pub code_end : CheckedProgram → MemoryMap → ℕ
 code_end p l = l.boot.address + 2 * length (code_words p l)
 
--- FRAM has the image's words in all of the code, and its reset vector
+-- FRAM has the image's words in all of the code, and its reset vector; and the handler with its vector, where the source takes events
 pub record KeepsCode (p : CheckedProgram) (l : MemoryMap) (image : ImageValue) (f : ℕ → ℕ) : Type 0 where
   pub code : (a : ℕ) → a % 2 ≡ 0 → l.boot.address ≤ a → a < code_end p l → f a ≡ fram_of image.words a
   pub vector : f 0xFFFE ≡ fram_of image.words 0xFFFE
+  pub handler : l.runtime.events ≡ true → HasHandler f
 
 -- the board's next step is an instruction of the code: no acceptance is due, CPUOFF is clear, and its words stand at PC, as they are
 -- fetched, within the code, and are those that the image has there
@@ -78,7 +91,39 @@ pub record FetchesCode (p : CheckedProgram) (l : MemoryMap) (image : ImageValue)
   pub to : registers_of b.cpu 0 + 2 * length (encoding instruction) ≤ code_end p l
   pub same : Holds (fram_of image.words) (registers_of b.cpu 0) (encoding instruction)
 
--- What holds at each boundary between two instructions: `b` is the board behind these moments, and `h` what is known of the run so far.
+-- it is an acceptance, at a board that stands at the code
+pub record Accepts (p : CheckedProgram) (l : MemoryMap) (b : BoardValue) : Type 0 where
+  pub events : l.runtime.events ≡ true
+  pub next : IsNextStep b next_step.Acceptance
+  pub from : l.boot.address ≤ registers_of b.cpu 0
+  pub to : registers_of b.cpu 0 < code_end p l
+
+-- it is an instruction of the handler, whose words stand there in the image too
+pub record FetchesHandler (l : MemoryMap) (image : ImageValue) (b : BoardValue) : Type 0 where
+  pub events : l.runtime.events ≡ true
+  pub at : Stage
+  pub next : IsNextStep b (next_step.Instruction (instruction_at at))
+  pub there : registers_of b.cpu 0 ≡ place_at at
+  pub same : Holds (fram_of image.words) (place_at at) (encoding (instruction_at at))
+
+-- the board's next step: only where the source takes events it is another than an instruction of the code
+pub data StepsOn (p : CheckedProgram) (l : MemoryMap) (image : ImageValue) (b : BoardValue) : Type 0 where
+  InCode : FetchesCode p l image b → StepsOn p l image b
+  AtAcceptance : Accepts p l b → StepsOn p l image b
+  InHandler : FetchesHandler l image b → StepsOn p l image b
+
+-- what became of the events at a board with this behind it in hand: each that arose was accepted, was lost, waits in EVENT, or is in hand, which
+-- it is nowhere but in the handler. Where the source takes no events each waits, or was lost at the port
+pub record EventsHold (l : MemoryMap) (b : BoardValue) (hand : Hand) : Type 0 where
+  pub counted : b.line.arisen ≡ length hand.accepted + (b.line.missed + hand.lost) + (words_in b.line.port + length (word_list hand.word))
+  pub in_hand : (w : ℕ) → hand.word ≡ Some w → handler_place ≤ registers_of b.cpu 0
+  pub none : l.runtime.events ≡ false → b.line.arisen ≡ b.line.missed + words_in b.line.port
+
+-- SP is within the stack wherever the handler may begin
+abbrev pub HasRoom : BoardValue → Type 0
+HasRoom b = is_interruptible (registers_of b.cpu) ≡ true → (stack_floor ≤ registers_of b.cpu 1) × (registers_of b.cpu 1 ≤ stack_top)
+
+-- What holds at each boundary between two steps: `b` is the board behind these moments, and `h` what is known of the run so far.
 pub record HoldsAt (p : CheckedProgram) (l : MemoryMap) (image : ImageValue) (readings : List ℕ) (b : BoardValue) (ms : List Moment)
     (h : History) : Type 0 where
   pub tells : TellsOfBoard b ms h
@@ -98,26 +143,45 @@ pub record HoldsAt (p : CheckedProgram) (l : MemoryMap) (image : ImageValue) (re
   -- as a task's first own instruction runs, whose start is made and which has done nothing yet, each version word is below VER. (With
   -- exactly the start's effects the code comes to the task's own: `start_is_made` of `boot_runtime`.)
   pub versions : h.effects ≡ start_due l h.start.fram → VersionsBelow l (outside_of b).fram
-  -- no store fell on the code
+  -- no store fell on the code, nor on the handler
   pub code : KeepsCode p l image (outside_of b).fram
   -- every word that is fetched is the fresh image's
-  pub fetches : FetchesCode p l image b
-  -- each event that arose waits in EVENT, or was lost there
-  pub events : b.line.arisen ≡ b.line.missed + words_in b.line.port
+  pub fetches : StepsOn p l image b
+  -- each event that arose is accounted for
+  pub events : EventsHold l b (hand_after (head_of image.map) ms no_hand)
+  -- wherever the handler may begin it has its room on the stack
+  pub room : l.runtime.events ≡ true → HasRoom b
 
--- VER is raised within the first 40 of these instructions: behind some of them it is one more than on the board on which they began
+-- VER is raised within the first 40 of these instructions: behind some of them it is one more than on the board on which they began. The handler's
+-- aren't counted
 pub record IsRaisedSoon (l : MemoryMap) (b : BoardValue) (steps : List Moment) : Type 0 where
   pub first : List Moment
   pub rest : List Moment
   pub are : steps ≡ first ++ rest
-  pub soon : length first ≤ 40
+  pub soon : program_steps first ≤ 40
   pub raised : (outside_of (last_board b first)).fram (word_place l Version) ≡ (outside_of b).fram (word_place l Version) + 1
 
--- in a charge that begins with GATE 0 and VER not 65535, if the charge has 40 instructions
+-- in a charge that begins with GATE 0 and VER not 65535, if the charge has 40 instructions beside the handler's
 abbrev pub RaisesVersion : MemoryMap → List Moment → Type 0
 RaisesVersion l moments = (ms steps rest : List Moment) (boot : Moment) → moments ≡ ms ++ (boot ∷ (steps ++ rest)) → boot.action ≡ PowerUp
-    → AreInstructionMoments steps → 40 ≤ length steps → (outside_of boot.after).fram (word_place l Gate) ≡ 0
+    → AreInstructionMoments steps → 40 ≤ program_steps steps → (outside_of boot.after).fram (word_place l Gate) ≡ 0
     → (outside_of boot.after).fram (word_place l Version) ≢ 0xFFFF → IsRaisedSoon l boot.after steps
+
+-- the CPU accepts interrupts at every boundary outside the handler behind the first four of a charge's own instructions
+abbrev pub StaysOpen : List Moment → Type 0
+StaysOpen moments = (ms steps rest : List Moment) (boot : Moment) → moments ≡ ms ++ (boot ∷ (steps ++ rest)) → boot.action ≡ PowerUp
+    → AreInstructionMoments steps → 4 ≤ program_steps steps
+    → let b = last_board boot.after steps in registers_of b.cpu 0 < handler_place → is_interruptible (registers_of b.cpu) ≡ true
+
+-- An event in hand is lost only at a power-up, or at the return of a handler that found the ring full: HEAD - TAIL is 64, modulo 65536
+pub data LosesAt (m : Moment) : Type 0 where
+  ByPowerUp : m.action ≡ PowerUp → LosesAt m
+  AtFullRing : (offered : Option ℕ) (done : Stepped) → m.action ≡ Execute Returning done offered → is_ring_full m.before ≡ true → LosesAt m
+
+abbrev pub LosesInHand : MapValue → List Moment → Type 0
+LosesInHand map moments = (ms rest : List Moment) (m : Moment) → moments ≡ ms ++ (m ∷ rest)
+    → let before = hand_after (head_of (Some map)) ms no_hand in
+    (hand_behind (head_of (Some map)) m before).lost ≢ before.lost → LosesAt m
 
 -- What holds of a run of an image under charges, on readings and events.
 pub record IsLawfulRun (text : List ℕ) (p : CheckedProgram) (allow : Allow) (l : MemoryMap) (image : ImageValue) (cs : List BoardCharge) (readings : List ℕ)
@@ -135,12 +199,16 @@ pub record IsLawfulRun (text : List ℕ) (p : CheckedProgram) (allow : Allow) (l
   -- of the last done on the readings from the last boot or done on
   pub stops : (e : Stop) → r.ending ≡ Stopped e
       → (e ≡ stop.NoReading) × IsShort (compiled_model p l) readings (Resting (first_state p)) (known_behind l image r.moments)
-  -- nothing is read of EVENT, by the step that stopped it neither
-  pub unheard : NeverReads r
+  -- where the source takes no events nothing is read of EVENT, by the step that stopped it neither
+  pub unheard : l.runtime.events ≡ false → NeverReads r
+  -- where it does, the handler may begin between any two of a charge's instructions but the first
+  pub opens : l.runtime.events ≡ true → StaysOpen r.moments
+  -- and an event that it has in hand is lost where power fails, or the ring is full
+  pub loses : LosesInHand (map_of text p l allow) r.moments
   -- in a charge that begins with GATE 0 and VER not 65535, VER is raised within the first 40 instructions, if the charge has them
   pub raises : RaisesVersion l r.moments
-  -- a charge of n bounds that is spent has n transitions; and one that is spent is less than the costs of the tasks that were completed in it, and
-  -- of the one that was to come
+  -- a charge that is spent has n transitions, if it has n bounds and 100 for each event that arose in it; and it is less than those and the costs of
+  -- the tasks that were completed in it, and of the one that was to come
   pub progress : let m = map_of text p l allow in let b = fresh image.words readings events in
       EachChargePays m (λ h. cost_of p h.task) cs b (at_first m b) r
   -- its report is told by the source, where the charges have fewer than 2^64 cycles and instructions in all

@@ -1,21 +1,21 @@
 -- What holds of each run of an accepted source's image that goes on from a saved state, on the board itself, beside what holds from its
 -- fresh board.
-use Rattle.std.specs.Prelude.{◌≡◌, ℕ, ◌+◌, ◌^◌, ◌%◌, ◌<◌, ◌≤◌, ◌==◌, true, if◌then◌else◌, List, [], ◌++◌, length, All}
+use Rattle.std.specs.Prelude.{◌≡◌, ℕ, ◌^◌, ◌%◌, ◌<◌, ◌≤◌, ◌==◌, ◌&&◌, nat_le, nat_lt, Bool, true, false, if◌then◌else◌, List, [], ◌++◌, length, All}
+use Rattle.event_places.specs.Places.{tail_place, handler_place, is_ring}
+use Rattle.machine_effects.specs.Machine.{fram_of}
 use Rattle.msp_step.specs.declared.machine.Stop.{Stop}
 use Rattle.msp_step.specs.declared.machine.Stop.TheVariants as stop
 use Rattle.address_space.specs.Limits.{fram_words}
 use Rattle.image_map.specs.MapValue.{MapValue}
 use Rattle.energy_trace.specs.TraceValue.{Event}
 use Rattle.image_text.specs.ImageValue.{ImageValue}
-use Rattle.fram_board.specs.Events.{words_in}
 use Rattle.fram_board.specs.Board.{BoardValue, started}
 use Rattle.fram_board.specs.Saved.{TakesNextBehind}
 use Rattle.fram_board.specs.Run.{BoardCharge, Moment, Stopped, RunOutcome, Run, accepted_words}
 use Rattle.board_run.specs.History.{start_of}
-use Rattle.board_run.specs.Events.{NeverReads}
+use Rattle.board_run.specs.Events.{NeverReads, hand_after, head_of, no_hand}
 use Rattle.board_run.specs.Report.{report_of}
 use Rattle.machine_effects.specs.World.{World, world_after}
-use Rattle.machine_effects.specs.Machine.{fram_of}
 use Rattle.machine_effects.specs.View.{IsWhole}
 use Rattle.machine_effects.specs.Runs.{last_board}
 use Rattle.cost_bound.specs.declared.allowance.Allow.{Allow}
@@ -31,7 +31,7 @@ use Rattle.runtime_effects.specs.Stages.{commit_effects}
 use Rattle.crash_rules.specs.Model.{IsBetween}
 use Rattle.crash_rules.specs.History.{History, first_history}
 use Rattle.crash_rules.specs.Laws.{Origin, Resting, Pending, StandsFor, FollowsScript, AcceptedWords}
-use Rattle.run_charges.specs.View.{outside_of}
+use Rattle.program_view.specs.View.{outside_of}
 use Rattle.run_charges.specs.Charges.{ArePowerStates, observed}
 use Rattle.stands_for.specs.StandsFor.{IsSound}
 use Rattle.compiled_model.specs.Places.{program_places}
@@ -41,10 +41,9 @@ use Rattle.compiled_bounds.specs.Laws.{KeepsCapacities}
 use Rattle.model_runs.specs.Events.{words_between}
 use Rattle.model_runs.specs.Runs.{IsShort, all_amounts}
 use Rattle.image_laws.specs.Compiled.{IsCompiled}
-use Rattle.image_laws.specs.Laws.{fresh_world}
-use Rattle.image_reports.specs.ImageLaw.{runtime_marks, VersionsBelow, KeepsCode, FetchesCode, RaisesVersion}
+use Rattle.image_reports.specs.ImageLaw.{runtime_marks, world_with, VersionsBelow, KeepsCode, StepsOn, EventsHold, HasRoom, RaisesVersion, StaysOpen, LosesInHand}
 
--- a world from which a run of an image may go on: the code and the reset vector are the image's, the runtime's counts keep to their
+-- a world from which a run of an image may go on: the code, the vectors and the handler are the image's, the runtime's counts keep to their
 -- capacities, and it is sound
 pub record BelongsTo (p : CheckedProgram) (l : MemoryMap) (image : ImageValue) (x : World) : Type 0 where
   pub code : KeepsCode p l image x.fram
@@ -79,7 +78,11 @@ pub data IsToldOnward (text : List ℕ) (p : CheckedProgram) (m : MapValue) (l :
 abbrev pub known_from : MemoryMap → World → List Moment → History
 known_from l x ms = observed (runtime_marks l) ms (first_history (runtime_marks l) x)
 
--- What holds at each boundary between two instructions of a run that goes on so: `b` is the board behind these moments, and `h` what is
+-- whether an address is one of the words that count events, where the source takes events
+abbrev pub is_event_word : MemoryMap → ℕ → Bool
+is_event_word l a = l.runtime.events && (nat_le tail_place a && nat_lt a handler_place)
+
+-- What holds at each boundary between two steps of a run that goes on so: `b` is the board behind these moments, and `h` what is
 -- known of the run so far. All is as from a fresh board (`HoldsAt`), and a run may go on from this board too. While the commit that was
 -- pending at the start isn't done, the words accepted since are some of those that the state has beyond the start's which it leaves
 pub record HoldsFrom (p : CheckedProgram) (l : MemoryMap) (image : ImageValue) (x : World) (origin : Origin State) (readings : List ℕ) (b : BoardValue)
@@ -97,10 +100,11 @@ pub record HoldsFrom (p : CheckedProgram) (l : MemoryMap) (image : ImageValue) (
   pub sent : (to : State) → origin ≡ Pending to → h.completed ≡ [] → IsBetween x.accepted to.emitted h.world.accepted
   pub versions : h.effects ≡ start_due l h.start.fram → VersionsBelow l (outside_of b).fram
   pub belongs : BelongsTo p l image h.world
-  -- no store fell on the code, nor on a word behind it
-  pub kept : (a : ℕ) → l.boot.address ≤ a → (outside_of b).fram a ≡ x.fram a
-  pub fetches : FetchesCode p l image b
-  pub events : b.line.arisen ≡ b.line.missed + words_in b.line.port
+  -- no store fell on the code, nor on a word behind it, but for the words that count events
+  pub kept : (a : ℕ) → l.boot.address ≤ a → is_event_word l a ≡ false → (outside_of b).fram a ≡ x.fram a
+  pub fetches : StepsOn p l image b
+  pub events : EventsHold l b (hand_after (head_of image.map) ms no_hand)
+  pub room : l.runtime.events ≡ true → HasRoom b
 
 -- What holds of a run of an image from a saved state, with these words in FRAM and this number for the next word; the words accepted before
 -- are any that have it.
@@ -112,12 +116,19 @@ pub record IsResumedRun (text : List ℕ) (p : CheckedProgram) (allow : Allow) (
   -- it stops for want of a reading alone, and only where the source is short, at the state of the last done
   pub stops : (e : Stop) → r.ending ≡ Stopped e
       → (e ≡ stop.NoReading) × IsShort (compiled_model p l) b.readings (origin_of l x) (known_from l x r.moments)
-  -- nothing is read of EVENT, by the step that stopped it neither
-  pub unheard : NeverReads r
+  -- where the source takes no events nothing is read of EVENT, by the step that stopped it neither
+  pub unheard : l.runtime.events ≡ false → NeverReads r
+  -- and nothing stores where HEAD and the ring would be
+  pub ringless : l.runtime.events ≡ false → (ms rest : List Moment) → r.moments ≡ ms ++ rest → (a : ℕ) → is_ring a ≡ true
+      → fram_of (last_board b ms).fram a ≡ fram_of b.fram a
+  -- where it does, the handler may begin between any two of a charge's instructions but the first
+  pub opens : l.runtime.events ≡ true → StaysOpen r.moments
+  -- and an event that it has in hand is lost where power fails, or the ring is full
+  pub loses : LosesInHand (map_of text p l allow) r.moments
   -- in a charge that begins with GATE 0 and VER not 65535, VER is raised within the first 40 instructions, if the charge has them
   pub raises : RaisesVersion l r.moments
-  -- a charge of n bounds that is spent has n transitions; and one that is spent is less than the costs of the tasks that were completed in it, and
-  -- of the one that was to come; a commit that was pending at the start costs the bound
+  -- a charge that is spent has n transitions, if it has n bounds and 100 for each event that arose in it; and it is less than those and the costs of
+  -- the tasks that were completed in it, and of the one that was to come; a commit that was pending at the start costs the bound
   pub progress : let m = map_of text p l allow in EachChargePays m (cost_due m (cost_of p) (x.fram (word_place l Gate) == 1)) cs b (at_first m b) r
   -- its report is told by the source, where the charges have fewer than 2^64 cycles and instructions in all
   pub told : all_amounts cs < 2 ^ 64
@@ -126,7 +137,7 @@ pub record IsResumedRun (text : List ℕ) (p : CheckedProgram) (allow : Allow) (
 -- the fresh world of an accepted text's image belongs to it
 abbrev pub ImagesBelong : Type 0
 ImagesBelong = (text : List ℕ) (p : CheckedProgram) (allow : Allow) (image : ImageValue) → IsAcceptedText text p allow
-    → (c : IsCompiled text p allow image) → BelongsTo p c.layout image (fresh_world image)
+    → (c : IsCompiled text p allow image) → BelongsTo p c.layout image (world_with image.words [])
 
 -- the run of each state that belongs to the image of an accepted text is such, under every list of charges, from every state that each
 -- power-up may leave, and on all readings and events that a board may hold
@@ -135,7 +146,7 @@ ImagesResume = (text : List ℕ) (p : CheckedProgram) (allow : Allow) (image : I
     → (c : IsCompiled text p allow image)
     → (words : List ℕ) → length words ≡ fram_words → All (λ w. w < 0x10000) words
     → (number : ℕ) (accepted : List ℕ) → length accepted % 0x10000 ≡ number
-    → let x : World = record { fram = fram_of words; accepted = accepted } in BelongsTo p c.layout image x
+    → let x : World = world_with words accepted in BelongsTo p c.layout image x
     → (cs : List BoardCharge) → ArePowerStates cs → (readings : List ℕ) (events : List Event) → AreInputs readings events
     → (r : RunOutcome) → Run cs (started words number readings events) r
     → IsResumedRun text p allow c.layout image x cs (started words number readings events) r

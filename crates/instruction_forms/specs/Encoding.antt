@@ -8,12 +8,13 @@ use Rattle.msp_isa.specs.declared.registers.IndexRegister.TheVariants as index
 use Rattle.msp_isa.specs.declared.registers.SourceRegister.TheVariants as source_register
 use Rattle.msp_isa.specs.declared.registers.IndirectRegister.TheVariants as pointer
 use Rattle.msp_isa.specs.declared.registers.Reg.TheVariants as reg
+use Rattle.msp_isa.specs.declared.operands.Konst.TheVariants as konst
 use Rattle.msp_isa.specs.declared.operands.Operand.TheVariants as mode
 use Rattle.msp_isa.specs.declared.operands.Src.{Src}
 use Rattle.msp_isa.specs.declared.operands.Src.TheVariants as src
 use Rattle.msp_isa.specs.declared.operands.Dst.{Dst}
 use Rattle.msp_isa.specs.declared.operands.Dst.TheVariants as dst
-use Rattle.msp_isa.specs.declared.instructions.TwoOp.TheVariants.{Mov, Add, Cmp}
+use Rattle.msp_isa.specs.declared.instructions.TwoOp.TheVariants.{Mov, Add, Cmp, Bis}
 use Rattle.msp_isa.specs.declared.instructions.OneOp.{OneOp}
 use Rattle.msp_isa.specs.declared.instructions.OneOp.TheVariants as one
 use Rattle.msp_isa.specs.declared.instructions.Instr.{Instr}
@@ -28,7 +29,7 @@ use Rattle.instruction_forms.specs.declared.kinds.Modification.{Modification}
 use Rattle.instruction_forms.specs.declared.kinds.Modification.TheVariants.{Rrc, Rra, Swpb, Sxt}
 use Rattle.instruction_forms.specs.declared.kinds.Form.{Form}
 use Rattle.instruction_forms.specs.declared.kinds.Form.TheVariants.{Move, Calculate, Compare, Update, Push, Modify, SetStack, Sense, Jump, Skip, Branch}
-use Rattle.instruction_forms.specs.declared.kinds.Form.TheVariants.{BranchIndexed, SkipBy}
+use Rattle.instruction_forms.specs.declared.kinds.Form.TheVariants.{EnableInterrupts, BranchIndexed, SkipBy}
 
 -- a register for work among those that an addressing mode can name
 abbrev pub index_of : WorkRegister → IndexRegister
@@ -104,6 +105,7 @@ instruction_of (Update op x a) = instr.Two op Word (source_operand x) (dst.Absol
 instruction_of (Push x) = instr.One (one.Push Word (source_operand x))
 instruction_of (Modify m b) = instr.One (modification_operand m b)
 instruction_of (SetStack n) = instr.Two Mov Word (src.Immediate n) (dst.Reg (reg.Index index.Sp))
+instruction_of EnableInterrupts = instr.Two Bis Word (src.Constant konst.Eight) (dst.Reg reg.Sr)
 instruction_of (Sense b) = instr.Two Mov Word (src.Operand (mode.Absolute sensor_port)) (dst.Reg (reg.Index (index_of b)))
 instruction_of (Jump c offset) = instr.Jump c offset
 instruction_of (Skip n) = instr.Two Add Word (src.Immediate n) (dst.Reg reg.Pc)
@@ -120,6 +122,7 @@ form_bytes (Update op x a) = 2 + source_bytes x + 2
 form_bytes (Push x) = 2 + source_bytes x
 form_bytes (Modify m b) = 2
 form_bytes (SetStack n) = 4
+form_bytes EnableInterrupts = 2
 form_bytes (Sense b) = 4
 form_bytes (Jump c offset) = 2
 form_bytes (Skip n) = 4

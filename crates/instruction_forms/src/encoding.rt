@@ -7,7 +7,7 @@ use crate::kinds::{Form, Modification, Source, Target, WorkRegister};
 use address_space::{OUTDATA, OUTNUM, SENSOR};
 use event_places::{HEAD, RING};
 use msp_isa::{
-    Condition, Dst, IndexRegister, IndirectRegister, Instr, Offset, OneOp, Operand, Reg,
+    Condition, Dst, IndexRegister, IndirectRegister, Instr, Konst, Offset, OneOp, Operand, Reg,
     SourceRegister, Src, TwoOp, Width,
 };
 
@@ -117,6 +117,7 @@ pub fn instruction_of(form: &Form) -> Instr
             Src::Immediate(*address),
             Dst::Reg(Reg::Index(IndexRegister::Sp)),
         ),
+        Form::EnableInterrupts => two(TwoOp::Bis, Src::Constant(Konst::Eight), Dst::Reg(Reg::Sr)),
         Form::Sense(register) => two(
             TwoOp::Mov,
             Src::Operand(Operand::Absolute(SENSOR)),
@@ -172,7 +173,8 @@ pub fn form_words(form: &Form) -> u16
         Form::Move(x, y) => 1 + source_words(*x) + target_words(*y),
         Form::Compare(x, _) | Form::Update(_, x, _) => 2 + source_words(*x),
         Form::Calculate(_, x, _) | Form::Push(x) => 1 + source_words(*x),
-        Form::Modify(_, _) | Form::Jump(_, _) | Form::SkipBy(_) => 1,
+        Form::Modify(_, _) | Form::EnableInterrupts => 1,
+        Form::Jump(_, _) | Form::SkipBy(_) => 1,
         Form::SetStack(_) | Form::Sense(_) | Form::Skip(_) => 2,
         Form::Branch(_) | Form::BranchIndexed(_, _) => 2,
     }

@@ -86,6 +86,8 @@ pub enum Form {
     Modify(Modification, WorkRegister),
     /// SP becomes a number.
     SetStack(u16),
+    /// GIE is set: from here on the CPU accepts interrupts.
+    EnableInterrupts,
     /// A reading is taken into a register.
     Sense(WorkRegister),
     Jump(Condition, Offset),

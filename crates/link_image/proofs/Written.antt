@@ -3,7 +3,7 @@ use Rattle.link_image.proofs.Names.{◌≡◌, ◌∙◌, ℕ, zero, suc, ◌+�
 use Rattle.link_image.proofs.Names.{subst, arith, append_assoc, length-append, get_or, All, at_drop_more, instructions, words_of, program_of, All-nil, All-cons}
 use Rattle.link_image.proofs.Names.{All-head, All-tail, reset_vector, repeated, MemoryMap, TaskPlace, end_of, AreInOrder, apart_of, even_of, in_order_end}
 use Rattle.link_image.proofs.Names.{filler, CodePart, part_end, chained, PartsInOrder, boot_part, commit_part, task_part, task_parts, linked, ProgramsFit}
-use Rattle.link_image.proofs.Names.{CodeFits, IsShort}
+use Rattle.link_image.proofs.Names.{CodeFits, IsShort, Bool}
 use Rattle.msp_isa.specs.declared.instructions.Instr.{Instr}
 use Rattle.msp_isa.specs.Encoding.{encoding}
 use Rattle.code_forms.specs.Forms.{Form}
@@ -57,13 +57,15 @@ part_words start old new all part parts even_start even from is rest =
 
 -- ---- tasks
 
-pub parts_more : (ts : List TaskPlace) (ps : List WordProgram) (k : ℕ) (t : TaskPlace) (p : WordProgram) → k < length ts → k < length ps → t ≡ get_or ts k t
-    → p ≡ get_or ps k p
-    → task_parts (drop k ts) (map program_of (drop k ps)) ≡ task_part t (program_of p) ∷ task_parts (drop (k + 1) ts) (map program_of (drop (k + 1) ps))
-parts_more ts ps k t p l m a b =
-    at_drop_more (λ xs. task_parts xs (map program_of (drop k ps))) ts k t l ∙ ap (λ x. task_parts (x ∷ drop (k + 1) ts) (map program_of (drop k ps))) (sym a)
-    ∙ at_drop_more (λ xs. task_parts (t ∷ drop (k + 1) ts) (map program_of xs)) ps k p m
-    ∙ ap (λ x. task_parts (t ∷ drop (k + 1) ts) (map program_of (x ∷ drop (k + 1) ps))) (sym b)
+pub parts_more : (events : Bool) (ts : List TaskPlace) (ps : List WordProgram) (k : ℕ) (t : TaskPlace) (p : WordProgram) → k < length ts → k < length ps
+    → t ≡ get_or ts k t → p ≡ get_or ps k p
+    → task_parts events (drop k ts) (map program_of (drop k ps))
+    ≡ task_part events t (program_of p) ∷ task_parts events (drop (k + 1) ts) (map program_of (drop (k + 1) ps))
+parts_more events ts ps k t p l m a b =
+    at_drop_more (λ xs. task_parts events xs (map program_of (drop k ps))) ts k t l
+    ∙ ap (λ x. task_parts events (x ∷ drop (k + 1) ts) (map program_of (drop k ps))) (sym a)
+    ∙ at_drop_more (λ xs. task_parts events (t ∷ drop (k + 1) ts) (map program_of xs)) ps k p m
+    ∙ ap (λ x. task_parts events (t ∷ drop (k + 1) ts) (map program_of (x ∷ drop (k + 1) ps))) (sym b)
 
 pub weaker_order : (from end more : ℕ) (parts : List CodePart) → end ≤ more → PartsInOrder from parts end → PartsInOrder from parts more
 weaker_order from end more [] l o = omega (arith, l, o)
@@ -82,11 +84,12 @@ order_end from end (part ∷ parts) o =
     let start = o.0.from in let rest = order_end (part_end part) end parts o.1 in omega (arith, start, rest)
 
 -- the next task, and those behind it
-pub next_order : (ts : List TaskPlace) (ps : List WordProgram) (at k : ℕ) (t : TaskPlace) (p : WordProgram) → k < length ts → length ts ≡ length ps → t
-    ≡ get_or ts k t → p ≡ get_or ps k p
-    → PartsInOrder at (task_parts (drop k ts) (map program_of (drop k ps))) reset_vector
-    → PartsInOrder at (task_part t (program_of p) ∷ task_parts (drop (k + 1) ts) (map program_of (drop (k + 1) ps))) reset_vector
-next_order ts ps at k t p l n a b o = subst (λ parts. PartsInOrder at parts reset_vector) (parts_more ts ps k t p l (omega (arith, l, n)) a b) o
+pub next_order : (events : Bool) (ts : List TaskPlace) (ps : List WordProgram) (at k : ℕ) (t : TaskPlace) (p : WordProgram) → k < length ts
+    → length ts ≡ length ps → t ≡ get_or ts k t → p ≡ get_or ps k p
+    → PartsInOrder at (task_parts events (drop k ts) (map program_of (drop k ps))) reset_vector
+    → PartsInOrder at (task_part events t (program_of p) ∷ task_parts events (drop (k + 1) ts) (map program_of (drop (k + 1) ps))) reset_vector
+next_order events ts ps at k t p l n a b o =
+    subst (λ parts. PartsInOrder at parts reset_vector) (parts_more events ts ps k t p l (omega (arith, l, n)) a b) o
 
 pub next_each : (P : Program → Type 0) (ps : List WordProgram) (k : ℕ) (p : WordProgram) → k < length ps → p ≡ get_or ps k p
     → All P (map program_of (drop k ps)) → P (program_of p) × All P (map program_of (drop (k + 1) ps))
@@ -114,7 +117,7 @@ module _ (l : MemoryMap) (programs : List Program) (fits : CodeFits l programs) 
     pub rest : words ++ words_in (chained (start + 2 * length words) parts) ≡ words_of (linked l programs)
 
   abbrev pub others : List CodePart
-  others = commit_part l ∷ task_parts l.tasks programs
+  others = commit_part l ∷ task_parts l.runtime.events l.tasks programs
 
   -- a part written behind others
   abbrev written : ℕ → ℕ → List ℕ → List Form → List ℕ
@@ -137,18 +140,18 @@ module _ (l : MemoryMap) (programs : List Program) (fits : CodeFits l programs) 
 
   pub after_commit : (start at : ℕ) (old new : List ℕ) (code : List Form) → start ≡ l.boot.address → at ≡ l.commit.address
       → code ≡ (commit_part l).forms → WrittenTo start old (part_end (boot_part l)) others → new ≡ written start at old code
-      → WrittenTo start new (part_end (commit_part l)) (task_parts l.tasks programs)
+      → WrittenTo start new (part_end (commit_part l)) (task_parts l.runtime.events l.tasks programs)
   after_commit start at old new code s a k before is =
       let same : new ≡ written start l.commit.address old (commit_part l).forms =
       is ∙ ap (λ x. written start x old code) a ∙ ap (written start l.commit.address old) k in
       let even : start % 2 ≡ 0 = ap (λ x. x % 2) s ∙ (even_of l fits.rules).boot in
-      let r = part_words start old new (words_of (linked l programs)) (commit_part l) (task_parts l.tasks programs) even (even_of l fits.rules).commit
+      let r = part_words start old new (words_of (linked l programs)) (commit_part l) (task_parts l.runtime.events l.tasks programs) even (even_of l fits.rules).commit
       (commit_behind start old before) same before.rest in
       record { there = r.0; rest = r.1 }
 
-  pub tasks_behind : (start : ℕ) (words : List ℕ) → WrittenTo start words (part_end (commit_part l)) (task_parts l.tasks programs)
-      → PartsInOrder (start + 2 * length words) (task_parts l.tasks programs) reset_vector
+  pub tasks_behind : (start : ℕ) (words : List ℕ) → WrittenTo start words (part_end (commit_part l)) (task_parts l.runtime.events l.tasks programs)
+      → PartsInOrder (start + 2 * length words) (task_parts l.runtime.events l.tasks programs) reset_vector
   tasks_behind start words h =
       let high = (apart_of l fits.rules).high in
-      subst (λ x. PartsInOrder x (task_parts l.tasks programs) reset_vector) (sym h.there)
-      (weaker_order (part_end (commit_part l)) (end_of l.code) reset_vector (task_parts l.tasks programs) (omega (arith, high)) (in_order l programs fits).1.1)
+      subst (λ x. PartsInOrder x (task_parts l.runtime.events l.tasks programs) reset_vector) (sym h.there)
+      (weaker_order (part_end (commit_part l)) (end_of l.code) reset_vector (task_parts l.runtime.events l.tasks programs) (omega (arith, high)) (in_order l programs fits).1.1)

@@ -51,30 +51,32 @@ fn push_part(words: &mut Vec<u16>, start: u16, at: u16, code: &[Form]) -> Result
     push_code(words, code)
 }
 
-// Adds the code of a task at its place.
+// Adds the code of a task at its place, by whether there are events.
 fn push_task(
     alloc: Global,
+    events: bool,
     words: &mut Vec<u16>,
     start: u16,
     task: &TaskLayout,
     program: &WordProgram,
 ) -> Result<(), AllocError>
-    requires order { PartsInOrder (start + 2 * length words.old.items) (task_part task.now (program_of program.now) ∷ []) reset_vector }
+    requires order { PartsInOrder (start + 2 * length words.old.items) (task_part events task.now (program_of program.now) ∷ []) reset_vector }
     requires whole { IsWhole (program_of program.now) }
     requires short { IsShort (program_of program.now) }
     ensures { OnOk result (words.new.items ≡ words.old.items
         ++ (words_of (instructions (repeated ((task.now.code.address - (start + 2 * length words.old.items)) / 2) filler))
-        ++ words_of (instructions (code_of (program_of program.now))))) }
+        ++ words_of (instructions (code_of events (program_of program.now))))) }
 {
     let at = task.code().address;
     let mut code = Vec::new(alloc);
-    emit(alloc, program, &mut code)?;
+    emit(alloc, events, program, &mut code)?;
     push_part(words, start, at, code.as_slice())
 }
 
 // Adds the code of each task at its place.
 fn push_tasks(
     alloc: Global,
+    events: bool,
     words: &mut Vec<u16>,
     start: u16,
     tasks: &[TaskLayout],
@@ -82,14 +84,14 @@ fn push_tasks(
 ) -> Result<(), AllocError>
     requires even { start % 2 ≡ 0 }
     requires count { length tasks.now ≡ length programs.now }
-    requires order { PartsInOrder (start + 2 * length words.old.items) (task_parts tasks.now (map program_of programs.now)) reset_vector }
+    requires order { PartsInOrder (start + 2 * length words.old.items) (task_parts events tasks.now (map program_of programs.now)) reset_vector }
     requires whole { All IsWhole (map program_of programs.now) }
     requires short { All IsShort (map program_of programs.now) }
     ensures { OnOk result (words.new.items ≡ words.old.items
-        ++ words_of (instructions (chained (start + 2 * length words.old.items) (task_parts tasks.now (map program_of programs.now))))) }
+        ++ words_of (instructions (chained (start + 2 * length words.old.items) (task_parts events tasks.now (map program_of programs.now))))) }
 {
     for k in 0..tasks.len() {
-        push_task(alloc, words, start, &tasks[k], &programs[k])?;
+        push_task(alloc, events, words, start, &tasks[k], &programs[k])?;
     }
     Ok(())
 }
@@ -115,6 +117,7 @@ pub fn code_words(
         layout.commit().address,
         commit.as_slice(),
     )?;
-    push_tasks(alloc, &mut words, start, layout.tasks(), programs)?;
+    let events = layout.runtime().events;
+    push_tasks(alloc, events, &mut words, start, layout.tasks(), programs)?;
     Ok(words)
 }

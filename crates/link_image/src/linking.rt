@@ -1,8 +1,7 @@
 //! From a source to its image.
 ghost use Rattle.std.specs.Prelude.{◌≡◌, ◌<◌, ◌^◌, ◌-◌, All, length, IfOk, IfErr};
 ghost use Rattle.task_ast.specs.View.{program_of};
-ghost use Rattle.source_meaning.specs.Acceptance.{IsAcceptedText};
-ghost use Rattle.source_meaning.specs.Events.{HasNoEvent, IsUncompiled};
+ghost use Rattle.source_meaning.specs.Acceptance.{IsAcceptedText, IsRefusedText};
 ghost use Rattle.war_analysis.specs.Plans.{IsPlan};
 ghost use Rattle.privatise.specs.Layouts.{IsLayout};
 ghost use Rattle.link_image.specs.Needs.{IsReadyToLink};
@@ -17,7 +16,7 @@ use lower::lower;
 use memory_map::Layout;
 use privatise::layout;
 use source_maps::map_of;
-use source_meaning::{Accepted, SourceFault, accept_compiled};
+use source_meaning::{Accepted, SourceFault, accept};
 use std::alloc::{AllocError, Global};
 use war_analysis::{Plan, analyse};
 use whole_programs::programs_are_whole;
@@ -59,8 +58,7 @@ fn image_of(alloc: Global, accepted: &Accepted, layout: &Layout) -> Result<Image
     Ok(image)
 }
 
-/// The image of an accepted source, with a map; or no memory is left. In it `next_event()` is the number 0, which is its value while no
-/// event is taken: `compile` and the commands refuse such a source before.
+/// The image of an accepted source, with a map; or no memory is left.
 pub fn link(alloc: Global, accepted: &Accepted) -> Result<Image, AllocError>
     requires { IsAcceptedText accepted.now.text.items (program_of accepted.now.checked.source) accepted.now.allow }
     ensures { IfOk result (IsCompiled accepted.now.text.items (program_of accepted.now.checked.source) accepted.now.allow) }
@@ -80,14 +78,13 @@ pub fn link(alloc: Global, accepted: &Accepted) -> Result<Image, AllocError>
     Ok(image.with_map(map))
 }
 
-/// The image of a source text, with a map; or the refusal of the first pass that refuses it, of which the last is that of `next_event()`.
+/// The image of a source text, with a map; or the refusal of the first pass that refuses it.
 pub fn compile(alloc: Global, text: &[u8]) -> Result<Image, SourceFault>
     requires { length text.now < 2 ^ 32 - 1 }
     ensures image { IfOk result (IsImageOf text.now) }
-    ensures no_event { IfOk result (λ _. HasNoEvent text.now) }
-    ensures refused { IfErr result (IsUncompiled text.now) }
+    ensures refused { IfErr result (IsRefusedText text.now) }
 {
-    let accepted = accept_compiled(alloc, text)?;
+    let accepted = accept(alloc, text)?;
     match link(alloc, &accepted) {
         Ok(image) => Ok(image),
         Err(AllocError) => Err(SourceFault::Memory),

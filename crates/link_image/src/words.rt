@@ -10,8 +10,11 @@ ghost use Rattle.memory_map.specs.Places.{end_of, home_region, AreInOrder};
 ghost use Rattle.compiled_model.specs.View.{is_within, shared_word};
 ghost use Rattle.source_maps.specs.Placing.{IsOfKind, ArePlacesOf};
 ghost use Rattle.link_image.specs.Initial.{initial_put};
-ghost use Rattle.image_laws.specs.Words.{AreWords};
+ghost use Rattle.image_laws.specs.Words.{AreWords, with_handler};
 
+use address_space::EVENT_VECTOR;
+use event_handler::handler_words;
+use event_places::HANDLER;
 use image_text::Image;
 use memory_map::{Layout, RESET_VECTOR, RuntimeWord, VariablePlace};
 use task_ast::{Extent, SharedDeclaration};
@@ -78,6 +81,18 @@ fn put_words(image: &mut Image, at: u16, words: &[u16])
     }
 }
 
+// Puts the handler, to which the vector of interrupts leads, where the source takes events.
+fn put_handler(image: &mut Image, events: bool)
+    ensures each { (a : ℕ) → IsFram a → fram_of image.new.words a ≡ with_handler events a (fram_of image.old.words a) }
+    ensures are_words { AreWords image.old.words → AreWords image.new.words }
+    ensures same_map { image.new.map ≡ image.old.map }
+{
+    if events {
+        put_words(image, HANDLER, &handler_words());
+        put_word(image, EVENT_VECTOR, HANDLER);
+    }
+}
+
 /// Puts the words of a source's image, of which these are the words of the code.
 pub fn put_image(
     image: &mut Image,
@@ -90,10 +105,11 @@ pub fn put_image(
     requires places { ArePlacesOf shared.now layout.now.variables }
     requires room { layout.now.boot.address + 2 * length code.now ≤ reset_vector }
     ensures each { (a : ℕ) → IsFram a → fram_of image.new.words a ≡ (if a == reset_vector then layout.now.boot.address
-        else if is_within (record { address = layout.now.boot.address; words = length code.now }) a
+        else with_handler layout.now.runtime.events a (
+        if is_within (record { address = layout.now.boot.address; words = length code.now }) a
         then slice_index code.now ((a - layout.now.boot.address) / 2)
         else if a == word_place layout.now CurrentTask then entry
-        else shared_word layout.now.variables (map (λ d. initial_words d.extent) shared.now) a) }
+        else shared_word layout.now.variables (map (λ d. initial_words d.extent) shared.now) a)) }
     ensures are_words { AreWords image.old.words → AreWords image.new.words }
     ensures same_map { image.new.map ≡ image.old.map }
 {
@@ -101,5 +117,6 @@ pub fn put_image(
     put_scalars(image, shared, layout.variables());
     put_word(image, layout.word_place(RuntimeWord::CurrentTask), entry);
     put_words(image, layout.boot().address, code);
+    put_handler(image, layout.runtime().events);
     put_word(image, RESET_VECTOR, layout.boot().address);
 }

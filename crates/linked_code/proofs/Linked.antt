@@ -1,7 +1,7 @@
 -- The code of a compiled source, from what its layout gives.
-use Rattle.std.proofs.Common.{◌≡◌, ℕ, zero, suc, ◌+◌, ◌*◌, ◌≤◌, List, [], ◌∷◌, length, map, Some, slice_get, arith, subst}
+use Rattle.std.proofs.Common.{◌≡◌, ℕ, zero, suc, ◌+◌, ◌*◌, ◌≤◌, Bool, List, [], ◌∷◌, length, map, Some, slice_get, arith, subst}
 use Rattle.boot_runtime.specs.machine_effects.Machine.{Code}
-use Rattle.boot_runtime.specs.code_forms.Placed.{placed, words_of}
+use Rattle.boot_runtime.specs.code_forms.Placed.{words_of}
 use Rattle.boot_runtime.proofs.code_forms.Interface.{forms_stand, placed_is_tidy}
 use Rattle.boot_runtime.proofs.runtime_code.Interface.{code_bytes}
 use Rattle.word_code.specs.array_versions.Program.{Program}
@@ -11,23 +11,24 @@ use Rattle.boot_runtime.specs.Entries.{task_entries}
 use Rattle.boot_runtime.proofs.Interface.{boot_is_short, boot_is_code}
 use Rattle.commit_runtime.proofs.Interface.{commit_is_short, commit_is_code}
 use Rattle.linked_code.specs.Parts.{part_end, PartsInOrder}
-use Rattle.linked_code.specs.Linked.{boot_part, commit_part, task_part, task_parts, code_parts, linked_forms, linked, ProgramsFit, CodeFits}
+use Rattle.linked_code.specs.Linked.{boot_part, commit_part, task_part, task_parts, code_parts, linked_forms, linked, linked_code, ProgramsFit}
+use Rattle.linked_code.specs.Linked.{CodeFits}
 use Rattle.linked_code.specs.Laws.{LinkedIsCode, LinkedStands, PartStands}
 use Rattle.linked_code.proofs.Parts.{chained_end, AllStand, chained_stands, AllAre, chained_are, from_before}
 use Rattle.boot_runtime.specs.memory_map.MemoryMap.{MemoryMap, TaskPlace}
 use Rattle.boot_runtime.specs.memory_map.Places.{end_of, AreInOrder}
 use Rattle.boot_runtime.proofs.memory_map.Interface.{apart_of, even_of}
 
-tasks_in_order : (from : ℕ) (ts : List TaskPlace) (ps : List Program) (end : ℕ) → AreInOrder from (map (λ t. t.code) ts) end → ProgramsFit ts ps
-    → PartsInOrder from (task_parts ts ps) end
-tasks_in_order from [] ps end o f = o
-tasks_in_order from (t ∷ ts) [] end o f = absurd f
-tasks_in_order from (t ∷ ts) (p ∷ ps) end o f =
-    let e = code_short p in
+tasks_in_order : (events : Bool) (from : ℕ) (ts : List TaskPlace) (ps : List Program) (end : ℕ) → AreInOrder from (map (λ t. t.code) ts) end
+    → ProgramsFit ts ps → PartsInOrder from (task_parts events ts ps) end
+tasks_in_order events from [] ps end o f = o
+tasks_in_order events from (t ∷ ts) [] end o f = absurd f
+tasks_in_order events from (t ∷ ts) (p ∷ ps) end o f =
+    let e = code_short events p in
     let w = f.0 in (
       record { from = o.0.from; even = o.0.even },
-      from_before (end_of t.code) (part_end (task_part t p)) (task_parts ts ps) end (omega (arith, e, w))
-          (tasks_in_order (end_of t.code) ts ps end o.1 f.1),
+      from_before (end_of t.code) (part_end (task_part events t p)) (task_parts events ts ps) end (omega (arith, e, w))
+          (tasks_in_order events (end_of t.code) ts ps end o.1 f.1),
     )
 
 boot_length : (l : MemoryMap) (programs : List Program) → CodeFits l programs → part_end (boot_part l) ≤ l.commit.address
@@ -39,7 +40,7 @@ boot_length l programs f =
 
 commit_length : (l : MemoryMap) (programs : List Program) → CodeFits l programs → part_end (commit_part l) ≤ l.code.address
 commit_length l programs f =
-    let a = commit_is_short l (start_address l.boot.address) in
+    let a = commit_is_short l (start_address l.runtime.events l.boot.address) in
     let b = code_bytes (commit_part l).forms in
     let c = f.commit in let d = (apart_of l f.rules).code in
     omega (arith, a, b, c, d)
@@ -50,15 +51,15 @@ in_order l programs f = (
   record { from = omega arith; even = (even_of l f.rules).boot },
   (
     record { from = boot_length l programs f; even = (even_of l f.rules).commit },
-    from_before l.code.address (part_end (commit_part l)) (task_parts l.tasks programs) (end_of l.code) (commit_length l programs f)
-        (tasks_in_order l.code.address l.tasks programs (end_of l.code) f.rules.code f.tasks),
+    from_before l.code.address (part_end (commit_part l)) (task_parts l.runtime.events l.tasks programs) (end_of l.code) (commit_length l programs f)
+        (tasks_in_order l.runtime.events l.code.address l.tasks programs (end_of l.code) f.rules.code f.tasks),
   ),
 )
 
-tasks_are : (ts : List TaskPlace) (ps : List Program) → AllAre (task_parts ts ps)
-tasks_are [] ps = tt
-tasks_are (t ∷ ts) [] = tt
-tasks_are (t ∷ ts) (p ∷ ps) = (code_are p, tasks_are ts ps)
+tasks_are : (events : Bool) (ts : List TaskPlace) (ps : List Program) → AllAre (task_parts events ts ps)
+tasks_are events [] ps = tt
+tasks_are events (t ∷ ts) [] = tt
+tasks_are events (t ∷ ts) (p ∷ ps) = (code_are events p, tasks_are events ts ps)
 
 ends : (l : MemoryMap) (programs : List Program) → CodeFits l programs → l.boot.address + 2 * length (words_of (linked l programs)) ≤ end_of l.code
 ends l programs f =
@@ -73,28 +74,28 @@ linked_is_code l programs f =
     record {
       instructions = chained_are l.boot.address (code_parts l programs) (
         boot_is_code l l.commit.address (task_entries l) l.boot.address,
-        (commit_is_code l (start_address l.boot.address), tasks_are l.tasks programs),
+        (commit_is_code l (start_address l.runtime.events l.boot.address), tasks_are l.runtime.events l.tasks programs),
       );
       end = e;
-      tidy = placed_is_tidy (linked l programs) l.boot.address (even_of l f.rules).boot (omega (arith, e, h));
+      tidy = placed_is_tidy l.runtime.events (linked l programs) l.boot.address (even_of l f.rules).boot (omega (arith, e, h));
     }
 
-task_stands : (code : Code) (ts : List TaskPlace) (ps : List Program) → AllStand code (task_parts ts ps) → (k : ℕ) (t : TaskPlace) (p : Program)
-    → slice_get ts k ≡ Some t → slice_get ps k ≡ Some p → PartStands code (task_part t p)
-task_stands code [] ps h k t p a b = absurd (cc (a))
-task_stands code (u ∷ ts) [] h k t p a b = absurd (cc (b))
-task_stands code (u ∷ ts) (q ∷ ps) h zero t p a b =
+task_stands : (code : Code) (events : Bool) (ts : List TaskPlace) (ps : List Program) → AllStand code (task_parts events ts ps)
+    → (k : ℕ) (t : TaskPlace) (p : Program) → slice_get ts k ≡ Some t → slice_get ps k ≡ Some p → PartStands code (task_part events t p)
+task_stands code events [] ps h k t p a b = absurd (cc (a))
+task_stands code events (u ∷ ts) [] h k t p a b = absurd (cc (b))
+task_stands code events (u ∷ ts) (q ∷ ps) h zero t p a b =
     let d : u ≡ t = cc a in let e : q ≡ p = cc b in
-    subst (λ v. PartStands code (task_part v p)) d (subst (λ r. PartStands code (task_part u r)) e h.0)
-task_stands code (u ∷ ts) (q ∷ ps) h (suc k) t p a b = task_stands code ts ps h.1 k t p a b
+    subst (λ v. PartStands code (task_part events v p)) d (subst (λ r. PartStands code (task_part events u r)) e h.0)
+task_stands code events (u ∷ ts) (q ∷ ps) h (suc k) t p a b = task_stands code events ts ps h.1 k t p a b
 
 pub linked_stands : LinkedStands
 linked_stands l programs f =
-    let code = placed l.boot.address (linked l programs) in
+    let code = linked_code l programs in
     let s = chained_stands code l.boot.address (code_parts l programs) (end_of l.code) (even_of l f.rules).boot (in_order l programs f)
-    (forms_stand (linked_forms l programs) l.boot.address) in
+    (forms_stand l.runtime.events (linked_forms l programs) l.boot.address) in
     record {
       boot = s.0;
       commit = s.1.0;
-      tasks = λ k t p a b. task_stands code l.tasks programs s.1.1 k t p a b;
+      tasks = λ k t p a b. task_stands code l.runtime.events l.tasks programs s.1.1 k t p a b;
     }

@@ -1,5 +1,5 @@
 -- The stretches of linked code: from the boot to the start of an attempt and to the commit, from there to a task, the task's body, the commit.
-use Rattle.std.proofs.Common.{◌≡◌, ◌<◌, ◌+◌, ℕ, zero, suc, List, [], ◌∷◌, length, map, get_or, refl, sym, ap, subst, arith}
+use Rattle.std.proofs.Common.{◌≡◌, ◌<◌, ◌+◌, ℕ, zero, suc, Bool, true, false, List, [], ◌∷◌, length, map, get_or, refl, sym, ap, ◌∙◌, subst, arith}
 use Rattle.std.proofs.lemmas.Option.{slice_get-get_or}
 use Rattle.boot_runtime.specs.fram_board.Effects.{Store}
 use Rattle.boot_runtime.specs.machine_effects.World.{put, fram_after}
@@ -7,31 +7,29 @@ use Rattle.boot_runtime.specs.machine_effects.Inputs.{Inputs, InputsAreWords}
 use Rattle.boot_runtime.specs.machine_effects.Machine.{Code}
 use Rattle.boot_runtime.specs.code_forms.Forms.{Core}
 use Rattle.boot_runtime.specs.code_forms.Code.{Stands}
-use Rattle.boot_runtime.specs.code_forms.Placed.{placed}
 use Rattle.word_code.specs.array_versions.Program.{Program, nothing}
 use Rattle.word_code.specs.array_versions.Behaviour.{behaviour, started}
-use Rattle.word_code.specs.Code.{code_of, code_spent}
+use Rattle.word_code.specs.Code.{entry_stack, code_of, code_spent}
 use Rattle.word_code.specs.Laws.{IsEntry, ComesTo}
 use Rattle.word_code.proofs.Interface.{code_does_as_program}
 use Rattle.boot_runtime.specs.runtime_effects.Places.{listed}
 use Rattle.boot_runtime.specs.runtime_effects.Stages.{is_at_end, start_effects, commit_effects}
 use Rattle.boot_runtime.specs.runtime_effects.Needs.{CanCommit}
-use Rattle.boot_runtime.specs.runtime_code.Addresses.{start_address}
+use Rattle.boot_runtime.specs.runtime_code.Addresses.{start_address, stack_origin}
 use Rattle.boot_runtime.specs.runtime_code.Comes.{Comes, IsAt, Enters}
-use Rattle.boot_runtime.proofs.runtime_code.Interface.{comes_on, core_at, from_there, places_are_in_fram, opening_keeps_task}
+use Rattle.boot_runtime.proofs.runtime_code.Interface.{with_events_even, comes_on, core_at, from_there, places_are_in_fram, opening_keeps_task}
 use Rattle.boot_runtime.specs.Entries.{entry_of, task_entries}
 use Rattle.boot_runtime.specs.Listing.{TaskEntry, entry_at, privates_in, start_steps, start_cycles}
-use Rattle.boot_runtime.specs.Laws.{IsBoot}
+use Rattle.boot_runtime.specs.Laws.{IsBoot, NamesHandler}
 use Rattle.boot_runtime.proofs.Interface.{pending_commit_is_found, attempt_is_found, start_is_made, version_is_raised, tasks_are_entered}
 use Rattle.commit_runtime.specs.Listing.{commit_steps, commit_cycles}
 use Rattle.commit_runtime.proofs.Interface.{commit_is_made}
-use Rattle.linked_code.specs.Linked.{linked, ProgramsFit, CodeFits, ProgramsAreWhole}
+use Rattle.linked_code.specs.Linked.{linked_code, ProgramsFit, CodeFits, ProgramsAreWhole}
 use Rattle.linked_code.specs.Laws.{IsLinkedCode, PartsStand}
 use Rattle.linked_code.proofs.Linked.{linked_is_code, linked_stands}
 use Rattle.boot_runtime.specs.memory_map.declared.words.RuntimeWord.TheVariants.{CurrentTask, Gate, ListLength, EmitCount, SentBase, Version}
-use Rattle.boot_runtime.specs.memory_map.MemoryMap.{MemoryMap, TaskPlace, word_place}
+use Rattle.boot_runtime.specs.memory_map.MemoryMap.{MemoryMap, TaskPlace, word_place, with_events}
 use Rattle.boot_runtime.proofs.memory_map.Interface.{apart_of, even_of}
-use Rattle.boot_runtime.specs.address_space.Limits.{stack_top}
 
 -- a task's layout where there is none
 abbrev no_task : TaskPlace
@@ -53,15 +51,20 @@ programs_count [] (p ∷ ps) f = absurd f
 programs_count (t ∷ ts) [] f = absurd f
 programs_count (t ∷ ts) (p ∷ ps) f = let e = programs_count ts ps f.1 in omega (arith, e)
 
+-- the boot leaves SP where a task's code is entered
+origin_is_entry : (events : Bool) → stack_origin events ≡ entry_stack events
+origin_is_entry true = refl
+origin_is_entry false = refl
+
 module _ (l : MemoryMap) (programs : List Program) (fits : CodeFits l programs) (whole : ProgramsAreWhole programs) where
   abbrev pub code : Code
-  code = placed l.boot.address (linked l programs)
+  code = linked_code l programs
 
   abbrev pub tasks : List TaskEntry
   tasks = task_entries l
 
   abbrev pub start_at : ℕ
-  start_at = start_address l.boot.address
+  start_at = start_address l.runtime.events l.boot.address
 
   abbrev pub program : ℕ → Program
   program k = get_or programs k nothing
@@ -77,6 +80,7 @@ module _ (l : MemoryMap) (programs : List Program) (fits : CodeFits l programs) 
       let f = fits.boot in let c = (apart_of l fits.rules).commit in let d = (apart_of l fits.rules).code in let k = (apart_of l fits.rules).high in
       record {
         tidy = is_linked.tidy;
+        events = refl;
         places = places_are_in_fram l fits.rules;
         task = opening_keeps_task l fits.rules;
         even_commit = (even_of l fits.rules).commit;
@@ -87,15 +91,18 @@ module _ (l : MemoryMap) (programs : List Program) (fits : CodeFits l programs) 
       }
 
   -- from the boot to the start of an attempt
-  pub to_start : (u : Core) → u.pc ≡ l.boot.address → u.fram (word_place l Gate) ≡ 0 → Comes code [] 2 6 u (IsAt start_at u.fram u.inputs)
-  to_start u e z = attempt_is_found code l l.commit.address tasks l.boot.address u is_boot e (omega (arith, z)) (λ q. omega (arith, z, q))
+  pub to_start : (u : Core) → u.pc ≡ l.boot.address → NamesHandler l u.fram → u.fram (word_place l Gate) ≡ 0
+      → let events = l.runtime.events in Comes code [] (with_events events 2 + 2) (with_events events 3 + 6) u (IsAt start_at u.fram u.inputs)
+  to_start u e named z = attempt_is_found code l l.commit.address tasks l.boot.address u is_boot e named (omega (arith, z)) (λ q. omega (arith, z, q))
 
   -- from the boot to the store to VER, where it isn't at its end
-  pub to_raised : (u : Core) → u.pc ≡ l.boot.address → u.fram (word_place l Gate) ≡ 0 → u.fram (word_place l Version) < 0xFFFF
+  pub to_raised : (u : Core) → u.pc ≡ l.boot.address → NamesHandler l u.fram → u.fram (word_place l Gate) ≡ 0 → u.fram (word_place l Version) < 0xFFFF
       → let raised = u.fram (word_place l Version) + 1 in
-      Comes code (Store (word_place l Version) raised ∷ []) 5 16 u (IsAt (start_at + 36) (put u.fram (word_place l Version) raised) u.inputs)
-  to_raised u e z below =
-      version_is_raised code l l.commit.address tasks l.boot.address u is_boot e (omega (arith, z)) (λ q. omega (arith, z, q)) below
+      let events = l.runtime.events in
+      Comes code (Store (word_place l Version) raised ∷ []) (with_events events 2 + 5) (with_events events 3 + 16) u
+      (IsAt (start_at + 36) (put u.fram (word_place l Version) raised) u.inputs)
+  to_raised u e named z below =
+      version_is_raised code l l.commit.address tasks l.boot.address u is_boot e named (omega (arith, z)) (λ q. omega (arith, z, q)) below
 
   -- from the start of an attempt on FRAM and inputs to the code of a task
   abbrev pub FromStart : Core → (ℕ → ℕ) → Inputs → Type 0
@@ -104,7 +111,7 @@ module _ (l : MemoryMap) (programs : List Program) (fits : CodeFits l programs) 
       let events = l.runtime.events in let clears = is_at_end l f in
       let es = start_effects l (privates_in tasks) f in
       Comes code es (start_steps events clears l.versions.words (length t.privates)) (start_cycles events clears l.versions.words (length t.privates)) v
-      (Enters t.code stack_top (fram_after es f) inputs)
+      (Enters t.code (stack_origin events) (fram_after es f) inputs)
 
   start_there : (v : Core) (f : ℕ → ℕ) (inputs : Inputs) → IsAt start_at f inputs v → f (word_place l CurrentTask) < length tasks
       → f (word_place l Version) < 0x10000 → FromStart v f inputs
@@ -119,22 +126,22 @@ module _ (l : MemoryMap) (programs : List Program) (fits : CodeFits l programs) 
       let es = start_effects l (privates_in tasks) u.fram in
       Comes code es (steps + start_steps events clears l.versions.words (length t.privates))
       (cycles + start_cycles events clears l.versions.words (length t.privates)) u
-      (Enters t.code stack_top (fram_after es u.fram) u.inputs)
+      (Enters t.code (stack_origin events) (fram_after es u.fram) u.inputs)
   to_task u steps cycles a named word =
       let count = programs_count l.tasks programs fits.tasks in
       let e = entries_count l.tasks in
       comes_on a (λ v h. start_there v u.fram u.inputs h (omega (arith, named, count, e)) word)
 
   -- the code of a task stands where the boot comes to it
-  task_stands : (k : ℕ) → k < length programs → Stands code (entry_at tasks k).code (code_of (program k))
+  task_stands : (k : ℕ) → k < length programs → Stands code (entry_at tasks k).code (code_of l.runtime.events (program k))
   task_stands k h =
       let t = get_or l.tasks k no_task in
       let count = programs_count l.tasks programs fits.tasks in
       let a = slice_get-get_or l.tasks k no_task (omega (arith, h, count)) in
       let b = slice_get-get_or programs k nothing h in
-      let s : Stands code t.code.address (code_of (program k)) = parts.tasks k t (program k) a b in
+      let s : Stands code t.code.address (code_of l.runtime.events (program k)) = parts.tasks k t (program k) a b in
       let d : t.code.address ≡ (entry_at tasks k).code = ap (λ x. x.code) (sym (entry_is l.tasks k)) in
-      subst (λ q. Stands code q (code_of (program k))) d s
+      subst (λ q. Stands code q (code_of l.runtime.events (program k))) d s
 
   -- what a task's body does on FRAM and inputs
   abbrev pub DoesBody : Core → ℕ → (ℕ → ℕ) → Inputs → Type 0
@@ -142,17 +149,19 @@ module _ (l : MemoryMap) (programs : List Program) (fits : CodeFits l programs) 
       let b = behaviour (program k) (started g inputs) in ComesTo code (code_spent (program k) (started g inputs)) v b.effects b.end
 
   -- where a task is entered, its code does as its word program
-  pub body_there : (v : Core) (k : ℕ) (g : ℕ → ℕ) (inputs : Inputs) → Enters (entry_at tasks k).code stack_top g inputs v → k < length programs
-      → ((a : ℕ) → g a < 0x10000) → InputsAreWords inputs → DoesBody v k g inputs
+  pub body_there : (v : Core) (k : ℕ) (g : ℕ → ℕ) (inputs : Inputs)
+      → Enters (entry_at tasks k).code (stack_origin l.runtime.events) g inputs v → k < length programs → ((a : ℕ) → g a < 0x10000)
+      → InputsAreWords inputs → DoesBody v k g inputs
   body_there v k g inputs h named words ready =
-      let i : IsEntry (entry_at tasks k).code v = record {
+      let i : IsEntry l.runtime.events (entry_at tasks k).code v = record {
         pc = h.pc;
-        sp = h.sp;
+        sp = h.sp ∙ origin_is_entry l.runtime.events;
         fram = subst (λ f. (a : ℕ) → f a < 0x10000) (sym h.fram) words;
         inputs = subst InputsAreWords (sym h.inputs) ready;
       } in
-      let a : DoesBody v k v.fram v.inputs = code_does_as_program code (entry_at tasks k).code (program k) v is_linked.tidy (task_stands k named)
-      (whole.whole k named) (whole.of_words k named) i in
+      let fit = whole.whole k named in
+      let a : DoesBody v k v.fram v.inputs = code_does_as_program code (entry_at tasks k).code (program k) v is_linked.tidy
+      (task_stands k named) fit.whole (λ e. fit.fits) (whole.of_words k named) i in
       subst (λ q. DoesBody v k g q) h.inputs (subst (λ f. DoesBody v k f v.inputs) h.fram a)
 
   -- the commit on FRAM
@@ -170,16 +179,18 @@ module _ (l : MemoryMap) (programs : List Program) (fits : CodeFits l programs) 
   commit_there v f inputs h can word =
       let c = fits.commit in let d = (apart_of l fits.rules).code in let k = (apart_of l fits.rules).high in
       let even = (even_of l fits.rules).boot in
+      let enabling = with_events_even l.runtime.events 6 refl in
       from_there v h (commit_is_made code l l.commit.address start_at (core_at l.commit.address f inputs v) is_linked.tidy is_boot.places
-      (omega (arith, c, d, k)) (omega (arith, even)) parts.commit refl can word)
+      (omega (arith, c, d, k)) (omega (arith, even, enabling)) parts.commit refl can word)
 
   -- from the boot to the commit, where GATE is 1
-  pub to_commit : (u : Core) → u.pc ≡ l.boot.address → u.fram (word_place l Gate) ≡ 1 → CanCommit l u.fram
+  pub to_commit : (u : Core) → u.pc ≡ l.boot.address → NamesHandler l u.fram → u.fram (word_place l Gate) ≡ 1 → CanCommit l u.fram
       → u.fram (word_place l SentBase) < 0x10000
       → let es = commit_effects l u.fram in
       let n = u.fram (word_place l ListLength) in let ws = length (listed l u.fram) in let k = u.fram (word_place l EmitCount) in
       let events = l.runtime.events in
-      Comes code es (3 + commit_steps events n ws k) (9 + commit_cycles events n ws k) u (IsAt start_at (fram_after es u.fram) u.inputs)
-  to_commit u e one can word =
-      comes_on (pending_commit_is_found code l l.commit.address tasks l.boot.address u is_boot e one)
+      Comes code es (with_events events 2 + 3 + commit_steps events n ws k) (with_events events 3 + 9 + commit_cycles events n ws k) u
+      (IsAt start_at (fram_after es u.fram) u.inputs)
+  to_commit u e named one can word =
+      comes_on (pending_commit_is_found code l l.commit.address tasks l.boot.address u is_boot e named one)
       (λ v h. commit_there v u.fram u.inputs h can word)

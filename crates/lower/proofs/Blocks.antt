@@ -14,7 +14,7 @@ use Rattle.lower.proofs.Names.{lowered_expression, lowered_test, lowered_stateme
 use Rattle.lower.proofs.Names.{listed_of, IsLocal, WellFormedExpression, WellFormedStatement, WellFormedChoice, WellFormedBlock, local_word}
 use Rattle.lower.proofs.Names.{assignment_writes, store_writes, loop_writes, taken_writes, passed_writes, first_writes, others_write, statement_sum}
 use Rattle.lower.proofs.Names.{choice_sum, block_sum, summary, IsWrittenArray, StandsFor, Scene, at_variable, at_emit_count, in_buffer, converted_to}
-use Rattle.lower.proofs.Names.{truth_of, AgreesAt, BlocksAgree, MemoryMap, TaskPlace, word_place, ListLength, EmitCount, Version, VariablePlace, word_even}
+use Rattle.lower.proofs.Names.{truth_of, BlocksAgree, MemoryMap, TaskPlace, word_place, ListLength, EmitCount, Version, VariablePlace, word_even}
 use Rattle.lower.proofs.Names.{first_word, privates_few, address_of, scalar_address, IsScalarWord, scalar, Inputs}
 use Rattle.std.specs.Prelude.{slice_get, get_or}
 use Rattle.source_values.specs.Values.{Attempt}
@@ -25,15 +25,17 @@ use Rattle.lower.proofs.Addresses.{fram_place, placed, spot_place, first_address
 use Rattle.lower.proofs.Updates.{is_update, update_goes_on, is_element_update, element_update_goes_on, is_of_words, joined_words}
 use Rattle.cost_bound.specs.Counts.{stores_of}
 use Rattle.lower.proofs.Assigned.{word_value, word_as_value, if_same, if_converted, both_assigned, assigned_as, same_conversion, words_commute}
-use Rattle.lower.proofs.Values.{small_modulo, holds_bit, truth_pushed, Keeping, Keeps, Leaves, single}
+use Rattle.lower.proofs.Names.{AdmitsBlock, AdmitsChoice, AdmitsStatement, Answering, EndsByEffects, IsFit, Look, answered_by, behaves_by_effects}
+use Rattle.lower.proofs.Names.{by_answers, event_index, program_end, runs_of, Base}
+use Rattle.lower.proofs.Values.{small_modulo, holds_bit, truth_pushed, Keeping, Keeps, Leaves, LeavesWords, single}
 use Rattle.lower.proofs.EachExpression.{high_is, expression_leaves, long_leaves, test_leaves}
 use Rattle.lower.proofs.Emitted.{EmitsAtMost, statement_emitted, block_emitted}
 use Rattle.lower.proofs.Stored.{same_variables, same_list, spot_list, scalar_set, local_holds, after_emit, emit_spots, first_held, emit_list, emitted_emits}
-use Rattle.lower.proofs.Stored.{few_entries}
+use Rattle.lower.proofs.Stored.{few_entries, same_emits, spots_low, list_low, emits_low}
 use Rattle.lower.proofs.Neighbours.{runs_are_few}
-use Rattle.lower.proofs.Transitions.{transition_behaves}
-use Rattle.lower.proofs.Ends.{Does, does_then, does_alone, does_at, ends_behind}
-use Rattle.lower.proofs.Elements.{Start, DoesFrom, few_listed, list_fits, store_does, element_update_does, spot_stands}
+use Rattle.lower.proofs.Transitions.{transition_behaves, transition_untold, untold_store}
+use Rattle.lower.proofs.Ends.{Does, does_then, does_alone, does_at, does_behind, settles, test_by_effects}
+use Rattle.lower.proofs.Elements.{Start, DoesFrom, few_emitted, few_listed, list_fits, store_does, element_update_does, spot_stands}
 use Rattle.task_ast.specs.Tree as t
 use Rattle.source_values.specs.Statements as source
 use Rattle.task_ast.proofs.Interface as one_word
@@ -43,8 +45,15 @@ module _ (z : Scene) where
   -- ---- steps that take a value, where statements begin
 
   -- nothing is done
-  nothing_does : {n : ℕ} {count : ℕ → ℕ} (here : Start z n count) → DoesFrom here (words.goes_on [] here.w) (goes_on here.m)
-  nothing_does here = record { stores = tt; stack_kept = refl; listed = here.listed; stands = here.stands; few = few_listed here }
+  nothing_does : {n : ℕ} {count : ℕ → ℕ} (here : Start z n count) → DoesFrom here (words.goes_on [] here.w) goes_on
+  nothing_does here = settles z here.w.fram here.most here.w.stack [] here.w here.m (record {
+    stores = tt;
+    untold = refl;
+    stack_kept = refl;
+    listed = here.listed;
+    stands = here.stands;
+    few = few_listed here;
+  })
 
   -- where a word of a shared scalar is set
   word_stands : (i j : ℕ) {n : ℕ} {count : ℕ → ℕ} (here : Start z n count) (v : ℕ) → IsScalarWord z.p i j
@@ -70,25 +79,27 @@ module _ (z : Scene) where
   }
 
   -- a word of a shared scalar is set, and what is done behind that with the stack below
-  word_kept_then : (i j : ℕ) {n : ℕ} {count : ℕ → ℕ} (here : Start z n count) (v : ℕ) (below : List ℕ) (next : WordState → Behaviour) (o : Outcome)
-      → (is : IsScalarWord z.p i j) → z.written i ≡ true
-      → DoesFrom (word_set i j here v is) (next (with_stack below (stored (scalar_address z.p i j) v here.w))) o
-      → DoesFrom here (then_on (step_behaviour (keep (scalar_address z.p i j)) (with_stack (v ∷ below) here.w)) next) o
-  word_kept_then i j here v below next o is ok h =
+  word_kept_then : (i j : ℕ) {n : ℕ} {count : ℕ → ℕ} (here : Start z n count) (v : ℕ) (below : List ℕ) (next : WordState → Behaviour)
+      (run : Attempt → Outcome) → (is : IsScalarWord z.p i j) → z.written i ≡ true
+      → DoesFrom (word_set i j here v is) (next (with_stack below (stored (scalar_address z.p i j) v here.w))) run
+      → DoesFrom here (then_on (step_behaviour (keep (scalar_address z.p i j)) (with_stack (v ∷ below) here.w)) next)
+      (λ m. run (source.assigned m (Shared i) j v))
+  word_kept_then i j here v below next run is ok h =
       let at = scalar_address z.p i j in
       let u : WordState = with_stack below (stored at v here.w) in
-      let b = next u in
-      subst (λ r. DoesFrom here (then_on r next) o)
+      let low = z.apart.below (scalar i j) is in
+      subst (λ r. DoesFrom here (then_on r next) (λ m. run (source.assigned m (Shared i) j v)))
       (sym (placed at (words.goes_on (Store at v ∷ []) u) (spot_place z.p z.room (scalar i j) z.apart z.even is)))
-      (ends_behind z here.w.fram u.fram here.most here.w.stack (Store at v ∷ []) b.effects b.end o refl (at_variable i j is ok refl, tt) h)
+      (does_behind z here.w.fram u.fram here.most here.w.stack (Store at v ∷ []) (next u)
+      (λ answers. run (answered_by answers (source.assigned here.m (Shared i) j v))) refl (at_variable i j is ok refl, tt)
+      (untold_store at v [] (λ e. omega (arith, e, low))) h)
 
   word_kept_does : (i j a : ℕ) {n : ℕ} {count : ℕ → ℕ} (here : Start z n count) (v : ℕ)
       → a ≡ scalar_address z.p i j → IsScalarWord z.p i j → z.written i ≡ true
-      → DoesFrom here (behaviour (one (keep a)) (pushed v here.w)) (goes_on (source.assigned here.m (Shared i) j v))
+      → DoesFrom here (behaviour (one (keep a)) (pushed v here.w)) (λ m. goes_on (source.assigned m (Shared i) j v))
   word_kept_does i j a here v e is ok =
-      let after = word_set i j here v is in
-      subst (λ c. DoesFrom here (behaviour (one (keep c)) (pushed v here.w)) (goes_on after.m)) (sym e)
-      (word_kept_then i j here v here.w.stack (behaviour nothing) (goes_on after.m) is ok (nothing_does after))
+      subst (λ c. DoesFrom here (behaviour (one (keep c)) (pushed v here.w)) (λ m. goes_on (source.assigned m (Shared i) j v))) (sym e)
+      (word_kept_then i j here v here.w.stack (behaviour nothing) goes_on is ok (nothing_does (word_set i j here v is)))
 
   -- a local is set, and what is known else stays
   local_stands : {n : ℕ} {count : ℕ → ℕ} (i k : ℕ) → i < 256 → (here : Start z n count)
@@ -101,9 +112,16 @@ module _ (z : Scene) where
   }
 
   write_does : (x : Variable) {n : ℕ} {count : ℕ → ℕ} (here : Start z n count) (v : ℕ) → IsTarget z.p z.written x
-      → DoesFrom here (behaviour (one (write_step z.p x)) (pushed v here.w)) (goes_on (source.assigned here.m x 0 v))
+      → DoesFrom here (behaviour (one (write_step z.p x)) (pushed v here.w)) (λ m. goes_on (source.assigned m x 0 v))
   write_does (Local i) here v k =
-      record { stores = tt; stack_kept = refl; listed = here.listed; stands = local_stands i v k here; few = few_listed here }
+      settles z here.w.fram here.most here.w.stack [] (with_local (i % 65536) v here.w) (source.assigned here.m (Local i) 0 v) (record {
+        stores = tt;
+        untold = refl;
+        stack_kept = refl;
+        listed = here.listed;
+        stands = local_stands i v k here;
+        few = few_listed here;
+      })
   write_does (Shared i) here v k =
       word_kept_does i 0 (address_of z.p i) here v (sym (first_address z.p i)) (first_word z.p i k.0) k.1
 
@@ -111,29 +129,30 @@ module _ (z : Scene) where
   local_updated_does : (op : PlainOperation) (i v : ℕ) (o : Option ℕ) {n : ℕ} {count : ℕ → ℕ} (here : Start z n count)
       → i < 256 → ((u : ℕ) → o ≡ Some u → word_at here.m.variables (Local i) 0 ≡ u)
       → DoesFrom here (then_on (local_updated op (i % 65536) v o here.w) (behaviour nothing))
-      (goes_on (source.assigned here.m (Local i) 0 (plain_word op (word_at here.m.variables (Local i) 0) v)))
-  local_updated_does op i v None here few is = tt
-  local_updated_does op i v (Some u) here few is =
+      (λ m. goes_on (source.assigned m (Local i) 0 (plain_word op (word_at m.variables (Local i) 0) v)))
+  local_updated_does op i v None here few is others = tt
+  local_updated_does op i v (Some u) here few is others =
       let P : ℕ → Type 0 = λ x. DoesFrom here (behaviour (one (write_step z.p (Local i))) (pushed (plain_word op u v) here.w))
-      (goes_on (source.assigned here.m (Local i) 0 (plain_word op x v))) in
-      subst P (sym (is u refl)) (write_does (Local i) here (plain_word op u v) few)
+      (λ m. goes_on (source.assigned m (Local i) 0 (plain_word op x v))) in
+      subst P (sym (is u refl)) (write_does (Local i) here (plain_word op u v) few) others
 
   update_does : (op : PlainOperation) (x : Variable) {n : ℕ} {count : ℕ → ℕ} (here : Start z n count) (v : ℕ) → IsTarget z.p z.written x
       → DoesFrom here (behaviour (one (update_step z.p op x)) (pushed v here.w))
-      (goes_on (source.assigned here.m x 0 (plain_word op (word_at here.m.variables x 0) v)))
+      (λ m. goes_on (source.assigned m x 0 (plain_word op (word_at m.variables x 0) v)))
   update_does op (Local i) here v k =
       let small = small_modulo i k in
       local_updated_does op i v (here.w.locals (i % 65536)) here k (λ u e. here.stands.variables.locals i u (ap here.w.locals (sym small) ∙ e))
   update_does op (Shared i) here v k =
       let u = plain_word op (here.w.fram (address_of z.p i)) v in
       let P : ℕ → Type 0 = λ x. DoesFrom here (behaviour (one (write_step z.p (Shared i))) (pushed u here.w))
-      (goes_on (source.assigned here.m (Shared i) 0 x)) in
+      (λ m. goes_on (source.assigned m (Shared i) 0 x)) in
       let held = first_held z.p i here.m.variables here.w.fram here.w.locals here.stands.variables k.0 in
       subst P (ap (λ x. plain_word op x v) held) (write_does (Shared i) here u k)
 
   -- both words of a long, the high one first
   write_long_does : (x : Variable) {n : ℕ} {count : ℕ → ℕ} (here : Start z n count) (v : ℕ) → IsLongTarget z.p z.written x
-      → DoesFrom here (behaviour (write_long z.p x) (pushed (v / 65536) (pushed (v % 65536) here.w))) (goes_on (both_assigned here.m x v))
+      → DoesFrom here (behaviour (write_long z.p x) (pushed (v / 65536) (pushed (v % 65536) here.w)))
+      (λ m. goes_on (both_assigned m x v))
   write_long_does (Local i) here v k = absurd k
   write_long_does (Shared i) here v k =
       let first : IsScalarWord z.p i 0 = let is = k.0 in omega (arith, is) in
@@ -141,10 +160,11 @@ module _ (z : Scene) where
       let low = v % 65536 in
       let high = v / 65536 in
       let behind = word_set i 1 here high k.0 in
-      let last = goes_on (source.assigned behind.m (Shared i) 0 low) in
-      subst (λ x. DoesFrom here (behaviour (write_long z.p (Shared i)) (pushed high (pushed low here.w))) (goes_on (record here.m { variables = x })))
+      let last : Attempt → Outcome = λ m. goes_on (source.assigned m (Shared i) 0 low) in
+      subst (λ x. DoesFrom here (behaviour (write_long z.p (Shared i)) (pushed high (pushed low here.w))) (λ m. goes_on (record m { variables = x })))
       (words_commute here.m.variables i high low)
-      (subst (λ c. DoesFrom here (behaviour (step (keep c) (one (keep a))) (pushed high (pushed low here.w))) last) (sym (high_is z.p z.room i z.apart k.0))
+      (subst (λ c. DoesFrom here (behaviour (step (keep c) (one (keep a))) (pushed high (pushed low here.w)))
+      (λ m. last (source.assigned m (Shared i) 1 high))) (sym (high_is z.p z.room i z.apart k.0))
       (word_kept_then i 1 here high (low ∷ here.w.stack) (behaviour (one (keep a))) last k.0 k.1
       (word_kept_does i 0 a behind low (sym (first_address z.p i)) first k.1)))
 
@@ -153,22 +173,23 @@ module _ (z : Scene) where
   one_store x u = if is_shared u x then 1 else 0
 
   store_step_does : (x : Variable) (i v : ℕ) (here : Start z 0 (one_store x)) → IsWrittenArray z.p x
-      → DoesFrom here (behaviour (one (store_step z.p x)) (pushed v (pushed i here.w))) (goes_on (source.assigned here.m x i v))
+      → DoesFrom here (behaviour (one (store_step z.p x)) (pushed v (pushed i here.w)))
+      (λ m. goes_on (source.assigned m x i v))
   store_step_does (Shared n) i v here k =
       let P : Option VariablePlace → Type 0 =
       λ o. DoesFrom here (behaviour (one (versioned_write (written_array o) (list_place z.p))) (pushed v (pushed i here.w)))
-      (goes_on (source.assigned here.m (Shared n) i v)) in
+      (λ m. goes_on (source.assigned m (Shared n) i v)) in
       subst P (sym k.3.place) (store_does z n i v k.0 k.1 k.2 k.3 here)
   store_step_does (Local n) i v here k = absurd k
 
   update_step_does : (op : PlainOperation) (x : Variable) (i v : ℕ) (here : Start z 0 (one_store x)) → IsWrittenArray z.p x
       → DoesFrom here (behaviour (one (update_element_step z.p op x)) (pushed v (pushed i here.w)))
-      (goes_on (source.assigned here.m x i (plain_word op (word_at here.m.variables x i) v)))
+      (λ m. goes_on (source.assigned m x i (plain_word op (word_at m.variables x i) v)))
   update_step_does op (Shared n) i v here k =
       let u = plain_word op (word_at here.m.variables (Shared n) i) v in
       let P : Option VariablePlace → Type 0 =
       λ o. DoesFrom here (behaviour (one (versioned_update op (written_array o) (list_place z.p))) (pushed v (pushed i here.w)))
-      (goes_on (source.assigned here.m (Shared n) i u)) in
+      (λ m. goes_on (source.assigned m (Shared n) i u)) in
       subst P (sym k.3.place) (element_update_does z n i u k.0 k.1 k.2 k.3 here op v refl)
   update_step_does op (Local n) i v here k = absurd k
 
@@ -182,7 +203,7 @@ module _ (z : Scene) where
 
   emit_does : {count : ℕ → ℕ} (here : Start z 1 count) (v : ℕ)
       → DoesFrom here (behaviour (one (emit_word (word_place z.p.map EmitCount) z.p.map.emits.address)) (pushed v here.w))
-      (goes_on (record here.m { emitted = here.m.emitted ++ v ∷ [] }))
+      (λ m. goes_on (record m { emitted = m.emitted ++ v ∷ [] }))
   emit_does here v =
       let p = z.p in
       let apart = z.apart in
@@ -191,7 +212,8 @@ module _ (z : Scene) where
       let count = word_place p.map EmitCount in
       let n = f count in
       let a = 2 * n + p.map.emits.address in
-      let o = goes_on (record m { emitted = m.emitted ++ v ∷ [] }) in
+      let o : Attempt → Outcome = λ m. goes_on (record m { emitted = m.emitted ++ v ∷ [] }) in
+      let after : Attempt = record m { emitted = m.emitted ++ v ∷ [] } in
       let counted = here.stands.emitted.emit_count in
       let few = here.emits in
       let fits = list_fits here in
@@ -201,8 +223,10 @@ module _ (z : Scene) where
       placed count (at_place a last) (fram_place count (word_even z.p.map EmitCount z.even.row) (omega (arith, apart)) (omega (arith, apart)))
       ∙ placed a last (buffer_place n below) in
       let P : Behaviour → Type 0 = λ b. DoesFrom here (then_on b (behaviour nothing)) o in
-      subst P (sym is) (record {
+      subst P (sym is) (settles z f here.most here.w.stack (Store a v ∷ Store count (n + 1) ∷ []) (stored count (n + 1) (stored a v here.w)) after (record {
         stores = (in_buffer n below refl, (at_emit_count refl (omega (arith, below)), tt));
+        untold = untold_store a v (Store count (n + 1) ∷ []) (λ e. omega (arith, e, below, apart))
+            ∙ untold_store count (n + 1) [] (λ e. omega (arith, e, apart));
         stack_kept = refl;
         listed = here.listed;
         stands = record {
@@ -215,20 +239,38 @@ module _ (z : Scene) where
           readings = here.stands.readings;
         };
         few = few_listed here;
-      })
+      }))
 
   -- ---- behind a value
 
-  -- what stands while an expression is evaluated: the state stands for the attempt behind what is evaluated, FRAM and the emitted words are as
-  -- they were
+  -- what stands while an expression is evaluated: the state stands for the attempt behind what is evaluated, FRAM in front of the end of programs
+  -- and the emitted words are as they were
   record IsStill {n : ℕ} {count : ℕ → ℕ} (here : Start z n count) (m : Attempt) (w : WordState) : Type 0 where
     stands : StandsFor z.p m here.listed w
-    fram : w.fram ≡ here.w.fram
+    fram : (a : ℕ) → a < program_end → w.fram a ≡ here.w.fram a
     emitted : m.emitted ≡ here.m.emitted
 
   -- the state with the stack that there was
   abbrev beside_stack : {n : ℕ} {count : ℕ → ℕ} → Start z n count → (ℕ → ℕ) → (ℕ → Option ℕ) → Inputs → WordState
   beside_stack here f l i = record { stack = here.w.stack; locals = l; fram = f; inputs = i }
+
+  -- stores behind the end of programs, and looks, leave what stands
+  still_answered : {n : ℕ} {count : ℕ → ℕ} (here : Start z n count) (m : Attempt) (f g : ℕ → ℕ) (l : ℕ → Option ℕ) (i : Inputs) (looks : List Look)
+      → IsStill here m (beside_stack here f l i) → ((a : ℕ) → a < program_end → g a ≡ f a)
+      → IsStill here m (beside_stack here g l (record i { looks = looks }))
+  still_answered here m f g l i looks h low =
+      let fits = list_fits here in
+      let few = subst (λ es. length {A = ℕ} es ≤ z.room.emits) (sym h.emitted) (few_emitted here) in
+      record {
+        stands = record {
+          variables = same_variables z.p m.variables f g l (spots_low z.p z.room f g z.apart low) h.stands.variables;
+          emitted = same_emits z.p z.room m.emitted f g few (emits_low z.p z.room f g z.apart low) h.stands.emitted;
+          list = same_list z.p z.room here.listed f g (omega (arith, fits)) (list_low z.p z.room f g z.apart low) h.stands.list;
+          readings = h.stands.readings;
+        };
+        fram = λ a below. low a below ∙ h.fram a below;
+        emitted = h.emitted;
+      }
 
   abbrev keeping : {n : ℕ} {count : ℕ → ℕ} → Start z n count → Keeping
   keeping here = record {
@@ -246,16 +288,21 @@ module _ (z : Scene) where
       fram = h.fram;
       emitted = h.emitted;
     };
+    answered = still_answered here;
   }
 
   at_first : {n : ℕ} {count : ℕ → ℕ} (here : Start z n count) → Keeps (keeping here) here.m here.w
-  at_first here = record { stands = here.stands; fram = refl; emitted = refl }
+  at_first here = record { stands = here.stands; fram = λ a below. refl; emitted = refl }
 
   -- a state behind a value, the value taken from the stack
   record Behind {n : ℕ} {count : ℕ → ℕ} (here : Start z n count) : Type 0 where
     m : Attempt
     w : WordState
-    still : IsStill here m (with_stack here.w.stack w)
+    still : IsStill here (answered_by [] m) (with_stack here.w.stack w)
+
+  -- VER is as it was
+  still_numbered : {n : ℕ} {count : ℕ → ℕ} (here : Start z n count) (there : Behind here) → there.w.fram (word_place z.p.map Version) ≡ z.ver
+  still_numbered here there = let apart = z.apart in there.still.fram (word_place z.p.map Version) (omega (arith, apart)) ∙ here.number
 
   abbrev behind_value : {n : ℕ} {count : ℕ → ℕ} (here : Start z n count) → Behind here → Start z n count
   behind_value {n} here there = record {
@@ -264,48 +311,46 @@ module _ (z : Scene) where
     w = with_stack here.w.stack there.w;
     most = here.most;
     stands = there.still.stands;
-    number = ap (λ f. f (word_place z.p.map Version)) there.still.fram ∙ here.number;
+    number = still_numbered here there;
     emits = subst (λ es. length {A = ℕ} es + n ≤ z.room.emits) (sym there.still.emitted) here.emits;
     lists = here.lists;
     within = here.within;
   }
 
   -- a program that leaves words of a value on top of these, and what goes on from there
-  value_does : {n : ℕ} {count : ℕ → ℕ} (here : Start z n count) (words : ℕ → List ℕ) (below : List ℕ) (b : Behaviour) (o : Option Evaluated)
-      (next : WordState → Behaviour) (more : ℕ → Attempt → Outcome) → AgreesAt (Leaves (keeping here) words below) b o
-      → ((v : ℕ) (there : Behind here) → DoesFrom (behind_value here there) (next (with_stack (words v ++ below) there.w)) (more v there.m))
-      → DoesFrom here (then_on b next) (if_value o more)
-  value_does here words below b o next more agrees k =
-      does_at z here.most here.w.stack here.w (Leaves (keeping here) words below) b o next more agrees
-      (λ x s there. (
-        there.kept.fram,
-        subst (λ l. Does z s.fram here.most here.w.stack (next (with_stack l s)) (more x.value x.behind)) (sym there.stack)
-            (k x.value (record { m = x.behind; w = s; still = there.kept })),
-      ))
+  value_does : {n : ℕ} {count : ℕ → ℕ} (here : Start z n count) (words : ℕ → List ℕ) (below : List ℕ) (u : WordState) (b : Behaviour) (o : Answering)
+      (next : WordState → Behaviour) (more : ℕ → Attempt → Outcome) → EndsByEffects u b.effects b.end → LeavesWords (keeping here) words below b o
+      → ((v : ℕ) (there : Behind here) → DoesFrom (behind_value here there) (next (with_stack (words v ++ below) there.w)) (more v))
+      → Does z u.fram here.most here.w.stack (then_on b next) (λ answers. if_value (o answers) more)
+  value_does here words below u b o next more by agrees k =
+      does_at z here.most here.w.stack u (Leaves (keeping here) words below) b o next more by agrees
+      (λ x s there. subst
+      (λ l. Does z s.fram here.most here.w.stack (next (with_stack l s)) (λ answers. more x.value (answered_by answers x.behind))) (sym there.stack)
+      (k x.value (record { m = x.behind; w = s; still = there.kept })))
 
   -- what a program does with a word on the stack, behind a value
   abbrev DoesWith : {n : ℕ} {count : ℕ → ℕ} → Start z n count → Program → (ℕ → Attempt → Outcome) → Type 0
   DoesWith here last more =
-      (v : ℕ) (there : Behind here) → DoesFrom (behind_value here there) (behaviour last (with_stack (v ∷ here.w.stack) there.w)) (more v there.m)
+      (v : ℕ) (there : Behind here) → DoesFrom (behind_value here there) (behaviour last (with_stack (v ∷ here.w.stack) there.w)) (more v)
 
   -- the value of an expression as one word, and a program that takes it
   value_taken : (e : CheckedExpression) {n : ℕ} {count : ℕ → ℕ} (here : Start z n count) (last : Program) (more : ℕ → Attempt → Outcome)
-      → WellFormedExpression z.shared e → DoesWith here last more
-      → DoesFrom here (behaviour (joined (lowered_expression z.p e) last) here.w) (if_value (word_value e here.m) more)
+      → IsFit z.shared z.p e → DoesWith here last more
+      → DoesFrom here (behaviour (joined (lowered_expression z.p e) last) here.w) (λ m. if_value (word_value e m) more)
   value_taken e here last more fits k =
       let q = lowered_expression z.p e in
-      subst (λ b. DoesFrom here b (if_value (word_value e here.m) more)) (sym (joined_go_on q last here.w))
-      (value_does here single here.w.stack (behaviour q here.w) (word_value e here.m) (behaviour last) more
-      (expression_leaves (keeping here) e here.m here.w (at_first here) fits) k)
+      subst (λ b. DoesFrom here b (λ m. if_value (word_value e m) more)) (sym (joined_go_on q last here.w))
+      (value_does here single here.w.stack here.w (behaviour q here.w) (by_answers here.m (word_value e)) (behaviour last) more
+      (behaves_by_effects q here.w) (expression_leaves (keeping here) e here.m here.w (at_first here) fits) k)
 
   -- ---- assignments
 
   -- a variable of one word is set to a value as one word
   abbrev Sets : {n : ℕ} {count : ℕ → ℕ} → Variable → CheckedExpression → Start z n count → Program → Type 0
-  Sets x e here q = DoesFrom here (behaviour q here.w) (if_value (word_value e here.m) (λ v s. goes_on (source.assigned s x 0 v)))
+  Sets x e here q = DoesFrom here (behaviour q here.w) (λ m. if_value (word_value e m) (λ v s. goes_on (source.assigned s x 0 v)))
 
   setting_does : (x : Variable) (e : CheckedExpression) {n : ℕ} {count : ℕ → ℕ} (here : Start z n count)
-      → WellFormedExpression z.shared e → IsTarget z.p z.written x
+      → IsFit z.shared z.p e → IsTarget z.p z.written x
       → Sets x e here (setting z.p x e)
   setting_does x e here fits target =
       value_taken e here (one (write_step z.p x)) (λ v s. goes_on (source.assigned s x 0 v)) fits
@@ -314,7 +359,7 @@ module _ (z : Scene) where
   -- in place, where both sides are of one word
   sides_do : (x : Variable) (op : PlacedOperator) (a b : CheckedExpression) (o : Option PlainOperation) {n : ℕ} {count : ℕ → ℕ} (here : Start z n count)
       → of_words (joined_type (type_of a) (type_of b)) (updating x op.operator a) ≡ o
-      → WellFormedExpression z.shared (t.binary op a b) → IsTarget z.p z.written x
+      → IsFit z.shared z.p (t.binary op a b) → IsTarget z.p z.written x
       → Sets x (t.binary op a b) here (sides_set z.p x op a b o)
   sides_do x op a b None here is fits target = setting_does x (t.binary op a b) here fits target
   sides_do x op a b (Some o) here is fits target =
@@ -323,54 +368,58 @@ module _ (z : Scene) where
       let whole = one_word.binary_word op.operator (type_of a) (type_of b) types.0 types.1 in
       let given : ℕ → Attempt → Outcome = λ v s. goes_on (source.assigned s x 0 v) in
       let next : ℕ → Attempt → Outcome = λ v s. goes_on (source.assigned s x 0 (plain_word o (word_at s.variables x 0) v)) in
-      let same = ap (λ r. if_value r given) (word_as_value (t.binary op a b) here.m whole)
-      ∙ update_goes_on x op a b o here.m (is_update x op.operator a o word.is) types.0 types.1
-      ∙ sym (ap (λ r. if_value r next) (word_as_value b here.m types.1)) in
-      subst (DoesFrom here (behaviour (sides_set z.p x op a b (Some o)) here.w)) (sym same)
-      (value_taken b here (one (update_step z.p o x)) next fits.1 (λ v there. update_does o x (behind_value here there) v target))
+      let same : (m : Attempt) → if_value (word_value b m) next ≡ if_value (word_value (t.binary op a b) m) given =
+      λ m. ap (λ r. if_value r next) (word_as_value b m types.1)
+      ∙ sym (update_goes_on x op a b o m (is_update x op.operator a o word.is) types.0 types.1)
+      ∙ sym (ap (λ r. if_value r given) (word_as_value (t.binary op a b) m whole)) in
+      subst (DoesFrom here (behaviour (sides_set z.p x op a b (Some o)) here.w)) (λ j. λ m. same m j)
+      (value_taken b here (one (update_step z.p o x)) next (fits.0.1, fits.1.1) (λ v there. update_does o x (behind_value here there) v target))
 
   -- by the kind of the expression: the first clause makes it a proof by cases
   assignment_does : (x : Variable) (e : CheckedExpression) {n : ℕ} {count : ℕ → ℕ} (here : Start z n count)
-      → WellFormedExpression z.shared e → IsTarget z.p z.written x
+      → IsFit z.shared z.p e → IsTarget z.p z.written x
       → Sets x e here (assignment z.p x e)
   assignment_does x (t.binary op a b) here fits target =
       sides_do x op a b (of_words (joined_type (type_of a) (type_of b)) (updating x op.operator a)) here refl fits target
   assignment_does x e here fits target = setting_does x e here fits target
 
   long_setting_does : (x : Variable) (e : CheckedExpression) {n : ℕ} {count : ℕ → ℕ} (here : Start z n count)
-      → WellFormedExpression z.shared e → IsLongTarget z.p z.written x
+      → IsFit z.shared z.p e → IsLongTarget z.p z.written x
       → DoesFrom here (behaviour (long_setting z.p x e) here.w)
-      (if_value (converted_to (type_of e) Long (value_of e here.m)) (λ v s. goes_on (both_assigned s x v)))
+      (λ m. if_value (converted_to (type_of e) Long (value_of e m)) (λ v s. goes_on (both_assigned s x v)))
   long_setting_does x e here fits target =
-      let o = converted_to (type_of e) Long (value_of e here.m) in
+      let o : Attempt → Option Evaluated = λ m. converted_to (type_of e) Long (value_of e m) in
       let given : ℕ → Attempt → Outcome = λ v s. goes_on (both_assigned s x v) in
       let q = lowered_long z.p e in
-      subst (λ b. DoesFrom here b (if_value o given)) (sym (joined_go_on q (write_long z.p x) here.w))
-      (value_does here stacked here.w.stack (behaviour q here.w) o (behaviour (write_long z.p x)) given
-      (long_leaves (keeping here) e here.m here.w (at_first here) fits)
+      subst (λ b. DoesFrom here b (λ m. if_value (o m) given)) (sym (joined_go_on q (write_long z.p x) here.w))
+      (value_does here stacked here.w.stack here.w (behaviour q here.w) (by_answers here.m o) (behaviour (write_long z.p x)) given
+      (behaves_by_effects q here.w) (long_leaves (keeping here) e here.m here.w (at_first here) fits)
       (λ v there. write_long_does x (behind_value here there) v target))
 
   -- a variable of one word takes the value as one word
   word_assigned_does : (of : WordType) (x : Variable) (e : CheckedExpression) {n : ℕ} {count : ℕ → ℕ} (here : Start z n count) → IsOneWord of
-      → WellFormedExpression z.shared e → IsTarget z.p z.written x
-      → DoesFrom here (behaviour (assignment z.p x e) here.w) (with_value e here.m (λ v s. goes_on (assigned_as of s x (type_of e) v)))
+      → IsFit z.shared z.p e → IsTarget z.p z.written x
+      → DoesFrom here (behaviour (assignment z.p x e) here.w) (λ m. with_value e m (λ v s. goes_on (assigned_as of s x (type_of e) v)))
   word_assigned_does of x e here word fits target =
-      let o = value_of e here.m in
-      subst (DoesFrom here (behaviour (assignment z.p x e) here.w))
-      (if_converted (type_of e) Unsigned o (λ v s. goes_on (source.assigned s x 0 v)) ∙ if_same o _ _ (λ v s. ap goes_on (same v s)))
-      (assignment_does x e here fits target)
+      subst (DoesFrom here (behaviour (assignment z.p x e) here.w)) (λ j. λ m. as_word m j) (assignment_does x e here fits target)
     where
       same : (v : ℕ) (s : Attempt) → source.assigned s x 0 (converted (type_of e) Unsigned v) ≡ assigned_as of s x (type_of e) v
       same v s = ap (source.assigned s x 0) (same_conversion (type_of e) of v word)
           ∙ sym (one_word.by_one_word of (source.assigned s x 0 (converted (type_of e) of v)) (both_assigned s x (converted (type_of e) of v)) word)
 
+      as_word : (m : Attempt) → if_value (word_value e m) (λ v s. goes_on (source.assigned s x 0 v))
+          ≡ with_value e m (λ v s. goes_on (assigned_as of s x (type_of e) v))
+      as_word m =
+          if_converted (type_of e) Unsigned (value_of e m) (λ v s. goes_on (source.assigned s x 0 v))
+          ∙ if_same (value_of e m) _ _ (λ v s. ap goes_on (same v s))
+
   -- an assignment to a scalar of a type
   scalar_does : (of : WordType) (x : Variable) (e : CheckedExpression) {n : ℕ} {count : ℕ → ℕ} (here : Start z n count)
-      → WellFormedExpression z.shared e → IsTargetOf z.p z.written of x
-      → DoesFrom here (behaviour (scalar_assignment z.p of x e) here.w) (with_value e here.m (λ v s. goes_on (assigned_as of s x (type_of e) v)))
+      → IsFit z.shared z.p e → IsTargetOf z.p z.written of x
+      → DoesFrom here (behaviour (scalar_assignment z.p of x e) here.w) (λ m. with_value e m (λ v s. goes_on (assigned_as of s x (type_of e) v)))
   scalar_does Long x e here fits target =
       subst (DoesFrom here (behaviour (long_setting z.p x e) here.w))
-      (if_converted (type_of e) Long (value_of e here.m) (λ v s. goes_on (both_assigned s x v)))
+      (λ j. λ m. if_converted (type_of e) Long (value_of e m) (λ v s. goes_on (both_assigned s x v)) j)
       (long_setting_does x e here fits target)
   scalar_does Int x e here fits target = word_assigned_does Int x e here tt fits target
   scalar_does Unsigned x e here fits target = word_assigned_does Unsigned x e here tt fits target
@@ -379,33 +428,32 @@ module _ (z : Scene) where
 
   -- an index and a value, and what a program does with both
   index_and_value_do : (index e : CheckedExpression) (last : Program) (given : ℕ → ℕ → Attempt → Outcome) {n : ℕ} {count : ℕ → ℕ} (here : Start z n count)
-      → WellFormedExpression z.shared index → WellFormedExpression z.shared e
+      → IsFit z.shared z.p index → IsFit z.shared z.p e
       → ((i v : ℕ) (there : Behind here)
-      → DoesFrom (behind_value here there) (behaviour last (with_stack (v ∷ (i ∷ here.w.stack)) there.w)) (given i v there.m))
+      → DoesFrom (behind_value here there) (behaviour last (with_stack (v ∷ (i ∷ here.w.stack)) there.w)) (given i v))
       → DoesFrom here (behaviour (joined (index_and_value z.p index e) last) here.w)
-      (if_value (word_value index here.m) (λ i s. if_value (word_value e s) (given i)))
+      (λ m. if_value (word_value index m) (λ i s. if_value (word_value e s) (given i)))
   index_and_value_do index e last given here of_index of_e k =
       let first = lowered_expression z.p index in
       let second = lowered_expression z.p e in
       let more : ℕ → Attempt → Outcome = λ i s. if_value (word_value e s) (given i) in
-      subst (λ q. DoesFrom here (behaviour q here.w) (if_value (word_value index here.m) more)) (sym (joined_assoc first second last))
+      subst (λ q. DoesFrom here (behaviour q here.w) (λ m. if_value (word_value index m) more)) (sym (joined_assoc first second last))
       (value_taken index here (joined second last) more of_index
       (λ i there.
       let u : WordState = with_stack (i ∷ here.w.stack) there.w in
-      subst (λ b. DoesFrom (behind_value here there) b (more i there.m)) (sym (joined_go_on second last u))
-      (subst (λ f. Does z f here.most here.w.stack (then_on (behaviour second u) (behaviour last)) (more i there.m)) (sym there.still.fram)
-      (value_does here single u.stack (behaviour second u) (word_value e there.m) (behaviour last) (given i)
-      (expression_leaves (keeping here) e there.m u there.still of_e) (k i)))))
+      subst (λ b. DoesFrom (behind_value here there) b (more i)) (sym (joined_go_on second last u))
+      (value_does here single u.stack u (behaviour second u) (by_answers there.m (word_value e)) (behaviour last) (given i)
+      (behaves_by_effects second u) (expression_leaves (keeping here) e there.m u there.still of_e) (k i))))
 
   -- an assignment to an element does what the source's does: the index and the value are taken as one word
   abbrev stored_word : Variable → CheckedExpression → ℕ → Attempt → Outcome
   stored_word x e i s = if_value (word_value e s) (λ v s. goes_on (source.assigned s x i v))
 
   abbrev AssignsElement : (x : Variable) → CheckedExpression → CheckedExpression → Start z 0 (one_store x) → Program → Type 0
-  AssignsElement x index e here q = DoesFrom here (behaviour q here.w) (if_value (word_value index here.m) (stored_word x e))
+  AssignsElement x index e here q = DoesFrom here (behaviour q here.w) (λ m. if_value (word_value index m) (stored_word x e))
 
   element_setting_does : (x : Variable) (index e : CheckedExpression) (here : Start z 0 (one_store x)) → IsWrittenArray z.p x
-      → WellFormedExpression z.shared index → WellFormedExpression z.shared e → AssignsElement x index e here (element_setting z.p x index e)
+      → IsFit z.shared z.p index → IsFit z.shared z.p e → AssignsElement x index e here (element_setting z.p x index e)
   element_setting_does x index e here array of_index of_e =
       index_and_value_do index e (one (store_step z.p x)) (λ i v s. goes_on (source.assigned s x i v)) here of_index of_e
       (λ i v there. store_step_does x i v (behind_value here there) array)
@@ -422,29 +470,30 @@ module _ (z : Scene) where
   element_sides_do : (x : Variable) (index : CheckedExpression) (op : PlacedOperator) (a b : CheckedExpression) (o : Option PlainOperation)
       (here : Start z 0 (one_store x))
       → of_words (joined_type (type_of a) (type_of b)) (element_updating x index op.operator a) ≡ o
-      → IsWrittenArray z.p x → WellFormedExpression z.shared index → IsOneWord (type_of index) → WellFormedExpression z.shared (t.binary op a b)
+      → IsWrittenArray z.p x → IsFit z.shared z.p index → IsOneWord (type_of index) → IsFit z.shared z.p (t.binary op a b)
       → AssignsElement x index (t.binary op a b) here (element_sides_set z.p x index op a b o)
   element_sides_do x index op a b None here is array of_index index_word of_e =
       element_setting_does x index (t.binary op a b) here array of_index of_e
   element_sides_do x index op a b (Some o) here is array of_index index_word of_e =
-      let m = here.m in
       let word = is_of_words (joined_type (type_of a) (type_of b)) (element_updating x index op.operator a) o is in
       let types = joined_words (type_of a) (type_of b) word.word in
       let whole = one_word.binary_word op.operator (type_of a) (type_of b) types.0 types.1 in
       let u = is_element_update x index op.operator a o word.is in
-      let element = subst (WellFormedExpression z.shared) u.is of_e.0 in
+      let element = subst (WellFormedExpression z.shared) u.is of_e.0.0 in
       let given : ℕ → ℕ → Attempt → Outcome = λ i v s. goes_on (source.assigned s x i v) in
       let next : ℕ → ℕ → Attempt → Outcome = λ i v s. goes_on (source.assigned s x i (plain_word o (word_at s.variables x i) v)) in
-      let same = as_values index (t.binary op a b) m given index_word whole
-      ∙ element_update_goes_on x index op a b o m u (record { index = index_word; other = element.3; left = types.0; right = types.1 })
-      ∙ sym (as_values index b m next index_word types.1) in
-      subst (DoesFrom here (behaviour (element_sides_set z.p x index op a b (Some o)) here.w)) (sym same)
-      (index_and_value_do index b (one (update_element_step z.p o x)) next here of_index of_e.1
+      let same : (m : Attempt) → if_value (word_value index m) (λ i s. if_value (word_value b s) (next i))
+      ≡ if_value (word_value index m) (stored_word x (t.binary op a b)) =
+      λ m. as_values index b m next index_word types.1
+      ∙ sym (element_update_goes_on x index op a b o m u (record { index = index_word; other = element.3; left = types.0; right = types.1 }))
+      ∙ sym (as_values index (t.binary op a b) m given index_word whole) in
+      subst (DoesFrom here (behaviour (element_sides_set z.p x index op a b (Some o)) here.w)) (λ j. λ m. same m j)
+      (index_and_value_do index b (one (update_element_step z.p o x)) next here of_index (of_e.0.1, of_e.1.1)
       (λ i v there. update_step_does o x i v (behind_value here there) array))
 
   -- by the kind of the expression: the first clause makes it a proof by cases
   element_does : (x : Variable) (index e : CheckedExpression) (here : Start z 0 (one_store x)) → IsWrittenArray z.p x
-      → WellFormedExpression z.shared index → IsOneWord (type_of index) → WellFormedExpression z.shared e
+      → IsFit z.shared z.p index → IsOneWord (type_of index) → IsFit z.shared z.p e
       → AssignsElement x index e here (element_assignment z.p x index e)
   element_does x index (t.binary op a b) here array of_index index_word of_e =
       element_sides_do x index op a b (of_words (joined_type (type_of a) (type_of b)) (element_updating x index op.operator a)) here refl array
@@ -452,29 +501,35 @@ module _ (z : Scene) where
   element_does x index e here array of_index index_word of_e = element_setting_does x index e here array of_index of_e
 
   element_store_does : (x : Variable) (index e : CheckedExpression) (here : Start z 0 (one_store x)) → IsWrittenArray z.p x
-      → WellFormedExpression z.shared index → IsOneWord (type_of index) → WellFormedExpression z.shared e
+      → IsFit z.shared z.p index → IsOneWord (type_of index) → IsFit z.shared z.p e
       → DoesFrom here (behaviour (element_assignment z.p x index e) here.w)
-      (with_value index here.m (λ i s. with_value e s (λ v s. goes_on (source.assigned s x i (source.word_of e v)))))
+      (λ m. with_value index m (λ i s. with_value e s (λ v s. goes_on (source.assigned s x i (source.word_of e v)))))
   element_store_does x index e here array of_index index_word of_e =
       let given : ℕ → ℕ → Attempt → Outcome = λ i v s. goes_on (source.assigned s x i v) in
-      let same = ap (λ r. if_value r (stored_word x e)) (word_as_value index here.m index_word)
-      ∙ if_same (value_of index here.m) (stored_word x e) _ (λ i s. if_converted (type_of e) Unsigned (value_of e s) (given i)) in
-      subst (DoesFrom here (behaviour (element_assignment z.p x index e) here.w)) same
+      let same : (m : Attempt) → if_value (word_value index m) (stored_word x e)
+      ≡ with_value index m (λ i s. with_value e s (λ v s. goes_on (source.assigned s x i (source.word_of e v)))) =
+      λ m. ap (λ r. if_value r (stored_word x e)) (word_as_value index m index_word)
+      ∙ if_same (value_of index m) (stored_word x e) _ (λ i s. if_converted (type_of e) Unsigned (value_of e s) (given i)) in
+      subst (DoesFrom here (behaviour (element_assignment z.p x index e) here.w)) (λ j. λ m. same m j)
       (element_does x index e here array of_index index_word of_e)
 
   -- ---- transitions
 
   transition_does : (task : ℕ) {n : ℕ} {count : ℕ → ℕ} (here : Start z n count)
-      → DoesFrom here (behaviour (lowered_transition z.p task) here.w) (to_task task here.m)
+      → DoesFrom here (behaviour (lowered_transition z.p task) here.w) (to_task task)
   transition_does task here =
       let w = here.w in
+      let before = w.fram (word_place z.p.map ListLength) in
+      let base = w.fram (word_place z.p.map Base) in
       let entries = few_entries z.p here.listed w.fram here.stands.list in
       let runs = runs_are_few z.p.privates in
       let scalars = privates_few z.p.privates in
       let fits = list_fits here in
-      let b = transition_behaves z.p z.room task (w.fram (word_place z.p.map ListLength)) w z.apart z.even refl (omega (arith, entries, runs, scalars, fits)) in
-      let P : Behaviour → Type 0 = λ b. DoesFrom here b (to_task task here.m) in
-      subst P (sym b.1) (record {
+      let few : before + length (runs_of z.p.privates) ≤ z.room.list = omega (arith, entries, runs, scalars, fits) in
+      let b = transition_behaves z.p z.room task before w z.apart z.even refl few in
+      let untold = transition_untold z.p z.room task before base (event_index w.fram) z.apart few in
+      let P : Behaviour → Type 0 = λ b. DoesFrom here b (to_task task) in
+      subst P (sym b.1) (λ others. record {
         body = [];
         there = w;
         listed = here.listed;
@@ -485,24 +540,34 @@ module _ (z : Scene) where
         few = few_listed here;
         commits = refl;
         readings = b.2 ∙ here.stands.readings;
+        answers = ap (λ l. l ++ others) untold;
       })
 
   -- ---- loops
 
   -- a turn of a loop: what its program does, and that it emits so much at most
   record Turn (q : Program) (run : Attempt → Outcome) (e : ℕ) (c : ℕ → ℕ) : Type 0 where
-    does : (here : Start z e c) → DoesFrom here (behaviour q here.w) (run here.m)
+    does : (here : Start z e c) → DoesFrom here (behaviour q here.w) run
     emitted : (m : Attempt) (k : ℕ) → length m.emitted + e ≤ k → EmitsAtMost k (run m)
 
   -- so many turns, from a number on
   abbrev TurnsDo : ℕ → Program → (Attempt → Outcome) → ℕ → ℕ → List ℕ → {n : ℕ} {count : ℕ → ℕ} → Start z n count → Type 0
-  TurnsDo i q run j k stack here = Does z here.w.fram here.most stack (words.turns j (i % 65536) k (behaviour q) here.w) (source.turns j k (Local i) run here.m)
+  TurnsDo i q run j k stack here =
+      Does z here.w.fram here.most stack (words.turns j (i % 65536) k (behaviour q) here.w)
+      (λ answers. source.turns j k (Local i) run (answered_by answers here.m))
 
   -- no turn
   no_turns : (i : ℕ) (q : Program) (run : Attempt → Outcome) (k : ℕ) (stack : List ℕ) {n : ℕ} {count : ℕ → ℕ} (here : Start z n count) → i < 256
       → here.w.stack ≡ stack → TurnsDo i q run 0 k stack here
   no_turns i q run k stack here low same =
-      record { stores = tt; stack_kept = same; listed = here.listed; stands = local_stands i k low here; few = few_listed here }
+      settles z here.w.fram here.most stack [] (with_local (i % 65536) k here.w) (source.assigned here.m (Local i) 0 k) (record {
+        stores = tt;
+        untold = refl;
+        stack_kept = same;
+        listed = here.listed;
+        stands = local_stands i k low here;
+        few = few_listed here;
+      })
 
   turns_do : (i : ℕ) (q : Program) (run : Attempt → Outcome) (e : ℕ) (c : ℕ → ℕ) → i < 256 → Turn q run e c → (j k : ℕ) (stack : List ℕ)
       (here : Start z (j * e) (λ v. j * c v)) → here.w.stack ≡ stack → TurnsDo i q run j k stack here
@@ -525,16 +590,16 @@ module _ (z : Scene) where
         lists = λ v. omega arith;
         within = λ v. let a = fewer v in let b = here.within v in omega (arith, a, b);
       } in
-      let P : List ℕ → Type 0 = λ s. Does z here.w.fram once s (behaviour q first.w) (run first.m) in
-      does_then z once here.most stack (length m.emitted + e) (run first.m) (record {
+      let P : List ℕ → Type 0 = λ s. Does z here.w.fram once s (behaviour q first.w) (λ answers. run (answered_by answers first.m)) in
+      does_then z once here.most stack (length m.emitted + e) (λ answers. run (answered_by answers first.m)) (record {
         q = q;
         w = first.w;
         ver = here.number;
         does = subst P same (turn.does first);
-        emits = turn.emitted first.m (length m.emitted + e) (omega arith);
+        emits = λ answers. turn.emitted (answered_by answers first.m) (length m.emitted + e) (omega arith);
       })
       (words.turns j (i % 65536) (k + 1) (behaviour q)) (source.turns j (k + 1) (Local i) run) fewer
-      (λ s u listing is there. let below = there.few_emitted in turns_do i q run e c low turn j (k + 1) stack (record {
+      (λ s u listing answers is there. let below = there.few_emitted in turns_do i q run e c low turn j (k + 1) stack (record {
         m = u;
         listed = listing;
         w = s;
@@ -548,12 +613,13 @@ module _ (z : Scene) where
 
   loop_does : (x : Variable) (from below : ℕ) (q : Program) (run : Attempt → Outcome) (e : ℕ) (c : ℕ → ℕ) → IsLocal x → (from < below → Turn q run e c)
       → (here : Start z ((below - from) * e) (λ v. (below - from) * c v))
-      → DoesFrom here (behaviour (one (repeat (loop_local x) from below q)) here.w) (source.turns (below - from) from x run here.m)
+      → DoesFrom here (behaviour (one (repeat (loop_local x) from below q)) here.w)
+      (source.turns (below - from) from x run)
   loop_does (Shared v) from below q run e c low turn here = absurd low
   loop_does (Local i) from below q run e c low turn here =
       let w = here.w in
       does_alone z w.fram here.most w.stack (words.turns (below - from) (i % 65536) from (behaviour q) w)
-      (source.turns (below - from) from (Local i) run here.m)
+      (λ answers. source.turns (below - from) from (Local i) run (answered_by answers here.m))
       (⊎_elim
       (λ some. turns_do i q run e c low (turn some) (below - from) from w.stack here refl)
       (λ none.
@@ -564,8 +630,8 @@ module _ (z : Scene) where
   -- ---- conditions
 
   -- one of two ways
-  either_does : (b : Bool) {n : ℕ} {count : ℕ → ℕ} (here : Start z n count) (taken otherwise : Behaviour) (o q : Outcome) → DoesFrom here taken o
-      → DoesFrom here otherwise q → DoesFrom here (if b then taken else otherwise) (if b then o else q)
+  either_does : (b : Bool) {n : ℕ} {count : ℕ → ℕ} (here : Start z n count) (taken otherwise : Behaviour) (o q : Attempt → Outcome)
+      → DoesFrom here taken o → DoesFrom here otherwise q → DoesFrom here (if b then taken else otherwise) (λ m. if b then o m else q m)
   either_does true here taken otherwise o q h k = h
   either_does false here taken otherwise o q h k = k
 
@@ -577,25 +643,27 @@ module _ (z : Scene) where
 
   -- one way of a choice does what the source runs, from any attempt behind the condition on
   abbrev WayDoes : {n : ℕ} {count : ℕ → ℕ} → Start z n count → Program → (Attempt → Outcome) → Type 0
-  WayDoes here q run = (there : Behind here) → DoesFrom (behind_value here there) (behaviour q (with_stack here.w.stack there.w)) (run there.m)
+  WayDoes here q run = (there : Behind here) → DoesFrom (behind_value here there) (behaviour q (with_stack here.w.stack there.w)) run
 
   -- a choice, where both ways do
   choice_of_ways : (e : CheckedExpression) {n : ℕ} {count : ℕ → ℕ} (here : Start z n count) (taken otherwise : Program) (f g : Attempt → Outcome)
-      → WellFormedExpression z.shared e → WayDoes here taken f → WayDoes here otherwise g
+      → IsFit z.shared z.p e → WayDoes here taken f → WayDoes here otherwise g
       → DoesFrom here (behaviour (one (choose (lowered_test z.p e) taken otherwise)) here.w)
-      (with_value e here.m (λ v s. if holds v then f s else g s))
+      (λ m. with_value e m (λ v s. if holds v then f s else g s))
   choice_of_ways e here taken otherwise f g fits a b =
       let w = here.w in
       let c = lowered_test z.p e in
-      let o = value_of e here.m in
       let run : ℕ → Attempt → Outcome = λ v s. if holds v then f s else g s in
+      let o : Attempt → Option Evaluated = λ m. truth_of (value_of e m) in
       let ways = way_by_top (behaviour taken) (behaviour otherwise) in
-      does_alone z w.fram here.most w.stack (tested c (behaviour taken) (behaviour otherwise) w) (if_value o run)
-      (subst (λ r. DoesFrom here r (if_value o run)) (sym (decided_by_truth c (behaviour taken) (behaviour otherwise) w))
-      (subst (DoesFrom here (then_on (truth_pushed c w) ways)) (by_truth o f g)
-      (value_does here single w.stack (truth_pushed c w) (truth_of o) ways run (test_leaves (keeping here) e here.m w (at_first here) fits)
+      does_alone z w.fram here.most w.stack (tested c (behaviour taken) (behaviour otherwise) w)
+      (λ answers. with_value e (answered_by answers here.m) run)
+      (subst (λ r. DoesFrom here r (λ m. with_value e m run)) (sym (decided_by_truth c (behaviour taken) (behaviour otherwise) w))
+      (subst (DoesFrom here (then_on (truth_pushed c w) ways)) (λ j. λ m. by_truth (value_of e m) f g j)
+      (value_does here single w.stack w (truth_pushed c w) (by_answers here.m o) ways run (test_by_effects c w)
+      (test_leaves (keeping here) e here.m w (at_first here) fits)
       (λ v there. let s = with_stack w.stack there.w in
-      either_does (holds v) (behind_value here there) (behaviour taken s) (behaviour otherwise s) (f there.m) (g there.m) (a there) (b there)))))
+      either_does (holds v) (behind_value here there) (behaviour taken s) (behaviour otherwise s) f g (a there) (b there)))))
 
   -- for statements that emit and list no more
   abbrev with_fewer : {n : ℕ} {count : ℕ → ℕ} (here : Start z n count) (k : ℕ) (fewer : ℕ → ℕ) → k ≤ n → ((v : ℕ) → fewer v ≤ count v)
@@ -622,54 +690,57 @@ module _ (z : Scene) where
 
   mutual
     statement_does : (s : CheckedStatement) (here : Start z (statement_emits s) (λ v. statement_count (is_store_to v) s)) → WellFormedStatement z.shared s
-        → Writes (λ v. (statement_sum (summary (Shared v)) s).writes)
-        → DoesFrom here (behaviour (lowered_statement z.p s) here.w) (run_statement s here.m)
-    statement_does (t.declare of x None) here fits writes = nothing_does here
-    statement_does (t.declare of x (Some e)) here fits writes =
-        word_assigned_does x.word_type x.variable e here (local_word z.shared x.word_type x.variable fits.0 fits.2) fits.1
+        → AdmitsStatement z.p.map.runtime.events s → Writes (λ v. (statement_sum (summary (Shared v)) s).writes)
+        → DoesFrom here (behaviour (lowered_statement z.p s) here.w) (run_statement s)
+    statement_does (t.declare of x None) here fits admits writes = nothing_does here
+    statement_does (t.declare of x (Some e)) here fits admits writes =
+        word_assigned_does x.word_type x.variable e here (local_word z.shared x.word_type x.variable fits.0 fits.2) (fits.1, admits)
         (local_target z.p z.written x.variable fits.0)
-    statement_does (t.assign x e) here fits writes =
-        scalar_does x.word_type x.variable e here fits.1
+    statement_does (t.assign x e) here fits admits writes =
+        scalar_does x.word_type x.variable e here (fits.1, admits)
         (target_of z.shared z.p z.written z.declared x.word_type x.variable fits.0 fits.2 (λ v k. writes v (assignment_writes v x e k)))
-    statement_does (t.store x index e) here fits writes =
+    statement_does (t.store x index e) here fits admits writes =
         element_store_does x.variable index e here
-        (array_target z.shared z.p z.written z.declared x.variable z.copied fits.0 (λ v k. writes v (store_writes v x index e k))) fits.1 fits.3 fits.2
-    statement_does (t.choose choice) here fits writes = choice_does choice here fits writes
-    statement_does (t.loop x from tested below stepped body) here fits writes =
+        (array_target z.shared z.p z.written z.declared x.variable z.copied fits.0 (λ v k. writes v (store_writes v x index e k)))
+        (fits.1, admits.0) fits.3 (fits.2, admits.1)
+    statement_does (t.choose choice) here fits admits writes = choice_does choice here fits admits writes
+    statement_does (t.loop x from tested below stepped body) here fits admits writes =
         loop_does x.variable from below (lowered_block z.p body) (run_block body) (block_emits body) (λ v. block_count (is_store_to v) body) fits.0
         (λ some. record {
-          does = λ turn. block_does body turn fits.1 (λ v k. writes v (loop_writes v x from tested below stepped body some k));
+          does = λ turn. block_does body turn fits.1 admits (λ v k. writes v (loop_writes v x from tested below stepped body some k));
           emitted = block_emitted body;
         }) here
-    statement_does (t.emit e) here fits writes =
+    statement_does (t.emit e) here fits admits writes =
         let last = one (emit_word (word_place z.p.map EmitCount) z.p.map.emits.address) in
         let given : ℕ → Attempt → Outcome = λ v s. goes_on (record s { emitted = s.emitted ++ v ∷ [] }) in
-        subst (DoesFrom here (behaviour (joined (lowered_expression z.p e) last) here.w)) (if_converted (type_of e) Unsigned (value_of e here.m) given)
-        (value_taken e here last given fits.0 (λ v there. emit_does (behind_value here there) v))
-    statement_does (t.transition task) here fits writes = transition_does task.task here
+        subst (DoesFrom here (behaviour (joined (lowered_expression z.p e) last) here.w))
+        (λ j. λ m. if_converted (type_of e) Unsigned (value_of e m) given j)
+        (value_taken e here last given (fits.0, admits) (λ v there. emit_does (behind_value here there) v))
+    statement_does (t.transition task) here fits admits writes = transition_does task.task here
 
     choice_does : (c : CheckedChoice) (here : Start z (choice_emits c) (λ v. choice_count (is_store_to v) c)) → WellFormedChoice z.shared c
-        → Writes (λ v. (choice_sum (summary (Shared v)) c).writes)
-        → DoesFrom here (behaviour (lowered_choice z.p c) here.w) (run_choice c here.m)
-    choice_does t.nothing here fits writes = nothing_does here
-    choice_does (t.otherwise block) here fits writes = block_does block here fits writes
-    choice_does (t.test e block more) here fits writes =
-        choice_of_ways e here (lowered_block z.p block) (lowered_choice z.p more) (run_block block) (run_choice more) fits.0
+        → AdmitsChoice z.p.map.runtime.events c → Writes (λ v. (choice_sum (summary (Shared v)) c).writes)
+        → DoesFrom here (behaviour (lowered_choice z.p c) here.w) (run_choice c)
+    choice_does t.nothing here fits admits writes = nothing_does here
+    choice_does (t.otherwise block) here fits admits writes = block_does block here fits admits writes
+    choice_does (t.test e block more) here fits admits writes =
+        choice_of_ways e here (lowered_block z.p block) (lowered_choice z.p more) (run_block block) (run_choice more)
+        (fits.0, admits.0)
         (λ there. block_does block
         (with_fewer (behind_value here there) (block_emits block) (λ v. block_count (is_store_to v) block) (omega arith) (λ v. omega arith)) fits.1
-        (λ v k. writes v (taken_writes v e block more k)))
+        admits.1 (λ v k. writes v (taken_writes v e block more k)))
         (λ there. choice_does more
         (with_fewer (behind_value here there) (choice_emits more) (λ v. choice_count (is_store_to v) more) (omega arith) (λ v. omega arith)) fits.2
-        (λ v k. writes v (passed_writes v e block more k)))
+        admits.2 (λ v k. writes v (passed_writes v e block more k)))
 
     block_does : (b : CheckedBlock) (here : Start z (block_emits b) (λ v. block_count (is_store_to v) b)) → WellFormedBlock z.shared b
-        → Writes (λ v. (block_sum (summary (Shared v)) b).writes)
-        → DoesFrom here (behaviour (lowered_block z.p b) here.w) (run_block b here.m)
-    block_does t.end here fits writes = nothing_does here
-    block_does (t.step s more) here fits writes =
+        → AdmitsBlock z.p.map.runtime.events b → Writes (λ v. (block_sum (summary (Shared v)) b).writes)
+        → DoesFrom here (behaviour (lowered_block z.p b) here.w) (run_block b)
+    block_does t.end here fits admits writes = nothing_does here
+    block_does (t.step s more) here fits admits writes =
         let w = here.w in
         let m = here.m in
-        let P : Behaviour → Type 0 = λ b. DoesFrom here b (run_block (t.step s more) m) in
+        let P : Behaviour → Type 0 = λ b. DoesFrom here b (run_block (t.step s more)) in
         let room = here.emits in
         let once : ℕ → ℕ = λ v. listed_of v here.listed + statement_count (is_store_to v) s in
         let fewer : (v : ℕ) → once v ≤ here.most v = λ v. let a = here.lists v in omega (arith, a) in
@@ -685,17 +756,19 @@ module _ (z : Scene) where
           within = λ v. let a = fewer v in let b = here.within v in omega (arith, a, b);
         } in
         subst P (sym (joined_go_on (lowered_statement z.p s) (lowered_block z.p more) w))
-        (does_then z once here.most w.stack (length m.emitted + statement_emits s) (run_statement s m) (record {
+        (does_then z once here.most w.stack (length m.emitted + statement_emits s)
+        (λ answers. run_statement s (answered_by answers m)) (record {
           q = lowered_statement z.p s;
           w = w;
           ver = here.number;
-          does = statement_does s first fits.0 (λ v k. writes v (first_writes v s more k));
-          emits = statement_emitted s m (length m.emitted + statement_emits s) (omega arith);
+          does = statement_does s first fits.0 admits.0 (λ v k. writes v (first_writes v s more k));
+          emits = λ answers. statement_emitted s (answered_by answers m) (length m.emitted + statement_emits s) (omega arith);
         })
         (behaviour (lowered_block z.p more)) (run_block more) fewer
-        (λ u n listing is there.
+        (λ u n listing answers is there.
         let below = there.few_emitted in
-        let Q : List ℕ → Type 0 = λ l. Does z u.fram here.most l (behaviour (lowered_block z.p more) u) (run_block more n) in
+        let Q : List ℕ → Type 0 = λ l. Does z u.fram here.most l (behaviour (lowered_block z.p more) u)
+        (λ answers. run_block more (answered_by answers n)) in
         let behind : Start z (block_emits more) (λ v. block_count (is_store_to v) more) = record {
           m = n;
           listed = listing;
@@ -708,11 +781,11 @@ module _ (z : Scene) where
           within = here.within;
         } in
         subst Q there.stack_kept
-        (block_does more behind fits.1 (λ v k. writes v (others_write v s more (runs_go_on_along_paths s m n is) k)))))
+        (block_does more behind fits.1 admits.1 (λ v k. writes v (others_write v s more (runs_go_on_along_paths s (answered_by answers m) n is) k)))))
 
 pub blocks_agree : BlocksAgree
 unfolding stores_of
-blocks_agree z block m listed w ver fits writes stands emits lists =
+blocks_agree z block m listed w ver fits admits writes stands emits lists =
     let most : ℕ → ℕ = λ v. listed_of v listed + stores_of v block in
     block_does z block (record {
       m = m;
@@ -724,7 +797,7 @@ blocks_agree z block m listed w ver fits writes stands emits lists =
       emits = emits;
       lists = λ v. le_refl (most v);
       within = lists;
-    }) fits writes
+    }) fits admits writes
 
 -- the program of a task, by its number
 pub program_at : (l : MemoryMap) (tasks : List CheckedTask) (layouts : List TaskPlace) (k : ℕ) (task : CheckedTask) (t : TaskPlace)

@@ -11,7 +11,8 @@ use Rattle.lower.proofs.Names.{scalar_assignment, one, assignment, element_assig
 use Rattle.lower.proofs.Names.{lowered_statement, lowered_choice, lowered_block, entry_cycles, BlocksKeepToCycles}
 use Rattle.lower.proofs.Neighbours.{runs_are_few}
 use Rattle.array_versions.specs.Behaviour.{goes_on}
-use Rattle.lower.proofs.Sizes.{assignment_keeps, scalar_keeps, element_keeps, emission_keeps, test_cycles_kept}
+use Rattle.lower.proofs.Sizes.{assignment_keeps, scalar_keeps, element_keeps, emission_keeps, freezing_costs, test_cycles_kept}
+use Rattle.lower.proofs.Names.{freeze_events, freezing}
 use Rattle.task_ast.specs.Tree as t
 use Rattle.array_versions.specs.Program as word
 
@@ -64,19 +65,26 @@ moved_leaves : (from to : ℕ) (q : Program) → ((s : WordState) → Leaves (be
     → Leaves (behaviour (step (move_word from to) q) s).end
 moved_leaves from to q h s = placed_leaves (is_place from) _ (behaviour q) (placed_leaves (is_place to) (goes_on _ _) (behaviour q) (h _))
 
--- behind the entries: SB, GATE, the jump
+frozen_leaves : (events : Bool) (q : Program) → ((s : WordState) → Leaves (behaviour q s).end) → (s : WordState)
+    → Leaves (behaviour (joined (if events then one freeze_events else nothing) q) s).end
+frozen_leaves true q h s = h _
+frozen_leaves false q h s = h s
+
+-- behind the entries: SB, SE where there are events, GATE, the jump
+abbrev gated : Places → Program
+gated p = step (store_number (word_place p.map Gate) 1) (one (jump p.map.commit.address))
+
 abbrev closing : Places → Program
-closing p = step (move_word (word_place p.map Base) (word_place p.map SentBase))
-    (step (store_number (word_place p.map Gate) 1) (one (jump p.map.commit.address)))
+closing p = step (move_word (word_place p.map Base) (word_place p.map SentBase)) (joined (freezing p) (gated p))
 
 transition_leaves : (p : Places) (task : ℕ) (s : WordState) → Leaves (behaviour (lowered_transition p task) s).end
 transition_leaves p task s =
-    let gated = step (store_number (word_place p.map Gate) 1) (one (jump p.map.commit.address)) in
     let tail = joined (entries (word_place p.map ListLength) p.map.list.address (runs_of p.privates)) (closing p) in
     stored_leaves (word_place p.map NextTask) (task % 65536) tail
     (entries_leave (word_place p.map ListLength) p.map.list.address (runs_of p.privates) (closing p)
-    (moved_leaves (word_place p.map Base) (word_place p.map SentBase) gated
-    (stored_leaves (word_place p.map Gate) 1 (one (jump p.map.commit.address)) (jump_leaves p.map.commit.address)))) s
+    (moved_leaves (word_place p.map Base) (word_place p.map SentBase) (joined (freezing p) (gated p))
+    (frozen_leaves p.map.runtime.events (gated p)
+    (stored_leaves (word_place p.map Gate) 1 (one (jump p.map.commit.address)) (jump_leaves p.map.commit.address))))) s
 
 entries_cycles : (count list : ℕ) (runs : List Run) → cycles_of (entries count list runs) ≡ 26 * length runs
 entries_cycles count list [] = refl
@@ -88,8 +96,10 @@ transition_spends p task s =
     let few = runs_are_few p.privates in
     let l = joined_cycles (entries (word_place p.map ListLength) p.map.list.address (runs_of p.privates)) (closing p) in
     let k = ways_keep_to_cycles (lowered_transition p task) s in
+    let last = joined_cycles (freezing p) (gated p) in
+    let frozen = freezing_costs p in
     leaves_pay p (behaviour (lowered_transition p task) s).end (spent (lowered_transition p task) s) 100 (transition_leaves p task s)
-    (omega (arith, a, few, l, k))
+    (omega (arith, a, few, l, k, last, frozen))
 
 -- ---- parts one behind the other
 

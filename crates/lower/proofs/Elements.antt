@@ -13,7 +13,9 @@ use Rattle.lower.proofs.Stored.{word_past, set_holds, same_list, same_emits, spo
 use Rattle.lower.proofs.Lists.{HasNext, lists_word}
 use Rattle.lower.proofs.Versioned.{stores_again, stores_first, stores_nothing, update_stores, updates_nothing, element_set, again_stored, after_mark}
 use Rattle.lower.proofs.Versioned.{mark_keeps_pairs, mark_keeps_words, elements_have_next, first_stored_at, first_emits, first_list, pushed_of, push_listed}
-use Rattle.lower.proofs.Ends.{Does}
+use Rattle.lower.proofs.Ends.{Does, settles}
+use Rattle.lower.proofs.Transitions.{untold_store}
+use Rattle.lower.proofs.Names.{answered_by, answers_told}
 
 -- where statements begin that emit and list so much: an attempt, the elements that it has listed, a state that stands for it, and how many
 -- elements of each array may be listed behind them; there is room
@@ -28,9 +30,9 @@ pub record Start (z : Scene) (emitting : ℕ) (count : ℕ → ℕ) : Type 0 whe
   pub lists : (v : ℕ) → listed_of v listed + count v ≤ most v
   pub within : (v : ℕ) → most v ≤ z.stores v
 
--- what a behaviour does w there
-abbrev pub DoesFrom : {z : Scene} {n : ℕ} {count : ℕ → ℕ} → Start z n count → Behaviour → Outcome → Type 0
-DoesFrom {z} here = Does z here.w.fram here.most here.w.stack
+-- what a behaviour does there, as the source does from the attempt
+abbrev pub DoesFrom : {z : Scene} {n : ℕ} {count : ℕ → ℕ} → Start z n count → Behaviour → (Attempt → Outcome) → Type 0
+DoesFrom {z} here b run = Does z here.w.fram here.most here.w.stack b (λ answers. run (answered_by answers here.m))
 
 pub few_listed : {z : Scene} {n : ℕ} {count : ℕ → ℕ} (here : Start z n count) (v : ℕ) → listed_of v here.listed ≤ here.most v
 few_listed here v = let a = here.lists v in omega (arith, a)
@@ -68,7 +70,7 @@ module _ (z : Scene) (n i v elements len : ℕ) (c : ArrayCopies) (at : IsArrayA
   after = record m { variables = with_word m.variables (Shared n) i v }
 
   abbrev Result : Behaviour → Type 0
-  Result b = Does z w.fram most w.stack (then_on b (behaviour nothing)) (goes_on after)
+  Result b = Does z w.fram most w.stack (then_on b (behaviour nothing)) (λ answers. goes_on (answered_by answers after))
 
   abbrev x : Element
   x = record { array = n; index = i }
@@ -121,13 +123,21 @@ module _ (z : Scene) (n i v elements len : ℕ) (c : ArrayCopies) (at : IsArrayA
 
   past : len ≤ i → Result (versioned_stored place (list_place z.p) i v w)
   past l =
-      subst Result (sym (stores_nothing place (list_place z.p) i v w l)) (record {
+      subst Result (sym (stores_nothing place (list_place z.p) i v w l)) (settles z w.fram most w.stack [] w after (record {
         stores = tt;
+        untold = refl;
         stack_kept = refl;
         listed = listed;
         stands = record { variables = past_set l; emitted = h.stands.emitted; list = h.stands.list; readings = h.stands.readings };
         few = few_listed h;
-      })
+      }))
+
+  -- stores to a copy or a version word tell no answer
+  copy_untold : (es : List Effect) → IsCopied z.p x → answers_told (Store (copy_address z.p x) v ∷ es) ≡ answers_told es
+  copy_untold es is = let below = z.apart.below (copy x) is in untold_store (copy_address z.p x) v es (λ e. omega (arith, e, below))
+
+  mark_untold : (number : ℕ) (es : List Effect) → IsCopied z.p x → answers_told (Store (version_address z.p x) number ∷ es) ≡ answers_told es
+  mark_untold number es is = let below = z.apart.below (version x) is in untold_store (version_address z.p x) number es (λ e. omega (arith, e, below))
 
   -- the version word is VER
   again : (l : i < len) → w.fram (word_place z.p.map Version) ≡ w.fram (version_address z.p x) → Result (versioned_stored place (list_place z.p) i v w)
@@ -138,16 +148,17 @@ module _ (z : Scene) (n i v elements len : ℕ) (c : ArrayCopies) (at : IsArrayA
       let now = again_stored p z.room x v f z.apart is marked in
       let Q : ℕ → Type 0 = λ a. put f a v (word_place p.map Version) ≡ put f a v (version_address p x) in
       let same = subst Q (copy_is p x elements len c at) (now.number ∙ sym now.mark) ∙ ap (put f (2 * i + c.copies) v) (version_is p x elements len c at) in
-      let P : ℕ → Type 0 = λ a. WentOn p (bounds z f most) w.stack (Store a v ∷ []) (record w { fram = put f a v }) after in
+      let P : ℕ → Type 0 = λ a. Does z f most w.stack (going_on (Store a v ∷ []) (record w { fram = put f a v })) (λ answers. goes_on (answered_by answers after)) in
       subst Result (sym (stores_again place (list_place p) i v w l (here_copy l) here_number (here_version l) same))
-      (subst P (copy_is p x elements len c at) (record {
+      (subst P (copy_is p x elements len c at) (settles z f most w.stack (Store (copy_address p x) v ∷ []) (record w { fram = put f (copy_address p x) v }) after (record {
         stores = (at_copy x is refl, tt);
+        untold = copy_untold [] is;
         stack_kept = refl;
         listed = listed;
         stands = spot_stands h (copy x) v (with_word m.variables (Shared n) i v) is (λ y e. cc)
             (element_set p z.room x v m.variables f (put f (copy_address p x) v) w.locals is now h.stands.variables);
         few = few_listed h;
-      }))
+      })))
 
   -- there is room for one more in the list
   one_more : IsCopied z.p x → (Contains listed x → ⊥) → length listed < z.room.list
@@ -186,10 +197,13 @@ module _ (z : Scene) (n i v elements len : ℕ) (c : ArrayCopies) (at : IsArrayA
       let does : here (2 * i + c.copies) (2 * i + c.versions) (2 * i + elements) =
       subst (λ d. here (2 * i + c.copies) (2 * i + c.versions) d) at_e
       (subst (λ b. here (2 * i + c.copies) b (element_address p x)) at_n (subst (λ a. here a (version_address p x) (element_address p x)) at_c lists.does)) in
-      let P : List Effect → ℕ → ℕ → Type 0 = λ es a b. WentOn p (bounds z f most) w.stack (Store a v ∷ Store b (f (word_place p.map Version)) ∷ es)
-      (record w { fram = g }) after in
-      let went : P lists.effects (copy_address p x) (version_address p x) = record {
+      let number = f (word_place p.map Version) in
+      let P : List Effect → ℕ → ℕ → Type 0 = λ es a b. Does z f most w.stack (going_on (Store a v ∷ Store b number ∷ es) (record w { fram = g }))
+      (λ answers. goes_on (answered_by answers after)) in
+      let all = Store (copy_address p x) v ∷ Store (version_address p x) number ∷ lists.effects in
+      let went : P lists.effects (copy_address p x) (version_address p x) = settles z f most w.stack all (record w { fram = g }) after (record {
         stores = (at_copy x is refl, (at_version x is refl h.number, lists.stores));
+        untold = copy_untold (Store (version_address p x) number ∷ lists.effects) is ∙ mark_untold number lists.effects is ∙ lists.untold;
         stack_kept = refl;
         listed = listed ++ x ∷ [];
         stands = record {
@@ -201,7 +215,7 @@ module _ (z : Scene) (n i v elements len : ℕ) (c : ArrayCopies) (at : IsArrayA
           readings = h.stands.readings;
         };
         few = λ u. subst (λ a. a ≤ most u) (sym (pushed_of u listed x)) (h.lists u);
-      } in
+      }) in
       subst Result (sym (stores_first place list i v w lists.effects g l (here_copy l) here_number (here_version l) (here_element l)
       (λ e. unmarked (sym (number_stays l) ∙ e ∙ mark_stays l)) (number_stays l) does))
       (subst (λ b. P (lists.effects ++ []) (2 * i + c.copies) b) at_n (subst (λ a. P (lists.effects ++ []) a (version_address p x)) at_c

@@ -7,16 +7,18 @@ use Rattle.lower.proofs.Names.{scalar, copy, version, Room, AreApart, listed_of,
 use Rattle.lower.proofs.Names.{in_list, at_list_length, at_emit_count, in_buffer, StandsFor, EndsAt, AgreesAt, Scene, bounds, Left, EndsAs, Agrees}
 use Rattle.source_values.specs.Values.{Attempt}
 use Rattle.source_values.specs.Statements.{goes_on}
-use Rattle.lower.proofs.Values.{takes_append, only_takes}
+use Rattle.lower.proofs.Names.{⊎_elim, Looked, Offered, Answering, IsAnswerStore, answered_by, answers_told, at_answer, going_on, Test, tested, truth, one}
+use Rattle.lower.proofs.Names.{number_pushed, Strays}
+use Rattle.lower.proofs.Values.{takes_append, takes_weaker, told_behind}
 use Rattle.lower.proofs.Emitted.{EmitsAtMost}
 
 abbrev pub Stores : Scene → List Effect → Type 0
 Stores z = TakesAndStores (IsTaskStore z.p z.written z.room z.ver)
 
-abbrev pub Ends : Scene → (ℕ → ℕ) → (ℕ → ℕ) → List ℕ → List Effect → End → Outcome → Type 0
+abbrev pub Ends : Scene → (ℕ → ℕ) → (ℕ → ℕ) → List ℕ → List ℕ → List Effect → End → Outcome → Type 0
 Ends z start most = EndsAs z.p (bounds z start most)
 
-abbrev pub Does : Scene → (ℕ → ℕ) → (ℕ → ℕ) → List ℕ → Behaviour → Outcome → Type 0
+abbrev pub Does : Scene → (ℕ → ℕ) → (ℕ → ℕ) → List ℕ → Behaviour → (List ℕ → Outcome) → Type 0
 Does z start most = Agrees z.p (bounds z start most)
 
 -- ---- words that no statement stores
@@ -35,6 +37,8 @@ store_elsewhere p written room ver a b w apart kept (in_list from to) d = omega 
 store_elsewhere p written room ver a b w apart kept (at_list_length e few) d = kept.not_length (d ∙ e)
 store_elsewhere p written room ver a b w apart kept (at_emit_count e few) d = kept.not_count (d ∙ e)
 store_elsewhere p written room ver a b w apart kept (in_buffer i few e) d = omega (arith, d, e, kept, apart)
+store_elsewhere p written room ver a b w apart kept (at_answer k) d =
+    ⊎_elim (λ e. omega (arith, d, e, kept, apart)) (λ e. omega (arith, d, e, kept, apart)) k.1
 
 -- they stay
 pub stores_keep : (p : Places) (written : ℕ → Bool) (room : Room) (ver a : ℕ) (es : List Effect) (f : ℕ → ℕ) → AreApart p room → IsKept p a
@@ -43,34 +47,27 @@ stores_keep p written room ver a [] f apart kept h = refl
 stores_keep p written room ver a (Store b w ∷ es) f apart kept h =
     stores_keep p written room ver a es (put f b w) apart kept h.1 ∙ put_other f b w a (store_elsewhere p written room ver a b w apart kept h.0)
 stores_keep p written room ver a (Take r ∷ es) f apart kept h = stores_keep p written room ver a es f apart kept h
-stores_keep p written room ver a (Outside o ∷ es) f apart kept h = absurd h
+stores_keep p written room ver a (Outside (Looked seen) ∷ es) f apart kept h = stores_keep p written room ver a es f apart kept h
+stores_keep p written room ver a (Outside (Offered n w) ∷ es) f apart kept h = absurd h
 
 -- VER is one
 pub keeps_version : (p : Places) (room : Room) → AreApart p room → IsKept p (word_place p.map Version)
 keeps_version p room apart = record { low = omega (arith, apart); not_length = λ e. omega (arith, e, apart); not_count = λ e. omega (arith, e, apart) }
 
--- readings alone change nothing
-pub takes_keep : (es : List Effect) (f : ℕ → ℕ) → OnlyTakes es → fram_after es f ≡ f
-takes_keep [] f h = refl
-takes_keep (Store a w ∷ es) f h = absurd h.0
-takes_keep (Take r ∷ es) f h = takes_keep es f h
-takes_keep (Outside o ∷ es) f h = absurd h
-
 -- ---- effects in front
 
-pub ends_behind : (z : Scene) (start from most : ℕ → ℕ) (stack : List ℕ) (es fs : List Effect) (e : End) (o : Outcome) → from ≡ fram_after es start
-    → Stores z es
-    → Ends z from most stack fs e o → Ends z start most stack (es ++ fs) e o
-ends_behind z start from most stack es fs (GoesOn s) (goes_on m) is h k =
+pub ends_behind : (z : Scene) (start from most : ℕ → ℕ) (stack left : List ℕ) (es fs : List Effect) (e : End) (o : Outcome)
+    → from ≡ fram_after es start → Stores z es → Ends z from most stack left fs e o → Ends z start most stack left (es ++ fs) e o
+ends_behind z start from most stack left es fs (GoesOn s) (goes_on m) is h k =
     record {
-      stores = takes_append
-          (IsTaskStore z.p z.written z.room z.ver) es fs h k.stores;
+      stores = takes_append (IsTaskStore z.p z.written z.room z.ver) es fs h k.stores;
       stack_kept = k.stack_kept;
       listed = k.listed;
       stands = k.stands;
       few = k.few;
+      answers = k.answers;
     }
-ends_behind z start from most stack es fs (Jumps to s) (to_task task m) is h k = record {
+ends_behind z start from most stack left es fs (Jumps to s) (to_task task m) is h k = record {
   body = es ++ k.body;
   there = k.there;
   listed = k.listed;
@@ -81,20 +78,45 @@ ends_behind z start from most stack es fs (Jumps to s) (to_task task m) is h k =
   few = k.few;
   commits = k.commits;
   readings = k.readings;
+  answers = k.answers;
 }
-ends_behind z start from most stack es fs Short short is h k = takes_append (IsTaskStore z.p z.written z.room z.ver) es fs h k
-ends_behind z start from most stack es fs Broken o is h k = tt
-ends_behind z start from most stack es fs e o is h k = absurd k
+ends_behind z start from most stack left es fs Short short is h k = takes_append (IsTaskStore z.p z.written z.room z.ver) es fs h k
+ends_behind z start from most stack left es fs Broken o is h k = tt
+ends_behind z start from most stack left es fs e o is h k = absurd k
 
--- none behind
-pub ends_alone : (z : Scene) (start most : ℕ → ℕ) (stack : List ℕ) (es : List Effect) (e : End) (o : Outcome) → Ends z start most stack es e o
-    → Ends z start most stack (es ++ []) e o
-ends_alone z start most stack es e o h = let P : List Effect → Type 0 = λ l. Ends z start most stack l e o in subst P (sym (append-nil es)) h
+-- effects that tell no answer
+pub does_behind : (z : Scene) (start from most : ℕ → ℕ) (stack : List ℕ) (es : List Effect) (b : Behaviour) (o : List ℕ → Outcome)
+    → from ≡ fram_after es start → Stores z es → answers_told es ≡ [] → Does z from most stack b o → Does z start most stack (behind_effects es b) o
+does_behind z start from most stack es b o is stores untold h others =
+    let told = answers_told b.effects ++ others in
+    let same = told_behind es b.effects others ∙ ap (λ l. l ++ told) untold in
+    subst (λ l. Ends z start most stack others (es ++ b.effects) b.end (o l)) (sym same)
+    (ends_behind z start from most stack others es b.effects b.end (o told) is stores (h others))
+
+-- a step that tells no answer: its stores, and a state that stands for an attempt
+pub record Settles (z : Scene) (most : ℕ → ℕ) (stack : List ℕ) (es : List Effect) (s : WordState) (m : Attempt) : Type 0 where
+  pub stores : Stores z es
+  pub untold : answers_told es ≡ []
+  pub stack_kept : s.stack ≡ stack
+  pub listed : List Element
+  pub stands : StandsFor z.p m listed s
+  pub few : (v : ℕ) → listed_of v listed ≤ most v
+
+pub settles : (z : Scene) (start most : ℕ → ℕ) (stack : List ℕ) (es : List Effect) (s : WordState) (m : Attempt) → Settles z most stack es s m
+    → Does z start most stack (going_on es s) (λ answers. goes_on (answered_by answers m))
+settles z start most stack es s m k others = record {
+  stores = k.stores;
+  stack_kept = k.stack_kept;
+  listed = k.listed;
+  stands = k.stands;
+  few = k.few;
+  answers = ap (λ l. l ++ others) k.untold;
+}
 
 -- left with fewer listed
-left_with_fewer : (z : Scene) (start most few : ℕ → ℕ) (es : List Effect) (to : ℕ) (s : WordState) (task : ℕ) (m : Attempt) → ((v : ℕ) → few v ≤ most v)
-    → Left z.p (bounds z start few) es to s task m → Left z.p (bounds z start most) es to s task m
-left_with_fewer z start most few es to s task m less k = record {
+left_with_fewer : (z : Scene) (start most few : ℕ → ℕ) (left : List ℕ) (es : List Effect) (to : ℕ) (s : WordState) (task : ℕ) (m : Attempt)
+    → ((v : ℕ) → few v ≤ most v) → Left z.p (bounds z start few) left es to s task m → Left z.p (bounds z start most) left es to s task m
+left_with_fewer z start most few left es to s task m less k = record {
   body = k.body;
   there = k.there;
   listed = k.listed;
@@ -105,9 +127,10 @@ left_with_fewer z start most few es to s task m less k = record {
   few = λ v. let a = k.few v in let b = less v in omega (arith, a, b);
   commits = k.commits;
   readings = k.readings;
+  answers = k.answers;
 }
 
--- ---- one behind the other
+-- one behind the other
 
 -- the state behind the first: what is asked of the second
 pub record IsThere (z : Scene) (few : ℕ → ℕ) (stack : List ℕ) (n : ℕ) (s : WordState) (m : Attempt) (listed : List Element) : Type 0 where
@@ -118,60 +141,127 @@ pub record IsThere (z : Scene) (few : ℕ → ℕ) (stack : List ℕ) (n : ℕ) 
   pub few_listed : (v : ℕ) → listed_of v listed ≤ few v
 
 -- a program that runs first: from a state with VER on it comes to this outcome, which emits so much at most
-pub record First (z : Scene) (few : ℕ → ℕ) (stack : List ℕ) (n : ℕ) (o : Outcome) : Type 0 where
+pub record First (z : Scene) (few : ℕ → ℕ) (stack : List ℕ) (n : ℕ) (o : List ℕ → Outcome) : Type 0 where
   pub q : Program
   pub w : WordState
   pub ver : w.fram (word_place z.p.map Version) ≡ z.ver
   pub does : Does z w.fram few stack (behaviour q w) o
-  pub emits : EmitsAtMost n o
+  pub emits : (answers : List ℕ) → EmitsAtMost n (o answers)
 
-pub does_then : (z : Scene) (few most : ℕ → ℕ) (stack : List ℕ) (n : ℕ) (o : Outcome) (first : First z few stack n o) (next : WordState → Behaviour)
-    (more : Attempt → Outcome) → ((v : ℕ) → few v ≤ most v)
-    → ((s : WordState) (m : Attempt) (listed : List Element) → o ≡ goes_on m → IsThere z few stack n s m listed → Does z s.fram most stack (next s) (more m))
-    → Does z first.w.fram most stack (then_on (behaviour first.q first.w) next) (and_then o more)
+pub does_then : (z : Scene) (few most : ℕ → ℕ) (stack : List ℕ) (n : ℕ) (o : List ℕ → Outcome) (first : First z few stack n o)
+    (next : WordState → Behaviour) (more : Attempt → Outcome) → ((v : ℕ) → few v ≤ most v)
+    → ((s : WordState) (m : Attempt) (listed : List Element) (answers : List ℕ) → o answers ≡ goes_on m → IsThere z few stack n s m listed
+    → Does z s.fram most stack (next s) (λ answers. more (answered_by answers m)))
+    → Does z first.w.fram most stack (then_on (behaviour first.q first.w) next) (λ answers. and_then (o answers) more)
 does_then z few most stack n o first next more less k =
-    let b = behaviour first.q first.w in
-    go b.effects b.end o (behaves_by_effects first.q first.w) first.does first.emits k
+    let b = behaviour first.q first.w in go b.effects b.end (behaves_by_effects first.q first.w) first.does
   where
-    go : (es : List Effect) (e : End) (o : Outcome) → EndsByEffects first.w es e → Ends z first.w.fram few stack es e o → EmitsAtMost n o
-        → ((s : WordState) (m : Attempt) (listed : List Element) → o ≡ goes_on m → IsThere z few stack n s m listed
-        → Does z s.fram most stack (next s) (more m))
-        → Does z first.w.fram most stack (behind_effects es (on_end e next)) (and_then o more)
-    go es (GoesOn s) (goes_on m) by h emits k =
+    Goal : List ℕ → List Effect → End → Outcome → Type 0
+    Goal others es e v = Ends z first.w.fram most stack others es e (and_then v more)
+
+    -- where it goes on
+    onward : (es : List Effect) (s : WordState) (others answers : List ℕ) (v : Outcome) → o answers ≡ v → s.fram ≡ fram_after es first.w.fram
+        → Ends z first.w.fram few stack (answers_told (next s).effects ++ others) es (GoesOn s) v
+        → Goal others (es ++ (next s).effects) (next s).end v
+    onward es s others answers (goes_on m) is at h =
         let kept : s.fram (word_place z.p.map Version) ≡ z.ver =
-        ap (λ f. f (word_place z.p.map Version)) by.0
+        ap (λ f. f (word_place z.p.map Version)) at
         ∙ stores_keep z.p z.written z.room z.ver (word_place z.p.map Version) es first.w.fram z.apart (keeps_version z.p z.room z.apart) h.stores ∙ first.ver in
-        ends_behind z first.w.fram s.fram most stack es (next s).effects (next s).end (more m) by.0 h.stores
-        (k s m h.listed refl (record { stack_kept = h.stack_kept; stands = h.stands; number = kept; few_emitted = emits; few_listed = h.few }))
-    go es (Jumps to s) (to_task task m) by h emits k = ends_alone z first.w.fram most stack es (Jumps to s) (to_task task m)
-        (left_with_fewer z first.w.fram most few es to s task m less h)
-    go es Short short by h emits k = ends_alone z first.w.fram most stack es Short short h
-    go es Broken o by h emits k = tt
-    go es e o by h emits k = absurd h
+        let emits = subst (EmitsAtMost n) is (first.emits answers) in
+        let there = k s m h.listed answers is
+        (record { stack_kept = h.stack_kept; stands = h.stands; number = kept; few_emitted = emits; few_listed = h.few }) others in
+        ends_behind z first.w.fram s.fram most stack others es (next s).effects (next s).end (more m) at h.stores
+        (subst (λ l. Ends z s.fram most stack others (next s).effects (next s).end (more (answered_by l m))) (sym h.answers) there)
+    onward es s others answers v is at h = absurd h
+
+    -- where it leaves
+    leaves : (es : List Effect) (to : ℕ) (s : WordState) (others : List ℕ) (v : Outcome)
+        → Ends z first.w.fram few stack others es (Jumps to s) v → Goal others es (Jumps to s) v
+    leaves es to s others (to_task task m) h = left_with_fewer z first.w.fram most few others es to s task m less h
+    leaves es to s others v h = absurd h
+
+    lacks : (es : List Effect) (others : List ℕ) (v : Outcome) → Ends z first.w.fram few stack others es Short v → Goal others es Short v
+    lacks es others short h = h
+    lacks es others v h = absurd h
+
+    go : (es : List Effect) (e : End) → EndsByEffects first.w es e
+        → ((others : List ℕ) → Ends z first.w.fram few stack others es e (o (answers_told es ++ others)))
+        → Does z first.w.fram most stack (behind_effects es (on_end e next)) (λ answers. and_then (o answers) more)
+    go es (GoesOn s) by h others =
+        let fs = (next s).effects in
+        let answers = answers_told es ++ (answers_told fs ++ others) in
+        subst (λ l. Goal others (es ++ fs) (next s).end (o l)) (sym (told_behind es fs others))
+        (onward es s others answers (o answers) refl by.0 (h (answers_told fs ++ others)))
+    go es (Jumps to s) by h others = subst (λ l. Goal others l (Jumps to s) (o (answers_told l ++ others))) (sym (append-nil es))
+        (leaves es to s others (o (answers_told es ++ others)) (h others))
+    go es Short by h others = subst (λ l. Goal others l Short (o (answers_told l ++ others))) (sym (append-nil es))
+        (lacks es others (o (answers_told es ++ others)) (h others))
+    go es Broken by h others = tt
+    go es Strays by h others = absurd (h others)
 
 -- nothing behind
-pub does_alone : (z : Scene) (start most : ℕ → ℕ) (stack : List ℕ) (b : Behaviour) (o : Outcome) → Does z start most stack b o
+pub does_alone : (z : Scene) (start most : ℕ → ℕ) (stack : List ℕ) (b : Behaviour) (o : List ℕ → Outcome) → Does z start most stack b o
     → Does z start most stack (then_on b (behaviour nothing)) o
 does_alone z start most stack b o h = go b.effects b.end h
   where
-    go : (es : List Effect) (e : End) → Ends z start most stack es e o → Does z start most stack (behind_effects es (on_end e (behaviour nothing))) o
-    go es (GoesOn s) h = ends_alone z start most stack es (GoesOn s) o h
-    go es e h = ends_alone z start most stack es e o h
+    Goal : List ℕ → List Effect → End → Type 0
+    Goal others es e = Ends z start most stack others es e (o (answers_told es ++ others))
 
--- a value, and what is done from each state that it leaves: FRAM is as it was
-pub does_at : (z : Scene) (most : ℕ → ℕ) (stack : List ℕ) (w : WordState) (there : Evaluated → WordState → Type 0) (b : Behaviour) (o : Option Evaluated)
-    (next : WordState → Behaviour) (more : ℕ → Attempt → Outcome) → AgreesAt there b o
-    → ((x : Evaluated) (s : WordState) → there x s → (s.fram ≡ w.fram) × Does z s.fram most stack (next s) (more x.value x.behind))
-    → Does z w.fram most stack (then_on b next) (if_value o more)
-does_at z most stack w there b o next more h k = go b.effects b.end o h.0 h.1
+    go : (es : List Effect) (e : End) → ((others : List ℕ) → Goal others es e)
+        → Does z start most stack (behind_effects es (on_end e (behaviour nothing))) o
+    go es (GoesOn s) h others = subst (λ l. Goal others l (GoesOn s)) (sym (append-nil es)) (h others)
+    go es e h others = subst (λ l. Goal others l e) (sym (append-nil es)) (h others)
+
+-- a value, and what is done from each state that it leaves
+pub does_at : (z : Scene) (most : ℕ → ℕ) (stack : List ℕ) (w : WordState) (there : Evaluated → WordState → Type 0) (b : Behaviour) (o : Answering)
+    (next : WordState → Behaviour) (more : ℕ → Attempt → Outcome) → EndsByEffects w b.effects b.end → AgreesAt z.p.map.runtime.events there b o
+    → ((x : Evaluated) (s : WordState) → there x s
+    → Does z s.fram most stack (next s) (λ answers. more x.value (answered_by answers x.behind)))
+    → Does z w.fram most stack (then_on b next) (λ answers. if_value (o answers) more)
+does_at z most stack w there b o next more by h k = go b.effects b.end by h
   where
-    go : (es : List Effect) (e : End) (o : Option Evaluated) → OnlyTakes es → EndsAt there e o
-        → Does z w.fram most stack (behind_effects es (on_end e next)) (if_value o more)
-    go es (GoesOn s) (Some x) h e =
-        let n = k x s e in
-        let b = next s in
-        ends_behind z w.fram s.fram most stack es b.effects b.end (more x.value x.behind) (n.0 ∙ sym (takes_keep es w.fram h))
-        (only_takes (IsTaskStore z.p z.written z.room z.ver) es h) n.1
-    go es Short None h e = ends_alone z w.fram most stack es Short short (only_takes (IsTaskStore z.p z.written z.room z.ver) es h)
-    go es Broken o h e = tt
-    go es end o h e = absurd e
+    P : ℕ → ℕ → Type 0
+    P = IsTaskStore z.p z.written z.room z.ver
+
+    answer_stores : (es : List Effect) → OnlyTakes z.p.map.runtime.events es → TakesAndStores P es
+    answer_stores es h = takes_weaker (IsAnswerStore z.p.map.runtime.events) P (λ a w k. at_answer k) es h
+
+    Goal : List ℕ → List Effect → End → Option Evaluated → Type 0
+    Goal others es e v = Ends z w.fram most stack others es e (if_value v more)
+
+    onward : (es : List Effect) (s : WordState) (others : List ℕ) (v : Option Evaluated) → s.fram ≡ fram_after es w.fram
+        → OnlyTakes z.p.map.runtime.events es → EndsAt there (answers_told (next s).effects ++ others) (GoesOn s) v
+        → Goal others (es ++ (next s).effects) (next s).end v
+    onward es s others None at t e = absurd e
+    onward es s others (Some x) at t e =
+        let fs = (next s).effects in
+        let n = k x s e.0 others in
+        ends_behind z w.fram s.fram most stack others es fs (next s).end (more x.value x.behind) at (answer_stores es t)
+        (subst (λ l. Ends z s.fram most stack others fs (next s).end (more x.value (answered_by l x.behind))) (sym e.1) n)
+
+    lacks : (es : List Effect) (others : List ℕ) (v : Option Evaluated) → OnlyTakes z.p.map.runtime.events es → EndsAt there others Short v
+        → Goal others es Short v
+    lacks es others None t e = answer_stores es t
+    lacks es others (Some x) t e = absurd e
+
+    go : (es : List Effect) (e : End) → EndsByEffects w es e
+        → ((others : List ℕ) → OnlyTakes z.p.map.runtime.events es × EndsAt there others e (o (answers_told es ++ others)))
+        → Does z w.fram most stack (behind_effects es (on_end e next)) (λ answers. if_value (o answers) more)
+    go es (GoesOn s) by h others =
+        let fs = (next s).effects in
+        let answers = answers_told es ++ (answers_told fs ++ others) in
+        let a = h (answers_told fs ++ others) in
+        subst (λ l. Goal others (es ++ fs) (next s).end (o l)) (sym (told_behind es fs others)) (onward es s others (o answers) by.0 a.0 a.1)
+    go es Short by h others =
+        let a = h others in
+        subst (λ l. Goal others l Short (o (answers_told l ++ others))) (sym (append-nil es)) (lacks es others (o (answers_told es ++ others)) a.0 a.1)
+    go es Broken by h others = tt
+    go es end by h others = absurd (h others).1
+
+-- what a test does to FRAM and the inputs is by its effects
+pub test_by_effects : (c : Test) (w : WordState) → (let b = tested c (number_pushed 1) (number_pushed 0) w in EndsByEffects w b.effects b.end)
+test_by_effects c w = let b = tested c (number_pushed 1) (number_pushed 0) w in go b.effects b.end (behaves_by_effects (one (truth c)) w)
+  where
+    go : (es : List Effect) (e : End) → (let b = behind_effects es (on_end e (behaviour nothing)) in EndsByEffects w b.effects b.end) → EndsByEffects w es e
+    go es (GoesOn s) h = subst (λ l. EndsByEffects w l (GoesOn s)) (append-nil es) h
+    go es e h = subst (λ l. EndsByEffects w l e) (append-nil es) h

@@ -1,7 +1,9 @@
 -- What the proofs of other crates cite.
 
 -- The program of an expression leaves its value.
-pub use Rattle.lower.proofs.Values.{takes_append, small_modulo}
+pub use Rattle.lower.proofs.Values.{takes_append, told_append, small_modulo}
+-- A program that takes events where its source uses some admits each task.
+pub use Rattle.lower.proofs.Admits.{tasks_are_admitted}
 -- An assignment in place has the variable on the left side.
 pub use Rattle.lower.proofs.Updates.{IsUpdate, is_update}
 -- What an entry more of the commit list leaves, and that no run is without a word.

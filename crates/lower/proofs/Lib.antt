@@ -1,6 +1,7 @@
 mod Names
 mod Neighbours
 mod Addresses
+mod Admits
 mod Declared
 mod Values
 mod Longs

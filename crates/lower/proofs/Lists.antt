@@ -4,11 +4,11 @@ use Rattle.lower.proofs.Names.{subst, arith, Bool, true, false, if◌then◌else
 use Rattle.lower.proofs.Names.{Effect, Store, put, put_same, put_other, WordState, Behaviour, at_place, raised, entry_stored, ends_before, listed_behind}
 use Rattle.lower.proofs.Names.{word_listed, word_place, ListLength, word_even, Places, CopyPair, run_pairs, entries_from, run_length, run_longer}
 use Rattle.lower.proofs.Names.{entries_alike, last_apart, entries_are_few, list_place, Room, AreApart, AreEven, TakesAndStores, IsTaskStore, in_list}
-use Rattle.lower.proofs.Names.{at_list_length}
+use Rattle.lower.proofs.Names.{at_list_length, answers_told}
 use Rattle.std.proofs.Common.{All}
 use Rattle.array_versions.specs.Behaviour.{goes_on}
 use Rattle.lower.proofs.Addresses.{placed}
-use Rattle.lower.proofs.Transitions.{after_entry, HaveRoom, room_for, count_place, home_place, copy_place, words_place, entry_behaves}
+use Rattle.lower.proofs.Transitions.{after_entry, HaveRoom, room_for, length_place, untold_store, home_place, copy_place, words_place, entry_behaves}
 
 -- no run in the list is without a word
 abbrev pub HaveWords : ℕ → ℕ → (ℕ → ℕ) → Type 0
@@ -161,6 +161,7 @@ pub record ListsWord (p : Places) (written : ℕ → Bool) (room : Room) (ver ho
   pub memory : ℕ → ℕ
   pub does : word_listed (list_place p) home copy w ≡ goes_on effects (record w { fram = memory })
   pub stores : TakesAndStores (IsTaskStore p written room ver) effects
+  pub untold : answers_told effects ≡ []
   pub elsewhere : (a : ℕ) → IsElse (word_place p.map ListLength) p.map.list.address room.list a → memory a ≡ w.fram a
   pub pairs : entries_from (memory (word_place p.map ListLength)) p.map.list.address memory
       ≡ entries_from (w.fram (word_place p.map ListLength)) p.map.list.address w.fram ++ record { home = home; copy = copy } ∷ []
@@ -194,6 +195,12 @@ module _ (p : Places) (written : ℕ → Bool) (room : Room) (ver home copy : �
           in_list (omega arith) (omega (arith, l)),
           (in_list (omega arith) (omega (arith, l)), (in_list (omega arith) (omega (arith, l)), (at_list_length refl (omega (arith, l)), tt))),
         );
+        untold =
+            let at = 6 * n + list in
+            let last = Store count (n + 1) ∷ [] in
+            untold_store at home (Store (at + 2) copy ∷ Store (at + 4) 1 ∷ last) (λ k. omega (arith, k, apart, l))
+            ∙ untold_store (at + 2) copy (Store (at + 4) 1 ∷ last) (λ k. omega (arith, k, apart, l))
+            ∙ untold_store (at + 4) 1 last (λ k. omega (arith, k, apart, l)) ∙ untold_store count (n + 1) [] (λ k. omega (arith, k, apart));
         elsewhere = λ a h. entered_else count list n home copy 1 w.fram above a h.not_count (λ k. h.outside (omega (arith, k)) (omega (arith, k, l)))
             (λ k. h.outside (omega (arith, k)) (omega (arith, k, l))) (λ k. h.outside (omega (arith, k)) (omega (arith, k, l)));
         pairs = ap (λ k. entries_from k list memory) counted ∙ entered_pairs count list n home copy 1 w.fram above
@@ -215,6 +222,7 @@ module _ (p : Places) (written : ℕ → Bool) (room : Room) (ver home copy : �
         memory = memory;
         does = same;
         stores = (in_list (omega arith) (omega (arith, l)), tt);
+        untold = untold_store a v [] (λ k. omega (arith, k, apart, l));
         elsewhere = λ b h. put_other w.fram a v b (λ k. h.outside (omega (arith, k)) (omega (arith, k, l)));
         pairs = ap (λ k. entries_from k list memory) counted ∙ longer_pairs list n w.fram home copy have next short ends
             ∙ ap (λ k. entries_from k list w.fram ++ record { home = home; copy = copy } ∷ []) (sym e);
@@ -225,7 +233,7 @@ module _ (p : Places) (written : ℕ → Bool) (room : Room) (ver home copy : �
       → length (entries_from n list w.fram) + 1 < 0x10000 → Lists
   by_count zero e l have next short =
       let placed_count = placed count (listed_behind (w.fram count) (list_place p) home copy w)
-      (count_place count list 0 (room_for p room 0 1 apart even (omega (arith, l)))) in
+      (length_place count list 0 (room_for p room 0 1 apart even (omega (arith, l)))) in
       enters 0 e l have (placed_count ∙ ap (λ k. listed_behind k (list_place p) home copy w) e)
   by_count (suc n) e l have next short = by (ends_before w.fram (6 * n + list) home copy) refl
     where
@@ -241,7 +249,7 @@ module _ (p : Places) (written : ℕ → Bool) (room : Room) (ver home copy : �
       opened : word_listed (list_place p) home copy w ≡ either (ends_before w.fram a home copy)
       opened =
           let both = either (ends_before w.fram a home copy) in
-          placed count (listed_behind (w.fram count) (list_place p) home copy w) (count_place count list n last_room)
+          placed count (listed_behind (w.fram count) (list_place p) home copy w) (length_place count list n last_room)
           ∙ ap (λ k. listed_behind k (list_place p) home copy w) e
           ∙ placed a (at_place (a + 2) (at_place (a + 4) both)) (home_place count list n last_room)
           ∙ placed (a + 2) (at_place (a + 4) both) (copy_place count list n last_room) ∙ placed (a + 4) both (words_place count list n last_room)

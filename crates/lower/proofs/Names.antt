@@ -18,12 +18,13 @@ pub use Rattle.std.specs.Prelude.{option_map}
 -- the machine and its memory
 pub use Rattle.address_space.specs.Limits.{fram_first, program_end}
 pub use Rattle.alp_words.specs.Words.{bit}
-pub use Rattle.fram_board.specs.Effects.{Effect, Outside, Store, Take}
+pub use Rattle.fram_board.specs.Effects.{Effect, Looked, Offered, Outside, Store, Take}
 pub use Rattle.machine_effects.proofs.Interface.{fram_after-append, put_at, put_other, put_same}
-pub use Rattle.machine_effects.specs.Inputs.{Inputs}
+pub use Rattle.machine_effects.specs.Inputs.{Inputs, Look, first_look, look_effects, other_looks}
+pub use Rattle.memory_map.specs.event_places.Places.{answer_place, count_place, head_place, sent_place, slot_place, tail_place}
 pub use Rattle.machine_effects.specs.World.{fram_after, put}
 pub use Rattle.memory_map.proofs.Interface.{few_words, first_word, in_order_append, privates_few, some_words, word_even, words_scalar}
-pub use Rattle.memory_map.specs.MemoryMap.{MemoryMap, TaskPlace, word_place}
+pub use Rattle.memory_map.specs.MemoryMap.{MemoryMap, TaskPlace, where_events, word_place}
 pub use Rattle.memory_map.specs.Places.{AreInOrder, HasItsPlace, IsLaidOut, copy_regions, end_of, home_region, scalar_words, version_regions}
 pub use Rattle.memory_map.specs.Spots.{Element, IsArrayAt, IsCopied, IsElement, IsScalarAt, IsScalarPlace, IsScalarWord, IsSpot, Places, Spot, address_of}
 pub use Rattle.memory_map.specs.Spots.{copy, copy_address, copy_in, element, element_address, element_in, private_words, scalar, scalar_address, spot_address}
@@ -53,7 +54,8 @@ pub use Rattle.source_values.proofs.Interface.{EmitsUpTo, block_up_to, more_turn
 pub use Rattle.source_values.specs.Statements.{Outcome, and_then, block_emits, choice_emits, if_value, run_block, run_choice, run_statement, short}
 pub use Rattle.source_values.specs.Statements.{statement_emits, to_task, with_value}
 pub use Rattle.source_values.specs.Values.{Evaluated, Variables, binary_result, binary_value, converted, gives, holds, is_settled, long_binary_value}
-pub use Rattle.source_values.specs.Values.{long_difference, long_shift_value, made_of, next_reading, reading_of, scalar_value, shift_result, shift_value}
+pub use Rattle.source_values.specs.Values.{long_difference, long_shift_value, made_of, next_answer, next_reading, reading_of, scalar_value, shift_result}
+pub use Rattle.source_values.specs.Values.{shift_value}
 pub use Rattle.source_values.specs.Values.{shifted_value, truth_word, two_words, unary_result, unary_value, value_of, with_word, word_at, ◌>>?◌}
 pub use Rattle.task_ast.proofs.Interface.{by_one_word, joined_word, width_least}
 pub use Rattle.task_ast.specs.Paths.{CheckedBlock, CheckedChoice, CheckedExpression, CheckedStatement}
@@ -78,6 +80,7 @@ pub use Rattle.task_check.specs.Occurrences.{is_refused}
 pub use Rattle.array_versions.proofs.Interface.{behaves_by_effects, decided_by_truth, joined_assoc, joined_cycles, joined_go_on, joined_nothing, joined_spend}
 pub use Rattle.array_versions.proofs.Interface.{steps_keep_to_words, then_on_assoc, ways_keep_to_cycles}
 pub use Rattle.array_versions.specs.Behaviour.{Behaviour, Broken, End, GoesOn, Jumps, Short, Strays, WordState, at_place, behaves, behaviour, behind_effects}
+pub use Rattle.array_versions.specs.Behaviour.{event_index, event_pushed, events_frozen, none_answered, with_looks, word_answered}
 pub use Rattle.array_versions.specs.Behaviour.{broken, ends_before, entry_stored, first_stored, goes_on as going_on, is_place, jumped, listed_behind}
 pub use Rattle.array_versions.specs.Behaviour.{local_pushed, local_updated, number_pushed, on_end, own_kept, own_place, own_stored, own_updated, pushed}
 pub use Rattle.array_versions.specs.Behaviour.{raised, reading_pushed, step_behaviour, stored, strays, tested, then_on, turns, versioned_stored}
@@ -89,7 +92,7 @@ pub use Rattle.array_versions.specs.Laws.{EndsByEffects}
 pub use Rattle.array_versions.specs.Operations.{all_bits, binary_word, compare_words, is_true, plain_long, plain_word, shift_word, shifted_word, stacked}
 pub use Rattle.array_versions.specs.Operations.{unary_word}
 pub use Rattle.array_versions.specs.Program.{Program, Step, Test, behind, binary, choose, compares, emit_word, fails, holds as holds_test, joined, jump, keep}
-pub use Rattle.array_versions.specs.Program.{list_entry, load, local, long, move_word, nothing, number, repeat, sense, shift, step, store_number, truth}
+pub use Rattle.array_versions.specs.Program.{freeze_events, list_entry, load, local, long, move_word, next_event, nothing, number, repeat, sense, shift, step, store_number, truth}
 pub use Rattle.array_versions.specs.Program.{unary, versioned_update, versioned_write}
 pub use Rattle.array_versions.specs.View.{step_of, steps_of}
 pub use Rattle.array_versions.specs.declared.operations.BinaryOperation.{BinaryOperation}
@@ -102,11 +105,13 @@ pub use Rattle.array_versions.specs.declared.program.ArrayPlace.{ArrayPlace}
 pub use Rattle.array_versions.specs.declared.program.ListPlace.{ListPlace}
 pub use Rattle.array_versions.specs.declared.program.WordStep.{WordStep}
 -- this room
-pub use Rattle.lower.specs.Agreement.{Agrees, AgreesAt, AsDeclared, BlocksAgree, EndsAs, EndsAt, ExpressionsAgree, HasCopies, HoldEmits, HoldList}
+pub use Rattle.lower.specs.Agreement.{Agrees, AgreesAt, Answering, AsDeclared, BlocksAgree, EndsAs, EndsAt, ExpressionsAgree, HasCopies, HoldEmits, HoldList}
+pub use Rattle.lower.specs.Agreement.{IsAnswerStore, IsFit, IsLeft, answered_by, answers_told, at_answer, by_answers, freeze_effects, made_by}
 pub use Rattle.lower.specs.Agreement.{HoldVariables, IsArray, IsTaskStore, IsWrittenArray, Left, LongsAgree, OnlyTakes, Scene, StandsFor, TakesAndStores}
 pub use Rattle.lower.specs.Agreement.{TestsAgree, WentOn, at_copy, at_emit_count, at_list_length, at_variable, at_version, bounds, converted_to, element_pair}
 pub use Rattle.lower.specs.Agreement.{entry_effects, in_buffer, in_list, in_state, own_word, transition_effects, truth_of}
-pub use Rattle.lower.specs.Lowered.{Lowering, answer, are_alike, array_place, as_bits, as_long, as_test, as_word, assignment, binary_lowering}
+pub use Rattle.lower.specs.Events.{AdmitsBlock, AdmitsChoice, AdmitsExpression, AdmitsStatement}
+pub use Rattle.lower.specs.Lowered.{freezing, Lowering, answer, are_alike, array_place, as_bits, as_long, as_test, as_word, assignment, binary_lowering}
 pub use Rattle.lower.specs.Lowered.{element_assignment, element_read, element_setting, element_sides_set, element_step, element_updating, emission, entries}
 pub use Rattle.lower.specs.Lowered.{high_address, index_and_value, is_name, is_number, list_place, long_binary_lowering, long_program, long_setting}
 pub use Rattle.lower.specs.Lowered.{long_words, long_zero, loop_local, lowered_block, lowered_choice, lowered_expression, lowered_long, lowered_statement}

@@ -1,4 +1,5 @@
 -- The words of a task's code, and the cycles of its expressions, are within the allowance of a source.
+use Rattle.lower.proofs.Names.{freeze_events, freezing, nothing}
 use Rattle.lower.proofs.Names.{◌≡◌, ℕ, ◌+◌, ◌*◌, ◌<◌, ◌≤◌, ◌==◌, Bool, true, false, List, [], ◌∷◌, length, Option, Some, None, refl, sym, ap, arith, nat_le}
 use Rattle.lower.proofs.Names.{if◌then◌else◌, nat_tests, CheckedExpression, CheckedStatement, CheckedChoice, CheckedBlock, WordType, Unsigned, Int, Long}
 use Rattle.lower.proofs.Names.{is_long, binary_type, unary_type, literal_type, UnaryOperator, BinaryOperator, PlacedOperator, ShiftOperator}
@@ -368,13 +369,23 @@ entries_words count list (s ∷ more) =
     (run_at s) more (some_words s.width) in
     omega (arith, rest)
 
+-- what SE takes where there are events
+pub freezing_costs : (p : Places) → (words_of (freezing p) ≤ 6) × (cycles_of (freezing p) ≤ 10)
+freezing_costs p = by p.map.runtime.events
+  where
+    by : (events : Bool) → (let q : Program = if events then one freeze_events else nothing in (words_of q ≤ 6) × (cycles_of q ≤ 10))
+    by true = (omega arith, omega arith)
+    by false = (omega arith, omega arith)
+
 transition_words : (p : Places) (s task : ℕ) → private_words p.privates ≤ s → words_of (lowered_transition p task) ≤ 40 + 16 * s
 transition_words p s task few =
     let a = entries_words (word_place p.map ListLength) p.map.list.address p.privates in
-    let close : Program = step (move_word (word_place p.map Base) (word_place p.map SentBase))
-    (step (store_number (word_place p.map Gate) 1) (one (jump p.map.commit.address))) in
+    let gated : Program = step (store_number (word_place p.map Gate) 1) (one (jump p.map.commit.address)) in
+    let close : Program = step (move_word (word_place p.map Base) (word_place p.map SentBase)) (joined (freezing p) gated) in
     let l = joined_words (entries (word_place p.map ListLength) p.map.list.address (runs_of p.privates)) close in
-    omega (arith, a, l, few)
+    let last = joined_words (freezing p) gated in
+    let frozen = freezing_costs p in
+    omega (arith, a, l, last, frozen, few)
 
 -- ---- assignments and emits
 

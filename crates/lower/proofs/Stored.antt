@@ -6,6 +6,7 @@ use Rattle.lower.proofs.Names.{put_at, put_other, Shared, Local, Variables, word
 use Rattle.lower.proofs.Names.{element_pair, HoldList, word_place, ListLength, EmitCount, Version, ArrayCopies, VariablePlace, Scalar, Array, first_word}
 use Rattle.lower.proofs.Names.{Places, address_of, scalar_address, IsScalarAt, words_at, IsScalarWord, IsArrayAt, Element, IsElement, IsCopied, Spot, scalar}
 use Rattle.lower.proofs.Names.{element, copy, version, IsSpot, element_address, copy_address, version_address, spot_address}
+use Rattle.lower.proofs.Names.{program_end}
 use Rattle.std.proofs.Common.{get_or, slice_get, All, eq-eqb}
 use Rattle.array_versions.specs.Behaviour.{assigned}
 use Rattle.lower.proofs.Addresses.{element_is, copy_is, version_is, no_scalar, word_scalar, first_address}
@@ -150,6 +151,30 @@ same_emits p room emitted f g few k h = record {
   emit_count = k.emit_count ∙ h.emit_count;
   emits = λ i l. k.buffer i (omega (arith, l, few)) ∙ h.emits i l;
 }
+
+-- ---- stores behind the end of programs
+
+-- words in front of the end of programs that stay
+module _ (p : Places) (room : Room) (f g : ℕ → ℕ) (apart : AreApart p room) (low : (a : ℕ) → a < program_end → g a ≡ f a) where
+  pub spots_low : SpotsStay p f g
+  spots_low = record {
+    version = low (word_place p.map Version) (omega (arith, apart));
+    spots = λ s is. let below = apart.below s is in low (spot_address p s) (omega (arith, below));
+  }
+
+  pub list_low : ListStays p room f g
+  list_low = record {
+    version = low (word_place p.map Version) (omega (arith, apart));
+    list_length = low (word_place p.map ListLength) (omega (arith, apart));
+    entries = λ a from to. low a (omega (arith, to, apart));
+    marks = λ x is. let below = apart.below (version x) is in low (version_address p x) (omega (arith, below));
+  }
+
+  pub emits_low : EmitsStay p room f g
+  emits_low = record {
+    emit_count = low (word_place p.map EmitCount) (omega (arith, apart));
+    buffer = λ i l. low (2 * i + p.map.emits.address) (omega (arith, l, apart));
+  }
 
 -- ---- a store to a word that the task works on
 

@@ -4,6 +4,9 @@ use Rattle.lower.proofs.Names.{program_end, Effect, Store, put, fram_after, put_
 use Rattle.lower.proofs.Names.{WordState, Jumps, Behaviour, behaves, broken, behind_effects, then_on, is_place, at_place, word_stored, raised, entry_stored}
 use Rattle.lower.proofs.Names.{jumped, step_behaviour, behaviour, joined_go_on, word_place, NextTask, Gate, ListLength, Base, SentBase, Run, runs_of}
 use Rattle.lower.proofs.Names.{word_even, Places, one, entries, lowered_transition, Room, AreApart, AreEven, entry_effects, transition_effects}
+use Rattle.lower.proofs.Names.{MemoryMap, where_events, answer_place, answers_told, count_place, event_index, freeze_effects, freeze_events, freezing}
+use Rattle.lower.proofs.Names.{sent_place, tail_place, ne_eqb, ◌==◌, Bool, false}
+use Rattle.alp_words.specs.Words.{word_sum}
 use Rattle.std.proofs.Common.{eq-eqb}
 use Rattle.array_versions.specs.Behaviour.{goes_on}
 use Rattle.lower.proofs.Addresses.{fram_place, placed}
@@ -34,8 +37,8 @@ room_for p room n k apart even fits = record {
 
 -- the words of the i-th entry are places
 module _ (count list i : ℕ) (room : HaveRoom count list i 1) where
-  pub count_place : is_place count ≡ true
-  count_place = fram_place count room.even_count room.low (omega (arith, room))
+  pub length_place : is_place count ≡ true
+  length_place = fram_place count room.even_count room.low (omega (arith, room))
 
   pub home_place : is_place (6 * i + list) ≡ true
   home_place = let e = room.even_list in fram_place (6 * i + list) (omega (arith, e)) (omega (arith, room)) (omega (arith, room))
@@ -64,7 +67,7 @@ entry_behaves count list i home copy words w e room =
     let counted : t.fram count ≡ i = put_other f2 (a + 4) words count (λ k. omega (arith, k, room))
     ∙ put_other f1 (a + 2) copy count (λ k. omega (arith, k, room)) ∙ put_other w.fram a home count (λ k. omega (arith, k, room)) ∙ e in
     let up : (t.fram count + 1) % 65536 ≡ i + 1 = omega (arith, counted, room) in
-    ap made e ∙ placed count (at_place a (at_place (a + 2) (at_place (a + 4) last))) (count_place count list i room)
+    ap made e ∙ placed count (at_place a (at_place (a + 2) (at_place (a + 4) last))) (length_place count list i room)
     ∙ placed a (at_place (a + 2) (at_place (a + 4) last)) (home_place count list i room)
     ∙ placed (a + 2) (at_place (a + 4) last) (copy_place count list i room) ∙ placed (a + 4) last (words_place count list i room)
     ∙ ap (λ k. behind_effects es (goes_on (Store count k ∷ []) (record t { fram = put t.fram count k }))) up
@@ -96,48 +99,140 @@ entries_keep count list (r ∷ more) i x f ne low =
     ∙ put_other (put f a r.home) (a + 2) r.copy x (λ e. omega (arith, e, low))
     ∙ put_other f a r.home x (λ e. omega (arith, e, low))
 
--- SB := BASE, GATE := 1, and on to the commit
-close_behaves : (p : Places) (w : WordState) → is_place (word_place p.map Base) ≡ true → is_place (word_place p.map SentBase) ≡ true
-    → is_place (word_place p.map Gate) ≡ true
-    → p.map.commit.address % 2 ≡ 0
-    → behaviour (step (move_word (word_place p.map Base) (word_place p.map SentBase))
-    (step (store_number (word_place p.map Gate) 1) (one (jump p.map.commit.address)))) w
-    ≡ behaves (Store (word_place p.map SentBase) (w.fram (word_place p.map Base)) ∷ Store (word_place p.map Gate) 1 ∷ [])
-    (Jumps p.map.commit.address (record w { fram = put (put w.fram (word_place p.map SentBase) (w.fram (word_place p.map Base))) (word_place p.map Gate) 1 }))
-close_behaves p w base sent gate even =
-    let v = w.fram (word_place p.map Base) in
-    let u : WordState = record w { fram = put w.fram (word_place p.map SentBase) v } in
-    let x : WordState = record u { fram = put u.fram (word_place p.map Gate) 1 } in
-    let moved : step_behaviour (move_word (word_place p.map Base) (word_place p.map SentBase)) w ≡ goes_on (Store (word_place p.map SentBase) v ∷ []) u =
-    placed (word_place p.map Base) (word_stored (word_place p.map SentBase) v w) base
-    ∙ placed (word_place p.map SentBase) (goes_on (Store (word_place p.map SentBase) v ∷ []) u) sent in
-    let raised : step_behaviour (store_number (word_place p.map Gate) 1) u ≡ goes_on (Store (word_place p.map Gate) 1 ∷ []) x = placed (word_place p.map Gate)
-    (goes_on (Store (word_place p.map Gate) 1 ∷ []) x) gate in
+-- one behind the list too
+entries_leave : (count list : ℕ) (runs : List Run) (i x : ℕ) (f : ℕ → ℕ) → (x ≡ count → ⊥) → 6 * (i + length runs) + list ≤ x
+    → fram_after (entry_effects count list i runs) f x ≡ f x
+entries_leave count list [] i x f ne high = refl
+entries_leave count list (r ∷ more) i x f ne high =
+    let a = 6 * i + list in
+    entries_leave count list more (i + 1) x (after_entry count list i r.home r.copy r.words f) ne (omega (arith, high))
+    ∙ put_other (put (put (put f a r.home) (a + 2) r.copy) (a + 4) r.words) count (i + 1) x ne
+    ∙ put_other (put (put f a r.home) (a + 2) r.copy) (a + 4) r.words x (λ e. omega (arith, e, high))
+    ∙ put_other (put f a r.home) (a + 2) r.copy x (λ e. omega (arith, e, high))
+    ∙ put_other f a r.home x (λ e. omega (arith, e, high))
+
+-- ---- stores that tell no answer
+
+pub untold_store : (a w : ℕ) (es : List Effect) → (a ≡ answer_place → ⊥) → answers_told (Store a w ∷ es) ≡ answers_told es
+untold_store a w es ne = ap (λ b. if b then w ∷ answers_told es else answers_told es) (ne_eqb a answer_place ne)
+
+entries_untold : (count list : ℕ) (runs : List Run) (i : ℕ) (fs : List Effect) → (count ≡ answer_place → ⊥) → 6 * (i + length runs) + list ≤ program_end
+    → answers_told (entry_effects count list i runs ++ fs) ≡ answers_told fs
+entries_untold count list [] i fs ne high = refl
+entries_untold count list (r ∷ more) i fs ne high =
+    let a = 6 * i + list in
+    let rest = entry_effects count list (i + 1) more ++ fs in
+    untold_store a r.home (Store (a + 2) r.copy ∷ Store (a + 4) r.words ∷ Store count (i + 1) ∷ rest) (λ e. omega (arith, e, high))
+    ∙ untold_store (a + 2) r.copy (Store (a + 4) r.words ∷ Store count (i + 1) ∷ rest) (λ e. omega (arith, e, high))
+    ∙ untold_store (a + 4) r.words (Store count (i + 1) ∷ rest) (λ e. omega (arith, e, high))
+    ∙ untold_store count (i + 1) rest ne
+    ∙ entries_untold count list more (i + 1) fs ne (omega (arith, high))
+
+freeze_untold : (m : MemoryMap) (index : ℕ) (fs : List Effect) → answers_told (freeze_effects m index ++ fs) ≡ answers_told fs
+freeze_untold m index fs = by m.runtime.events
+  where
+    by : (events : Bool) → answers_told (where_events events (Store sent_place index ∷ []) ++ fs) ≡ answers_told fs
+    by true = refl
+    by false = refl
+
+-- those of a transition with its last
+abbrev pub closing_effects : Places → ℕ → ℕ → ℕ → ℕ → List Effect
+closing_effects p task n base index = transition_effects p task n base index ++ Store (word_place p.map Gate) 1 ∷ []
+
+-- in one piece
+closing_in_order : (p : Places) (task n base index : ℕ)
+    → closing_effects p task n base index
+    ≡ Store (word_place p.map NextTask) (task % 65536) ∷ (entry_effects (word_place p.map ListLength) p.map.list.address n (runs_of p.privates)
+    ++ Store (word_place p.map SentBase) base ∷ (freeze_effects p.map index ++ Store (word_place p.map Gate) 1 ∷ []))
+closing_in_order p task n base index =
+    ap (λ l. Store (word_place p.map NextTask) (task % 65536) ∷ l)
+    (append_assoc (entry_effects (word_place p.map ListLength) p.map.list.address n (runs_of p.privates))
+    (Store (word_place p.map SentBase) base ∷ freeze_effects p.map index) (Store (word_place p.map Gate) 1 ∷ []))
+
+pub transition_untold : (p : Places) (room : Room) (task n base index : ℕ) → AreApart p room → n + length (runs_of p.privates) ≤ room.list
+    → answers_told (closing_effects p task n base index) ≡ []
+transition_untold p room task n base index apart fits =
+    let count = word_place p.map ListLength in
+    let gate = Store (word_place p.map Gate) 1 ∷ [] in
+    let frozen = freeze_effects p.map index ++ gate in
+    let sent = Store (word_place p.map SentBase) base ∷ frozen in
+    ap answers_told (closing_in_order p task n base index)
+    ∙ untold_store (word_place p.map NextTask) (task % 65536) (entry_effects count p.map.list.address n (runs_of p.privates) ++ sent)
+    (λ e. omega (arith, e, apart))
+    ∙ entries_untold count p.map.list.address (runs_of p.privates) n sent (λ e. omega (arith, e, apart)) (omega (arith, fits, apart))
+    ∙ untold_store (word_place p.map SentBase) base frozen (λ e. omega (arith, e, apart))
+    ∙ freeze_untold p.map index gate
+    ∙ untold_store (word_place p.map Gate) 1 [] (λ e. omega (arith, e, apart))
+
+-- ---- what closes a transition
+
+-- FRAM with TAIL as the transition leaves it, where there are events
+abbrev frozen : Bool → (ℕ → ℕ) → ℕ → ℕ
+frozen events f = if events then put f sent_place (event_index f) else f
+
+freeze_behaves : (events : Bool) (q : Program) (w : WordState)
+    → behaviour (joined (if events then one freeze_events else nothing) q) w
+    ≡ behind_effects (where_events events (Store sent_place (event_index w.fram) ∷ [])) (behaviour q (record w { fram = frozen events w.fram }))
+freeze_behaves true q w = refl
+freeze_behaves false q w = refl
+
+-- GATE := 1, and on to the commit
+abbrev gated : Places → Program
+gated p = step (store_number (word_place p.map Gate) 1) (one (jump p.map.commit.address))
+
+gate_behaves : (p : Places) (w : WordState) → is_place (word_place p.map Gate) ≡ true → p.map.commit.address % 2 ≡ 0
+    → behaviour (gated p) w
+    ≡ behaves (Store (word_place p.map Gate) 1 ∷ []) (Jumps p.map.commit.address (record w { fram = put w.fram (word_place p.map Gate) 1 }))
+gate_behaves p w gate even =
+    let x : WordState = record w { fram = put w.fram (word_place p.map Gate) 1 } in
+    let raised : step_behaviour (store_number (word_place p.map Gate) 1) w ≡ goes_on (Store (word_place p.map Gate) 1 ∷ []) x =
+    placed (word_place p.map Gate) (goes_on (Store (word_place p.map Gate) 1 ∷ []) x) gate in
     let left : jumped p.map.commit.address x ≡ behaves [] (Jumps p.map.commit.address x) =
     ap (λ b. if b then behaves [] (Jumps p.map.commit.address x) else broken)
     (eq-eqb (p.map.commit.address % 2) 0 even) in
-    ap (λ b. then_on b (behaviour (step (store_number (word_place p.map Gate) 1) (one (jump p.map.commit.address))))) moved
-    ∙ ap (λ b. behind_effects (Store (word_place p.map SentBase) v ∷ []) (then_on b (behaviour (one (jump p.map.commit.address))))) raised
-    ∙ ap (λ b. behind_effects (Store (word_place p.map SentBase) v ∷ [])
-    (behind_effects (Store (word_place p.map Gate) 1 ∷ []) (then_on b (behaviour nothing)))) left
+    ap (λ b. then_on b (behaviour (one (jump p.map.commit.address)))) raised
+    ∙ ap (λ b. behind_effects (Store (word_place p.map Gate) 1 ∷ []) (then_on b (behaviour nothing))) left
+
+-- SB := BASE, where there are events SE := TAIL + EC, GATE := 1, and on to the commit
+abbrev closing : Places → Program
+closing p = step (move_word (word_place p.map Base) (word_place p.map SentBase)) (joined (freezing p) (gated p))
+
+close_behaves : (p : Places) (w : WordState) → is_place (word_place p.map Base) ≡ true → is_place (word_place p.map SentBase) ≡ true
+    → is_place (word_place p.map Gate) ≡ true
+    → p.map.commit.address % 2 ≡ 0
+    → (let base = w.fram (word_place p.map Base) in
+    let f = put w.fram (word_place p.map SentBase) base in
+    behaviour (closing p) w
+    ≡ behaves (Store (word_place p.map SentBase) base ∷ (freeze_effects p.map (event_index f) ++ Store (word_place p.map Gate) 1 ∷ []))
+    (Jumps p.map.commit.address (record w { fram = put (frozen p.map.runtime.events f) (word_place p.map Gate) 1 })))
+close_behaves p w base sent gate even =
+    let v = w.fram (word_place p.map Base) in
+    let u : WordState = record w { fram = put w.fram (word_place p.map SentBase) v } in
+    let x : WordState = record u { fram = frozen p.map.runtime.events u.fram } in
+    let moved : step_behaviour (move_word (word_place p.map Base) (word_place p.map SentBase)) w ≡ goes_on (Store (word_place p.map SentBase) v ∷ []) u =
+    placed (word_place p.map Base) (word_stored (word_place p.map SentBase) v w) base
+    ∙ placed (word_place p.map SentBase) (goes_on (Store (word_place p.map SentBase) v ∷ []) u) sent in
+    ap (λ b. then_on b (behaviour (joined (freezing p) (gated p)))) moved
+    ∙ ap (behind_effects (Store (word_place p.map SentBase) v ∷ [])) (freeze_behaves p.map.runtime.events (gated p) u)
+    ∙ ap (λ b. behind_effects (Store (word_place p.map SentBase) v ∷ []) (behind_effects (freeze_effects p.map (event_index u.fram)) b))
+    (gate_behaves p x gate even)
 
 -- the whole transition
 pub transition_behaves : (p : Places) (room : Room) (task n : ℕ) (w : WordState) → AreApart p room → AreEven p → w.fram (word_place p.map ListLength) ≡ n
     → n + length (runs_of p.privates) ≤ room.list
     → (u : WordState) × (behaviour (lowered_transition p task) w
-    ≡ behaves (transition_effects p task n (w.fram (word_place p.map Base)) ++ Store (word_place p.map Gate) 1 ∷ [])
-    (Jumps p.map.commit.address u)) × (u.inputs.readings ≡ w.inputs.readings)
+    ≡ behaves (closing_effects p task n (w.fram (word_place p.map Base)) (event_index w.fram)) (Jumps p.map.commit.address u))
+    × (u.inputs.readings ≡ w.inputs.readings)
 transition_behaves p room task n w apart even listed fits =
     let count = word_place p.map ListLength in
     let k = task % 65536 in
     let w1 : WordState = record w { fram = put w.fram (word_place p.map NextTask) k } in
     let es = entry_effects count p.map.list.address n (runs_of p.privates) in
     let w2 : WordState = record w1 { fram = fram_after es w1.fram } in
-    let close : Program = step (move_word (word_place p.map Base) (word_place p.map SentBase))
-    (step (store_number (word_place p.map Gate) 1) (one (jump p.map.commit.address))) in
     let base : ℕ = w2.fram (word_place p.map Base) in
-    let u : WordState = record w2 { fram = put (put w2.fram (word_place p.map SentBase) base) (word_place p.map Gate) 1 } in
-    let fs : List Effect = Store (word_place p.map SentBase) base ∷ Store (word_place p.map Gate) 1 ∷ [] in
+    let sent : ℕ → ℕ = put w2.fram (word_place p.map SentBase) base in
+    let u : WordState = record w2 { fram = put (frozen p.map.runtime.events sent) (word_place p.map Gate) 1 } in
+    let ending : ℕ → ℕ → List Effect = λ b i. Store (word_place p.map SentBase) b ∷ (freeze_effects p.map i ++ Store (word_place p.map Gate) 1 ∷ []) in
     let first : step_behaviour (store_number (word_place p.map NextTask) k) w ≡ goes_on (Store (word_place p.map NextTask) k ∷ []) w1 =
     placed (word_place p.map NextTask) (goes_on (Store (word_place p.map NextTask) k ∷ []) w1)
     (fram_place (word_place p.map NextTask) (word_even p.map NextTask even.row) (omega (arith, apart)) (omega (arith, apart))) in
@@ -149,16 +244,23 @@ transition_behaves p room task n w apart even listed fits =
     let kept : base ≡ w.fram (word_place p.map Base) =
     entries_keep count p.map.list.address (runs_of p.privates) n (word_place p.map Base) w1.fram (λ e. omega (arith, e, apart)) (omega (arith, apart))
     ∙ put_other w.fram (word_place p.map NextTask) k (word_place p.map Base) (λ e. omega (arith, e, apart)) in
-    let tail : behaviour (joined (entries count p.map.list.address (runs_of p.privates)) close) w1 ≡ behaves (es ++ fs) (Jumps p.map.commit.address u) =
-    joined_go_on (entries count p.map.list.address (runs_of p.privates)) close w1 ∙ ap (λ b. then_on b (behaviour close)) made
+    let counts : (a : ℕ) → program_end ≤ a → sent a ≡ w.fram a = λ a high.
+    put_other w2.fram (word_place p.map SentBase) base a (λ e. omega (arith, e, high, apart))
+    ∙ entries_leave count p.map.list.address (runs_of p.privates) n a w1.fram (λ e. omega (arith, e, high, apart)) (omega (arith, high, fits, apart))
+    ∙ put_other w.fram (word_place p.map NextTask) k a (λ e. omega (arith, e, high, apart)) in
+    let tail_same = counts tail_place (omega arith) in
+    let count_same = counts count_place (omega arith) in
+    let index : event_index sent ≡ event_index w.fram = λ j. word_sum (tail_same j) (count_same j) in
+    let tail : behaviour (joined (entries count p.map.list.address (runs_of p.privates)) (closing p)) w1
+    ≡ behaves (es ++ ending base (event_index sent)) (Jumps p.map.commit.address u) =
+    joined_go_on (entries count p.map.list.address (runs_of p.privates)) (closing p) w1 ∙ ap (λ b. then_on b (behaviour (closing p))) made
     ∙ ap (behind_effects es) closed in
-    let whole : behaviour (lowered_transition p task) w ≡ behaves (Store (word_place p.map NextTask) k ∷ (es ++ fs)) (Jumps p.map.commit.address u) =
-    ap (λ b. then_on b (behaviour (joined (entries count p.map.list.address (runs_of p.privates)) close))) first
-    ∙ ap (behind_effects (Store (word_place p.map NextTask) k ∷ [])) tail in
-    let in_order : es ++ fs ≡ (es ++ Store (word_place p.map SentBase) base ∷ []) ++ Store (word_place p.map Gate) 1 ∷ [] = sym
-    (append_assoc es (Store (word_place p.map SentBase) base ∷ []) (Store (word_place p.map Gate) 1 ∷ [])) in (
+    let whole : behaviour (lowered_transition p task) w
+    ≡ behaves (Store (word_place p.map NextTask) k ∷ (es ++ ending base (event_index sent))) (Jumps p.map.commit.address u) =
+    ap (λ b. then_on b (behaviour (joined (entries count p.map.list.address (runs_of p.privates)) (closing p)))) first
+    ∙ ap (behind_effects (Store (word_place p.map NextTask) k ∷ [])) tail in (
       u,
-      whole ∙ ap (λ l. behaves (Store (word_place p.map NextTask) k ∷ l) (Jumps p.map.commit.address u))
-          (in_order ∙ ap (λ b. (es ++ Store (word_place p.map SentBase) b ∷ []) ++ Store (word_place p.map Gate) 1 ∷ []) kept),
+      whole ∙ (λ j. behaves (Store (word_place p.map NextTask) k ∷ (es ++ ending (kept j) (index j))) (Jumps p.map.commit.address u))
+          ∙ ap (λ l. behaves l (Jumps p.map.commit.address u)) (sym (closing_in_order p task n (w.fram (word_place p.map Base)) (event_index w.fram))),
       refl,
     )

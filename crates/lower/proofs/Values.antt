@@ -3,6 +3,9 @@ use Rattle.lower.proofs.Names.{◌≡◌, ℕ, ◌+◌, ◌*◌, ◌%◌, ◌==�
 use Rattle.lower.proofs.Names.{sym, ap, ◌∙◌, subst, arith, le-ltb, lt-ltb, ⊎_elim, if◌then◌else◌, bit_and, bit, Effect, Store, Take, Outside, cases_lt}
 use Rattle.lower.proofs.Names.{get_or_past, WordType, Int, UnaryOperator, BinaryOperator, ShiftOperator, ShortCircuitOperator, BothHold, OneHolds, Variable}
 use Rattle.lower.proofs.Names.{Shared, Local, ◌>>?◌, Variables, Evaluated, word_at, holds, unary_value, binary_value, shift_value, shifted_value, is_settled}
+use Rattle.lower.proofs.Names.{next_answer, next_event, Looked, Offered, Look, first_look, other_looks, look_effects, event_pushed, none_answered}
+use Rattle.lower.proofs.Names.{word_answered, with_looks, event_index, head_place, slot_place, answer_place, count_place, put, put_other, program_end}
+use Rattle.lower.proofs.Names.{converted, append-nil, append_assoc, inl, inr, Answering, answered_by, by_answers, made_by, answers_told, IsAnswerStore}
 use Rattle.lower.proofs.Names.{gives, made_of, reading_of, truth_word, next_reading, Negate, Complement, BinaryOperation, Plain, And, CommonBit, unary_word}
 use Rattle.lower.proofs.Names.{binary_word, shift_word, shifted_word, compare_words, Test, Program, load, local, unary, binary, compares, fails, nothing}
 use Rattle.lower.proofs.Names.{joined, Step, sense, behind, WordState, End, GoesOn, Short, Broken, Behaviour, behind_effects, on_end, then_on, is_place}
@@ -24,50 +27,108 @@ use Rattle.task_ast.specs.declared.ShiftOperator.TheVariants as shift_operator
 
 -- ---- effects
 
--- readings taken and such stores, one stretch behind another
+-- readings taken, looks and such stores, one stretch behind another
 pub takes_append : (P : ℕ → ℕ → Type 0) (es fs : List Effect) → TakesAndStores P es → TakesAndStores P fs → TakesAndStores P (es ++ fs)
 takes_append P [] fs h k = k
 takes_append P (Store a w ∷ es) fs h k = (h.0, takes_append P es fs h.1 k)
 takes_append P (Take r ∷ es) fs h k = takes_append P es fs h k
-takes_append P (Outside o ∷ es) fs h k = h
+takes_append P (Outside (Looked seen) ∷ es) fs h k = takes_append P es fs h k
+takes_append P (Outside (Offered n w) ∷ es) fs h k = absurd h
 
-pub only_takes : (P : ℕ → ℕ → Type 0) (es : List Effect) → OnlyTakes es → TakesAndStores P es
-only_takes P [] h = tt
-only_takes P (Store a w ∷ es) h = absurd h.0
-only_takes P (Take r ∷ es) h = only_takes P es h
-only_takes P (Outside o ∷ es) h = h
+-- stores of another kind
+pub takes_weaker : (P Q : ℕ → ℕ → Type 0) → ((a w : ℕ) → P a w → Q a w) → (es : List Effect) → TakesAndStores P es → TakesAndStores Q es
+takes_weaker P Q f [] h = tt
+takes_weaker P Q f (Store a w ∷ es) h = (f a w h.0, takes_weaker P Q f es h.1)
+takes_weaker P Q f (Take r ∷ es) h = takes_weaker P Q f es h
+takes_weaker P Q f (Outside (Looked seen) ∷ es) h = takes_weaker P Q f es h
+takes_weaker P Q f (Outside (Offered n w) ∷ es) h = absurd h
+
+-- one store more
+told_store : (b : Bool) (w : ℕ) (all first second : List ℕ) → all ≡ first ++ second
+    → (if b then w ∷ all else all) ≡ (if b then w ∷ first else first) ++ second
+told_store true w all first second e = ap (λ l. w ∷ l) e
+told_store false w all first second e = e
+
+-- the answers that effects tell one stretch behind another
+pub told_append : (es fs : List Effect) → answers_told (es ++ fs) ≡ answers_told es ++ answers_told fs
+told_append [] fs = refl
+told_append (Store a w ∷ es) fs = told_store (a == answer_place) w (answers_told (es ++ fs)) (answers_told es) (answers_told fs) (told_append es fs)
+told_append (Take r ∷ es) fs = told_append es fs
+told_append (Outside o ∷ es) fs = told_append es fs
+
+-- and with others behind them
+pub told_behind : (es fs : List Effect) (others : List ℕ) → answers_told (es ++ fs) ++ others ≡ answers_told es ++ (answers_told fs ++ others)
+told_behind es fs others = ap (λ l. l ++ others) (told_append es fs) ∙ append_assoc (answers_told es) (answers_told fs) others
 
 -- ---- one behind the other
 
+-- what goes on with a value, by the answers that its attempt is given
+abbrev pub from_value : Evaluated → (Evaluated → Option Evaluated) → Answering
+from_value x more answers = more (record x { behind = answered_by answers x.behind })
+
 -- what goes on with a value, from any state that it leaves
-pub agrees_then : (there last : Evaluated → WordState → Type 0) (b : Behaviour) (o : Option Evaluated) (next : WordState → Behaviour)
-    (more : Evaluated → Option Evaluated) → AgreesAt there b o → ((x : Evaluated) (s : WordState) → there x s → AgreesAt last (next s) (more x))
-    → AgreesAt last (then_on b next) (o >>? more)
-agrees_then there last b o next more h k = go b.effects b.end o h.0 h.1
+pub agrees_then : (events : Bool) (there last : Evaluated → WordState → Type 0) (b : Behaviour) (o : Answering) (next : WordState → Behaviour)
+    (more : Evaluated → Option Evaluated) → AgreesAt events there b o
+    → ((x : Evaluated) (s : WordState) → there x s → AgreesAt events last (next s) (from_value x more))
+    → AgreesAt events last (then_on b next) (λ answers. o answers >>? more)
+agrees_then events there last b o next more h k = go b.effects b.end h
   where
-    go : (es : List Effect) (e : End) (o : Option Evaluated) → OnlyTakes es → EndsAt there e o
-        → AgreesAt last (behind_effects es (on_end e next)) (o >>? more)
-    go es (GoesOn s) (Some x) h e = let n = k x s e in (takes_append (λ a w. ⊥) es (next s).effects h n.0, n.1)
-    go es Short None h e = (takes_append (λ a w. ⊥) es [] h tt, tt)
-    go es Broken o h e = (takes_append (λ a w. ⊥) es [] h tt, tt)
-    go es end o h e = absurd e
+    Goes : List Effect → End → List ℕ → Type 0
+    Goes es e others = OnlyTakes events es × EndsAt last others e (o (answers_told es ++ others) >>? more)
+
+    goes_on_with : (es : List Effect) (s : WordState) (others : List ℕ) (v : Option Evaluated) → OnlyTakes events es
+        → EndsAt there (answers_told (next s).effects ++ others) (GoesOn s) v
+        → OnlyTakes events (es ++ (next s).effects) × EndsAt last others (next s).end (v >>? more)
+    goes_on_with es s others None t e = absurd e
+    goes_on_with es s others (Some x) t e =
+        let n = k x s e.0 others in (
+          takes_append (IsAnswerStore events) es (next s).effects t n.0,
+          subst (λ l. EndsAt last others (next s).end (more (record x { behind = answered_by l x.behind }))) (sym e.1) n.1,
+        )
+
+    is_short : (others : List ℕ) (v : Option Evaluated) → EndsAt there others Short v → EndsAt last others Short (v >>? more)
+    is_short others None e = tt
+    is_short others (Some x) e = absurd e
+
+    go : (es : List Effect) (e : End) → ((others : List ℕ) → OnlyTakes events es × EndsAt there others e (o (answers_told es ++ others)))
+        → (others : List ℕ) → (let r = behind_effects es (on_end e next) in Goes r.effects r.end others)
+    go es (GoesOn s) h others =
+        let fs = (next s).effects in
+        let a = h (answers_told fs ++ others) in
+        subst (λ l. OnlyTakes events (es ++ fs) × EndsAt last others (next s).end (o l >>? more)) (sym (told_behind es fs others))
+        (goes_on_with es s others (o (answers_told es ++ (answers_told fs ++ others))) a.0 a.1)
+    go es Short h others =
+        let a = h others in
+        subst (λ l. Goes l Short others) (sym (append-nil es)) (a.0, is_short others (o (answers_told es ++ others)) a.1)
+    go es Broken h others = (takes_append (IsAnswerStore events) es [] (h others).0 tt, tt)
+    go es end h others = absurd (h others).1
 
 -- nothing behind
-pub agrees_alone : (there : Evaluated → WordState → Type 0) (b : Behaviour) (o : Option Evaluated) → AgreesAt there b o
-    → AgreesAt there (then_on b (behaviour nothing)) o
-agrees_alone there b o h = go b.effects b.end h.0 h.1
+pub agrees_alone : (events : Bool) (there : Evaluated → WordState → Type 0) (b : Behaviour) (o : Answering) → AgreesAt events there b o
+    → AgreesAt events there (then_on b (behaviour nothing)) o
+agrees_alone events there b o h = go b.effects b.end h
   where
-    go : (es : List Effect) (e : End) → OnlyTakes es → EndsAt there e o → AgreesAt there (behind_effects es (on_end e (behaviour nothing))) o
-    go es (GoesOn s) h e = (takes_append (λ a w. ⊥) es [] h tt, e)
-    go es end h e = (takes_append (λ a w. ⊥) es [] h tt, e)
+    Ends : List Effect → End → List ℕ → Type 0
+    Ends es e others = OnlyTakes events es × EndsAt there others e (o (answers_told es ++ others))
+
+    go : (es : List Effect) (e : End) → ((others : List ℕ) → Ends es e others)
+        → (others : List ℕ) → (let r = behind_effects es (on_end e (behaviour nothing)) in Ends r.effects r.end others)
+    go es (GoesOn s) h others = subst (λ l. Ends l (GoesOn s) others) (sym (append-nil es)) (h others)
+    go es end h others = subst (λ l. Ends l end others) (sym (append-nil es)) (h others)
+
+-- behind looks
+behind_looks : (events : Bool) (there : Evaluated → WordState → Type 0) (looks : List Look) (b : Behaviour) (o : Answering) → AgreesAt events there b o
+    → AgreesAt events there (behind_effects (look_effects looks) b) o
+behind_looks events there [] b o h = h
+behind_looks events there (look ∷ more) b o h = h
 
 -- what the states are that values leave
-pub agrees_as : (there last : Evaluated → WordState → Type 0) (b : Behaviour) (o : Option Evaluated) → ((x : Evaluated) (s : WordState) → there x s → last x s)
-    → AgreesAt there b o → AgreesAt last b o
-agrees_as there last b o k h = (h.0, by b.end o h.1)
+pub agrees_as : (events : Bool) (there last : Evaluated → WordState → Type 0) (b : Behaviour) (o : Answering)
+    → ((x : Evaluated) (s : WordState) → there x s → last x s) → AgreesAt events there b o → AgreesAt events last b o
+agrees_as events there last b o k h others = ((h others).0, by b.end (o (answers_told b.effects ++ others)) (h others).1)
   where
-    by : (e : End) (o : Option Evaluated) → EndsAt there e o → EndsAt last e o
-    by (GoesOn s) (Some x) e = k x s e
+    by : (e : End) (o : Option Evaluated) → EndsAt there others e o → EndsAt last others e o
+    by (GoesOn s) (Some x) e = (k x s e.0, e.1)
     by Short None e = e
     by end o e = e
 
@@ -111,27 +172,44 @@ bit_is_truth : (b : Bool) (behind : Attempt) → truth_of (gives (bit b) behind)
 bit_is_truth b behind = ap (λ c. gives (bit c) behind) (holds_bit b)
 
 -- what is made of what is made of a value
-pub made_twice : (g f h : ℕ → ℕ) (o : Option Evaluated) → ((x : ℕ) → g (f x) ≡ h x) → made_of g (made_of f o) ≡ made_of h o
-made_twice g f h None e = refl
-made_twice g f h (Some x) e = ap (λ n. gives n x.behind) (e x.value)
+made_twice_of : (g f h : ℕ → ℕ) → ((x : ℕ) → g (f x) ≡ h x) → (o : Option Evaluated) → made_of g (made_of f o) ≡ made_of h o
+made_twice_of g f h e None = refl
+made_twice_of g f h e (Some x) = ap (λ n. gives n x.behind) (e x.value)
+
+pub made_twice : (g f h : ℕ → ℕ) (o : Answering) → ((x : ℕ) → g (f x) ≡ h x) → made_by g (made_by f o) ≡ made_by h o
+made_twice g f h o e = λ i. λ answers. made_twice_of g f h e (o answers) i
+
+-- a value as 1 where it isn't 0, else 0, by the answers
+abbrev pub truth_by : Answering → Answering
+truth_by o = made_by truth_word o
+
+-- a value of one type as one of another
+abbrev pub converted_by : WordType → WordType → Answering → Answering
+converted_by s t o = made_by (converted s t) o
 
 -- what is 1 or 0 is its own truth
 truth_twice : (o : Option Evaluated) → truth_of (truth_of o) ≡ truth_of o
-truth_twice o = made_twice truth_word truth_word truth_word o (λ x. ap bit (holds_bit (holds x)))
+truth_twice = made_twice_of truth_word truth_word truth_word (λ x. ap bit (holds_bit (holds x)))
 
 -- the word that the values of two sides make, the second from the attempt that the first leaves
-abbrev pub pair_value : (ℕ → ℕ → ℕ) → Option Evaluated → (Attempt → Option Evaluated) → Option Evaluated
-pair_value f o second = o >>? λ x. made_of (f x.value) (second x.behind)
+abbrev pub pair_of : (ℕ → ℕ → ℕ) → (Attempt → Option Evaluated) → Evaluated → Option Evaluated
+pair_of f second x = made_of (f x.value) (second x.behind)
+
+abbrev pub pair_value : (ℕ → ℕ → ℕ) → Answering → (Attempt → Option Evaluated) → Answering
+pair_value f o second answers = o answers >>? pair_of f second
 
 -- what is made of such a word
-pub pair_made : (g : ℕ → ℕ) (f h : ℕ → ℕ → ℕ) (o : Option Evaluated) (second : Attempt → Option Evaluated) → ((x y : ℕ) → g (f x y) ≡ h x y)
-    → made_of g (pair_value f o second) ≡ pair_value h o second
-pair_made g f h None second e = refl
-pair_made g f h (Some x) second e = made_twice g (f x.value) (h x.value) (second x.behind) (e x.value)
+pub pair_made : (g : ℕ → ℕ) (f h : ℕ → ℕ → ℕ) (o : Answering) (second : Attempt → Option Evaluated) → ((x y : ℕ) → g (f x y) ≡ h x y)
+    → made_by g (pair_value f o second) ≡ pair_value h o second
+pair_made g f h o second e = λ i. λ answers. by (o answers) i
+  where
+    by : (v : Option Evaluated) → made_of g (v >>? pair_of f second) ≡ (v >>? pair_of h second)
+    by None = refl
+    by (Some x) = made_twice_of g (f x.value) (h x.value) (e x.value) (second x.behind)
 
 -- where it is 1 or 0, it is its own truth
-pub pair_is_truth : (f : ℕ → ℕ → ℕ) (b : ℕ → ℕ → Bool) (o : Option Evaluated) (second : Attempt → Option Evaluated)
-    → ((x y : ℕ) → bit (b x y) ≡ f x y) → truth_of (pair_value f o second) ≡ pair_value f o second
+pub pair_is_truth : (f : ℕ → ℕ → ℕ) (b : ℕ → ℕ → Bool) (o : Answering) (second : Attempt → Option Evaluated)
+    → ((x y : ℕ) → bit (b x y) ≡ f x y) → truth_by (pair_value f o second) ≡ pair_value f o second
 pair_is_truth f b o second e =
     pair_made truth_word f f o second (λ x y. ap truth_word (sym (e x y)) ∙ ap bit (holds_bit (b x y)) ∙ e x y)
 
@@ -147,30 +225,41 @@ abbrev not_truth : ℕ → ℕ
 not_truth w = bit (not (holds w))
 
 -- that of a value by that of its truth
-not_of_truth : (o : Option Evaluated) → made_of not_truth (truth_of o) ≡ made_of not_word o
+not_of_truth : (o : Answering) → made_by not_truth (truth_by o) ≡ made_by not_word o
 not_of_truth o = made_twice not_truth truth_word not_word o (λ x. ap (λ b. bit (not b)) (holds_bit (holds x)) ∙ ap bit (twice (x == 0)))
 
-not_is_truth : (o : Option Evaluated) → truth_of (made_of not_word o) ≡ made_of not_word o
+not_is_truth : (o : Answering) → truth_by (made_by not_word o) ≡ made_by not_word o
 not_is_truth o = made_twice truth_word not_word not_word o (λ x. ap bit (holds_bit (x == 0)))
 
 -- `&&` or `||` of a value by that of its truth, the right side being this of the attempt behind the left one
 abbrev pub side_value : ShortCircuitOperator → (Attempt → Option Evaluated) → Evaluated → Option Evaluated
 side_value op right x = if is_settled op x.value then gives (truth_word x.value) x.behind else truth_of (right x.behind)
 
-pub sides_of_truth : (o : Option Evaluated) (op : ShortCircuitOperator) (right : Attempt → Option Evaluated)
-    → (truth_of o >>? side_value op right) ≡ (o >>? side_value op right)
-sides_of_truth None op right = refl
-sides_of_truth (Some x) BothHold right = ap (λ b. if not b then gives (bit b) x.behind else truth_of (right x.behind)) (holds_bit (holds x.value))
-sides_of_truth (Some x) OneHolds right = ap (λ b. if b then gives (bit b) x.behind else truth_of (right x.behind)) (holds_bit (holds x.value))
+-- the same of a value by the answers
+abbrev pub sides_value : ShortCircuitOperator → Answering → (Attempt → Option Evaluated) → Answering
+sides_value op o right answers = o answers >>? side_value op right
 
-pub sides_are_truth : (op : ShortCircuitOperator) (o : Option Evaluated) (right : Attempt → Option Evaluated)
-    → (let r = o >>? side_value op right in truth_of r ≡ r)
-sides_are_truth op None right = refl
-sides_are_truth op (Some x) right = by (is_settled op x.value)
+pub sides_of_truth : (o : Answering) (op : ShortCircuitOperator) (right : Attempt → Option Evaluated)
+    → sides_value op (truth_by o) right ≡ sides_value op o right
+sides_of_truth o op right = λ i. λ answers. by op (o answers) i
   where
-    by : (b : Bool) → (let r = if b then gives (truth_word x.value) x.behind else truth_of (right x.behind) in truth_of r ≡ r)
-    by true = bit_is_truth (holds x.value) x.behind
-    by false = truth_twice (right x.behind)
+    by : (op : ShortCircuitOperator) (v : Option Evaluated) → (truth_of v >>? side_value op right) ≡ (v >>? side_value op right)
+    by op None = refl
+    by BothHold (Some x) = ap (λ b. if not b then gives (bit b) x.behind else truth_of (right x.behind)) (holds_bit (holds x.value))
+    by OneHolds (Some x) = ap (λ b. if b then gives (bit b) x.behind else truth_of (right x.behind)) (holds_bit (holds x.value))
+
+pub sides_are_truth : (op : ShortCircuitOperator) (o : Answering) (right : Attempt → Option Evaluated)
+    → truth_by (sides_value op o right) ≡ sides_value op o right
+sides_are_truth op o right = λ i. λ answers. by (o answers) i
+  where
+    settled : (b : Bool) (x : Evaluated)
+        → (let r = if b then gives (truth_word x.value) x.behind else truth_of (right x.behind) in truth_of r ≡ r)
+    settled true x = bit_is_truth (holds x.value) x.behind
+    settled false x = truth_twice (right x.behind)
+
+    by : (v : Option Evaluated) → (let r = v >>? side_value op right in truth_of r ≡ r)
+    by None = refl
+    by (Some x) = settled (is_settled op x.value) x
 
 -- a test pushes its truth
 abbrev pub truth_pushed : Test → WordState → Behaviour
@@ -178,8 +267,9 @@ truth_pushed c w = tested c (number_pushed 1) (number_pushed 0) w
 
 -- ---- what states keep of an attempt
 
--- In a task with such declarations and places: what FRAM, the locals and the inputs hold of an attempt while expressions are evaluated. Whatever
--- it is, the variables stand there and the readings left, and it is kept where a reading is taken
+-- In a task with such declarations and places: what FRAM, the locals and the inputs hold of an attempt while expressions are evaluated, whatever
+-- answers it has left. Whatever it is, the variables stand there and the readings left, and it is kept where a reading is taken, and where words
+-- behind the end of programs change and looks are taken
 pub record Keeping : Type 1 where
   pub shared : List SharedDeclaration
   pub p : Places
@@ -192,10 +282,16 @@ pub record Keeping : Type 1 where
   pub readings : (m : Attempt) (f : ℕ → ℕ) (l : ℕ → Option ℕ) (i : Inputs) → Holds m f l i → i.readings ≡ m.left
   pub taken : (m : Attempt) (f : ℕ → ℕ) (l : ℕ → Option ℕ) (i : Inputs) (rs : List ℕ) → Holds m f l i
       → Holds (record m { left = rs }) f l (record i { readings = rs })
+  pub answered : (m : Attempt) (f g : ℕ → ℕ) (l : ℕ → Option ℕ) (i : Inputs) (looks : List Look) → Holds m f l i
+      → ((a : ℕ) → a < program_end → g a ≡ f a) → Holds m g l (record i { looks = looks })
 
--- a state keeps an attempt, whatever is on its stack
+-- a state keeps an attempt, whatever is on its stack, and whatever answers are left
 abbrev pub Keeps : Keeping → Attempt → WordState → Type 0
-Keeps k m s = k.Holds m s.fram s.locals s.inputs
+Keeps k m s = k.Holds (answered_by [] m) s.fram s.locals s.inputs
+
+-- whether the program takes events
+abbrev pub events_of : Keeping → Bool
+events_of k = k.p.map.runtime.events
 
 -- a value as one word on the stack
 abbrev pub single : ℕ → List ℕ
@@ -206,21 +302,25 @@ pub record Leaves (k : Keeping) (words : ℕ → List ℕ) (below : List ℕ) (x
   pub stack : s.stack ≡ words x.value ++ below
   pub kept : Keeps k x.behind s
 
--- a program leaves a value as one word on top of these
-abbrev pub LeavesWord : Keeping → List ℕ → Behaviour → Option Evaluated → Type 0
-LeavesWord k below b o = AgreesAt (Leaves k single below) b o
+-- a program leaves a value as such words on top of these
+abbrev pub LeavesWords : Keeping → (ℕ → List ℕ) → List ℕ → Behaviour → Answering → Type 0
+LeavesWords k words below b o = AgreesAt (events_of k) (Leaves k words below) b o
+
+-- as one word
+abbrev pub LeavesWord : Keeping → List ℕ → Behaviour → Answering → Type 0
+LeavesWord k below b o = LeavesWords k single below b o
 
 -- the program of an expression leaves its value, and its test decides by the value
-pub record LoweringAgrees (k : Keeping) (w : WordState) (l : Lowering) (o : Option Evaluated) : Type 0 where
+pub record LoweringAgrees (k : Keeping) (w : WordState) (l : Lowering) (o : Answering) : Type 0 where
   pub word : LeavesWord k w.stack (behaviour (word_program l) w) o
-  pub test : LeavesWord k w.stack (truth_pushed (value_test l) w) (truth_of o)
+  pub test : LeavesWord k w.stack (truth_pushed (value_test l) w) (truth_by o)
 
 -- the programs of two sides leave such words, the second from the attempt behind the first
-pub record SidesAgree (k : Keeping) (words : ℕ → List ℕ) (w : WordState) (a b : Program) (o : Option Evaluated)
+pub record SidesAgree (k : Keeping) (words : ℕ → List ℕ) (w : WordState) (a b : Program) (o : Answering)
     (second : Attempt → Option Evaluated) : Type 0 where
-  pub left_side : AgreesAt (Leaves k words w.stack) (behaviour a w) o
+  pub left_side : LeavesWords k words w.stack (behaviour a w) o
   pub right_side : (x : Evaluated) (s : WordState) → Keeps k x.behind s → (let below = words x.value ++ w.stack in
-      AgreesAt (Leaves k words below) (behaviour b (with_stack below s)) (second x.behind))
+      LeavesWords k words below (behaviour b (with_stack below s)) (by_answers x.behind second))
 
 -- a number below 256 is its own residue
 pub small_modulo : (n : ℕ) → n < 256 → n % 65536 ≡ n
@@ -235,41 +335,90 @@ past_end p v elements length i copies m f locals at h l =
 module _ (k : Keeping) where
   -- ---- leaves
 
+  -- a value is there
+  pub is_left : (words : ℕ → List ℕ) (below : List ℕ) (v : ℕ) (m : Attempt) (s : WordState) → Keeps k m s → s.stack ≡ words v ++ below
+      → LeavesWords k words below (goes_on [] s) (by_answers m (gives v))
+  is_left words below v m s kept stack others = (tt, (record { stack = stack; kept = kept }, refl))
+
   local_agrees : (o : Option ℕ) (v : ℕ) (m : Attempt) (w : WordState) → Keeps k m w → ((u : ℕ) → o ≡ Some u → v ≡ u)
-      → LeavesWord k w.stack (then_on (local_pushed o w) (behaviour nothing)) (gives v m)
-  local_agrees None v m w kept h = (tt, tt)
-  local_agrees (Some u) v m w kept h = (tt, record { stack = ap (λ x. x ∷ w.stack) (sym (h u refl)); kept = kept })
+      → LeavesWord k w.stack (then_on (local_pushed o w) (behaviour nothing)) (by_answers m (gives v))
+  local_agrees None v m w kept h others = (tt, tt)
+  local_agrees (Some u) v m w kept h others = is_left single w.stack v m (pushed u w) kept (ap (λ x. x ∷ w.stack) (sym (h u refl))) others
 
   load_agrees : (a v : ℕ) (m : Attempt) (w : WordState) → Keeps k m w → is_place a ≡ true → w.fram a ≡ v
-      → LeavesWord k w.stack (behaviour (one (load a)) w) (gives v m)
+      → LeavesWord k w.stack (behaviour (one (load a)) w) (by_answers m (gives v))
   load_agrees a v m w kept place is =
-      subst (λ b. LeavesWord k w.stack (then_on b (behaviour nothing)) (gives v m)) (sym (placed a (goes_on [] (pushed (w.fram a) w)) place))
-      (tt, record { stack = ap (λ x. x ∷ w.stack) is; kept = kept })
+      subst (λ b. LeavesWord k w.stack (then_on b (behaviour nothing)) (by_answers m (gives v)))
+      (sym (placed a (goes_on [] (pushed (w.fram a) w)) place))
+      (is_left single w.stack v m (pushed (w.fram a) w) kept (ap (λ x. x ∷ w.stack) is))
 
   pub word_read_agrees : (v i a : ℕ) (m : Attempt) (w : WordState) → Keeps k m w → a ≡ scalar_address k.p v i → IsScalarWord k.p v i
-      → LeavesWord k w.stack (behaviour (one (load a)) w) (gives (word_at m.variables (Shared v) i) m)
+      → LeavesWord k w.stack (behaviour (one (load a)) w) (by_answers m (gives (word_at m.variables (Shared v) i)))
   word_read_agrees v i a m w kept e is =
       let word = word_at m.variables (Shared v) i in
-      let h = k.variables m w.fram w.locals w.inputs kept in
-      subst (λ b. LeavesWord k w.stack (behaviour (one (load b)) w) (gives word m)) (sym e)
+      let h = k.variables (answered_by [] m) w.fram w.locals w.inputs kept in
+      subst (λ b. LeavesWord k w.stack (behaviour (one (load b)) w) (by_answers m (gives word))) (sym e)
       (load_agrees (scalar_address k.p v i) word m w kept (spot_place k.p k.room (scalar v i) k.apart k.even is) (h.words v i is))
 
   pub read_agrees : (x : Variable) (m : Attempt) (w : WordState) → Keeps k m w → IsKnown k.p x
-      → LeavesWord k w.stack (behaviour (one (read_step k.p x)) w) (gives (word_at m.variables x 0) m)
+      → LeavesWord k w.stack (behaviour (one (read_step k.p x)) w) (by_answers m (gives (word_at m.variables x 0)))
   read_agrees (Shared v) m w kept is = word_read_agrees v 0 (address_of k.p v) m w kept (sym (first_address k.p v)) (first_word k.p v is)
   read_agrees (Local n) m w kept is =
       let word = word_at m.variables (Local n) 0 in
-      let h = k.variables m w.fram w.locals w.inputs kept in
-      subst (λ j. LeavesWord k w.stack (behaviour (one (local j)) w) (gives word m)) (sym (small_modulo n is))
+      let h = k.variables (answered_by [] m) w.fram w.locals w.inputs kept in
+      subst (λ j. LeavesWord k w.stack (behaviour (one (local j)) w) (by_answers m (gives word))) (sym (small_modulo n is))
       (local_agrees (w.locals n) word m w kept (λ u e. h.locals n u e))
 
-  pub sense_agrees : (m : Attempt) (w : WordState) → Keeps k m w → LeavesWord k w.stack (behaviour (one sense) w) (next_reading m)
+  pub sense_agrees : (m : Attempt) (w : WordState) → Keeps k m w → LeavesWord k w.stack (behaviour (one sense) w) (by_answers m next_reading)
   sense_agrees m w kept =
-      subst (λ rs. LeavesWord k w.stack (behaviour (one sense) w) (reading_of rs m)) (k.readings m w.fram w.locals w.inputs kept) (by w.inputs.readings)
+      subst (λ rs. LeavesWord k w.stack (behaviour (one sense) w) (by_answers m (reading_of rs)))
+      (k.readings (answered_by [] m) w.fram w.locals w.inputs kept) (by w.inputs.readings)
     where
-      by : (rs : List ℕ) → LeavesWord k w.stack (then_on (reading_pushed rs w) (behaviour nothing)) (reading_of rs m)
-      by [] = (tt, tt)
-      by (r ∷ rs) = (tt, record { stack = refl; kept = k.taken m w.fram w.locals w.inputs rs kept })
+      by : (rs : List ℕ) → LeavesWord k w.stack (then_on (reading_pushed rs w) (behaviour nothing)) (by_answers m (reading_of rs))
+      by [] others = (tt, tt)
+      by (r ∷ rs) others = (tt, (record { stack = refl; kept = k.taken (answered_by [] m) w.fram w.locals w.inputs rs kept }, refl))
+
+  -- where events are taken, the next answer is the word that is stored to ANS
+  pub event_agrees : (m : Attempt) (w : WordState) → Keeps k m w → events_of k ≡ true
+      → LeavesWord k w.stack (behaviour (one next_event) w) (by_answers m next_answer)
+  event_agrees m w kept on =
+      let looks = w.inputs.looks in
+      let others = other_looks looks in
+      let at = event_index w.fram in
+      let seen = first_look looks head_place in
+      let there = Leaves k single w.stack in
+      let o = by_answers m next_answer in
+      let answered = if at == seen then none_answered u else word_answered (first_look others (slot_place at)) u in
+      agrees_alone (events_of k) there (event_pushed looks w) o
+      (behind_looks (events_of k) there looks (behind_effects (look_effects others) answered) o
+      (behind_looks (events_of k) there others answered o (by (at == seen) (first_look others (slot_place at)))))
+    where
+      -- the looks that are left behind both
+      left : List Look
+      left = other_looks (other_looks w.inputs.looks)
+
+      u : WordState
+      u = with_looks left w
+
+      by : (b : Bool) (v : ℕ) → LeavesWord k w.stack (if b then none_answered u else word_answered v u) (by_answers m next_answer)
+      by true v others = (
+        ((on, inl refl), tt),
+        (record {
+          stack = refl;
+          kept = k.answered (answered_by [] m) w.fram (put w.fram answer_place 0) w.locals w.inputs left kept
+              (λ a low. put_other w.fram answer_place 0 a (λ e. omega (arith, e, low)));
+        }, refl),
+      )
+      by false v others =
+          let f = put w.fram answer_place v in
+          let n = (f count_place + 1) % 65536 in (
+            ((on, inl refl), ((on, inr refl), tt)),
+            (record {
+              stack = refl;
+              kept = k.answered (answered_by [] m) w.fram (put f count_place n) w.locals w.inputs left kept
+                  (λ a low. put_other f count_place n a (λ e. omega (arith, e, low)) ∙ put_other w.fram answer_place v a (λ e. omega (arith, e, low)));
+            }, refl),
+          )
 
   -- ---- elements
 
@@ -279,12 +428,12 @@ module _ (k : Keeping) where
     pushes v = goes_on [] (with_stack (v ∷ below) w)
 
     abbrev Reads : Behaviour → ℕ → Type 0
-    Reads b v = LeavesWord k below (then_on b (behaviour nothing)) (gives v m)
+    Reads b v = LeavesWord k below (then_on b (behaviour nothing)) (by_answers m (gives v))
 
     -- one word at a place
     one_read : (a x v : ℕ) → is_place a ≡ true → x ≡ v → Reads (at_place a (pushes x)) v
     one_read a x v place is =
-        subst (λ b. Reads b v) (sym (placed a (pushes x) place)) (tt, record { stack = ap (λ y. y ∷ below) is; kept = kept })
+        subst (λ b. Reads b v) (sym (placed a (pushes x) place)) (is_left single below v m (with_stack (x ∷ below) w) kept (ap (λ y. y ∷ below) is))
 
     -- a word that is one of two, each at a place
     either_read : (b : Bool) (c e x y v : ℕ) → is_place c ≡ true → is_place e ≡ true → (if b then x else y) ≡ v
@@ -298,12 +447,13 @@ module _ (k : Keeping) where
     index_read i length v inside h past =
         let P : Bool → Type 0 = λ b. Reads (if b then inside else pushes 0) v in
         ⊎_elim (λ l. subst P (sym (lt-ltb i length l)) (h l))
-        (λ l. subst P (sym (le-ltb i length l)) (tt, record { stack = ap (λ y. y ∷ below) (sym (past l)); kept = kept })) (cases_lt i length)
+        (λ l. subst P (sym (le-ltb i length l)) (is_left single below v m (with_stack (0 ∷ below) w) kept (ap (λ y. y ∷ below) (sym (past l)))))
+        (cases_lt i length)
 
     -- the word of an array
     array_read : (v elements length i : ℕ) (copies : Option ArrayCopies) → IsArrayAt k.p v elements length copies
         → LeavesWord k below (behaviour (one (element_read k.p (Some (Array elements length copies)))) (with_stack (i ∷ below) w))
-        (gives (word_at m.variables (Shared v) i) m)
+        (by_answers m (gives (word_at m.variables (Shared v) i)))
     array_read v elements length i copies at = by copies at
       where
         x : Element
@@ -313,13 +463,13 @@ module _ (k : Keeping) where
         word = word_at m.variables (Shared v) i
 
         held : HoldVariables k.p m.variables w.fram w.locals
-        held = k.variables m w.fram w.locals w.inputs kept
+        held = k.variables (answered_by [] m) w.fram w.locals w.inputs kept
 
         here : (s : Spot) (a : ℕ) → IsSpot k.p s → spot_address k.p s ≡ a → is_place a ≡ true
         here s a is e = subst (λ a. is_place a ≡ true) e (spot_place k.p k.room s k.apart k.even is)
 
         by : (copies : Option ArrayCopies) → IsArrayAt k.p v elements length copies
-            → LeavesWord k below (behaviour (one (element_read k.p (Some (Array elements length copies)))) (with_stack (i ∷ below) w)) (gives word m)
+            → LeavesWord k below (behaviour (one (element_read k.p (Some (Array elements length copies)))) (with_stack (i ∷ below) w)) (by_answers m (gives word))
         by None at =
             let e = 2 * i + elements in
             index_read i length word (at_place e (pushes (w.fram e)))
@@ -348,84 +498,89 @@ module _ (k : Keeping) where
             (past_end k.p v elements length i (Some c) m.variables w.fram w.locals at held)
 
     pub element_agrees : (x : Variable) (i : ℕ) → IsArray k.p x
-        → LeavesWord k below (behaviour (one (element_step k.p x)) (with_stack (i ∷ below) w)) (gives (word_at m.variables x i) m)
+        → LeavesWord k below (behaviour (one (element_step k.p x)) (with_stack (i ∷ below) w))
+        (by_answers m (gives (word_at m.variables x i)))
     element_agrees (Shared v) i is =
-        subst (λ o. LeavesWord k below (behaviour (one (element_read k.p o)) (with_stack (i ∷ below) w)) (gives (word_at m.variables (Shared v) i) m))
+        subst (λ o. LeavesWord k below (behaviour (one (element_read k.p o)) (with_stack (i ∷ below) w)) (by_answers m (gives (word_at m.variables (Shared v) i))))
         (sym is.3.place) (array_read v is.0 is.1 i is.2 is.3)
     element_agrees (Local n) i is = absurd is
 
   -- ---- behind a value
 
   -- what goes on from the words of a value
-  pub agrees_behind : (words : ℕ → List ℕ) (below : List ℕ) (last : Evaluated → WordState → Type 0) (b : Behaviour) (o : Option Evaluated)
-      (next : WordState → Behaviour) (more : Evaluated → Option Evaluated) → AgreesAt (Leaves k words below) b o
-      → ((x : Evaluated) (s : WordState) → Keeps k x.behind s → AgreesAt last (next (with_stack (words x.value ++ below) s)) (more x))
-      → AgreesAt last (then_on b next) (o >>? more)
+  pub agrees_behind : (words : ℕ → List ℕ) (below : List ℕ) (last : Evaluated → WordState → Type 0) (b : Behaviour) (o : Answering)
+      (next : WordState → Behaviour) (more : Evaluated → Option Evaluated) → LeavesWords k words below b o
+      → ((x : Evaluated) (s : WordState) → Keeps k x.behind s
+      → AgreesAt (events_of k) last (next (with_stack (words x.value ++ below) s)) (from_value x more))
+      → AgreesAt (events_of k) last (then_on b next) (λ answers. o answers >>? more)
   agrees_behind words below last b o next more h f =
-      agrees_then (Leaves k words below) last b o next more h
-      (λ x s there. subst (λ l. AgreesAt last (next (with_stack l s)) (more x)) (sym there.stack) (f x s there.kept))
+      agrees_then (events_of k) (Leaves k words below) last b o next more h
+      (λ x s there. subst (λ l. AgreesAt (events_of k) last (next (with_stack l s)) (from_value x more)) (sym there.stack) (f x s there.kept))
 
   -- a program behind that of a value
-  pub then_program : (words : ℕ → List ℕ) (last : Evaluated → WordState → Type 0) (w : WordState) (q next : Program) (o : Option Evaluated)
-      (more : Evaluated → Option Evaluated) → AgreesAt (Leaves k words w.stack) (behaviour q w) o
-      → ((x : Evaluated) (s : WordState) → Keeps k x.behind s → AgreesAt last (behaviour next (with_stack (words x.value ++ w.stack) s)) (more x))
-      → AgreesAt last (behaviour (joined q next) w) (o >>? more)
+  pub then_program : (words : ℕ → List ℕ) (last : Evaluated → WordState → Type 0) (w : WordState) (q next : Program) (o : Answering)
+      (more : Evaluated → Option Evaluated) → LeavesWords k words w.stack (behaviour q w) o
+      → ((x : Evaluated) (s : WordState) → Keeps k x.behind s
+      → AgreesAt (events_of k) last (behaviour next (with_stack (words x.value ++ w.stack) s)) (from_value x more))
+      → AgreesAt (events_of k) last (behaviour (joined q next) w) (λ answers. o answers >>? more)
   then_program words last w q next o more h f =
-      subst (λ b. AgreesAt last b (o >>? more)) (sym (joined_go_on q next w)) (agrees_behind words w.stack last (behaviour q w) o (behaviour next) more h f)
+      subst (λ b. AgreesAt (events_of k) last b (λ answers. o answers >>? more)) (sym (joined_go_on q next w))
+      (agrees_behind words w.stack last (behaviour q w) o (behaviour next) more h f)
 
   -- what is done with both values
   pub sides_then : (words : ℕ → List ℕ) (last : Evaluated → WordState → Type 0) (w : WordState) (a b : Program) (next : WordState → Behaviour)
-      (o : Option Evaluated) (second : Attempt → Option Evaluated) (f : ℕ → ℕ → ℕ) → SidesAgree k words w a b o second
-      → ((x y : ℕ) (m : Attempt) (s : WordState) → Keeps k m s → AgreesAt last (next (with_stack (words y ++ (words x ++ w.stack)) s)) (gives (f x y) m))
-      → AgreesAt last (then_on (behaviour (joined a b) w) next) (pair_value f o second)
+      (o : Answering) (second : Attempt → Option Evaluated) (f : ℕ → ℕ → ℕ) → SidesAgree k words w a b o second
+      → ((x y : ℕ) (m : Attempt) (s : WordState) → Keeps k m s
+      → AgreesAt (events_of k) last (next (with_stack (words y ++ (words x ++ w.stack)) s)) (by_answers m (gives (f x y))))
+      → AgreesAt (events_of k) last (then_on (behaviour (joined a b) w) next) (pair_value f o second)
   sides_then words last w a b next o second f h g =
       let rest : WordState → Behaviour = λ v. then_on (behaviour b v) next in
       let is = ap (λ r. then_on r next) (joined_go_on a b w) ∙ sym (then_on_assoc (behaviour a w) (behaviour b) next) in
-      subst (λ r. AgreesAt last r (pair_value f o second)) (sym is)
-      (agrees_behind words w.stack last (behaviour a w) o rest (λ x. made_of (f x.value) (second x.behind)) h.left_side (λ x s kept.
+      subst (λ r. AgreesAt (events_of k) last r (pair_value f o second)) (sym is)
+      (agrees_behind words w.stack last (behaviour a w) o rest (pair_of f second) h.left_side (λ x s kept.
       let below = words x.value ++ w.stack in
-      agrees_behind words below last (behaviour b (with_stack below s)) (second x.behind) next (λ y. gives (f x.value y.value) y.behind)
+      agrees_behind words below last (behaviour b (with_stack below s)) (by_answers x.behind second) next (λ y. gives (f x.value y.value) y.behind)
       (h.right_side x s kept) (λ y t kept. g x.value y.value y.behind t kept)))
 
   -- a step behind a value that makes another of it: what it does on any stack
-  pub step_leaves : (from to : ℕ → List ℕ) (last : Step) (f : ℕ → ℕ) (w : WordState) (q : Program) (o : Option Evaluated)
-      → AgreesAt (Leaves k from w.stack) (behaviour q w) o
+  pub step_leaves : (from to : ℕ → List ℕ) (last : Step) (f : ℕ → ℕ) (w : WordState) (q : Program) (o : Answering)
+      → LeavesWords k from w.stack (behaviour q w) o
       → ((x : ℕ) (s : WordState) → step_behaviour last (with_stack (from x ++ w.stack) s) ≡ goes_on [] (with_stack (to (f x) ++ w.stack) s))
-      → AgreesAt (Leaves k to w.stack) (behaviour (behind q last) w) (made_of f o)
+      → LeavesWords k to w.stack (behaviour (behind q last) w) (made_by f o)
   step_leaves from to last f w q o h does =
       let there = Leaves k to w.stack in
       then_program from there w q (one last) o (λ x. gives (f x.value) x.behind) h
-      (λ x s kept. subst (λ b. AgreesAt there (then_on b (behaviour nothing)) (gives (f x.value) x.behind)) (sym (does x.value s))
-      (tt, record { stack = refl; kept = kept }))
+      (λ x s kept. subst (λ b. AgreesAt (events_of k) there (then_on b (behaviour nothing)) (by_answers x.behind (gives (f x.value)))) (sym (does x.value s))
+      (is_left to w.stack (f x.value) x.behind (with_stack (to (f x.value) ++ w.stack) s) kept refl))
 
   -- a step behind two values
-  pub pair_leaves : (from to : ℕ → List ℕ) (last : Step) (f : ℕ → ℕ → ℕ) (w : WordState) (a b : Program) (o : Option Evaluated)
+  pub pair_leaves : (from to : ℕ → List ℕ) (last : Step) (f : ℕ → ℕ → ℕ) (w : WordState) (a b : Program) (o : Answering)
       (second : Attempt → Option Evaluated) → SidesAgree k from w a b o second
       → ((x y : ℕ) (s : WordState) → step_behaviour last (with_stack (from y ++ (from x ++ w.stack)) s) ≡ goes_on [] (with_stack (to (f x y) ++ w.stack) s))
-      → AgreesAt (Leaves k to w.stack) (behaviour (behind (joined a b) last) w) (pair_value f o second)
+      → LeavesWords k to w.stack (behaviour (behind (joined a b) last) w) (pair_value f o second)
   pair_leaves from to last f w a b o second h does =
       let there = Leaves k to w.stack in
-      subst (λ r. AgreesAt there r (pair_value f o second)) (sym (joined_go_on (joined a b) (one last) w))
+      subst (λ r. AgreesAt (events_of k) there r (pair_value f o second)) (sym (joined_go_on (joined a b) (one last) w))
       (sides_then from there w a b (behaviour (one last)) o second f h
-      (λ x y m s kept. subst (λ r. AgreesAt there (then_on r (behaviour nothing)) (gives (f x y) m)) (sym (does x y s))
-      (tt, record { stack = refl; kept = kept })))
+      (λ x y m s kept. subst (λ r. AgreesAt (events_of k) there (then_on r (behaviour nothing)) (by_answers m (gives (f x y)))) (sym (does x y s))
+      (is_left to w.stack (f x y) m (with_stack (to (f x y) ++ w.stack) s) kept refl)))
 
   -- ---- tests
 
   -- 1 is pushed where it holds, else 0
   bit_agrees : (b : Bool) (r : ℕ) (m : Attempt) (s : WordState) → Keeps k m s → bit b ≡ r
-      → LeavesWord k s.stack (if b then number_pushed 1 s else number_pushed 0 s) (gives r m)
-  bit_agrees true r m s kept e = (tt, record { stack = ap (λ v. v ∷ s.stack) e; kept = kept })
-  bit_agrees false r m s kept e = (tt, record { stack = ap (λ v. v ∷ s.stack) e; kept = kept })
+      → LeavesWord k s.stack (if b then number_pushed 1 s else number_pushed 0 s) (by_answers m (gives r))
+  bit_agrees true r m s kept e = is_left single s.stack r m (pushed 1 s) kept (ap (λ v. v ∷ s.stack) e)
+  bit_agrees false r m s kept e = is_left single s.stack r m (pushed 0 s) kept (ap (λ v. v ∷ s.stack) e)
 
   -- 0 is pushed where it holds, else 1
   turned_bit_agrees : (b : Bool) (r : ℕ) (m : Attempt) (s : WordState) → Keeps k m s → bit (not b) ≡ r
-      → LeavesWord k s.stack (if b then number_pushed 0 s else number_pushed 1 s) (gives r m)
+      → LeavesWord k s.stack (if b then number_pushed 0 s else number_pushed 1 s) (by_answers m (gives r))
   turned_bit_agrees true r m s kept e = bit_agrees false r m s kept e
   turned_bit_agrees false r m s kept e = bit_agrees true r m s kept e
 
   -- by a program that leaves the value
-  pub by_word : (w : WordState) (q : Program) (o : Option Evaluated) → LeavesWord k w.stack (behaviour q w) o → LoweringAgrees k w (as_word q) o
+  pub by_word : (w : WordState) (q : Program) (o : Answering) → LeavesWord k w.stack (behaviour q w) o → LoweringAgrees k w (as_word q) o
   by_word w q o h = record {
     word = h;
     test = agrees_behind single w.stack (Leaves k single w.stack) (behaviour q w) o (way_by_top (number_pushed 1) (number_pushed 0))
@@ -434,24 +589,24 @@ module _ (k : Keeping) where
   }
 
   -- by a test, where the value is 1 or 0
-  pub by_test : (w : WordState) (c : Test) (o : Option Evaluated) → truth_of o ≡ o → LeavesWord k w.stack (truth_pushed c w) o
+  pub by_test : (w : WordState) (c : Test) (o : Answering) → truth_by o ≡ o → LeavesWord k w.stack (truth_pushed c w) o
       → LoweringAgrees k w (as_test c) o
   by_test w c o e h = record {
-    word = agrees_alone (Leaves k single w.stack) (truth_pushed c w) o h;
+    word = agrees_alone (events_of k) (Leaves k single w.stack) (truth_pushed c w) o h;
     test = subst (LeavesWord k w.stack (truth_pushed c w)) (sym e) h;
   }
 
   -- ---- operators
 
   -- an operation behind both sides
-  operated : (op : BinaryOperation) (w : WordState) (a b : Program) (o : Option Evaluated) (second : Attempt → Option Evaluated) (f : ℕ → ℕ → ℕ)
+  operated : (op : BinaryOperation) (w : WordState) (a b : Program) (o : Answering) (second : Attempt → Option Evaluated) (f : ℕ → ℕ → ℕ)
       → SidesAgree k single w a b o second → ((x y : ℕ) → binary_word op x y ≡ f x y)
       → LeavesWord k w.stack (behaviour (behind (joined a b) (binary op)) w) (pair_value f o second)
   operated op w a b o second f h e =
       pair_leaves single single (binary op) f w a b o second h (λ x y s. ap (λ v. goes_on [] (with_stack (v ∷ w.stack) s)) (e x y))
 
   -- an operator of two sides
-  pub binary_agrees : (meaning : BinaryMeaning) (w : WordState) (a b : Program) (o : Option Evaluated) (second : Attempt → Option Evaluated) (f : ℕ → ℕ → ℕ)
+  pub binary_agrees : (meaning : BinaryMeaning) (w : WordState) (a b : Program) (o : Answering) (second : Attempt → Option Evaluated) (f : ℕ → ℕ → ℕ)
       → SidesAgree k single w a b o second → ((x y : ℕ) → meaning_word meaning x y ≡ f x y)
       → LoweringAgrees k w (binary_lowering meaning (joined a b)) (pair_value f o second)
   binary_agrees (Calculates op) w a b o second f h e =
@@ -473,52 +628,54 @@ module _ (k : Keeping) where
       (λ x y m s kept. turned_bit_agrees (compare_words c x y) (f x y) m (with_stack w.stack s) kept (e x y)))
 
   -- a step behind a value
-  pub worked_agrees : (last : Step) (f : ℕ → ℕ) (w : WordState) (l : Lowering) (o : Option Evaluated) → LoweringAgrees k w l o
+  pub worked_agrees : (last : Step) (f : ℕ → ℕ) (w : WordState) (l : Lowering) (o : Answering) → LoweringAgrees k w l o
       → ((x : ℕ) (s : WordState) → step_behaviour last (with_stack (x ∷ w.stack) s) ≡ goes_on [] (with_stack (f x ∷ w.stack) s))
-      → LoweringAgrees k w (as_word (behind (word_program l) last)) (made_of f o)
+      → LoweringAgrees k w (as_word (behind (word_program l) last)) (made_by f o)
   worked_agrees last f w l o h does = by_word w _ _ (step_leaves single single last f w (word_program l) o h.word does)
 
   -- `!` of a value by its test
-  pub not_agrees : (w : WordState) (c : Test) (o : Option Evaluated) → LeavesWord k w.stack (truth_pushed c w) (truth_of o)
-      → LoweringAgrees k w (as_test (fails c)) (made_of not_word o)
+  pub not_agrees : (w : WordState) (c : Test) (o : Answering) → LeavesWord k w.stack (truth_pushed c w) (truth_by o)
+      → LoweringAgrees k w (as_test (fails c)) (made_by not_word o)
   not_agrees w c o h =
       let turned = way_by_top (number_pushed 0) (number_pushed 1) in
-      let r : Option Evaluated = made_of not_word o in
+      let r : Answering = made_by not_word o in
       by_test w (fails c) r (not_is_truth o)
       (subst (λ b. LeavesWord k w.stack b r) (sym (decided_by_truth c (number_pushed 0) (number_pushed 1) w))
       (subst (LeavesWord k w.stack (then_on (truth_pushed c w) turned)) (not_of_truth o)
-      (agrees_behind single w.stack (Leaves k single w.stack) (truth_pushed c w) (truth_of o) turned (λ x. gives (not_truth x.value) x.behind) h
+      (agrees_behind single w.stack (Leaves k single w.stack) (truth_pushed c w) (truth_by o) turned (λ x. gives (not_truth x.value) x.behind) h
       (λ x s kept. turned_bit_agrees (holds x.value) (not_truth x.value) x.behind (with_stack w.stack s) kept refl))))
 
-  pub unary_agrees : (op : UnaryOperator) (w : WordState) (l : Lowering) (o : Option Evaluated) → LoweringAgrees k w l o
-      → LoweringAgrees k w (unary_lowering op l) (made_of (unary_value op) o)
+  pub unary_agrees : (op : UnaryOperator) (w : WordState) (l : Lowering) (o : Answering) → LoweringAgrees k w l o
+      → LoweringAgrees k w (unary_lowering op l) (made_by (unary_value op) o)
   unary_agrees unary_operator.Negate w l o h = worked_agrees (unary Negate) (unary_word Negate) w l o h (λ x s. refl)
   unary_agrees unary_operator.Complement w l o h = worked_agrees (unary Complement) (unary_word Complement) w l o h (λ x s. refl)
   unary_agrees unary_operator.Not w l o h = not_agrees w (value_test l) o h.test
 
   -- ---- `&&` and `||`
 
-  pub side_agrees : (op : ShortCircuitOperator) (w : WordState) (c d : Test) (o : Option Evaluated) (right : Attempt → Option Evaluated)
-      → LeavesWord k w.stack (truth_pushed c w) (truth_of o)
-      → ((m : Attempt) (s : WordState) → Keeps k m s → LeavesWord k w.stack (truth_pushed d (with_stack w.stack s)) (truth_of (right m)))
-      → LeavesWord k w.stack (truth_pushed (sides_test op c d) w) (truth_of o >>? side_value op right)
+  pub side_agrees : (op : ShortCircuitOperator) (w : WordState) (c d : Test) (o : Answering) (right : Attempt → Option Evaluated)
+      → LeavesWord k w.stack (truth_pushed c w) (truth_by o)
+      → ((m : Attempt) (s : WordState) → Keeps k m s → LeavesWord k w.stack (truth_pushed d (with_stack w.stack s)) (truth_by (by_answers m right)))
+      → LeavesWord k w.stack (truth_pushed (sides_test op c d) w) (sides_value op (truth_by o) right)
   side_agrees BothHold w c d o right h f =
       let next = way_by_top (truth_pushed d) (number_pushed 0) in
-      subst (λ r. LeavesWord k w.stack r (truth_of o >>? side_value BothHold right)) (sym (decided_by_truth c (truth_pushed d) (number_pushed 0) w))
-      (agrees_behind single w.stack (Leaves k single w.stack) (truth_pushed c w) (truth_of o) next (side_value BothHold right) h
+      subst (λ r. LeavesWord k w.stack r (sides_value BothHold (truth_by o) right)) (sym (decided_by_truth c (truth_pushed d) (number_pushed 0) w))
+      (agrees_behind single w.stack (Leaves k single w.stack) (truth_pushed c w) (truth_by o) next (side_value BothHold right) h
       (λ x s kept. by (holds x.value) x.behind (with_stack w.stack s) kept (f x.behind s kept)))
     where
-      by : (b : Bool) (m : Attempt) (u : WordState) → Keeps k m u → LeavesWord k u.stack (truth_pushed d u) (truth_of (right m))
-          → LeavesWord k u.stack (if b then truth_pushed d u else number_pushed 0 u) (if not b then gives (bit b) m else truth_of (right m))
+      by : (b : Bool) (m : Attempt) (u : WordState) → Keeps k m u → LeavesWord k u.stack (truth_pushed d u) (truth_by (by_answers m right))
+          → LeavesWord k u.stack (if b then truth_pushed d u else number_pushed 0 u)
+          (by_answers m (λ s. if not b then gives (bit b) s else truth_of (right s)))
       by true m u kept g = g
-      by false m u kept g = (tt, record { stack = refl; kept = kept })
+      by false m u kept g = is_left single u.stack 0 m (pushed 0 u) kept refl
   side_agrees OneHolds w c d o right h f =
       let next = way_by_top (number_pushed 1) (truth_pushed d) in
-      subst (λ r. LeavesWord k w.stack r (truth_of o >>? side_value OneHolds right)) (sym (decided_by_truth c (number_pushed 1) (truth_pushed d) w))
-      (agrees_behind single w.stack (Leaves k single w.stack) (truth_pushed c w) (truth_of o) next (side_value OneHolds right) h
+      subst (λ r. LeavesWord k w.stack r (sides_value OneHolds (truth_by o) right)) (sym (decided_by_truth c (number_pushed 1) (truth_pushed d) w))
+      (agrees_behind single w.stack (Leaves k single w.stack) (truth_pushed c w) (truth_by o) next (side_value OneHolds right) h
       (λ x s kept. by (holds x.value) x.behind (with_stack w.stack s) kept (f x.behind s kept)))
     where
-      by : (b : Bool) (m : Attempt) (u : WordState) → Keeps k m u → LeavesWord k u.stack (truth_pushed d u) (truth_of (right m))
-          → LeavesWord k u.stack (if b then number_pushed 1 u else truth_pushed d u) (if b then gives (bit b) m else truth_of (right m))
-      by true m u kept g = (tt, record { stack = refl; kept = kept })
+      by : (b : Bool) (m : Attempt) (u : WordState) → Keeps k m u → LeavesWord k u.stack (truth_pushed d u) (truth_by (by_answers m right))
+          → LeavesWord k u.stack (if b then number_pushed 1 u else truth_pushed d u)
+          (by_answers m (λ s. if b then gives (bit b) s else truth_of (right s)))
+      by true m u kept g = is_left single u.stack 1 m (pushed 1 u) kept refl
       by false m u kept g = g

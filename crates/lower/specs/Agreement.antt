@@ -1,8 +1,9 @@
 -- What it is that a word program does what the source does: the state that it works on stands for an attempt of the task, and its end
 -- for the outcome.
-use Rattle.std.specs.Prelude.{◌≡◌, ℕ, ◌+◌, ◌*◌, ◌/◌, ◌%◌, ◌<◌, ◌≤◌, ◌==◌, Bool, true, if◌then◌else◌, Contains, List, [], ◌∷◌, ◌++◌, length, map, Option}
+use Rattle.std.specs.Prelude.{◌≡◌, ℕ, ◌+◌, ◌*◌, ◌/◌, ◌%◌, ◌<◌, ◌≤◌, ◌==◌, Bool, true, if◌then◌else◌, Contains, List, [], ◌∷◌, ◌++◌, length, map, Option, ◌⊎◌}
 use Rattle.std.specs.Prelude.{Some, None, slice_get, slice_index, slice_index_or}
-use Rattle.fram_board.specs.Effects.{Effect, Store, Take, Outside}
+use Rattle.fram_board.specs.Effects.{Effect, Store, Take, Outside, Offered, Looked}
+use Rattle.machine_effects.specs.Inputs.{Inputs}
 use Rattle.machine_effects.specs.World.{fram_after}
 use Rattle.task_ast.specs.declared.SharedDeclaration.{SharedDeclaration}
 use Rattle.task_ast.specs.Paths.{CheckedExpression, CheckedBlock}
@@ -12,10 +13,12 @@ use Rattle.task_ast.specs.declared.WordType.TheVariants.{Unsigned, Long}
 use Rattle.task_ast.specs.declared.names.Variable.{Variable}
 use Rattle.task_ast.specs.declared.names.Variable.TheVariants.{Shared, Local}
 use Rattle.source_values.specs.Values.{Variables, Attempt, Evaluated, word_at, converted, made_of, truth_word, value_of}
+use Rattle.memory_map.specs.event_places.Places.{count_place, sent_place, answer_place}
 use Rattle.source_values.specs.Statements.{Outcome, goes_on, to_task, short, run_block, block_emits}
-use Rattle.array_versions.specs.Behaviour.{WordState, with_readings, End, GoesOn, Jumps, Short, Strays, Broken, Behaviour, behaviour}
+use Rattle.array_versions.specs.Behaviour.{WordState, End, GoesOn, Jumps, Short, Strays, Broken, Behaviour, behaviour, event_index}
 use Rattle.cost_bound.specs.Counts.{stores_of}
-use Rattle.memory_map.specs.MemoryMap.{word_place}
+use Rattle.memory_map.specs.MemoryMap.{MemoryMap, word_place, where_events}
+use Rattle.address_space.specs.Limits.{program_end}
 use Rattle.memory_map.specs.declared.words.RuntimeWord.TheVariants.{NextTask, Gate, ListLength, EmitCount, Base, SentBase, Version}
 use Rattle.memory_map.specs.declared.place.ArrayCopies.{ArrayCopies}
 use Rattle.memory_map.specs.declared.place.VariablePlace.{VariablePlace}
@@ -30,6 +33,7 @@ use Rattle.lower.specs.declared.runs.Run.{Run}
 use Rattle.lower.specs.Runs.{runs_of}
 use Rattle.lower.specs.Seen.{some_path_writes}
 use Rattle.array_versions.specs.Program.{truth}
+use Rattle.lower.specs.Events.{AdmitsExpression, AdmitsBlock}
 use Rattle.lower.specs.Lowered.{one, lowered_expression, lowered_long, lowered_test, lowered_block}
 
 -- ---- what is asked of the places of a task: the variables of its source have such as were declared
@@ -97,28 +101,48 @@ pub record HoldList (p : Places) (listed : List Element) (fram : ℕ → ℕ) : 
   pub marked : (x : Element) → Contains listed x → fram (version_address p x) ≡ fram (word_place p.map Version)
   pub only_marked : (x : Element) → IsCopied p x → fram (version_address p x) ≡ fram (word_place p.map Version) → Contains listed x
 
--- a state stands for an attempt, with these elements listed
-pub record StandsFor (p : Places) (m : Attempt) (listed : List Element) (w : WordState) : Type 0 where
-  pub variables : HoldVariables p m.variables w.fram w.locals
-  pub emitted : HoldEmits p m.emitted w.fram
+-- a state holds the variables, the emitted words and the readings that are left, with these elements listed
+pub record Holds (p : Places) (m : Variables) (words left : List ℕ) (listed : List Element) (w : WordState) : Type 0 where
+  pub variables : HoldVariables p m w.fram w.locals
+  pub emitted : HoldEmits p words w.fram
   pub list : HoldList p listed w.fram
-  pub readings : w.inputs.readings ≡ m.left
+  pub readings : w.inputs.readings ≡ left
+
+-- a state stands for an attempt, whatever answers that has left: the program will tell them by what it stores to ANS
+abbrev pub StandsFor : Places → Attempt → List Element → WordState → Type 0
+StandsFor p m listed w = Holds p m.variables m.emitted m.left listed w
 
 -- ---- effects
 
--- effects that take readings and make stores of this kind, by address and word, and do nothing outside the board
+-- the answers that effects tell: the words that they store to ANS, in order
+abbrev pub answers_told : List Effect → List ℕ
+answers_told [] = []
+answers_told (Store a w ∷ es) = if a == answer_place then w ∷ answers_told es else answers_told es
+answers_told (Take r ∷ es) = answers_told es
+answers_told (Outside o ∷ es) = answers_told es
+
+-- the attempt with these answers left
+abbrev pub answered_by : List ℕ → Attempt → Attempt
+answered_by answers m = record m { answers = answers }
+
+-- effects that take readings, look, and make stores of this kind, by address and word, and send nothing
 abbrev pub TakesAndStores : (ℕ → ℕ → Type 0) → List Effect → Type 0
 TakesAndStores P [] = Unit {0}
 TakesAndStores P (Store a w ∷ es) = P a w × TakesAndStores P es
 TakesAndStores P (Take r ∷ es) = TakesAndStores P es
-TakesAndStores P (Outside o ∷ es) = ⊥
+TakesAndStores P (Outside (Looked seen) ∷ es) = TakesAndStores P es
+TakesAndStores P (Outside (Offered n w) ∷ es) = ⊥
 
--- effects that take readings alone
-abbrev pub OnlyTakes : List Effect → Type 0
-OnlyTakes = TakesAndStores (λ a w. ⊥)
+-- what expressions store, where the program takes events: an answer, and how many words of the ring the attempt has taken
+abbrev pub IsAnswerStore : Bool → ℕ → ℕ → Type 0
+IsAnswerStore events a w = (events ≡ true) × ((a ≡ answer_place) ⊎ (a ≡ count_place))
+
+-- effects that take readings, look, and tell answers
+abbrev pub OnlyTakes : Bool → List Effect → Type 0
+OnlyTakes events = TakesAndStores (IsAnswerStore events)
 
 -- what statements store, VER being this number: words of the scalars that they write, copies and version words of elements, entries
--- of the commit list with their count, and emitted words with theirs
+-- of the commit list with their count, emitted words with theirs, and what expressions store
 pub data IsTaskStore (p : Places) (written : ℕ → Bool) (room : Room) (ver : ℕ) (a w : ℕ) : Type 0 where
   at_variable : (v i : ℕ) → IsScalarWord p v i → written v ≡ true → a ≡ scalar_address p v i → IsTaskStore p written room ver a w
   at_copy : (x : Element) → IsCopied p x → a ≡ copy_address p x → IsTaskStore p written room ver a w
@@ -127,6 +151,7 @@ pub data IsTaskStore (p : Places) (written : ℕ → Bool) (room : Room) (ver : 
   at_list_length : a ≡ word_place p.map ListLength → w ≤ room.list → IsTaskStore p written room ver a w
   at_emit_count : a ≡ word_place p.map EmitCount → w ≤ room.emits → IsTaskStore p written room ver a w
   in_buffer : (i : ℕ) → i < room.emits → a ≡ 2 * i + p.map.emits.address → IsTaskStore p written room ver a w
+  at_answer : IsAnswerStore p.map.runtime.events a w → IsTaskStore p written room ver a w
 
 -- entries of the commit list from number i on, each a home, its copy and the words of the run, with the count raised behind each
 abbrev pub entry_effects : ℕ → ℕ → ℕ → List Run → List Effect
@@ -135,44 +160,62 @@ entry_effects count list i (r ∷ more) =
     Store (6 * i + list) r.home ∷ Store (6 * i + list + 2) r.copy ∷ Store (6 * i + list + 4) r.words ∷ Store count (i + 1)
     ∷ entry_effects count list (i + 1) more
 
--- a transition up to the gate, with so many entries in the list: NEXT, an entry for each run of private scalars, SB := BASE
-abbrev pub transition_effects : Places → ℕ → ℕ → ℕ → List Effect
-transition_effects p task entries base =
+-- where the program takes events: SE := TAIL + EC
+abbrev pub freeze_effects : MemoryMap → ℕ → List Effect
+freeze_effects m index = where_events m.runtime.events (Store sent_place index ∷ [])
+
+-- a transition up to the gate, with so many entries in the list: NEXT, an entry for each run of private scalars, SB := BASE, and where there are
+-- events SE := TAIL + EC
+abbrev pub transition_effects : Places → ℕ → ℕ → ℕ → ℕ → List Effect
+transition_effects p task entries base index =
     Store (word_place p.map NextTask) (task % 65536) ∷ entry_effects (word_place p.map ListLength) p.map.list.address entries (runs_of p.privates)
-    ++ Store (word_place p.map SentBase) base ∷ []
+    ++ Store (word_place p.map SentBase) base ∷ freeze_effects p.map index
 
 -- ---- an expression
 
--- the state with a value on top of the stack, and the readings left that the attempt behind it has
-abbrev pub valued : WordState → Evaluated → WordState
-valued w x = with_readings x.behind.left (record w { stack = x.value ∷ w.stack })
+-- A value by the answers that its attempt is given
+abbrev pub Answering : Type 0
+Answering = List ℕ → Option Evaluated
 
--- the same with a value as a long: its high word is on top
-abbrev pub long_valued : WordState → Evaluated → WordState
-long_valued w x = with_readings x.behind.left (record w { stack = x.value / 65536 ∷ (x.value % 65536 ∷ w.stack) })
+-- what a value of an attempt is, by the answers
+abbrev pub by_answers : Attempt → (Attempt → Option Evaluated) → Answering
+by_answers m value answers = value (answered_by answers m)
 
--- the end leaves a state as it is asked for behind this value, or is short where there is none. A program that reads a local before it is
--- assigned is broken, and then nothing is said
-abbrev pub EndsAt : (Evaluated → WordState → Type 0) → End → Option Evaluated → Type 0
-EndsAt there (GoesOn s) (Some x) = there x s
-EndsAt there (GoesOn s) None = ⊥
-EndsAt there Short (Some x) = ⊥
-EndsAt there Short None = Unit {0}
-EndsAt there (Jumps to s) o = ⊥
-EndsAt there Strays o = ⊥
-EndsAt there Broken o = Unit {0}
+-- what is made of such a value
+abbrev pub made_by : (ℕ → ℕ) → Answering → Answering
+made_by f o answers = made_of f (o answers)
 
--- a program takes readings alone, and ends as an expression does: with a state as its value leaves one, or short of readings
-abbrev pub AgreesAt : (Evaluated → WordState → Type 0) → Behaviour → Option Evaluated → Type 0
-AgreesAt there b o = OnlyTakes b.effects × EndsAt there b.end o
+-- a value is left: its words on top of the stack, the readings that the attempt behind it has, and all else as it was, but for the words that
+-- count events
+pub record IsLeft (words : ℕ → List ℕ) (w : WordState) (x : Evaluated) (s : WordState) : Type 0 where
+  pub stack : s.stack ≡ words x.value ++ w.stack
+  pub locals : s.locals ≡ w.locals
+  pub fram : (a : ℕ) → a < program_end → s.fram a ≡ w.fram a
+  pub readings : s.inputs.readings ≡ x.behind.left
 
--- the same with the value pushed, and nothing else changed
-abbrev pub AgreesWithValue : WordState → Behaviour → Option Evaluated → Type 0
-AgreesWithValue w b o = AgreesAt (λ x s. s ≡ valued w x) b o
+-- the end leaves a state as it is asked for behind this value, or is short where there is none; these answers are left. A program that reads a
+-- local before it is assigned is broken, and then nothing is said
+abbrev pub EndsAt : (Evaluated → WordState → Type 0) → List ℕ → End → Option Evaluated → Type 0
+EndsAt there left (GoesOn s) (Some x) = there x s × (x.behind.answers ≡ left)
+EndsAt there left (GoesOn s) None = ⊥
+EndsAt there left Short (Some x) = ⊥
+EndsAt there left Short None = Unit {0}
+EndsAt there left (Jumps to s) o = ⊥
+EndsAt there left Strays o = ⊥
+EndsAt there left Broken o = Unit {0}
 
--- the same with the value pushed as a long
-abbrev pub AgreesWithLong : WordState → Behaviour → Option Evaluated → Type 0
-AgreesWithLong w b o = AgreesAt (λ x s. s ≡ long_valued w x) b o
+-- A program takes readings, looks and tells answers alone, and ends as an expression does on the answers that it tells, with any others
+-- behind these: with a state as its value leaves one and these others left, or short of readings
+abbrev pub AgreesAt : Bool → (Evaluated → WordState → Type 0) → Behaviour → Answering → Type 0
+AgreesAt events there b o = (others : List ℕ) → OnlyTakes events b.effects × EndsAt there others b.end (o (answers_told b.effects ++ others))
+
+-- the same with the value pushed
+abbrev pub AgreesWithValue : Bool → WordState → Behaviour → Answering → Type 0
+AgreesWithValue events w b o = AgreesAt events (IsLeft (λ v. v ∷ []) w) b o
+
+-- the same with the value pushed as a long: its high word is on top
+abbrev pub AgreesWithLong : Bool → WordState → Behaviour → Answering → Type 0
+AgreesWithLong events w b o = AgreesAt events (IsLeft (λ v. v / 65536 ∷ v % 65536 ∷ []) w) b o
 
 -- an attempt with the readings left that a state has
 abbrev pub in_state : WordState → Attempt → Attempt
@@ -182,17 +225,23 @@ in_state w m = record m { left = w.inputs.readings }
 abbrev pub converted_to : WordType → WordType → Option Evaluated → Option Evaluated
 converted_to s t o = made_of (converted s t) o
 
+-- an expression with its places: it is well-formed, and `next_event()` stands in it only where the program takes events
+abbrev pub IsFit : List SharedDeclaration → Places → CheckedExpression → Type 0
+IsFit shared p e = WellFormedExpression shared e × AdmitsExpression p.map.runtime.events e
+
 -- the program of an expression leaves its value, as one word
 abbrev pub ExpressionsAgree : Type 0
 ExpressionsAgree = (shared : List SharedDeclaration) (p : Places) (room : Room) (e : CheckedExpression) (m : Attempt) (w : WordState)
-    → AreApart p room → AreEven p → AsDeclared shared p → WellFormedExpression shared e → HoldVariables p m.variables w.fram w.locals
-    → AgreesWithValue w (behaviour (lowered_expression p e) w) (converted_to (type_of e) Unsigned (value_of e (in_state w m)))
+    → AreApart p room → AreEven p → AsDeclared shared p → IsFit shared p e → HoldVariables p m.variables w.fram w.locals
+    → AgreesWithValue p.map.runtime.events w (behaviour (lowered_expression p e) w)
+    (by_answers (in_state w m) (λ s. converted_to (type_of e) Unsigned (value_of e s)))
 
 -- and the other its value as a long
 abbrev pub LongsAgree : Type 0
 LongsAgree = (shared : List SharedDeclaration) (p : Places) (room : Room) (e : CheckedExpression) (m : Attempt) (w : WordState)
-    → AreApart p room → AreEven p → AsDeclared shared p → WellFormedExpression shared e → HoldVariables p m.variables w.fram w.locals
-    → AgreesWithLong w (behaviour (lowered_long p e) w) (converted_to (type_of e) Long (value_of e (in_state w m)))
+    → AreApart p room → AreEven p → AsDeclared shared p → IsFit shared p e → HoldVariables p m.variables w.fram w.locals
+    → AgreesWithLong p.map.runtime.events w (behaviour (lowered_long p e) w)
+    (by_answers (in_state w m) (λ s. converted_to (type_of e) Long (value_of e s)))
 
 -- a value as 1 where it isn't 0, else 0
 abbrev pub truth_of : Option Evaluated → Option Evaluated
@@ -201,8 +250,8 @@ truth_of o = made_of truth_word o
 -- the test of an expression holds where its value isn't 0
 abbrev pub TestsAgree : Type 0
 TestsAgree = (shared : List SharedDeclaration) (p : Places) (room : Room) (e : CheckedExpression) (m : Attempt) (w : WordState)
-    → AreApart p room → AreEven p → AsDeclared shared p → WellFormedExpression shared e → HoldVariables p m.variables w.fram w.locals
-    → AgreesWithValue w (behaviour (one (truth (lowered_test p e))) w) (truth_of (value_of e (in_state w m)))
+    → AreApart p room → AreEven p → AsDeclared shared p → IsFit shared p e → HoldVariables p m.variables w.fram w.locals
+    → AgreesWithValue p.map.runtime.events w (behaviour (one (truth (lowered_test p e))) w) (by_answers (in_state w m) (λ s. truth_of (value_of e s)))
 
 -- ---- statements
 
@@ -238,45 +287,48 @@ bounds z start most = record { start = start; written = z.written; room = z.room
 abbrev pub IsStore : Places → Bounds → ℕ → ℕ → Type 0
 IsStore p b = IsTaskStore p b.written b.room b.ver
 
--- statements that went on
-pub record WentOn (p : Places) (b : Bounds) (stack : List ℕ) (es : List Effect) (s : WordState) (m : Attempt) : Type 0 where
+-- statements that went on, with these answers left
+pub record WentOn (p : Places) (b : Bounds) (stack left : List ℕ) (es : List Effect) (s : WordState) (m : Attempt) : Type 0 where
   pub stores : TakesAndStores (IsStore p b) es
   pub stack_kept : s.stack ≡ stack
   pub listed : List Element
   pub stands : StandsFor p m listed s
   pub few : (v : ℕ) → listed_of v listed ≤ b.most v
+  pub answers : m.answers ≡ left
 
--- statements that came to a transition to a task: from the state there on its effects, and last of all the store of 1 to the gate
-pub record Left (p : Places) (b : Bounds) (es : List Effect) (to : ℕ) (s : WordState) (task : ℕ) (m : Attempt) : Type 0 where
+-- statements that came to a transition to a task, with these answers left: from the state there on its effects, and last of all the store of 1
+-- to the gate
+pub record Left (p : Places) (b : Bounds) (left : List ℕ) (es : List Effect) (to : ℕ) (s : WordState) (task : ℕ) (m : Attempt) : Type 0 where
   pub body : List Effect
   pub there : WordState
   pub listed : List Element
   pub effects : es ≡ body ++ (transition_effects p task (there.fram (word_place p.map ListLength)) (there.fram (word_place p.map Base))
-      ++ Store (word_place p.map Gate) 1 ∷ [])
+      (event_index there.fram) ++ Store (word_place p.map Gate) 1 ∷ [])
   pub stores : TakesAndStores (IsStore p b) body
   pub arrived : there.fram ≡ fram_after body b.start
   pub stands : StandsFor p m listed there
   pub few : (v : ℕ) → listed_of v listed ≤ b.most v
   pub commits : to ≡ p.map.commit.address
   pub readings : s.inputs.readings ≡ m.left
+  pub answers : m.answers ≡ left
 
--- the end is as the outcome has it
-abbrev pub EndsAs : Places → Bounds → List ℕ → List Effect → End → Outcome → Type 0
-EndsAs p b stack es (GoesOn s) (goes_on m) = WentOn p b stack es s m
-EndsAs p b stack es (GoesOn s) (to_task task m) = ⊥
-EndsAs p b stack es (GoesOn s) short = ⊥
-EndsAs p b stack es (Jumps to s) (goes_on m) = ⊥
-EndsAs p b stack es (Jumps to s) (to_task task m) = Left p b es to s task m
-EndsAs p b stack es (Jumps to s) short = ⊥
-EndsAs p b stack es Short (goes_on m) = ⊥
-EndsAs p b stack es Short (to_task task m) = ⊥
-EndsAs p b stack es Short short = TakesAndStores (IsStore p b) es
-EndsAs p b stack es Strays o = ⊥
-EndsAs p b stack es Broken o = Unit {0}
+-- the end is as the outcome has it, with these answers left
+abbrev pub EndsAs : Places → Bounds → List ℕ → List ℕ → List Effect → End → Outcome → Type 0
+EndsAs p b stack left es (GoesOn s) (goes_on m) = WentOn p b stack left es s m
+EndsAs p b stack left es (GoesOn s) (to_task task m) = ⊥
+EndsAs p b stack left es (GoesOn s) short = ⊥
+EndsAs p b stack left es (Jumps to s) (goes_on m) = ⊥
+EndsAs p b stack left es (Jumps to s) (to_task task m) = Left p b left es to s task m
+EndsAs p b stack left es (Jumps to s) short = ⊥
+EndsAs p b stack left es Short (goes_on m) = ⊥
+EndsAs p b stack left es Short (to_task task m) = ⊥
+EndsAs p b stack left es Short short = TakesAndStores (IsStore p b) es
+EndsAs p b stack left es Strays o = ⊥
+EndsAs p b stack left es Broken o = Unit {0}
 
--- a program does and ends as the source's statements do
-abbrev pub Agrees : Places → Bounds → List ℕ → Behaviour → Outcome → Type 0
-Agrees p b stack r o = EndsAs p b stack r.effects r.end o
+-- a program does and ends as the source's statements do on the answers that it tells, with any others behind these: they are left
+abbrev pub Agrees : Places → Bounds → List ℕ → Behaviour → (List ℕ → Outcome) → Type 0
+Agrees p b stack r o = (others : List ℕ) → EndsAs p b stack others r.effects r.end (o (answers_told r.effects ++ others))
 
 -- what some path of a block writes, the task writes
 abbrev pub WritesWithin : (ℕ → Bool) → CheckedBlock → Type 0
@@ -285,6 +337,7 @@ WritesWithin written block = (v : ℕ) → some_path_writes block v ≡ true →
 -- the program of well-formed statements does what they do, where there is room for what they emit and list
 abbrev pub BlocksAgree : Type 0
 BlocksAgree = (z : Scene) (block : CheckedBlock) (m : Attempt) (listed : List Element) (w : WordState) → w.fram (word_place z.p.map Version) ≡ z.ver
-    → WellFormedBlock z.shared block → WritesWithin z.written block → StandsFor z.p m listed w
+    → WellFormedBlock z.shared block → AdmitsBlock z.p.map.runtime.events block → WritesWithin z.written block → StandsFor z.p m listed w
     → length m.emitted + block_emits block ≤ z.room.emits → ((v : ℕ) → listed_of v listed + stores_of v block ≤ z.stores v)
-    → Agrees z.p (bounds z w.fram (λ v. listed_of v listed + stores_of v block)) w.stack (behaviour (lowered_block z.p block) w) (run_block block m)
+    → Agrees z.p (bounds z w.fram (λ v. listed_of v listed + stores_of v block)) w.stack (behaviour (lowered_block z.p block) w)
+    (λ answers. run_block block (answered_by answers m))

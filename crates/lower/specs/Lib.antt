@@ -3,6 +3,7 @@ pub mod Operations
 pub mod Runs
 pub mod Seen
 pub mod Lowered
+pub mod Events
 pub mod Spots
 pub mod Agreement
 pub mod Sizes

@@ -26,7 +26,7 @@ use Rattle.array_versions.specs.declared.operations.BinaryOperation.TheVariants.
 use Rattle.array_versions.specs.declared.operations.Comparison.TheVariants.{CommonBit}
 use Rattle.array_versions.specs.declared.operations.LongOperation.TheVariants as with_longs
 use Rattle.array_versions.specs.Program.{Step, Test, Program, number, load, keep, update, local, set_local, update_local, unary, binary, shift, element, long}
-use Rattle.array_versions.specs.Program.{emit_word, list_entry, sense, truth, choose, repeat, versioned_read, versioned_write, versioned_update, store_number}
+use Rattle.array_versions.specs.Program.{emit_word, list_entry, sense, next_event, freeze_events, truth, choose, repeat, versioned_read, versioned_write, versioned_update, store_number}
 use Rattle.array_versions.specs.Program.{move_word, jump, holds, compares, both, either, fails, nothing, step, joined, behind}
 use Rattle.memory_map.specs.declared.words.RuntimeWord.TheVariants.{NextTask, Gate, ListLength, EmitCount, Base, SentBase}
 use Rattle.memory_map.specs.declared.place.VariablePlace.{VariablePlace}
@@ -205,7 +205,7 @@ lowering p (t.long_number w) = as_long (step (number (w % 65536)) (one (number (
 lowering p (t.name x) = name_lowering p x.word_type x.variable
 lowering p (t.element x index) = as_word (behind (word_program (lowering p index)) (element_step p x.variable))
 lowering p t.sense = as_word (one sense)
-lowering p t.next_event = as_word (one (number 0))
+lowering p t.next_event = as_word (one next_event)
 lowering p (t.unary op e) = operand_lowering (type_of e) op (lowering p e)
 lowering p (t.binary op a b) =
     sides_lowering (operand_type op.operator (joined_type (type_of a) (type_of b))) op.operator (widened_type a) (widened_type b)
@@ -319,14 +319,20 @@ abbrev pub entries : ℕ → ℕ → List Run → Program
 entries count list [] = nothing
 entries count list (r ∷ more) = step (list_entry count list r.home r.copy r.words) (entries count list more)
 
--- NEXT, an entry of the commit list for each run of private scalars, SB := BASE, GATE := 1; then on to the commit
+-- where the program takes events: SE := TAIL + EC
+abbrev pub freezing : Places → Program
+freezing p = if p.map.runtime.events then one freeze_events else nothing
+
+-- NEXT, an entry of the commit list for each run of private scalars, SB := BASE, where there are events SE := TAIL + EC, GATE := 1; then on to
+-- the commit
 abbrev pub lowered_transition : Places → ℕ → Program
 lowered_transition p task =
     step (store_number (word_place p.map NextTask) (task % 65536))
     (joined (entries (word_place p.map ListLength) p.map.list.address (runs_of p.privates))
     (step (move_word (word_place p.map Base) (word_place p.map SentBase))
+    (joined (freezing p)
     (step (store_number (word_place p.map Gate) 1)
-    (one (jump p.map.commit.address)))))
+    (one (jump p.map.commit.address))))))
 
 abbrev mutual
   -- what a statement does

@@ -72,6 +72,15 @@ fn reading(alloc: Global) -> Result<ExpressionProgram, AllocError>
     Ok(ExpressionProgram::Word(program))
 }
 
+// The next event, or 0.
+fn event(alloc: Global) -> Result<ExpressionProgram, AllocError>
+    ensures { IfOk result (λ l. lowering_of l ≡ as_word (one step.next_event)) }
+{
+    let mut program = WordProgram::new(alloc);
+    program.next_event()?;
+    Ok(ExpressionProgram::Word(program))
+}
+
 fn read(
     variable: Variable,
     places: &TaskPlaces<'_>,
@@ -573,7 +582,7 @@ fn lower(
             with_type(element(x.variable, index, places), x.word_type)
         }
         Expr::Sense => with_type(reading(alloc), WordType::Unsigned),
-        Expr::NextEvent => with_type(number(alloc, 0), WordType::Unsigned),
+        Expr::NextEvent => with_type(event(alloc), WordType::Unsigned),
         Expr::Unary(op, operand) => {
             let (operand, word_type) = lower(alloc, operand, places)?;
             let program = of_operand(alloc, word_type, *op, operand)?;

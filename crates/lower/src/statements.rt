@@ -10,7 +10,7 @@ ghost use Rattle.task_ast.specs.declared.names.TaskName.{TaskName};
 ghost use Rattle.lower.specs.View.{places_in};
 ghost use Rattle.lower.specs.Lowered.{one, write_step, write_long, update_step, update_element_step, loop_local, lowered_test, setting, long_setting};
 ghost use Rattle.lower.specs.Lowered.{assignment, scalar_assignment, index_and_value, element_setting, element_assignment, declaration, emission};
-ghost use Rattle.lower.specs.Lowered.{lowered_expression, lowered_transition, lowered_statement, lowered_choice, lowered_block};
+ghost use Rattle.lower.specs.Lowered.{lowered_expression, freezing, lowered_transition, lowered_statement, lowered_choice, lowered_block};
 
 use crate::expressions::{append, append_expression, lower_long, lower_test};
 use crate::in_place::{element_updating, of_words, updating};
@@ -307,6 +307,21 @@ fn loop_local(variable: Variable) -> u16
     }
 }
 
+// Where the program takes events, TAIL as the transition leaves it.
+#[tactic(auto, using(array_versions::proofs::Interface::joined_nothing))]
+fn freeze_events(
+    places: &TaskPlaces<'_>,
+    program: &mut WordProgram,
+) -> Result<(), AllocError>
+    ensures { OnOk result (program_of program.new ≡ joined (program_of program.old) (freezing (places_in places.now))) }
+{
+    if places.layout.runtime().events {
+        program.freeze_events()
+    } else {
+        Ok(())
+    }
+}
+
 // The gate is raised last: from then on the transition stands, whatever happens to the power.
 #[tactic(auto, using(array_versions::proofs::Interface::joined_assoc))]
 fn lower_transition(
@@ -326,6 +341,7 @@ fn lower_transition(
     program.store_number(next_task, low_word(task))?;
     list_entries(places.privates, list_length, layout.list().address, program)?;
     program.move_word(base, sent_base)?;
+    freeze_events(places, program)?;
     program.store_number(gate, 1)?;
     program.jump(layout.commit().address)
 }

@@ -16,7 +16,7 @@ use Rattle.fram_board.specs.Effects.{sends_of, effects_of}
 use Rattle.fram_board.proofs.Interface.{only_takes}
 use Rattle.machine_effects.specs.Inputs.{TakesExactly}
 use Rattle.machine_effects.specs.View.{inputs_of}
-use Rattle.machine_effects.proofs.Worlds.{taking_takes}
+use Rattle.machine_effects.proofs.Worlds.{taking_takes, taking_looks}
 use Rattle.machine_effects.proofs.Logs.{takes}
 
 -- an instruction that is executed is a step of the board
@@ -54,8 +54,7 @@ stopped_left b i (Faulted f c s) e h a =
         readings = ap (λ l. l ++ drop s.taken s.readings) (taking_takes ws)
             ∙ ap (λ l. ws ++ drop s.taken l) all
             ∙ sym (drop_split b.readings b.taken s.taken g.takes.from);
-        seen = [];
-        looks = refl;
+        looks = ap (λ l. l ++ []) (taking_looks ws);
       };
       fram = ap (λ y. y.fram) g.same;
     }

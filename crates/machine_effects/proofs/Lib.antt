@@ -2,9 +2,13 @@ mod Going
 mod Worlds
 mod Inputs
 mod Logs
+mod Handler
 mod Alike
 mod Along
 mod Steps
+mod Seen
+mod Blind
+mod Pushes
 mod Lines
 mod Executed
 mod Values

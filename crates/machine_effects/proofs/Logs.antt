@@ -13,7 +13,7 @@ use Rattle.fram_board.specs.msp_step.Registers.{Registers}
 use Rattle.fram_board.specs.msp_step.Access.{Access, Completed, Faulted}
 use Rattle.fram_board.specs.msp_step.Reads.{HasRead, Nothing, Once, OnlyReads}
 use Rattle.fram_board.specs.msp_step.Effect.{Written}
-use Rattle.fram_board.specs.msp_step.Step.{effect, off_bit, is_interruptible}
+use Rattle.fram_board.specs.msp_step.Step.{effect, off_bit}
 use Rattle.fram_board.specs.msp_step.Laws.{AfterWrite}
 use Rattle.fram_board.proofs.msp_step.Interface.{Ends, effect_ends}
 use Rattle.fram_board.specs.msp_cycles.Cycles.{cycles_of}
@@ -21,16 +21,16 @@ use Rattle.fram_board.specs.msp_step.declared.machine.Stop.TheVariants as stop
 use Rattle.fram_board.specs.Bus.{is_ram, is_fram, is_memory, is_word, with_byte, sensor_port, number_port, data_port}
 use Rattle.fram_board.specs.Effects.{Effect, Store, Take, Outside, Offered, sends_of}
 use Rattle.fram_board.proofs.Interface.{data_not_fram, other_is_fram, ram_not_fram}
-use Rattle.machine_effects.specs.World.{put, fram_after, readings_taken}
-use Rattle.machine_effects.specs.Going.{Goes, Stops}
+use Rattle.machine_effects.specs.World.{put, fram_after, readings_taken, looks_taken}
+use Rattle.machine_effects.specs.Going.{Goes, Stops, step_behind}
 use Rattle.machine_effects.specs.Machine.{MachineBus, machine_bus, machine_word, word_address, reading_taken, machine_after_read, machine_stored}
-use Rattle.machine_effects.specs.Inputs.{Look}
+use Rattle.machine_effects.specs.Inputs.{Look, Inputs, first_look, other_looks, look_effects, TakesExactly}
 use Rattle.machine_effects.specs.Machine.{is_readable, word_written, looks_there, machine_executed_seeing, executed_looking, code_executed}
 use Rattle.machine_effects.specs.Machine.{machine_port_written, machine_written, MachineBoard, machine_opened_seeing, MachineOutcome, machine_outcome}
-use Rattle.machine_effects.specs.Machine.{machine_executed, NoInstruction, Executes, standing, step_with, astray, undisturbed}
+use Rattle.machine_effects.specs.Machine.{machine_executed, NoInstruction, Executes, standing, step_with, astray, is_exposed, undisturbed}
 use Rattle.machine_effects.specs.Laws.{ChangesByEffects, CodeChangesByEffects, MachineChangesByEffects}
-use Rattle.machine_effects.proofs.Worlds.{fram_after-append, readings_taken-append, taking_keeps_fram, taking_takes}
-use Rattle.machine_effects.proofs.Inputs.{takes_nothing}
+use Rattle.machine_effects.proofs.Worlds.{fram_after-append, readings_taken-append, looks_taken-append, taking_keeps_fram, taking_takes, taking_looks}
+use Rattle.machine_effects.proofs.Inputs.{takes_nothing, takes_look, takes_through}
 
 -- the effects of readings taken, the first one first
 abbrev pub takes : List ℕ → List Effect
@@ -213,6 +213,20 @@ written_takes_none : (w : Option Written) (f : ℕ → ℕ) (n : ℕ) → readin
 written_takes_none None f n = refl
 written_takes_none (Some w) f n = no_reading (is_fram w.0) (offered_by w.0 w.1) (word_address w.0) (f (word_address w.0)) n
 
+-- nor a look
+no_look : (b : Bool) (o : Option ℕ) (a w n : ℕ) → looks_taken ((if b then Store a w ∷ [] else []) ++ sends_of n o) ≡ []
+no_look true None a w n = refl
+no_look true (Some v) a w n = refl
+no_look false None a w n = refl
+no_look false (Some v) a w n = refl
+
+written_looks_none : (w : Option Written) (f : ℕ → ℕ) (n : ℕ) → looks_taken (written_effects w f n) ≡ []
+written_looks_none None f n = refl
+written_looks_none (Some w) f n = no_look (is_fram w.0) (offered_by w.0 w.1) (word_address w.0) (f (word_address w.0)) n
+
+looked_none : (ws : List ℕ) (es : List Effect) → looks_taken es ≡ [] → looks_taken (takes ws ++ es) ≡ []
+looked_none ws es e = looks_taken-append (takes ws) es ∙ ap (λ l. l ++ looks_taken es) (taking_looks ws) ∙ e
+
 taken_all : (ws : List ℕ) (es : List Effect) → readings_taken es ≡ [] → readings_taken (takes ws ++ es) ≡ ws
 taken_all ws es e = readings_taken-append (takes ws) es ∙ ap (λ l. l ++ readings_taken es) (taking_takes ws) ∙ ap (λ l. ws ++ l) e ∙ append-nil ws
 
@@ -225,8 +239,8 @@ outcome_changes ring s pc c (Completed x t) h =
       record {
         readings =
             ap (λ l. l ++ t.inputs.readings) (ap readings_taken h.log ∙ taken_all h.words new (written_takes_none x.1 t.fram s.outnum)) ∙ h.left;
-        seen = [];
-        looks = h.looks;
+        looks =
+            ap (λ l. l ++ t.inputs.looks) (ap looks_taken h.log ∙ looked_none h.words new (written_looks_none x.1 t.fram s.outnum)) ∙ h.looks;
       },
     )
 outcome_changes ring s pc c (Faulted e a t) h =
@@ -236,8 +250,7 @@ outcome_changes ring s pc c (Faulted e a t) h =
         t.inputs,
         record {
           readings = ap (λ l. l ++ t.inputs.readings) (ap readings_taken log ∙ taking_takes h.words) ∙ h.left;
-          seen = [];
-          looks = h.looks;
+          looks = ap (λ l. l ++ t.inputs.looks) (ap looks_taken log ∙ taking_looks h.words) ∙ h.looks;
         },
       ),
     )
@@ -247,25 +260,32 @@ executed_changes ring s i =
     let t = machine_opened_seeing ring s in
     outcome_changes ring s (s.registers 0) (cycles_of i) (effect machine_bus i s.registers t) (effect_logged i s.registers t)
 
--- with a look taken before
-changes_behind_look : (look : Look) (more : List Look) (s : MachineBoard) (o : MachineOutcome) → s.inputs.looks ≡ look ∷ more
-    → ChangesByEffects (record s { inputs = record s.inputs { looks = more } }) o → ChangesByEffects s o
-changes_behind_look look more s (Goes es c t) e h =
-    let k = h.1 in (h.0, record { readings = k.readings; seen = look ∷ k.seen; looks = ap (λ l. look ∷ l) k.looks ∙ sym e })
-changes_behind_look look more s (Stops es price x) e h =
-    let k = h.1.1 in (h.0, (h.1.0, record { readings = k.readings; seen = look ∷ k.seen; looks = ap (λ l. look ∷ l) k.looks ∙ sym e }))
+-- FRAM behind a look is as before
+look_keeps_fram : (looks : List Look) (es : List Effect) (f : ℕ → ℕ) → fram_after (look_effects looks ++ es) f ≡ fram_after es f
+look_keeps_fram [] es f = refl
+look_keeps_fram (look ∷ more) es f = refl
 
-looking_changes : (looks : List Look) (s : MachineBoard) (i : Instr) → s.inputs.looks ≡ looks → ChangesByEffects s (executed_looking looks s i)
-looking_changes [] s i e = executed_changes None s i
-looking_changes (look ∷ more) s i e =
-    changes_behind_look look more s _ e (executed_changes (Some look) (record s { inputs = record s.inputs { looks = more } }) i)
+-- behind effects of a look, which takes this of the inputs
+changes_behind_look : (looks : List Look) (left : Inputs) (s : MachineBoard) (o : MachineOutcome) → TakesExactly (look_effects looks) s.inputs left
+    → ChangesByEffects (record s { inputs = left }) o → ChangesByEffects s (step_behind (look_effects looks) o)
+changes_behind_look looks left s (Goes es c t) k h =
+    (h.0 ∙ sym (look_keeps_fram looks es s.fram), takes_through (look_effects looks) es s.inputs left t.inputs k h.1)
+changes_behind_look looks left s (Stops es price x) k h =
+    (look_keeps_fram looks es s.fram ∙ h.0, (h.1.0, takes_through (look_effects looks) es s.inputs left h.1.0 k h.1.1))
+
+looking_changes : (s : MachineBoard) (i : Instr) → ChangesByEffects s (executed_looking s.inputs.looks s i)
+looking_changes s i =
+    let left : Inputs = record s.inputs { looks = other_looks s.inputs.looks } in
+    changes_behind_look s.inputs.looks left s _ (takes_look s.inputs)
+    (executed_changes (Some (first_look s.inputs.looks)) (record s { inputs = left }) i)
 
 either_changes : (b : Bool) (s : MachineBoard) (o p : MachineOutcome) → ChangesByEffects s o → ChangesByEffects s p → ChangesByEffects s (if b then o else p)
 either_changes true s o p h k = h
 either_changes false s o p h k = k
 
-code_changes : (s : MachineBoard) (i : Instr) → ChangesByEffects s (code_executed s i)
-code_changes s i = either_changes (looks_there i) s _ _ (looking_changes s.inputs.looks s i refl) (executed_changes None s i)
+-- an instruction of code changes FRAM and the inputs so
+pub code_changes : (s : MachineBoard) (i : Instr) → ChangesByEffects s (code_executed s i)
+code_changes s i = either_changes (looks_there i) s _ _ (looking_changes s i) (executed_changes None s i)
 
 standing_changes : (o : Option Instr) (s : MachineBoard) → ChangesByEffects s (standing o s)
 standing_changes None s = (refl, (s.inputs, takes_nothing s.inputs))
@@ -283,13 +303,16 @@ undisturbed_if : (b : Bool) (s : MachineBoard) (o : MachineOutcome) → ChangesB
 undisturbed_if true s o h = (refl, (s.inputs, takes_nothing s.inputs))
 undisturbed_if false s o h = h
 
-undisturbed_changes : (s : MachineBoard) (o : MachineOutcome) → ChangesByEffects s o → ChangesByEffects s (undisturbed s o)
-undisturbed_changes s (Goes es c t) h = undisturbed_if (is_interruptible t.registers) s (Goes es c t) h
-undisturbed_changes s (Stops es price e) h = h
+undisturbed_changes : (events : Bool) (i : Option Instr) (s : MachineBoard) (o : MachineOutcome) → ChangesByEffects s o
+    → ChangesByEffects s (undisturbed events i s o)
+undisturbed_changes events i s (Goes es c t) h = undisturbed_if (is_exposed events i s t) s (Goes es c t) h
+undisturbed_changes events i s (Stops es price e) h = h
 
 -- code changes FRAM and inputs as its effects say
 pub code_changes_by_effects : CodeChangesByEffects
-code_changes_by_effects code s = undisturbed_changes s (step_with (code (s.registers 0)) s) (step_changes (code (s.registers 0)) s)
+code_changes_by_effects code s =
+    let i = code.at (s.registers 0) in
+    undisturbed_changes code.events i s (step_with i s) (step_changes i s)
 
 -- a machine changes as its effects say
 pub machine_changes_by_effects : MachineChangesByEffects

@@ -1,7 +1,7 @@
 -- Each step of a board is a step of the machine that it is, and each step of that is one of the board, but for its bus faults.
 use Rattle.std.proofs.Common.{◌≡◌, ◌==◌, if◌then◌else◌, cond, ◌≤◌, ◌<◌, ◌-◌, ◌%◌, arith, ℕ, zero, suc, refl, sym, ◌∙◌, ap, ap₂, subst, Bool, true}
 use Rattle.std.proofs.Common.{◌⊎◌, inl, inr}
-use Rattle.std.proofs.Common.{false, List, [], ◌∷◌, ◌++◌, length, drop, take, slice_index, slice_range, append-nil, Option, Some, None, Err}
+use Rattle.std.proofs.Common.{false, List, [], ◌∷◌, ◌++◌, length, drop, take, slice_index, slice_range, append-nil, Option, Some, None, Result, Ok, Err}
 use mathlib.Core.Path.{fun_ext}
 use Rattle.std.specs.Option.{option_map}
 use Rattle.std.proofs.lemmas.Bool.Decides.{nat_tests}
@@ -35,15 +35,16 @@ use Rattle.fram_board.specs.Bus.{BusState, board_bus, is_ram, is_fram, is_memory
 use Rattle.fram_board.specs.Bus.{number_port, data_port}
 use Rattle.fram_board.specs.Board.{BoardValue, BoardOutcome, IsStep, opened, closed, board_outcome, executed, register_list, IsNextInstruction}
 use Rattle.fram_board.specs.Effects.{Effect, Store, store_at, sends_of, effects_of}
+use Rattle.fram_board.specs.declared.board.Stepped.{Stepped}
 use Rattle.fram_board.proofs.Interface.{only_takes, execution_takes}
-use Rattle.machine_effects.specs.Going.{Goes, Stops}
-use Rattle.machine_effects.specs.Inputs.{Look}
-use Rattle.machine_effects.specs.Machine.{MachineBus, MachineOutcome, machine_bus, machine_opened_seeing, machine_opened, machine_closed}
+use Rattle.machine_effects.specs.Going.{Goes, Stops, step_behind}
+use Rattle.machine_effects.specs.Inputs.{Look, look_effects}
+use Rattle.machine_effects.specs.Machine.{MachineBus, MachineBoard, MachineOutcome, machine_bus, machine_opened_seeing, machine_opened, machine_closed}
 use Rattle.machine_effects.specs.Machine.{looks_there, executed_looking}
-use Rattle.machine_effects.specs.Machine.{machine_outcome, machine_executed_seeing, machine_executed, IsMachineStep, NoInstruction, Executes}
+use Rattle.machine_effects.specs.Machine.{machine_outcome, machine_executed_seeing, machine_executed, IsStepBy, IsMachineStep, NoInstruction, Executes}
 use Rattle.machine_effects.specs.Machine.{word_address, fram_of}
-use Rattle.machine_effects.specs.View.{machine_with, machine_outcome_with}
-use Rattle.machine_effects.specs.View.{machine_of, IsWhole, IsNextPrice, machine_outcome_of, IsFault, IsBusFault, IsMachines}
+use Rattle.machine_effects.specs.View.{machine_with, outcome_of_answer, machine_outcome_with}
+use Rattle.machine_effects.specs.View.{machine_of, IsWhole, IsNextPrice, machine_outcome_of, IsFault, IsBusFault}
 use Rattle.machine_effects.specs.Laws.{BoardStepsAsMachine, MachineStepsAsBoard, LooksAsTheBoard, MachineStepsInOneWay, StepsAsMachine, StepsToFault}
 use Rattle.machine_effects.proofs.Alike.{IsRefused, SeesFram, SameBus, buses_alike, fetches_same, fram_at}
 use Rattle.machine_effects.proofs.Along.{IsClosed, SourceHas, InstructionHas, Gives, effect_gives}
@@ -86,12 +87,10 @@ begins_seeing ring looks b sees h =
       seen = sees;
     }
 
--- that may not look there
-pub begins : (b : BoardValue) → IsWhole b → SameBus b.readings [] b.line (opened b) (machine_opened (machine_of b))
-begins b h = begins_seeing None [] b tt h
-
-fetches : (b : BoardValue) → IsWhole b → (a : ℕ) → board_bus.fetches (opened b) a ≡ machine_bus.fetches (machine_opened (machine_of b)) a
-fetches b h a = fetches_same b.readings [] b.line (opened b) (machine_opened (machine_of b)) a (begins b h)
+-- both fetch the same
+fetches : (looks : List Look) (b : BoardValue) → IsWhole b → (a : ℕ)
+    → board_bus.fetches (opened b) a ≡ machine_bus.fetches (machine_opened (machine_with looks b)) a
+fetches looks b h a = fetches_same b.readings looks b.line (opened b) (machine_opened (machine_with looks b)) a (begins_seeing None looks b tt h)
 
 -- there are no registers behind the sixteen
 abbrev IsFile : Registers → Type 0
@@ -257,11 +256,11 @@ module _ (b : BoardValue) (i : Instr) (ring : Option Look) (looks : List Look) w
 
   -- what the machine made of the instruction, of the board's outcome
   abbrev SameOutcome : BoardOutcome → MachineOutcome → Type 0
-  SameOutcome x o = IsBusFault o ⊎ ((o ≡ machine_outcome_with looks b x (cycles_of i)) × (x.board.line ≡ b.line))
+  SameOutcome x o = IsBusFault o ⊎ ((o ≡ machine_outcome_with [] looks b x (cycles_of i)) × (x.board.line ≡ b.line))
 
   refused_same : (e f : Refused) (a c : ℕ) (s : BusState) (t : MachineBus) → (e ≡ f) × (a ≡ c) × SameBus b.readings looks b.line s t → s.offered ≡ None
       → Took (machine_opened_seeing ring (machine_with looks b)) t → b.taken ≤ s.taken
-      → machine_outcome (registers_of b.cpu 0) (cycles_of i) (Faulted f c t) ≡ machine_outcome_with looks b (outcome (Faulted e a s)) (cycles_of i)
+      → machine_outcome (registers_of b.cpu 0) (cycles_of i) (Faulted f c t) ≡ machine_outcome_with [] looks b (outcome (Faulted e a s)) (cycles_of i)
   refused_same e f a c s t same off log le =
       let h = same.2 in
       let words = same_words b.readings t.inputs.readings log.words b.taken s.taken le log.left (left_same looks b t s h) in
@@ -310,24 +309,43 @@ module _ (b : BoardValue) (i : Instr) (ring : Option Look) (looks : List Look) w
       (effect_gives board_bus (λ v. Unit {0}) IsFile (λ s. Unit {0}) file_closed i r (opened b) (instruction_free i) (whole_file b h) tt)
       (execution_takes i r (opened b)).from
 
+-- the same behind effects
+abbrev SameBehind : List Effect → List Look → BoardValue → Instr → MachineOutcome → Type 0
+SameBehind es looks b i o =
+    IsBusFault o ⊎ ((o ≡ machine_outcome_with es looks b (executed b i) (cycles_of i)) × ((executed b i).board.line ≡ b.line))
+
+fault_behind : (es : List Effect) (o : MachineOutcome) → IsBusFault o → IsBusFault (step_behind es o)
+fault_behind es (Goes fs c t) h = h
+fault_behind es (Stops fs price e) h = h
+
+answer_behind : (es fs : List Effect) (price : ℕ) (a : Result Stepped Stop) (next : MachineBoard)
+    → step_behind es (outcome_of_answer fs price a next) ≡ outcome_of_answer (es ++ fs) price a next
+answer_behind es fs price (Ok done) next = refl
+answer_behind es fs price (Err e) next = refl
+
+same_behind : (es : List Effect) (looks : List Look) (b : BoardValue) (i : Instr) (o : MachineOutcome) → SameBehind [] looks b i o
+    → SameBehind es looks b i (step_behind es o)
+same_behind es looks b i o (inl at) = inl (fault_behind es o at)
+same_behind es looks b i o (inr h) =
+    let x = executed b i in
+    inr (ap (step_behind es) h.0 ∙ answer_behind es (effects_of b x) (cycles_of i) x.answer (machine_with looks x.board), h.1)
+
 -- an instruction of code that sees the board's ring
 looks_by : (c : Bool) (b : BoardValue) (i : Instr) (more : List Look) → IsWhole b
-    → let s = machine_with (if c then fram_of b.fram ∷ more else more) b in
-    SameOutcome b i None more (executed b i) (if c then executed_looking s.inputs.looks s i else machine_executed s i)
-looks_by true b i more h = same_seeing b i (Some (fram_of b.fram)) more (λ a r. refl) h
+    → let looks = if c then fram_of b.fram ∷ [] else [] in let s = machine_with (looks ++ more) b in
+    SameBehind (look_effects looks) more b i (if c then executed_looking s.inputs.looks s i else machine_executed s i)
+looks_by true b i more h =
+    let look = fram_of b.fram in
+    same_behind (look_effects (look ∷ [])) more b i (machine_executed_seeing (Some look) (machine_with more b) i)
+    (same_seeing b i (Some look) more (λ a r. refl) h)
 looks_by false b i more h = same_seeing b i None more tt h
 
 pub looks_as_the_board : LooksAsTheBoard
 looks_as_the_board b i more h = looks_by (looks_there i) b i more h
 
-as_machines : (b : BoardValue) (i : Instr) → SameOutcome b i None [] (executed b i) (machine_executed (machine_of b) i)
-    → IsBusFault (machine_executed (machine_of b) i) ⊎ IsMachines b i
-as_machines b i (inl at) = inl at
-as_machines b i (inr h) = inr (record { step = h.0; line = h.1 })
-
 -- and one that may not look there
-pub executed_same : (b : BoardValue) (i : Instr) → IsWhole b → IsBusFault (machine_executed (machine_of b) i) ⊎ IsMachines b i
-executed_same b i h = as_machines b i (same_seeing b i None [] tt h)
+executed_same : (b : BoardValue) (i : Instr) → IsWhole b → SameBehind [] [] b i (machine_executed (machine_of b) i)
+executed_same b i h = same_seeing b i None [] tt h
 
 -- a step that is stopped takes nothing
 pub none_taken : (xs : List ℕ) (n : ℕ) → slice_range xs n n ≡ []
@@ -338,34 +356,39 @@ stopped_same : (b : BoardValue) (e : Stop)
     (record { answer = Err e; registers = registers_of b.cpu; bus = opened b })) 0)
 stopped_same b e = ap (λ ws. Stops (takes ws ++ []) 0 e) (sym (none_taken b.readings b.taken))
 
--- the next instruction of a board, and its stop with none, are the machine's
-pub stopped_to_machine : (b : BoardValue) (e : Stop) → IsWhole b → IsStopped board_bus (registers_of b.cpu) (opened b) e
-    → IsMachineStep (machine_of b) (Stops [] 0 e)
-stopped_to_machine b e h g =
-    NoInstruction e (stopped_alike board_bus machine_bus (opened b) (machine_opened (machine_of b)) (fetches b h) (registers_of b.cpu) e g)
+-- the next instruction of a board stands on the machine too
+pub current_on : (looks : List Look) (b : BoardValue) → IsWhole b → (i : Instr) → IsNextInstruction b i
+    → IsCurrentInstruction machine_bus (registers_of b.cpu) (machine_opened (machine_with looks b)) i
+current_on looks b h i g =
+    current_alike board_bus machine_bus (opened b) (machine_opened (machine_with looks b)) (fetches looks b h) (registers_of b.cpu) i g
 
--- the board's next instruction is the machine's step
-pub current_to_machine : (b : BoardValue) (i : Instr) → IsWhole b → IsNextInstruction b i → IsMachineStep (machine_of b) (machine_executed (machine_of b) i)
-current_to_machine b i h g = Executes i (current_alike board_bus machine_bus (opened b) (machine_opened (machine_of b)) (fetches b h) (registers_of b.cpu) i g)
+-- the next instruction of a board, and its stop with none, are the machine's
+module _ (run : MachineBoard → Instr → MachineOutcome) (looks : List Look) (b : BoardValue) (h : IsWhole b) where
+  pub stopped_to_machine : (e : Stop) → IsStopped board_bus (registers_of b.cpu) (opened b) e → IsStepBy run (machine_with looks b) (Stops [] 0 e)
+  stopped_to_machine e g =
+      NoInstruction e (stopped_alike board_bus machine_bus (opened b) (machine_opened (machine_with looks b)) (fetches looks b h) (registers_of b.cpu) e g)
+
+  pub current_to_machine : (i : Instr) → IsNextInstruction b i → IsStepBy run (machine_with looks b) (run (machine_with looks b) i)
+  current_to_machine i g = Executes i (current_on looks b h i g)
 
 abbrev AsMachine : BoardValue → BoardOutcome → Type 0
 AsMachine b x = StepsAsMachine b x ⊎ StepsToFault b
 
-executed_as_machine : (b : BoardValue) (i : Instr) → IsWhole b → IsNextInstruction b i → IsBusFault (machine_executed (machine_of b) i) ⊎ IsMachines b i
+executed_as_machine : (b : BoardValue) (i : Instr) → IsWhole b → IsNextInstruction b i → SameBehind [] [] b i (machine_executed (machine_of b) i)
     → AsMachine b (executed b i)
-executed_as_machine b i h g (inl at) = inr (machine_executed (machine_of b) i, current_to_machine b i h g, at)
+executed_as_machine b i h g (inl at) = inr (machine_executed (machine_of b) i, current_to_machine machine_executed [] b h i g, at)
 executed_as_machine b i h g (inr same) = inl (record {
   price = cycles_of i;
   next = inl (i, g, refl);
-  step = subst (λ x. IsMachineStep (machine_of b) x) same.step (current_to_machine b i h g);
-  line = same.line;
+  step = subst (λ x. IsMachineStep (machine_of b) x) same.0 (current_to_machine machine_executed [] b h i g);
+  line = same.1;
 })
 
 step_as_machine : (b : BoardValue) (o : Outcome BusState) → IsWhole b → StepResult board_bus (registers_of b.cpu) (opened b) o → AsMachine b (board_outcome b o)
 step_as_machine b o h (Stopped e g) = inl (record {
   price = 0;
   next = inr (e, g, refl);
-  step = subst (λ x. IsMachineStep (machine_of b) x) (stopped_same b e) (stopped_to_machine b e h g);
+  step = subst (λ x. IsMachineStep (machine_of b) x) (stopped_same b e) (stopped_to_machine machine_executed [] b h e g);
   line = refl;
 })
 step_as_machine b o h (Executed i g) = executed_as_machine b i h g (executed_same b i h)
@@ -378,18 +401,18 @@ abbrev AsBoard : BoardValue → MachineOutcome → Type 0
 AsBoard b o = IsBusFault o
     ⊎ ((x : BoardOutcome) × (price : ℕ) × IsStep b x × IsNextPrice b price × (o ≡ machine_outcome_of b x price) × (x.board.line ≡ b.line))
 
-back_to_board : (b : BoardValue) (i : Instr) → IsNextInstruction b i → IsBusFault (machine_executed (machine_of b) i) ⊎ IsMachines b i
+back_to_board : (b : BoardValue) (i : Instr) → IsNextInstruction b i → SameBehind [] [] b i (machine_executed (machine_of b) i)
     → AsBoard b (machine_executed (machine_of b) i)
 back_to_board b i g (inl at) = inl at
-back_to_board b i g (inr same) = inr (executed b i, cycles_of i, (_, Executed i g, refl), inl (i, g, refl), same.step, same.line)
+back_to_board b i g (inr same) = inr (executed b i, cycles_of i, (_, Executed i g, refl), inl (i, g, refl), same.0, same.1)
 
 pub machine_steps_as_board : MachineStepsAsBoard
 machine_steps_as_board b o h (NoInstruction e k) =
-    let g = stopped_alike machine_bus board_bus (machine_opened (machine_of b)) (opened b) (λ a. sym (fetches b h a)) (registers_of b.cpu) e k in
+    let g = stopped_alike machine_bus board_bus (machine_opened (machine_of b)) (opened b) (λ a. sym (fetches [] b h a)) (registers_of b.cpu) e k in
     let x = board_outcome b (record { answer = Err e; registers = registers_of b.cpu; bus = opened b }) in
     inr (x, 0, (_, Stopped e g, refl), inr (e, g, refl), stopped_same b e, refl)
 machine_steps_as_board b o h (Executes i k) =
-    let g = current_alike machine_bus board_bus (machine_opened (machine_of b)) (opened b) (λ a. sym (fetches b h a)) (registers_of b.cpu) i k in
+    let g = current_alike machine_bus board_bus (machine_opened (machine_of b)) (opened b) (λ a. sym (fetches [] b h a)) (registers_of b.cpu) i k in
     back_to_board b i g (executed_same b i h)
 
 -- the machine steps in one way

@@ -24,7 +24,7 @@ use Rattle.fram_board.specs.msp_step.Registers.{Registers, registers_of, with_re
 use Rattle.fram_board.specs.msp_step.Access.{BusModel, Access, Completed, Faulted}
 use Rattle.fram_board.specs.msp_step.Effect.{Written}
 use Rattle.fram_board.specs.msp_step.Step.{FetchedAt, effect, outcome_of, Outcome, StepResult, Stopped, Executed, off_bit}
-use Rattle.fram_board.specs.msp_step.Step.{is_interruptible, return_place, status_place, interrupted}
+use Rattle.fram_board.specs.msp_step.Step.{return_place, status_place, interrupted}
 use Rattle.step_laws.specs.Effects.{IsValid}
 use Rattle.step_laws.specs.Effects as laws
 use Rattle.step_laws.proofs.Interface.{stays_valid}
@@ -43,13 +43,13 @@ use Rattle.fram_board.specs.Run.{Measure, price, RunOutcome, ChargeRun}
 use Rattle.fram_board.specs.Run as run
 use Rattle.fram_board.proofs.Interface.{power_up_leaves_a_board}
 use Rattle.machine_effects.specs.World.{put}
-use Rattle.machine_effects.specs.Inputs.{Look, InputsAreWords}
-use Rattle.machine_effects.specs.Going.{Goes, Stops}
+use Rattle.machine_effects.specs.Inputs.{Look, Inputs, InputsAreWords, first_look, other_looks, look_effects}
+use Rattle.machine_effects.specs.Going.{Goes, Stops, step_behind}
 use Rattle.machine_effects.specs.Machine.{MachineBus, MachineBoard, MachineOutcome, machine_bus, machine_word, word_address, first_reading, machine_read}
 use Rattle.machine_effects.specs.Machine.{is_readable, ring_read, word_read, word_written, looks_there, machine_opened_seeing, machine_executed_seeing}
 use Rattle.machine_effects.specs.Machine.{executed_looking, code_executed}
 use Rattle.machine_effects.specs.Machine.{reading_taken, machine_after_read, machine_stored, machine_port_written, machine_written, machine_opened}
-use Rattle.machine_effects.specs.Machine.{machine_outcome, machine_executed, NoInstruction, Executes, standing, step_with, astray, undisturbed}
+use Rattle.machine_effects.specs.Machine.{machine_outcome, machine_executed, NoInstruction, Executes, standing, step_with, astray, is_exposed, undisturbed}
 use Rattle.machine_effects.specs.View.{IsWhole, IsLineOfWords, IsOfWords, IsMachineOfWords}
 use Rattle.machine_effects.specs.Laws.{LeavesWords, MachineWordsStayWords, CodeWordsStayWords, WordsStayWords, StepLeavesItWhole, MachineIsOfWords}
 use Rattle.machine_effects.specs.Laws.{PowerUpKeepsWords, FreshIsWhole, AcceptanceKeepsWords, ChargeKeepsWords}
@@ -89,9 +89,9 @@ all_head w ws h = h zero 0 (omega arith)
 word_small : (t : MachineBus) (a : ℕ) → OfWords t → IsWord (machine_word t a)
 word_small t a q = either_small (is_ram a) (t.ram (word_address a)) (t.fram (word_address a)) (q.ram (word_address a)) (q.fram (word_address a))
 
-first_small : (ws : List ℕ) (v : ℕ) → All (λ x. x < 0x10000) ws → first_reading ws ≡ Ok v → IsWord v
-first_small [] v h e = absurd cc
-first_small (w ∷ ws) v h e = let same : w ≡ v = cc in subst IsWord same (all_head w ws h)
+reading_small : (ws : List ℕ) (v : ℕ) → All (λ x. x < 0x10000) ws → first_reading ws ≡ Ok v → IsWord v
+reading_small [] v h e = absurd cc
+reading_small (w ∷ ws) v h e = let same : w ≡ v = cc in subst IsWord same (all_head w ws h)
 
 -- what a test leads to
 ok_on : (b : Bool) (x v : ℕ) (o : Result ℕ Refused) → IsWord x → (o ≡ Ok v → IsWord v) → (if b then Ok x else o) ≡ Ok v → IsWord v
@@ -124,7 +124,7 @@ word_read_small t a v q e =
 machine_read_small : (t : MachineBus) (a : ℕ) (w : Width) (v : ℕ) → OfWords t → machine_read t a w ≡ Ok v → IsWord v
 machine_read_small t a Word v q e =
     read_on (is_word a) v (word_read t a) _ (λ g. word_read_small t a v q g) (λ g. sensed_on (a == sensor_port) v (first_reading t.inputs.readings)
-    (λ r. first_small t.inputs.readings v q.inputs.readings r) g) e
+    (λ r. reading_small t.inputs.readings v q.inputs.readings r) g) e
 machine_read_small t a Byte v q e =
     ok_on (is_memory a && is_readable t.floor a) (byte_of (machine_word t a) a) v _ (byte_small (machine_word t a) a (word_small t a q)) (λ g. no_word v g) e
 
@@ -250,16 +250,29 @@ executed_words ring s i w h k =
     outcome_words (s.registers 0) (cycles_of i) (effect machine_bus i s.registers t)
     (effect_gives machine_bus IsWord AreSmall OfWords machine_closed_words i s.registers t k h.registers (opened_words ring s w h))
 
+-- the first of looks at words sees words, and so do the others
+pub first_small : (looks : List Look) → All (λ look. (a : ℕ) → look a < 0x10000) looks → (a : ℕ) → first_look looks a < 0x10000
+first_small [] w a = omega arith
+first_small (look ∷ more) w a = w zero look (omega arith) a
+
+pub others_small : (looks : List Look) → All (λ look. (a : ℕ) → look a < 0x10000) looks → All (λ look. (a : ℕ) → look a < 0x10000) (other_looks looks)
+others_small [] w = w
+others_small (look ∷ more) w = λ n d low. w (suc n) d (omega arith)
+
+-- effects in front change nothing of that
+behind_words : (es : List Effect) (o : MachineOutcome) → LeavesWords o → LeavesWords (step_behind es o)
+behind_words es (Goes fs c t) h = h
+behind_words es (Stops fs price e) h = h
+
 -- an instruction of code
 looking_words : (looks : List Look) (s : MachineBoard) (i : Instr) → All (λ look. (a : ℕ) → look a < 0x10000) looks → IsMachineOfWords s
     → InstructionHas IsWord i → LeavesWords (executed_looking looks s i)
-looking_words [] s i w h k = executed_words None s i tt h k
-looking_words (look ∷ more) s i w h k =
-    let rest : All (λ l. (a : ℕ) → l a < 0x10000) more = λ n d low. w (suc n) d (omega arith) in
-    let left : InputsAreWords (record s.inputs { looks = more }) = record { readings = h.inputs.readings; looks = rest } in
-    let first : (a : ℕ) → look a < 0x10000 = w zero look (omega arith) in
-    executed_words (Some look) (record s { inputs = record s.inputs { looks = more } }) i first
-    (record { registers = h.registers; fram = h.fram; ram = h.ram; inputs = left; outnum = h.outnum }) k
+looking_words looks s i w h k =
+    let left : Inputs = record s.inputs { looks = other_looks looks } in
+    let words : InputsAreWords left = record { readings = h.inputs.readings; looks = others_small looks w } in
+    behind_words (look_effects looks) _
+    (executed_words (Some (first_look looks)) (record s { inputs = left }) i (first_small looks w)
+    (record { registers = h.registers; fram = h.fram; ram = h.ram; inputs = words; outnum = h.outnum }) k)
 
 either_words : (b : Bool) (o p : MachineOutcome) → LeavesWords o → LeavesWords p → LeavesWords (if b then o else p)
 either_words true o p h k = h
@@ -285,14 +298,14 @@ stopped_if_words : (b : Bool) (e : Stop) (o : MachineOutcome) → LeavesWords o 
 stopped_if_words true e o h = tt
 stopped_if_words false e o h = h
 
-undisturbed_words : (s : MachineBoard) (o : MachineOutcome) → LeavesWords o → LeavesWords (undisturbed s o)
-undisturbed_words s (Goes es c t) h = stopped_if_words (is_interruptible t.registers) (astray s) (Goes es c t) h
-undisturbed_words s (Stops es price e) h = tt
+undisturbed_words : (events : Bool) (i : Option Instr) (s : MachineBoard) (o : MachineOutcome) → LeavesWords o → LeavesWords (undisturbed events i s o)
+undisturbed_words events i s (Goes es c t) h = stopped_if_words (is_exposed events i s t) (astray s) (Goes es c t) h
+undisturbed_words events i s (Stops es price e) h = tt
 
 pub code_words_stay_words : CodeWordsStayWords
 code_words_stay_words code s e h =
-    undisturbed_words s (step_with (code (s.registers 0)) s)
-    (stopped_if_words (off_bit s.registers == 1) stop.Off (standing (code (s.registers 0)) s) (standing_words (code (s.registers 0)) s e h))
+    let i = code.at (s.registers 0) in
+    undisturbed_words code.events i s (step_with i s) (stopped_if_words (off_bit s.registers == 1) stop.Off (standing i s) (standing_words i s e h))
 
 -- the board's bus
 record ListsOfWords (s : BusState) : Type 0 where

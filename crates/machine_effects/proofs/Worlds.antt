@@ -1,8 +1,8 @@
 -- The world after effects, by its parts and one stretch after another.
-use Rattle.std.proofs.Common.{◌≡◌, ◌≢◌, cond, ne_eqb, ℕ, List, [], ◌∷◌, ◌++◌, refl, sym, ap, ◌∙◌, map, eq-eqb, if◌then◌else◌}
+use Rattle.std.proofs.Common.{◌≡◌, ◌≢◌, cond, ne_eqb, ℕ, List, [], ◌∷◌, ◌++◌, refl, sym, ap, ◌∙◌, map, eq-eqb, if◌then◌else◌, append_assoc}
 use Rattle.fram_board.specs.Effects.{Effect, Store, Take, Outside}
 use Rattle.machine_effects.specs.World.{World, put, accepted_behind, fram_after_one, fram_after, accepted_after_one, accepted_after, world_after_one, world_after}
-use Rattle.machine_effects.specs.World.{readings_taken, EachStore, OfStore}
+use Rattle.machine_effects.specs.World.{readings_taken, looks_of, looks_taken, EachStore, OfStore}
 use Rattle.machine_effects.specs.Laws.{WorldByItsParts}
 
 -- FRAM behind two parts
@@ -25,6 +25,14 @@ readings_taken-append [] fs = refl
 readings_taken-append (Store a w ∷ es) fs = readings_taken-append es fs
 readings_taken-append (Take w ∷ es) fs = ap (λ l. w ∷ l) (readings_taken-append es fs)
 readings_taken-append (Outside o ∷ es) fs = readings_taken-append es fs
+
+-- the looks of two parts
+pub looks_taken-append : (es fs : List Effect) → looks_taken (es ++ fs) ≡ looks_taken es ++ looks_taken fs
+looks_taken-append [] fs = refl
+looks_taken-append (Store a w ∷ es) fs = looks_taken-append es fs
+looks_taken-append (Take w ∷ es) fs = looks_taken-append es fs
+looks_taken-append (Outside o ∷ es) fs =
+    ap (λ l. looks_of o ++ l) (looks_taken-append es fs) ∙ sym (append_assoc (looks_of o) (looks_taken es) (looks_taken fs))
 
 -- a fact of each store, of both parts
 pub each_store-append : (P : ℕ → ℕ → Type 0) (es fs : List Effect) → EachStore P es → EachStore P fs → EachStore P (es ++ fs)
@@ -61,6 +69,11 @@ taking_keeps_fram (w ∷ ws) f = taking_keeps_fram ws f
 pub taking_takes : (ws : List ℕ) → readings_taken (map (λ w. Take w) ws) ≡ ws
 taking_takes [] = refl
 taking_takes (w ∷ ws) = ap (λ l. w ∷ l) (taking_takes ws)
+
+-- and no look
+pub taking_looks : (ws : List ℕ) → looks_taken (map (λ w. Take w) ws) ≡ []
+taking_looks [] = refl
+taking_looks (w ∷ ws) = taking_looks ws
 
 -- the world behind effects, part by part
 pub world_by_its_parts : WorldByItsParts

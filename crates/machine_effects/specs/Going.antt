@@ -8,6 +8,11 @@ pub data StepOutcome (S X : Type 0) : Type 0 where
   Goes : (effects : List Effect) → (cycles : ℕ) → (next : S) → StepOutcome S X
   Stops : (effects : List Effect) → (price : ℕ) → (stop : X) → StepOutcome S X
 
+-- a step with these effects in front
+abbrev pub step_behind : {S X : Type 0} → List Effect → StepOutcome S X → StepOutcome S X
+step_behind es (Goes fs c s) = Goes (es ++ fs) c s
+step_behind es (Stops fs price stop) = Stops (es ++ fs) price stop
+
 -- where a machine is after some steps: at a state, or halted by a stop at this price
 pub data Status (S X : Type 0) : Type 0 where
   At : (state : S) → Status S X

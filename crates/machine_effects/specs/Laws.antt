@@ -1,23 +1,29 @@
 -- Laws of the machine, and that it is the board.
-use Rattle.std.specs.Prelude.{ℕ, ◌≡◌, ◌<◌, ◌≤◌, ◌⊎◌, if◌then◌else◌, List, [], ◌∷◌, All, ◌++◌, length, Some, Ok}
+use Rattle.std.specs.Prelude.{ℕ, ◌%◌, ◌≡◌, ◌<◌, ◌≤◌, ◌⊎◌, List, [], All, ◌++◌, length, Some, Ok}
 use Rattle.fram_board.specs.address_space.Limits.{fram_words}
+use Rattle.event_places.specs.Places.{handler_place}
+use Rattle.fram_board.specs.alp_words.declared.Width.TheVariants.{Word}
+use Rattle.fram_board.specs.msp_isa.declared.operands.Src.{Src}
+use Rattle.fram_board.specs.msp_isa.declared.instructions.OneOp.TheVariants as one
 use Rattle.fram_board.specs.msp_isa.declared.instructions.Instr.{Instr}
+use Rattle.fram_board.specs.msp_isa.declared.instructions.Instr.TheVariants as instr
 use Rattle.fram_board.specs.msp_isa.Encoding.{encoding}
 use Rattle.fram_board.specs.msp_cycles.Cycles.{cycles_of}
 use Rattle.fram_board.specs.msp_step.Registers.{registers_of, powered_up}
 use Rattle.fram_board.specs.declared.board.NextStep.{NextStep}
 use Rattle.fram_board.specs.declared.board.Stepped.{Stepped}
+use Rattle.fram_board.specs.Board.{IsNextInstruction}
 use Rattle.fram_board.specs.Board.{BoardValue, BoardOutcome, IsStep, PowerState, powered, fresh, vector_of, executed, acceptance, performed, at_boundary}
 use Rattle.fram_board.specs.Saved.{TakesNextBehind}
 use Rattle.fram_board.specs.Steps.{IsPowerState}
 use Rattle.fram_board.specs.Effects.{Effect}
 use Rattle.fram_board.specs.Run.{Measure, moment_of, RunOutcome, ChargeRun, accepted_by, accepted_words}
 use Rattle.machine_effects.specs.World.{World, fram_after, accepted_after, world_after}
-use Rattle.machine_effects.specs.Inputs.{Look, Inputs, TakesExactly}
+use Rattle.machine_effects.specs.Inputs.{Look, Inputs, look_effects, TakesExactly}
 use Rattle.machine_effects.specs.Going.{Goes, Stops}
-use Rattle.machine_effects.specs.Machine.{MachineBoard, MachineOutcome, looks_there, code_executed, IsMachineStep, Code, exec, fram_of, machine_powered}
+use Rattle.machine_effects.specs.Machine.{MachineBoard, MachineOutcome, code_executed, IsMachineStep, Code, exec, IsRam, fram_of, machine_powered}
 use Rattle.machine_effects.specs.View.{machine_with, machine_of, IsWhole, IsOfWords, IsMachineOfWords, IsNextPrice, machine_outcome_with}
-use Rattle.machine_effects.specs.View.{machine_outcome_of, IsBusFault}
+use Rattle.machine_effects.specs.View.{machine_outcome_of, looks_at, seen_at_pc, IsBusFault}
 use Rattle.machine_effects.specs.Runs.{action_effects, moments_effects}
 
 -- a step of the board is the machine's step of its view, with the board's effects and cycles, and leaves the port EVENT; a stop
@@ -41,14 +47,47 @@ abbrev pub MachineStepsAsBoard : Type 0
 MachineStepsAsBoard = (b : BoardValue) (o : MachineOutcome) → IsWhole b → IsMachineStep (machine_of b) o → IsBusFault o
     ⊎ ((x : BoardOutcome) × (price : ℕ) × IsStep b x × IsNextPrice b price × (o ≡ machine_outcome_of b x price) × (x.board.line ≡ b.line))
 
--- what an instruction on a board sees of the ring, if it looks there, in front of more looks
-abbrev pub looks_at : BoardValue → Instr → List Look → List Look
-looks_at b i more = if looks_there i then fram_of b.fram ∷ more else more
-
--- an instruction of code that sees what the board holds in the ring does as on the board, or ends by a bus fault
+-- an instruction of code that sees what the board holds in the ring does as on the board, behind the effect of its look, or ends by a
+-- bus fault
 abbrev pub LooksAsTheBoard : Type 0
-LooksAsTheBoard = (b : BoardValue) (i : Instr) (more : List Look) → IsWhole b → let o = code_executed (machine_with (looks_at b i more) b) i in
-    IsBusFault o ⊎ ((o ≡ machine_outcome_with more b (executed b i) (cycles_of i)) × ((executed b i).board.line ≡ b.line))
+LooksAsTheBoard = (b : BoardValue) (i : Instr) (more : List Look) → IsWhole b → let o = code_executed (machine_with (looks_at b i ++ more) b) i in
+    IsBusFault o
+    ⊎ ((o ≡ machine_outcome_with (look_effects (looks_at b i)) more b (executed b i) (cycles_of i)) × ((executed b i).board.line ≡ b.line))
+
+-- what the next instruction of a board sees is told by the words at PC
+abbrev pub SeenByWords : Type 0
+SeenByWords = (b : BoardValue) (i : Instr) → IsWhole b → IsNextInstruction b i → seen_at_pc b ≡ looks_at b i
+
+-- machines that a program can't tell apart: FRAM may differ from the handler on, and the words of RAM below an address
+pub record IsSameFrom (floor : ℕ) (s t : MachineBoard) : Type 0 where
+  pub registers : t.registers ≡ s.registers
+  pub fram : (a : ℕ) → a < handler_place → t.fram a ≡ s.fram a
+  pub ram : (a : ℕ) → floor ≤ a → a % 2 ≡ 0 → t.ram a ≡ s.ram a
+  pub inputs : t.inputs ≡ s.inputs
+  pub outnum : t.outnum ≡ s.outnum
+
+-- outcomes with the same effects and cycles, to such machines, or by the same stop
+abbrev pub AreSameFrom : ℕ → MachineOutcome → MachineOutcome → Type 0
+AreSameFrom floor (Goes es c s) (Goes fs d t) = (fs ≡ es) × (d ≡ c) × IsSameFrom floor s t
+AreSameFrom floor (Stops es price e) (Stops fs paid f) = (fs ≡ es) × (paid ≡ price) × (f ≡ e)
+AreSameFrom floor (Goes es c s) (Stops fs paid f) = ⊥
+AreSameFrom floor (Stops es price e) (Goes fs d t) = ⊥
+
+-- an instruction of code does the same on machines that are the same from SP on, or from below it: what a handler may change it can't
+-- depend on
+abbrev pub MachineIsBlind : Type 0
+MachineIsBlind = (floor : ℕ) (i : Instr) (s t : MachineBoard) → floor ≤ s.registers 1 → IsSameFrom floor s t
+    → AreSameFrom floor (code_executed s i) (code_executed t i)
+
+-- the word at SP behind both is the same, where that stands in RAM
+abbrev pub HaveSameTop : MachineOutcome → MachineOutcome → Type 0
+HaveSameTop (Goes es c s) (Goes fs d t) = IsRam (s.registers 1) → t.ram (s.registers 1) ≡ s.ram (s.registers 1)
+HaveSameTop o p = Unit {0}
+
+-- and a push writes the same word there
+abbrev pub PushesAlike : Type 0
+PushesAlike = (floor : ℕ) (x : Src) (s t : MachineBoard) → floor ≤ s.registers 1 → IsSameFrom floor s t
+    → let push = instr.One (one.Push Word x) in HaveSameTop (code_executed s push) (code_executed t push)
 
 -- the machine steps in one way
 abbrev pub MachineStepsInOneWay : Type 0
@@ -67,6 +106,15 @@ CodeChangesByEffects = (code : Code) (s : MachineBoard) → ChangesByEffects s (
 abbrev pub MachineChangesByEffects : Type 0
 MachineChangesByEffects = (s : MachineBoard) (o : MachineOutcome) → IsMachineStep s o → ChangesByEffects s o
 
+-- where an outcome goes on, FRAM from the handler on is as it was
+abbrev pub KeepsTheHandler : MachineBoard → MachineOutcome → Type 0
+KeepsTheHandler s (Goes es c t) = (a : ℕ) → handler_place ≤ a → t.fram a ≡ s.fram a
+KeepsTheHandler s (Stops es price stop) = Unit {0}
+
+-- a step of code that stays leaves it
+abbrev pub CodeKeepsTheHandler : Type 0
+CodeKeepsTheHandler = (code : Code) (s : MachineBoard) → KeepsTheHandler s (exec code s)
+
 -- where an outcome goes on, all are words
 abbrev pub LeavesWords : MachineOutcome → Type 0
 LeavesWords (Goes es c t) = IsMachineOfWords t
@@ -78,7 +126,7 @@ MachineWordsStayWords = (s : MachineBoard) (o : MachineOutcome) → IsMachineOfW
 
 -- and in code that stays, where its instructions are encoded in words
 abbrev pub CodeWordsStayWords : Type 0
-CodeWordsStayWords = (code : Code) (s : MachineBoard) → ((i : Instr) → code (s.registers 0) ≡ Some i → All (λ w. w < 0x10000) (encoding i))
+CodeWordsStayWords = (code : Code) (s : MachineBoard) → ((i : Instr) → code.at (s.registers 0) ≡ Some i → All (λ w. w < 0x10000) (encoding i))
     → IsMachineOfWords s → LeavesWords (exec code s)
 
 -- words stay words on the board

@@ -1,11 +1,11 @@
 -- The machine: the board with memory as functions of addresses, without its receiver, whose words are read off the effects,
--- and without the port EVENT, so that it accepts no interrupt. Its bus keeps a log of what an instruction does to FRAM, the
+-- and without the port EVENT, so that it accepts no interrupt itself. Its bus keeps a log of what an instruction does to FRAM, the
 -- sensor and the receiver. Its instructions, their effects and cycles are those of every bus (SLAU049 and SLAU144, CPU chapter).
 -- What a handler may change between any two instructions of a program, the machine can't depend on: its bus refuses reads of RAM
 -- below SP and of FRAM from the handler on, and writes of a byte in that RAM and of anything in that FRAM.
-use Rattle.std.specs.Prelude.{ℕ, ◌-◌, ◌%◌, ◌≡◌, ◌<◌, ◌≤◌, Bool, true, false, nat_le, nat_lt, ◌==◌, ◌&&◌, if◌then◌else◌, slice_index, List, [], ◌∷◌, ◌++◌}
-use Rattle.std.specs.Prelude.{Result, Ok, Err, Option, Some, None}
-use Rattle.fram_board.specs.address_space.Limits.{ram_first, ram_end, fram_first, reset_vector}
+use Rattle.std.specs.Prelude.{ℕ, ◌+◌, ◌-◌, ◌*◌, ◌%◌, ◌≡◌, ◌<◌, ◌≤◌, Bool, true, false, nat_le, nat_lt, ◌==◌, ◌&&◌, ◌||◌, not, if◌then◌else◌}
+use Rattle.std.specs.Prelude.{slice_index, List, [], ◌∷◌, ◌++◌, Result, Ok, Err, Option, Some, None}
+use Rattle.fram_board.specs.address_space.Limits.{ram_first, ram_end, stack_floor, stack_start, fram_first, event_vector, reset_vector}
 pub use Rattle.fram_board.specs.address_space.Limits.{IsFramWord as IsFram}
 use Rattle.event_places.specs.Places.{handler_place, is_ring}
 use Rattle.fram_board.specs.alp_words.declared.Width.{Width}
@@ -32,8 +32,8 @@ use Rattle.fram_board.specs.Bus.{ram_place, is_ram, is_fram, is_memory, is_word,
 use Rattle.fram_board.specs.Board.{PowerState}
 use Rattle.fram_board.specs.Effects.{Effect, Store, Take, Outside, Offered}
 use Rattle.machine_effects.specs.World.{put}
-use Rattle.machine_effects.specs.Inputs.{Inputs, Look}
-use Rattle.machine_effects.specs.Going.{StepOutcome, Goes, Stops, Stretch}
+use Rattle.machine_effects.specs.Inputs.{Inputs, Look, first_look, other_looks, look_effects}
+use Rattle.machine_effects.specs.Going.{StepOutcome, Goes, Stops, step_behind, Stretch}
 
 -- memory and ports during one instruction, and what it did so far
 pub record MachineBus : Type 0 where
@@ -172,11 +172,15 @@ machine_executed_seeing ring s i = machine_outcome (s.registers 0) (cycles_of i)
 abbrev pub machine_executed : MachineBoard → Instr → MachineOutcome
 machine_executed s i = machine_executed_seeing None s i
 
--- one step of the machine: it is stopped with no instruction, or the instruction at PC is executed. A stop that needs no
--- instruction costs nothing; CPUOFF comes first
-pub data IsMachineStep (s : MachineBoard) : MachineOutcome → Type 0 where
-  NoInstruction : (e : Stop) → IsStopped machine_bus s.registers (machine_opened s) e → IsMachineStep s (Stops [] 0 e)
-  Executes : (i : Instr) → IsCurrentInstruction machine_bus s.registers (machine_opened s) i → IsMachineStep s (machine_executed s i)
+-- one step of the machine, which executes instructions like this: it is stopped with no instruction, or the instruction at PC is
+-- executed. A stop that needs no instruction costs nothing; CPUOFF comes first
+pub data IsStepBy (run : MachineBoard → Instr → MachineOutcome) (s : MachineBoard) : MachineOutcome → Type 0 where
+  NoInstruction : (e : Stop) → IsStopped machine_bus s.registers (machine_opened s) e → IsStepBy run s (Stops [] 0 e)
+  Executes : (i : Instr) → IsCurrentInstruction machine_bus s.registers (machine_opened s) i → IsStepBy run s (run s i)
+
+-- a step of the machine that may not look
+abbrev pub IsMachineStep : MachineBoard → MachineOutcome → Type 0
+IsMachineStep = IsStepBy machine_executed
 
 -- an operand by which an instruction looks at HEAD or the ring: its address is there, or the number that a register is added to
 abbrev pub operand_looks : Operand → Bool
@@ -211,14 +215,19 @@ looks_there (instr.One o) = pushed_looks o
 looks_there (instr.Jump c o) = false
 looks_there instr.Reti = false
 
--- one that takes the first look that is left; where none is, it may not look
+-- one that takes the first of these looks; where none is left, it sees nothing but 0
 abbrev pub executed_looking : List Look → MachineBoard → Instr → MachineOutcome
-executed_looking [] s i = machine_executed s i
-executed_looking (look ∷ more) s i = machine_executed_seeing (Some look) (record s { inputs = record s.inputs { looks = more } }) i
+executed_looking looks s i =
+    step_behind (look_effects looks)
+    (machine_executed_seeing (Some (first_look looks)) (record s { inputs = record s.inputs { looks = other_looks looks } }) i)
 
 -- an instruction of code
 abbrev pub code_executed : MachineBoard → Instr → MachineOutcome
 code_executed s i = if looks_there i then executed_looking s.inputs.looks s i else machine_executed s i
+
+-- a step of the machine that looks
+abbrev pub IsLookingStep : MachineBoard → MachineOutcome → Type 0
+IsLookingStep = IsStepBy code_executed
 
 -- what an instruction that stands at PC does while CPUOFF is clear; where none stands the word there is illegal
 abbrev pub standing : Option Instr → MachineBoard → MachineOutcome
@@ -229,22 +238,56 @@ standing None s = Stops [] 0 (stop.Illegal (s.registers 0) (word_in s.fram s.ram
 abbrev pub step_with : Option Instr → MachineBoard → MachineOutcome
 step_with i s = if off_bit s.registers == 1 then Stops [] 0 stop.Off else standing i s
 
--- code that stays: the instruction that stands at each address
-abbrev pub Code : Type 0
-Code = ℕ → Option Instr
+-- code that stays: the instruction that stands at each address, and whether a handler of events may run between any two of them
+pub record Code : Type 0 where
+  pub at : ℕ → Option Instr
+  pub events : Bool
 
 -- where code goes astray
 abbrev pub astray : MachineBoard → Stop
 astray s = stop.Illegal (s.registers 0) (word_in s.fram s.ram (s.registers 0))
 
--- code that stays goes astray, too, with a step behind which the CPU would accept an interrupt
-abbrev pub undisturbed : MachineBoard → MachineOutcome → MachineOutcome
-undisturbed s (Goes es c t) = if is_interruptible t.registers then Stops [] 0 (astray s) else Goes es c t
-undisturbed s (Stops es price e) = Stops es price e
+-- ---- between two instructions of code with events the CPU may accept an interrupt, and a handler then runs, on the stack of the code
+
+-- SP stands where a handler has room for its words below it, and above it nothing but what the code keeps there
+abbrev pub in_stack : ℕ → Bool
+in_stack sp = nat_le stack_floor sp && nat_le sp stack_start
+
+-- the machine has a handler, and SP stands where that has room
+abbrev pub is_prepared : MachineBoard → Bool
+is_prepared s = (s.fram event_vector == handler_place) && in_stack (s.registers 1)
+
+-- PUSH of a word: it writes the word to which it moves SP down
+abbrev pub pushes : Option Instr → Bool
+pushes (Some (instr.One (one.Push Word x))) = true
+pushes _ = false
+
+-- from this SP to that: it stays, or is where the stack begins, or goes up to there at most; or it goes down by a push. So no word
+-- comes to stand at SP or above that a handler may have changed
+abbrev pub keeps_stack : Option Instr → ℕ → ℕ → Bool
+keeps_stack i p q = (q == p) || ((q == stack_start) || ((nat_le p q && nat_le q stack_start) || (pushes i && ((q + 2 == p) && nat_le stack_floor q))))
+
+-- a step with this instruction from one machine to another, of code that may be interrupted, breaks the rules of interrupts: it lets
+-- the CPU accept them on a machine that isn't prepared; or where it accepts them, it stops that, or moves SP otherwise
+abbrev pub breaks_rules : Option Instr → MachineBoard → MachineBoard → Bool
+breaks_rules i s t =
+    if is_interruptible t.registers
+    then not (if is_interruptible s.registers then keeps_stack i (s.registers 1) (t.registers 1) else is_prepared t)
+    else is_interruptible s.registers
+
+-- a step that code may not make: with events one that breaks the rules, without them one that lets the CPU accept interrupts
+abbrev pub is_exposed : Bool → Option Instr → MachineBoard → MachineBoard → Bool
+is_exposed true i s t = breaks_rules i s t
+is_exposed false i s t = is_interruptible t.registers && not (is_interruptible s.registers)
+
+-- code that stays goes astray, too, with such a step
+abbrev pub undisturbed : Bool → Option Instr → MachineBoard → MachineOutcome → MachineOutcome
+undisturbed events i s (Goes es c t) = if is_exposed events i s t then Stops [] 0 (astray s) else Goes es c t
+undisturbed events i s (Stops es price e) = Stops es price e
 
 -- the step of a machine whose instructions come from code that stays, whatever FRAM holds
 abbrev pub exec : Code → MachineBoard → MachineOutcome
-exec code s = undisturbed s (step_with (code (s.registers 0)) s)
+exec code s = undisturbed code.events (code.at (s.registers 0)) s (step_with (code.at (s.registers 0)) s)
 
 -- an even address in RAM
 pub record IsRam (a : ℕ) : Type 0 where

@@ -1,5 +1,6 @@
 -- The board of the running program as the machine.
-use Rattle.std.specs.Prelude.{ℕ, ◌≡◌, ◌<◌, ◌⊎◌, List, [], All, IfSome, drop, Result, Ok, Err}
+use Rattle.std.specs.Prelude.{ℕ, ◌/◌, ◌%◌, ◌≡◌, ◌<◌, ◌⊎◌, ◌==◌, ◌&&◌, not, nat_le, Bool, false, if◌then◌else◌, List, [], ◌∷◌, ◌++◌, All, IfSome, drop}
+use Rattle.std.specs.Prelude.{Result, Ok, Err}
 use Rattle.fram_board.specs.msp_isa.declared.instructions.Instr.{Instr}
 use Rattle.fram_board.specs.msp_cycles.Cycles.{cycles_of}
 use Rattle.fram_board.specs.msp_step.declared.machine.Stop.{Stop}
@@ -11,9 +12,12 @@ use Rattle.fram_board.specs.Events.{EventLine}
 use Rattle.fram_board.specs.Board.{BoardValue, BoardOutcome, executed}
 use Rattle.fram_board.specs.Steps.{BoardCosts, IsBoard}
 use Rattle.fram_board.specs.Effects.{Effect, effects_of}
-use Rattle.machine_effects.specs.Inputs.{Look, Inputs, InputsAreWords}
+use Rattle.machine_effects.specs.Inputs.{Look, Inputs, SeeWords, InputsAreWords, look_effects}
 use Rattle.machine_effects.specs.Going.{Goes, Stops}
-use Rattle.machine_effects.specs.Machine.{MachineBoard, MachineOutcome, machine_executed, fram_of, ram_of}
+use Rattle.event_places.specs.Places.{is_ring}
+use Rattle.fram_board.specs.msp_step.Effect.{word_sum}
+use Rattle.machine_effects.specs.Machine.{word_in}
+use Rattle.machine_effects.specs.Machine.{MachineBoard, MachineOutcome, machine_executed, looks_there, code_executed, fram_of, ram_of}
 
 -- what is ready for a board, with these looks
 abbrev pub inputs_with : List Look → BoardValue → Inputs
@@ -73,13 +77,17 @@ abbrev pub outcome_of_answer : List Effect → ℕ → Result Stepped Stop → M
 outcome_of_answer es price (Ok done) next = Goes es done.cycles next
 outcome_of_answer es price (Err e) next = Stops es price e
 
--- a step of the board as one of the machine, with these looks behind it
-abbrev pub machine_outcome_with : List Look → BoardValue → BoardOutcome → ℕ → MachineOutcome
-machine_outcome_with looks b x price = outcome_of_answer (effects_of b x) price x.answer (machine_with looks x.board)
+-- a step of the board as one of the machine, behind these effects of looks, and with these looks behind it
+abbrev pub machine_outcome_with : List Effect → List Look → BoardValue → BoardOutcome → ℕ → MachineOutcome
+machine_outcome_with seen looks b x price = outcome_of_answer (seen ++ effects_of b x) price x.answer (machine_with looks x.board)
 
 -- a step of the board as one of the machine
 abbrev pub machine_outcome_of : BoardValue → BoardOutcome → ℕ → MachineOutcome
-machine_outcome_of b x price = machine_outcome_with [] b x price
+machine_outcome_of b x price = machine_outcome_with [] [] b x price
+
+-- what an instruction on a board sees of the ring, if it looks there
+abbrev pub looks_at : BoardValue → Instr → List Look
+looks_at b i = if looks_there i then fram_of b.fram ∷ [] else []
 
 -- a bus fault
 abbrev pub IsFault : Stop → Type 0
@@ -93,7 +101,28 @@ abbrev pub IsBusFault : MachineOutcome → Type 0
 IsBusFault (Goes es c t) = ⊥
 IsBusFault (Stops es price e) = IsFault e
 
--- an instruction of a board does as the machine's, which serves fewer addresses, and leaves the events as they are
+-- the source of an instruction, by its words: As is 1, its register neither PC nor R3, and the word behind it is in the ring
+abbrev pub source_is_there : ℕ → ℕ → ℕ → Bool
+source_is_there first next register =
+    (first / 0x40 % 2 == 0) && ((first / 0x10 % 4 == 1) && ((not (register == 0) && not (register == 3)) && is_ring next))
+
+-- an instruction looks that begins with these words: one of two operands, or PUSH, whose source is there
+abbrev pub words_look : ℕ → ℕ → Bool
+words_look first next =
+    if nat_le 0x4000 first then source_is_there first next (first / 0x100 % 16)
+    else if first / 0x80 == 0x24 then source_is_there first next (first % 16)
+    else false
+
+-- what the instruction at PC sees of the ring, told by the words that stand there
+abbrev pub seen_at_pc : BoardValue → List Look
+seen_at_pc b =
+    let fram = fram_of b.fram in
+    let pc = registers_of b.cpu 0 in
+    if words_look (word_in fram (ram_of b.ram) pc) (word_in fram (ram_of b.ram) (word_sum pc 2)) then fram ∷ [] else []
+
+-- an instruction of a board does as the machine's, which serves fewer addresses and sees of the ring what the board holds there, whatever
+-- it is to see later; and it leaves the events as they are
 pub record IsMachines (b : BoardValue) (i : Instr) : Type 0 where
-  pub step : machine_executed (machine_of b) i ≡ machine_outcome_of b (executed b i) (cycles_of i)
+  pub step : (more : List Look) → SeeWords more
+      → code_executed (machine_with (looks_at b i ++ more) b) i ≡ machine_outcome_with (look_effects (looks_at b i)) more b (executed b i) (cycles_of i)
   pub line : (executed b i).board.line ≡ b.line

@@ -1,6 +1,6 @@
 -- What lasts of a board, and what effects make of it.
 use Rattle.std.specs.Prelude.{◌≡◌, ℕ, ◌%◌, ◌==◌, if◌then◌else◌, List, [], ◌∷◌, ◌++◌, length}
-use Rattle.fram_board.specs.Effects.{Effect, Store, Take, Outside, OutsideEffect, Offered}
+use Rattle.fram_board.specs.Effects.{Effect, Store, Take, Outside, OutsideEffect, Offered, Looked}
 
 -- a function with this value at one address
 abbrev pub put : (ℕ → ℕ) → ℕ → ℕ → ℕ → ℕ
@@ -26,9 +26,10 @@ abbrev pub fram_after : List Effect → (ℕ → ℕ) → (ℕ → ℕ)
 fram_after [] f = f
 fram_after (e ∷ es) f = fram_after es (fram_after_one e f)
 
--- the accepted words after an effect outside the board
+-- the accepted words after an effect that has to do with the outside
 abbrev pub accepted_behind : OutsideEffect → List ℕ → List ℕ
 accepted_behind (Offered n w) ws = received n w ws
+accepted_behind (Looked seen) ws = ws
 
 -- the accepted words after an effect
 abbrev pub accepted_after_one : Effect → List ℕ → List ℕ
@@ -58,6 +59,22 @@ readings_taken [] = []
 readings_taken (Take w ∷ es) = w ∷ readings_taken es
 readings_taken (Store a w ∷ es) = readings_taken es
 readings_taken (Outside o ∷ es) = readings_taken es
+
+-- what an instruction that looks at HEAD and the ring sees there, by address
+abbrev pub Look : Type 0
+Look = ℕ → ℕ
+
+-- the looks that an effect takes
+abbrev pub looks_of : OutsideEffect → List Look
+looks_of (Offered n w) = []
+looks_of (Looked seen) = seen ∷ []
+
+-- the looks that effects take, in order
+abbrev pub looks_taken : List Effect → List Look
+looks_taken [] = []
+looks_taken (Store a w ∷ es) = looks_taken es
+looks_taken (Take w ∷ es) = looks_taken es
+looks_taken (Outside o ∷ es) = looks_of o ++ looks_taken es
 
 -- some effects, and others with which they are all
 pub record IsPrefix (es all : List Effect) : Type 0 where

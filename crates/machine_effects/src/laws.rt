@@ -1,7 +1,7 @@
 //! Laws of the machine. The functions do nothing: their contracts are the laws.
 
 ghost use Rattle.machine_effects.specs.Laws.{BoardStepsAsMachine, MachineStepsAsBoard, LooksAsTheBoard, MachineStepsInOneWay, CodeChangesByEffects};
-ghost use Rattle.machine_effects.specs.Laws.{MachineChangesByEffects};
+ghost use Rattle.machine_effects.specs.Laws.{MachineChangesByEffects, SeenByWords, MachineIsBlind, PushesAlike, CodeKeepsTheHandler};
 ghost use Rattle.machine_effects.specs.Laws.{MachineWordsStayWords, CodeWordsStayWords, WordsStayWords, StepLeavesItWhole, BoundaryKeepsWords};
 ghost use Rattle.machine_effects.specs.Laws.{AcceptanceKeepsWords, MachineIsOfWords, PowerUpIsTheMachines, PowerUpKeepsWords, FreshMachine, FreshIsWhole};
 ghost use Rattle.machine_effects.specs.Laws.{ChargeKeepsWords, StepAcceptsBySends, ChargeAcceptsBySends, WorldByItsParts};
@@ -16,10 +16,18 @@ pub fn steps_are_the_machines()
 {}
 
 /// An instruction that sees what a whole board holds in the ring does as on the board, and leaves the port EVENT, or ends by a bus
-/// fault.
-#[tactic(auto, using(crate::proofs::Steps::looks_as_the_board))]
+/// fault. Whether it looks there is told by the words at PC.
+#[tactic(auto, using(crate::proofs::Steps::looks_as_the_board, crate::proofs::Seen::seen_by_words))]
 pub fn instructions_look_as_on_the_board()
-    ensures { LooksAsTheBoard }
+    ensures same { LooksAsTheBoard }
+    ensures told { SeenByWords }
+{}
+
+/// An instruction of code does the same where FRAM differs from the handler on, and RAM below SP; and a push writes the same word.
+#[tactic(auto, using(crate::proofs::Blind::machine_is_blind, crate::proofs::Pushes::pushes_alike))]
+pub fn machine_is_blind()
+    ensures same { MachineIsBlind }
+    ensures pushes { PushesAlike }
 {}
 
 /// The machine steps in one way.
@@ -38,6 +46,12 @@ pub fn machine_changes_by_effects()
 #[tactic(auto, using(crate::proofs::Logs::code_changes_by_effects))]
 pub fn code_changes_by_effects()
     ensures { CodeChangesByEffects }
+{}
+
+/// It leaves FRAM from the handler on.
+#[tactic(auto, using(crate::proofs::Handler::code_keeps_the_handler))]
+pub fn code_keeps_the_handler()
+    ensures { CodeKeepsTheHandler }
 {}
 
 /// What holds words alone holds words alone after a step: the board, the machine that it is, and code that stays.

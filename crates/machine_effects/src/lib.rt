@@ -6,7 +6,8 @@ mod laws;
 
 pub use laws::{
     boards_of_words_stay_so, charges_accept_by_their_sends, code_changes_by_effects,
-    fresh_board_is_a_machine, instructions_look_as_on_the_board, machine_changes_by_effects,
-    machine_steps_in_one_way, power_up_is_the_machines, steps_are_the_machines,
-    steps_leave_boards_whole, words_stay_words, world_is_its_parts,
+    code_keeps_the_handler, fresh_board_is_a_machine, instructions_look_as_on_the_board,
+    machine_changes_by_effects, machine_is_blind, machine_steps_in_one_way,
+    power_up_is_the_machines, steps_are_the_machines, steps_leave_boards_whole, words_stay_words,
+    world_is_its_parts,
 };

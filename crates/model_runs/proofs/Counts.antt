@@ -1,28 +1,24 @@
 -- How many dones a run has at most, and how many readings it takes.
 use Rattle.std.proofs.Common.{◌≡◌, ℕ, ◌+◌, ◌-◌, ◌≤◌, refl, sym, ap, ◌∙◌, subst, arith, true, false, cond, List, [], ◌∷◌, length, length-append, Ok}
-use Rattle.msp_isa.specs.declared.instructions.Instr.{Instr}
-use Rattle.fram_board.specs.declared.board.NextStep.TheVariants as next_step
-use Rattle.fram_board.specs.declared.board.Stepped.{Stepped}
-use Rattle.fram_board.specs.Board.{BoardValue, PowerState, powered, executed, performed, at_boundary, IsNextInstruction}
+use Rattle.fram_board.specs.Board.{BoardValue, PowerState, powered, performed, at_boundary}
 use Rattle.fram_board.specs.Steps.{IsPowerState}
 use Rattle.fram_board.specs.Effects.{Effect}
-use Rattle.fram_board.specs.Run.{Measure, price, Moment, moment_of, Charges, Stopped, RunOutcome, run_outcome, BoardCharge, ChargeRun, Spent}
+use Rattle.fram_board.specs.Run.{Measure, price, Moment, Charges, Stopped, RunOutcome, run_outcome, BoardCharge, ChargeRun, Spent}
 use Rattle.fram_board.specs.Run.{NoInstruction}
 use Rattle.fram_board.specs.Run.{TooDear, Refused, Executed, Run, Over, Next, Last}
 use Rattle.fram_board.proofs.Interface.{price_low}
 use Rattle.machine_effects.specs.World.{world_after}
-use Rattle.machine_effects.specs.View.{IsWhole, IsOfWords, IsMachines}
+use Rattle.machine_effects.specs.View.{IsWhole, IsOfWords}
 use Rattle.machine_effects.specs.Runs.{last_board}
 use Rattle.machine_effects.proofs.Interface.{power_up_keeps_words}
 use Rattle.crash_rules.specs.Model.{Marks}
 use Rattle.crash_rules.specs.History.{History, is_done, is_decide, behind_boot, behind_done, behind_decide, behind_gate, observe}
 use Rattle.crash_rules.proofs.Interface.{observed_taken, with_effects}
-use Rattle.run_charges.specs.View.{IsMomentFrom, PowersUp, Instructs, AreMoments}
+use Rattle.run_charges.specs.View.{outside_effects, IsMomentFrom, AreMoments}
 use Rattle.run_charges.specs.Charges.{behind_moment, observed}
-use Rattle.run_charges.proofs.Interface.{follows_keeps, told, whole_after, words_after, one_write}
-use Rattle.run_charges.proofs.Interface.{readings_counted, readings_stay}
+use Rattle.run_charges.proofs.Interface.{follows_keeps, Steps, IsPowerOrStep, IsPower, IsStepped, moment_is, step_is_observed}
 use Rattle.model_runs.proofs.Events.{seen}
-use Rattle.run_charges.specs.Laws.{IsPlainRun}
+use Rattle.run_charges.specs.Laws.{IsProgramRun}
 use Rattle.model_runs.specs.Runs.{all_amounts}
 use Rattle.model_runs.specs.Laws.{DonesAreFew, TakesWhatIsThere}
 
@@ -53,12 +49,12 @@ record AddsOne (h k : History) : Type 0 where
   pub dones : length k.completed ≤ length h.completed + 1
   pub since : h.since ≤ h.taken → k.since ≤ k.taken
 
-event_adds : (before now : ℕ) (h : History) → AddsOne h (behind_gate before now h)
-event_adds before now h =
-    let more = length-append h.completed (record { span_from = h.span_from; span_to = h.span_to; world = h.world } ∷ []) in
-    elim (is_done before now) as (λ b. AddsOne h (cond b (behind_done h) (cond (is_decide before now) (behind_decide h) h))) [
+event_adds : (marks : Marks) (before now : ℕ) (h : History) → AddsOne h (behind_gate marks before now h)
+event_adds marks before now h =
+    let more = length-append h.completed (record { span_from = h.span_from; span_to = h.span_to; answers = h.answers; world = h.world } ∷ []) in
+    elim (is_done before now) as (λ b. AddsOne h (cond b (behind_done h) (cond (is_decide before now) (behind_decide marks h) h))) [
       | true ↦ record { dones = omega (arith, more); since = λ l. omega arith }
-      | false ↦ elim (is_decide before now) as (λ b. AddsOne h (cond b (behind_decide h) h)) [
+      | false ↦ elim (is_decide before now) as (λ b. AddsOne h (cond b (behind_decide marks h) h)) [
         | true ↦ record { dones = omega arith; since = λ l. l }
         | false ↦ record { dones = omega arith; since = λ l. l }
       ]
@@ -79,32 +75,33 @@ power_counts marks b h p w q ok =
     let up = power_up_keeps_words b p w q ok in
     record { whole = up.0; words = up.1; dones = omega arith; since = λ l. omega arith; taken = λ e. e; readings = refl }
 
-instruction_counts : (marks : Marks) (b : BoardValue) (h : History) (i : Instr) (done : Stepped) → IsWhole b → IsOfWords b → IsNextInstruction b i
-    → (executed b i).answer ≡ Ok done → IsMachines b i
-    → Counts b h (at_boundary (executed b i).board) (behind_moment marks (moment_of b (next_step.Instruction i) done) h) 1
-instruction_counts marks b h i done w q c a own =
-    let es : List Effect = told b w i done c a own in
-    let all = seen marks es h (one_write b w i done c a own) in
+step_counts : (marks : Marks) (b : BoardValue) (h : History) (m : Moment) → Steps b m → Counts b h m.after (behind_moment marks m h) 1
+step_counts marks b h m s =
+    let es : List Effect = outside_effects m in
     let P : History → Type 0 = λ k. AddsOne (with_effects es h) k in
-    let one : AddsOne (with_effects es h) (observe marks es h) = subst P (sym all)
-    (event_adds (h.world.fram marks.gate) ((world_after es h.world).fram marks.gate) (with_effects es h)) in
-    record {
-      whole = whole_after b w i done c a own;
-      words = words_after b w i done c a own q;
+    let Q : History → Type 0 = λ k. Counts b h m.after k 1 in
+    let one : AddsOne (with_effects es h) (observe marks es h) = subst P (sym (seen marks es h s.one))
+    (event_adds marks (h.world.fram marks.gate) ((world_after es h.world).fram marks.gate) (with_effects es h)) in
+    let now : Counts b h m.after (observe marks es h) 1 = record {
+      whole = s.whole;
+      words = s.words;
       dones = one.dones;
       since = λ l. one.since (omega (arith, l));
-      taken = λ e. observed_taken marks es h ∙ readings_counted b w i done c a own h e;
-      readings = readings_stay b w i done c a own;
-    }
+      taken = λ e. observed_taken marks es h ∙ s.taken h e;
+      readings = s.readings;
+    } in
+    subst Q (sym (step_is_observed marks b m h s)) now
+
+counts_by : (marks : Marks) (b : BoardValue) (h : History) (m : Moment) → IsWhole b → IsOfWords b → IsPowerOrStep b m
+    → Counts b h m.after (behind_moment marks m h) 1
+counts_by marks b h m w q (IsPower p ok e) =
+    let P : Moment → Type 0 = λ y. Counts b h y.after (behind_moment marks y h) 1 in
+    subst P (sym e) (power_counts marks b h p w q ok)
+counts_by marks b h m w q (IsStepped s) = step_counts marks b h m s
 
 moment_counts : (marks : Marks) (b : BoardValue) (h : History) (m : Moment) → IsWhole b → IsOfWords b → IsMomentFrom b m
     → Counts b h m.after (behind_moment marks m h) 1
-moment_counts marks b h m w q (PowersUp p ok e) =
-    let P : Moment → Type 0 = λ y. Counts b h y.after (behind_moment marks y h) 1 in
-    subst P (sym e) (power_counts marks b h p w q ok)
-moment_counts marks b h m w q (Instructs i done c a own e) =
-    let P : Moment → Type 0 = λ y. Counts b h y.after (behind_moment marks y h) 1 in
-    subst P (sym e) (instruction_counts marks b h i done w q c a own)
+moment_counts marks b h m w q from = counts_by marks b h m w q (moment_is b m w q from)
 
 moments_count : (marks : Marks) (b : BoardValue) (h : History) (ms : List Moment) → IsWhole b → IsOfWords b → AreMoments b ms
     → Counts b h (last_board b ms) (observed marks ms h) (length ms)
@@ -126,7 +123,7 @@ moments_count marks b h (m ∷ ms) w q all =
       readings = more.readings ∙ one.readings ∙ keeps.readings;
     }
 
-run_counts : (cs : List BoardCharge) (b : BoardValue) (r : RunOutcome) → IsPlainRun cs b r → (marks : Marks) (h : History)
+run_counts : (cs : List BoardCharge) (b : BoardValue) (r : RunOutcome) → IsProgramRun cs b r → (marks : Marks) (h : History)
     → Counts b h (last_board b r.moments) (observed marks r.moments h) (length r.moments)
 run_counts cs b r run marks h = moments_count marks b h r.moments run.of_words.whole run.of_words.words run.moments
 

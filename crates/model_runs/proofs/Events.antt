@@ -11,18 +11,19 @@ use Rattle.alp_io.specs.Report.{accepted_line, step_line}
 use Rattle.image_map.specs.MapValue.{MapValue}
 use Rattle.image_map.specs.Kept.{IsMap}
 use Rattle.fram_board.specs.Board.{BoardValue}
-use Rattle.fram_board.specs.Effects.{Effect, Outside}
+use Rattle.fram_board.specs.Effects.{Effect, Outside, Looked}
 use Rattle.fram_board.specs.Run.{word_list}
 use Rattle.board_run.specs.History.{shared_numbers, word_in, task_name, more_lines, changed_lines, transition_lines, with_word, with_words}
 use Rattle.board_run.specs.History.{completed}
 use Rattle.board_run.specs.History.{decided}
 use Rattle.board_run.specs.History as board
 use Rattle.machine_effects.specs.World.{World, world_after, readings_taken, EachStore}
+use Rattle.machine_effects.specs.Inputs.{Look, look_effects}
 use Rattle.machine_effects.proofs.Interface.{takes, world_after-append}
 use Rattle.crash_rules.specs.Model.{IsElsewhere, Marks}
 use Rattle.crash_rules.specs.History.{Done, History, is_done, is_decide, behind_decide, behind_done, behind_gate, observe}
 use Rattle.crash_rules.proofs.Interface.{observe-append, with_effects, observe_quiet, unchanged}
-use Rattle.model_runs.specs.Events.{TellsOf, last_world, counted, world_values, words_between, SaysAlike, word_lines, change_lines, done_lines, dones_lines}
+use Rattle.model_runs.specs.Events.{marks_of, IsInFront, TellsOf, last_world, counted, world_values, words_between, SaysAlike, word_lines, change_lines, done_lines, dones_lines}
 use Rattle.run_charges.proofs.Interface.{AtMostOne, NoWrite, AStore, AnOutside, OneWrite}
 use Rattle.model_runs.proofs.Places.{world_word, shared_in, values_same, changes_same}
 
@@ -36,14 +37,14 @@ takes_world (w ∷ ws) x = takes_world ws x
 
 -- effects behind which there is one event at most, by GATE before and behind all of them
 abbrev IsSeen : Marks → List Effect → History → Type 0
-IsSeen marks es k = observe marks es k ≡ behind_gate (k.world.fram marks.gate) ((world_after es k.world).fram marks.gate) (with_effects es k)
+IsSeen marks es k = observe marks es k ≡ behind_gate marks (k.world.fram marks.gate) ((world_after es k.world).fram marks.gate) (with_effects es k)
 
 seen_quiet : (marks : Marks) (es : List Effect) (k : History) → EachStore (IsElsewhere marks.gate) es
     → (world_after es k.world).fram ≡ k.world.fram → IsSeen marks es k
 seen_quiet marks es k off same =
     observe_quiet marks es k off
-    ∙ sym (unchanged (k.world.fram marks.gate) (with_effects es k))
-    ∙ ap (λ n. behind_gate (k.world.fram marks.gate) n (with_effects es k)) (ap (λ f. f marks.gate) (sym same))
+    ∙ sym (unchanged marks (k.world.fram marks.gate) (with_effects es k))
+    ∙ ap (λ n. behind_gate marks (k.world.fram marks.gate) n (with_effects es k)) (ap (λ f. f marks.gate) (sym same))
 
 seen_one : (marks : Marks) (es : List Effect) (k : History) → AtMostOne es → IsSeen marks es k
 seen_one marks es k (NoWrite e) = let P : List Effect → Type 0 = λ l. IsSeen marks l k in subst P (sym e) (seen_quiet marks [] k tt refl)
@@ -66,23 +67,42 @@ with_both ws es k =
     ∙ ap₂ (λ t l. record k { world = world_after (takes ws ++ es) k.world; taken = t; effects = l }) (count_both ws es k.taken)
     (append_assoc k.effects (takes ws) es)
 
+-- what is seen of readings taken, and then of one write at most
+seen_taking : (marks : Marks) (ws : List ℕ) (write : List Effect) (k : History) → AtMostOne write → IsSeen marks (takes ws ++ write) k
+seen_taking marks ws write k one =
+    let j = with_effects (takes ws) k in
+    let before : ℕ = j.world.fram marks.gate in
+    let now : ℕ = (world_after write j.world).fram marks.gate in
+    observe-append marks (takes ws) write k
+    ∙ ap (observe marks write) (observe_quiet marks (takes ws) k (takes_store (IsElsewhere marks.gate) ws))
+    ∙ seen_one marks write j one
+    ∙ ap (behind_gate marks before now) (with_both ws write k)
+    ∙ ap (λ y. behind_gate marks (y.fram marks.gate) now (with_effects (takes ws ++ write) k)) (takes_world ws k.world)
+    ∙ ap (λ y. behind_gate marks (k.world.fram marks.gate) (y.fram marks.gate) (with_effects (takes ws ++ write) k))
+    (sym (world_after-append (takes ws) write k.world))
+
+-- the same behind a look
+with_look : (look : Look) (es : List Effect) (k : History) → with_effects es (with_effects (Outside (Looked look) ∷ []) k) ≡ with_effects (Outside (Looked look) ∷ es) k
+with_look look es k =
+    ap₂ (λ t l. record k { world = world_after es (with_effects (Outside (Looked look) ∷ []) k).world; taken = t; effects = l })
+    (omega arith) (append_assoc k.effects (Outside (Looked look) ∷ []) es)
+
+seen_behind : (marks : Marks) (looks : List Look) (es : List Effect) (k : History) → ((j : History) → IsSeen marks es j)
+    → IsSeen marks (look_effects looks ++ es) k
+seen_behind marks [] es k all = all k
+seen_behind marks (look ∷ more) es k all =
+    let first : List Effect = Outside (Looked look) ∷ [] in
+    let j = with_effects first k in
+    ap (observe marks es) (observe_quiet marks first k (tt, tt))
+    ∙ all j
+    ∙ ap (behind_gate marks (k.world.fram marks.gate) ((world_after es j.world).fram marks.gate)) (with_look look es k)
+
 -- what is seen of an instruction, by GATE before and behind it
 pub seen : (marks : Marks) (es : List Effect) (k : History) → OneWrite es
-    → observe marks es k ≡ behind_gate (k.world.fram marks.gate) ((world_after es k.world).fram marks.gate) (with_effects es k)
+    → observe marks es k ≡ behind_gate marks (k.world.fram marks.gate) ((world_after es k.world).fram marks.gate) (with_effects es k)
 seen marks es k h =
-    let j = with_effects (takes h.words) k in
     let P : List Effect → Type 0 = λ l. IsSeen marks l k in
-    let before : ℕ = j.world.fram marks.gate in
-    let now : ℕ = (world_after h.write j.world).fram marks.gate in
-    let all : IsSeen marks (takes h.words ++ h.write) k =
-    observe-append marks (takes h.words) h.write k
-    ∙ ap (observe marks h.write) (observe_quiet marks (takes h.words) k (takes_store (IsElsewhere marks.gate) h.words))
-    ∙ seen_one marks h.write j h.one
-    ∙ ap (behind_gate before now) (with_both h.words h.write k)
-    ∙ ap (λ y. behind_gate (y.fram marks.gate) now (with_effects (takes h.words ++ h.write) k)) (takes_world h.words k.world)
-    ∙ ap (λ y. behind_gate (k.world.fram marks.gate) (y.fram marks.gate) (with_effects (takes h.words ++ h.write) k))
-    (sym (world_after-append (takes h.words) h.write k.world)) in
-    subst P (sym h.split) all
+    subst P (sym h.split) (seen_behind marks h.looks (takes h.words ++ h.write) k (λ j. seen_taking marks h.words h.write j h.one))
 
 -- the world behind one more done
 pub last-append : (x : World) (ds es : List Done) → last_world x (ds ++ es) ≡ last_world (last_world x ds) es
@@ -181,9 +201,13 @@ pub record Told (m : MapValue) (x : World) (k j : History) (lines : List ℕ) : 
   pub completed : j.completed ≡ k.completed ++ dones
   pub told : lines ≡ dones_lines m (counted (length k.completed)) (last_world x k.completed) dones
 
-module _ (m : MapValue) (x : World) (ok : IsMap m) (h : board.History) (k : History) (b : BoardValue) (a : SaysAlike m x h k) (t : TellsOf b k) (now : ℕ) where
+module _ (m : MapValue) (x : World) (ok : IsMap m) (front : IsInFront m) (h : board.History) (k : History) (b : BoardValue) (a : SaysAlike m x h k)
+    (t : TellsOf b k) (now : ℕ) where
+  abbrev marks : Marks
+  marks = marks_of m
+
   abbrev done : Done
-  done = record { span_from = k.span_from; span_to = k.span_to; world = k.world }
+  done = record { span_from = k.span_from; span_to = k.span_to; answers = k.answers; world = k.world }
 
   abbrev last : World
   last = last_world x k.completed
@@ -192,7 +216,7 @@ module _ (m : MapValue) (x : World) (ok : IsMap m) (h : board.History) (k : Hist
   there = last-append x k.completed (done ∷ [])
 
   task_now : word_in b.fram m.words.current_task ≡ k.world.fram m.words.current_task
-  task_now = world_word b k.world m.words.current_task t.fram ok.words.current_task
+  task_now = world_word b k.world m.words.current_task t.fram ok.words.current_task front.current_task
 
   done_alike : SaysAlike m x (record (completed m h b) { gate = now }) (behind_done k)
   done_alike =
@@ -201,7 +225,7 @@ module _ (m : MapValue) (x : World) (ok : IsMap m) (h : board.History) (k : Hist
         mapped = a.mapped;
         completed = ap risen a.completed ∙ ap counted more;
         task = task_now ∙ ap (λ y. y.fram m.words.current_task) (sym there);
-        shared = values_same b k.world (shared_numbers m.variables) t.fram (shared_in m.variables ok.variables)
+        shared = values_same b k.world (shared_numbers m.variables) t.fram (shared_in m.variables ok.variables front.variables)
             ∙ ap (λ y. world_values y (shared_numbers m.variables)) (sym there);
         words = [];
         words_are = ap (λ y. y.accepted) (sym there) ∙ sym (append-nil (last_world x (k.completed ++ done ∷ [])).accepted);
@@ -212,7 +236,7 @@ module _ (m : MapValue) (x : World) (ok : IsMap m) (h : board.History) (k : Hist
         span_to = a.span_to;
       }
 
-  decide_alike : SaysAlike m x (record (decided h b) { gate = now }) (behind_decide k)
+  decide_alike : SaysAlike m x (record (decided h b) { gate = now }) (behind_decide marks k)
   decide_alike = record {
     mapped = a.mapped;
     completed = a.completed;
@@ -242,14 +266,14 @@ module _ (m : MapValue) (x : World) (ok : IsMap m) (h : board.History) (k : Hist
     span_to = a.span_to;
   }
 
-  pub event_alike : (before : ℕ) → SaysAlike m x (gated_from m h b before now) (behind_gate before now k)
+  pub event_alike : (before : ℕ) → SaysAlike m x (gated_from m h b before now) (behind_gate marks before now k)
   event_alike before =
       elim (is_done before now) as (λ p. SaysAlike m x
       (record (if p then completed m h b else if is_decide before now then decided h b else h) { gate = now })
-      (cond p (behind_done k) (cond (is_decide before now) (behind_decide k) k))) [
+      (cond p (behind_done k) (cond (is_decide before now) (behind_decide marks k) k))) [
         | true ↦ done_alike
         | false ↦ elim (is_decide before now) as (λ q. SaysAlike m x
-            (record (if q then decided h b else h) { gate = now }) (cond q (behind_decide k) k)) [ true ↦ decide_alike | false ↦ same_alike ]
+            (record (if q then decided h b else h) { gate = now }) (cond q (behind_decide marks k) k)) [ true ↦ decide_alike | false ↦ same_alike ]
       ]
 
   words_same : words_between last k.world ≡ a.words
@@ -267,7 +291,7 @@ module _ (m : MapValue) (x : World) (ok : IsMap m) (h : board.History) (k : Hist
   change_same : changed_lines (shared_numbers m.variables) h.shared b.fram ≡ change_lines (shared_numbers m.variables) last k.world
   change_same =
       ap (λ l. changed_lines (shared_numbers m.variables) l b.fram) a.shared
-      ∙ changes_same b last k.world (shared_numbers m.variables) t.fram (shared_in m.variables ok.variables)
+      ∙ changes_same b last k.world (shared_numbers m.variables) t.fram (shared_in m.variables ok.variables front.variables)
 
   other_lines : flat_map accepted_line h.accepted ++ (more_lines h.more ++ changed_lines (shared_numbers m.variables) h.shared b.fram)
       ≡ word_lines (words_between last k.world) ++ change_lines (shared_numbers m.variables) last k.world
@@ -288,13 +312,13 @@ module _ (m : MapValue) (x : World) (ok : IsMap m) (h : board.History) (k : Hist
   none_told : (j : History) → j.completed ≡ k.completed → Told m x k j []
   none_told j e = record { dones = []; completed = e ∙ sym (append-nil k.completed); told = refl }
 
-  pub event_told : (before : ℕ) → Told m x k (behind_gate before now k) (gate_lines m h b before now)
+  pub event_told : (before : ℕ) → Told m x k (behind_gate marks before now k) (gate_lines m h b before now)
   event_told before =
       elim (is_done before now) as (λ p. Told m x k
-      (cond p (behind_done k) (cond (is_decide before now) (behind_decide k) k)) (if p then transition_lines m h b else [])) [
+      (cond p (behind_done k) (cond (is_decide before now) (behind_decide marks k) k)) (if p then transition_lines m h b else [])) [
         | true ↦ done_told
-        | false ↦ elim (is_decide before now) as (λ q. Told m x k (cond q (behind_decide k) k) []) [
-          | true ↦ none_told (behind_decide k) refl
+        | false ↦ elim (is_decide before now) as (λ q. Told m x k (cond q (behind_decide marks k) k) []) [
+          | true ↦ none_told (behind_decide marks k) refl
           | false ↦ none_told k refl
         ]
       ]

@@ -1,33 +1,30 @@
 -- The two histories over the moments of a run.
 use Rattle.std.proofs.Common.{◌≡◌, ℕ, suc, ◌+◌, ◌%◌, refl, sym, ap, ap₂, ◌∙◌, subst, arith, List, [], ◌∷◌, ◌++◌, length, append_assoc, length-append}
-use Rattle.std.proofs.Common.{append-nil, Some, Ok}
-use Rattle.msp_isa.specs.declared.instructions.Instr.{Instr}
+use Rattle.std.proofs.Common.{append-nil, Option, Some}
 use Rattle.image_map.specs.MapValue.{MapValue}
 use Rattle.image_map.specs.Kept.{IsMap}
-use Rattle.fram_board.specs.declared.board.NextStep.TheVariants as next_step
 use Rattle.fram_board.specs.declared.board.Stepped.{Stepped}
-use Rattle.fram_board.specs.Board.{BoardValue, PowerState, powered, executed, at_boundary, IsNextInstruction}
+use Rattle.fram_board.specs.Board.{BoardValue, PowerState, powered}
 use Rattle.fram_board.specs.Saved.{TakesNextBehind}
 use Rattle.fram_board.specs.Steps.{IsPowerState}
 use Rattle.fram_board.specs.Effects.{Effect}
-use Rattle.fram_board.specs.Run.{Moment, moment_of, power_up_of, word_list}
+use Rattle.fram_board.specs.Run.{StepKind, Moment, power_up_of, word_list}
 use Rattle.board_run.specs.History.{moment_lines, noted, word_in, with_words, behind_power_up, behind_instruction, instruction_lines, start_with}
 use Rattle.board_run.specs.History.{shared_numbers}
 use Rattle.board_run.specs.History as board
 use Rattle.board_run.specs.Report.{lines_from, after_all}
 use Rattle.machine_effects.specs.World.{World, fram_after, world_after}
-use Rattle.machine_effects.specs.View.{IsWhole, IsOfWords, IsMachines}
+use Rattle.machine_effects.specs.View.{IsWhole, IsOfWords}
 use Rattle.machine_effects.specs.Runs.{last_board}
 use Rattle.machine_effects.proofs.Interface.{world_by_its_parts, power_up_keeps_words}
 use Rattle.crash_rules.specs.Model.{Marks}
 use Rattle.crash_rules.specs.History.{Done, History, behind_boot, behind_gate, first_history, observe}
 use Rattle.crash_rules.proofs.Interface.{with_effects, observed_world, observed_taken}
-use Rattle.run_charges.specs.View.{outside_of, outside_effects, Follows, IsMomentFrom, PowersUp, Instructs, AreMoments}
+use Rattle.run_charges.specs.View.{outside_of, outside_effects, Follows, IsMomentFrom, AreMoments}
 use Rattle.run_charges.specs.Charges.{behind_moment, observed}
-use Rattle.model_runs.specs.Events.{marks_of, TellsOf, last_world, counted, SaysAlike, SaysTheSame, done_lines, dones_lines}
+use Rattle.model_runs.specs.Events.{marks_of, IsInFront, TellsOf, last_world, counted, SaysAlike, SaysTheSame, done_lines, dones_lines}
 use Rattle.model_runs.specs.EventLaws.{HistoriesStayTheSame, FirstHistoriesAreTheSame}
-use Rattle.run_charges.proofs.Interface.{follows_keeps, front_moments, whole_after, words_after, fram_changed, one_write}
-use Rattle.run_charges.proofs.Interface.{words_accepted, words_counted, readings_counted}
+use Rattle.run_charges.proofs.Interface.{follows_keeps, front_moments, stepped, Steps, IsPowerOrStep, IsPower, IsStepped, moment_is}
 use Rattle.model_runs.proofs.Places.{world_word, shared_in, values_same}
 use Rattle.model_runs.proofs.Events.{seen, last-append, words_keep_gate, gated_from, gate_lines, Told, event_alike, event_told, words_told}
 
@@ -58,7 +55,7 @@ pub record Leads (m : MapValue) (x : World) (b : BoardValue) (h : board.History)
   pub together : Together m x b h j
   pub told : Told m x k j lines
 
-module _ (m : MapValue) (x : World) (ok : IsMap m) where
+module _ (m : MapValue) (x : World) (ok : IsMap m) (front : IsInFront m) where
   abbrev gate : ℕ
   gate = m.words.gate
 
@@ -114,14 +111,11 @@ module _ (m : MapValue) (x : World) (ok : IsMap m) where
           told = subst Q (sym no_lines) none;
         }
 
-  -- an instruction
-  module _ (b : BoardValue) (h : board.History) (k : History) (t : Together m x b h k) (i : Instr) (done : Stepped) (current : IsNextInstruction b i)
-      (answer : (executed b i).answer ≡ Ok done) (own : IsMachines b i) where
-    abbrev after : BoardValue
-    after = at_boundary (executed b i).board
-
+  -- a step, of the program or of the handler
+  module _ (b : BoardValue) (h : board.History) (k : History) (t : Together m x b h k) (kind : StepKind) (done : Stepped) (offered : Option ℕ)
+      (after : BoardValue) (step : Steps b (stepped b kind done offered after)) where
     abbrev es : List Effect
-    es = outside_effects (moment_of b (next_step.Instruction i) done)
+    es = outside_effects (stepped b kind done offered after)
 
     abbrev ws : List ℕ
     ws = word_list done.accepted
@@ -139,44 +133,40 @@ module _ (m : MapValue) (x : World) (ok : IsMap m) where
     now = word_in after.fram gate
 
     fram_now : (world_after es k.world).fram ≡ (outside_of after).fram
-    fram_now =
-        ap (λ y. y.fram) (world_by_its_parts es k.world)
-        ∙ ap (fram_after es) t.tells.fram
-        ∙ sym (fram_changed b t.whole i done current answer own)
+    fram_now = ap (λ y. y.fram) (world_by_its_parts es k.world) ∙ ap (fram_after es) t.tells.fram ∙ sym step.fram
 
     accepted_now : (world_after es k.world).accepted ≡ k.world.accepted ++ ws
-    accepted_now = ap (λ y. y.accepted) (world_by_its_parts es k.world) ∙ words_accepted b t.whole i done current answer own k.world.accepted t.tells.accepted
+    accepted_now = ap (λ y. y.accepted) (world_by_its_parts es k.world) ∙ step.accepted k.world.accepted t.tells.accepted
 
     taken_now : moved.taken ≡ after.taken
-    taken_now = readings_counted b t.whole i done current answer own k t.tells.taken
+    taken_now = step.taken k t.tells.taken
 
     count_now : TakesNextBehind (world_after es k.world).accepted after.receiver
-    count_now = ap (λ y. length y.accepted % 0x10000) (world_by_its_parts es k.world) ∙ words_counted b t.whole i done current answer own k.world.accepted
-        t.tells.accepted
+    count_now = ap (λ y. length y.accepted % 0x10000) (world_by_its_parts es k.world) ∙ step.counted k.world.accepted t.tells.accepted
 
     moved_tells : TellsOf after moved
     moved_tells = record { fram = fram_now; accepted = count_now; taken = taken_now }
 
     gate_now : now ≡ (world_after es k.world).fram gate
-    gate_now = world_word after (world_after es k.world) gate fram_now ok.words.gate
+    gate_now = world_word after (world_after es k.world) gate fram_now ok.words.gate front.gate
 
     alike_moved : SaysAlike m x spoken moved
     alike_moved = words_told m x h k es done.accepted t.same.alike accepted_now
 
-    -- what is observed of this instruction
-    pub observed_so : observe marks es k ≡ behind_gate before now moved
-    observed_so = seen marks es k (one_write b t.whole i done current answer own) ∙ ap (λ n. behind_gate before n moved) (sym gate_now)
+    -- what is observed of this step
+    pub observed_so : observe marks es k ≡ behind_gate marks before now moved
+    observed_so = seen marks es k step.one ∙ ap (λ n. behind_gate marks before n moved) (sym gate_now)
 
     gate_before : spoken.gate ≡ before
     gate_before = words_keep_gate h done.accepted ∙ t.same.gate
 
-    noted_so : noted h (moment_of b (next_step.Instruction i) done) ≡ gated_from m spoken after before now
+    noted_so : noted h (stepped b kind done offered after) ≡ gated_from m spoken after before now
     unfolding noted
     noted_so =
         ap (λ o. behind_instruction o h ws after) t.same.alike.mapped
         ∙ ap (λ n. gated_from m spoken after n now) gate_before
 
-    lines_so : moment_lines h (moment_of b (next_step.Instruction i) done) ≡ gate_lines m spoken after before now
+    lines_so : moment_lines h (stepped b kind done offered after) ≡ gate_lines m spoken after before now
     unfolding moment_lines
     lines_so =
         ap (λ o. instruction_lines o h ws after) t.same.alike.mapped
@@ -187,7 +177,7 @@ module _ (m : MapValue) (x : World) (ok : IsMap m) where
         let P : History → Type 0 = λ y. SaysAlike m x (gated_from m spoken after before now) y in
         let world = observed_world marks es k in
         record {
-          alike = subst P (sym observed_so) (event_alike m x ok spoken moved after alike_moved moved_tells now before);
+          alike = subst P (sym observed_so) (event_alike m x ok front spoken moved after alike_moved moved_tells now before);
           gate = gate_now ∙ ap (λ y. y.fram gate) (sym world);
         }
 
@@ -200,26 +190,21 @@ module _ (m : MapValue) (x : World) (ok : IsMap m) where
           taken = observed_taken marks es k ∙ taken_now;
         }
 
-    behind_told : Told m x k (observe marks es k) (moment_lines h (moment_of b (next_step.Instruction i) done))
+    behind_told : Told m x k (observe marks es k) (moment_lines h (stepped b kind done offered after))
     behind_told =
         let P : History → Type 0 = λ y. Told m x k y (gate_lines m spoken after before now) in
         let Q : List ℕ → Type 0 = λ l. Told m x k (observe marks es k) l in
-        let event : Told m x moved (behind_gate before now moved) (gate_lines m spoken after before now) =
-        event_told m x ok spoken moved after alike_moved moved_tells now before in
-        let same : Told m x k (behind_gate before now moved) (gate_lines m spoken after before now) =
+        let event : Told m x moved (behind_gate marks before now moved) (gate_lines m spoken after before now) =
+        event_told m x ok front spoken moved after alike_moved moved_tells now before in
+        let same : Told m x k (behind_gate marks before now moved) (gate_lines m spoken after before now) =
         record { dones = event.dones; completed = event.completed; told = event.told } in
         subst Q (sym lines_so) (subst P (sym observed_so) same)
 
-    instruction_leads : let o = moment_of b (next_step.Instruction i) done in Leads m x after (noted h o) k (observe marks es k) (moment_lines h o)
-    instruction_leads =
+    step_leads : let o = stepped b kind done offered after in Leads m x after (noted h o) k (observe marks es k) (moment_lines h o)
+    step_leads =
         let P : board.History → Type 0 = λ y. SaysTheSame m x y (observe marks es k) in
         record {
-          together = record {
-            whole = whole_after b t.whole i done current answer own;
-            words = words_after b t.whole i done current answer own t.words;
-            same = subst P (sym noted_so) behind_same;
-            tells = behind_tells;
-          };
+          together = record { whole = step.whole; words = step.words; same = subst P (sym noted_so) behind_same; tells = behind_tells };
           told = behind_told;
         }
 
@@ -227,11 +212,15 @@ module _ (m : MapValue) (x : World) (ok : IsMap m) where
   abbrev MomentLeads : BoardValue → board.History → History → Moment → Type 0
   MomentLeads b h k o = Leads m x o.after (noted h o) k (behind_moment marks o k) (moment_lines h o)
 
+  leads_by : (b : BoardValue) (h : board.History) (k : History) → Together m x b h k → (o : Moment) → IsPowerOrStep b o → MomentLeads b h k o
+  leads_by b h k t o (IsPower p start e) = let P : Moment → Type 0 = λ y. MomentLeads b h k y in subst P (sym e) (boot_leads b h k t p start)
+  leads_by b h k t o (IsStepped s) =
+      let P : Moment → Type 0 = λ y. Steps b y → MomentLeads b h k y in
+      subst P (sym s.is) (λ step. step_leads b h k t s.kind s.done s.offered s.after step) s
+
   -- a moment leads both histories on
   pub moment_leads : (b : BoardValue) (h : board.History) (k : History) → Together m x b h k → (o : Moment) → IsMomentFrom b o → MomentLeads b h k o
-  moment_leads b h k t o (PowersUp p start e) = let P : Moment → Type 0 = λ y. MomentLeads b h k y in subst P (sym e) (boot_leads b h k t p start)
-  moment_leads b h k t o (Instructs i done c a own e) =
-      let P : Moment → Type 0 = λ y. MomentLeads b h k y in subst P (sym e) (instruction_leads b h k t i done c a own)
+  moment_leads b h k t o from = leads_by b h k t o (moment_is b o t.whole t.words from)
 
   -- dones behind dones
   lines-append : (j : ℕ) (w : World) (ds es : List Done) → dones_lines m (counted j) w (ds ++ es)
@@ -269,21 +258,21 @@ module _ (m : MapValue) (x : World) (ok : IsMap m) where
       record { together = rest.together; told = told_join k j (observed marks ms j) (moment_lines h o) (lines_from (noted h o) ms) one.told rest.told }
 
 pub histories_stay_the_same : HistoriesStayTheSame
-histories_stay_the_same cs b r ms rest run e m x h k ok same tells =
+histories_stay_the_same cs b r ms rest run e m x h k ok front same tells =
     let all_words = run.of_words in
     let t : Together m x b h k = record { whole = all_words.whole; words = all_words.words; same = same; tells = tells } in
-    let all = moments_lead m x ok b h k ms t (front_moments b r ms rest run.moments e) in
+    let all = moments_lead m x ok front b h k ms t (front_moments b r ms rest run.moments e) in
     (all.together.same, all.together.tells)
 
 -- the two histories begin the same
 pub first_histories_are_the_same : FirstHistoriesAreTheSame
-first_histories_are_the_same b m x ok s =
+first_histories_are_the_same b m x ok front s =
     let alike : SaysAlike m x (start_with b.fram (Some m)) (first_history (marks_of m) x) =
     record {
       mapped = refl;
       completed = refl;
-      task = world_word b x m.words.current_task s.fram ok.words.current_task;
-      shared = values_same b x (shared_numbers m.variables) s.fram (shared_in m.variables ok.variables);
+      task = world_word b x m.words.current_task s.fram ok.words.current_task front.current_task;
+      shared = values_same b x (shared_numbers m.variables) s.fram (shared_in m.variables ok.variables front.variables);
       words = [];
       words_are = sym (append-nil x.accepted);
       accepted = refl;
@@ -292,6 +281,6 @@ first_histories_are_the_same b m x ok s =
       span_from = refl;
       span_to = refl;
     } in (
-      record { alike = alike; gate = world_word b x m.words.gate s.fram ok.words.gate },
+      record { alike = alike; gate = world_word b x m.words.gate s.fram ok.words.gate front.gate },
       record { fram = s.fram; accepted = s.accepted; taken = sym s.taken },
     )

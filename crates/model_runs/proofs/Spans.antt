@@ -36,12 +36,12 @@ go-append : (ds : List Done) (d : Done) → GoForwards ds → d.span_from ≤ d.
 go-append [] d h l = (l, tt)
 go-append (e ∷ ds) d h l = (h.0, go-append ds d h.1 l)
 
-event_forwards : (before now : ℕ) (h : History) → Forwards h → Forwards (behind_gate before now h)
-event_forwards before now h f =
-    let done : Done = record { span_from = h.span_from; span_to = h.span_to; world = h.world } in
-    elim (is_done before now) as (λ b. Forwards (cond b (behind_done h) (cond (is_decide before now) (behind_decide h) h))) [
+event_forwards : (marks : Marks) (before now : ℕ) (h : History) → Forwards h → Forwards (behind_gate marks before now h)
+event_forwards marks before now h f =
+    let done : Done = record { span_from = h.span_from; span_to = h.span_to; answers = h.answers; world = h.world } in
+    elim (is_done before now) as (λ b. Forwards (cond b (behind_done h) (cond (is_decide before now) (behind_decide marks h) h))) [
       | true ↦ record { since = omega arith; span = f.span; dones = go-append h.completed done f.dones f.span }
-      | false ↦ elim (is_decide before now) as (λ b. Forwards (cond b (behind_decide h) h)) [
+      | false ↦ elim (is_decide before now) as (λ b. Forwards (cond b (behind_decide marks h) h)) [
         | true ↦ record { since = f.since; span = f.since; dones = f.dones }
         | false ↦ f
       ]
@@ -53,7 +53,7 @@ one_forwards e h f = let l = f.since in record { since = omega (arith, l); span 
 forwards : (marks : Marks) (es : List Effect) (h : History) → Forwards h → Forwards (observe marks es h)
 forwards marks [] h f = f
 forwards marks (e ∷ es) h f = forwards marks es (observe_one marks e h)
-    (event_forwards (h.world.fram marks.gate) ((world_after_one e h.world).fram marks.gate) (with_effect e h) (one_forwards e h f))
+    (event_forwards marks (h.world.fram marks.gate) ((world_after_one e h.world).fram marks.gate) (with_effect e h) (one_forwards e h f))
 
 action_forwards : (marks : Marks) (a : Action) (es : List Effect) (h : History) → Forwards h → Forwards (behind_action marks a es h)
 action_forwards marks PowerUp es h f = record { since = omega arith; span = f.span; dones = f.dones }

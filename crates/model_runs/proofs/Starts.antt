@@ -1,28 +1,25 @@
 -- The world at the last boot or done is the world of a front.
-use Rattle.std.proofs.Common.{◌≡◌, ℕ, refl, sym, ap, subst, true, false, cond, List, [], ◌∷◌, ◌++◌, Ok}
-use Rattle.msp_isa.specs.declared.instructions.Instr.{Instr}
-use Rattle.fram_board.specs.declared.board.NextStep.TheVariants as next_step
-use Rattle.fram_board.specs.declared.board.Stepped.{Stepped}
-use Rattle.fram_board.specs.Board.{BoardValue, executed, IsNextInstruction}
+use Rattle.std.proofs.Common.{◌≡◌, ℕ, refl, sym, ap, ◌∙◌, subst, true, false, cond, List, [], ◌∷◌, ◌++◌}
+use Rattle.fram_board.specs.Board.{BoardValue}
 use Rattle.fram_board.specs.Effects.{Effect}
-use Rattle.fram_board.specs.Run.{Moment, moment_of}
+use Rattle.fram_board.specs.Run.{Moment}
 use Rattle.machine_effects.specs.World.{World, world_after}
-use Rattle.machine_effects.specs.View.{IsWhole, IsOfWords, IsMachines}
+use Rattle.machine_effects.specs.View.{IsWhole, IsOfWords}
 use Rattle.machine_effects.proofs.Interface.{power_up_keeps_words}
 use Rattle.crash_rules.specs.Model.{Marks}
 use Rattle.crash_rules.specs.History.{History, is_done, is_decide, behind_done, behind_decide, behind_gate}
 use Rattle.crash_rules.proofs.Interface.{with_effects, observed_world}
-use Rattle.run_charges.specs.View.{IsMomentFrom, PowersUp, Instructs, AreMoments}
+use Rattle.run_charges.specs.View.{outside_effects, IsMomentFrom, AreMoments}
 use Rattle.run_charges.specs.Charges.{behind_moment, observed}
-use Rattle.run_charges.proofs.Interface.{follows_keeps, told, whole_after, words_after, one_write}
+use Rattle.run_charges.proofs.Interface.{follows_keeps, Steps, IsPowerOrStep, IsPower, IsStepped, moment_is, step_is_observed}
 use Rattle.model_runs.proofs.Events.{seen}
 
 -- behind a change of GATE the last boot or done is the one before, or now
-gate_start : (P : World → Type 0) (before now : ℕ) (h : History) → P h.start → P h.world → P (behind_gate before now h).start
-gate_start P before now h start world =
-    elim (is_done before now) as (λ b. P (cond b (behind_done h) (cond (is_decide before now) (behind_decide h) h)).start) [
+gate_start : (P : World → Type 0) (marks : Marks) (before now : ℕ) (h : History) → P h.start → P h.world → P (behind_gate marks before now h).start
+gate_start P marks before now h start world =
+    elim (is_done before now) as (λ b. P (cond b (behind_done h) (cond (is_decide before now) (behind_decide marks h) h)).start) [
       | true ↦ world
-      | false ↦ elim (is_decide before now) as (λ b. P (cond b (behind_decide h) h).start) [ true ↦ start | false ↦ start ]
+      | false ↦ elim (is_decide before now) as (λ b. P (cond b (behind_decide marks h) h).start) [ true ↦ start | false ↦ start ]
     ]
 
 module _ (P : World → Type 0) (marks : Marks) where
@@ -33,34 +30,33 @@ module _ (P : World → Type 0) (marks : Marks) where
     pub start : P k.start
     pub world : P k.world
 
-  -- an instruction
-  module _ (b : BoardValue) (k : History) (h : Begun b k) (i : Instr) (done : Stepped) (current : IsNextInstruction b i)
-      (answer : (executed b i).answer ≡ Ok done) (own : IsMachines b i) where
-    abbrev es : List Effect
-    es = told b h.whole i done current answer own
-
-    behind_instruction : let m = moment_of b (next_step.Instruction i) done in let j = behind_moment marks m k in P j.world → Begun m.after j
-    behind_instruction now =
-        let Q : World → Type 0 = λ y. P y in
-        let R : History → Type 0 = λ y. P y.start in
-        let world : P (world_after es k.world) = subst Q (observed_world marks es k) now in
-        record {
-          whole = whole_after b h.whole i done current answer own;
-          words = words_after b h.whole i done current answer own h.words;
-          start = subst R (sym (seen marks es k (one_write b h.whole i done current answer own)))
-              (gate_start P (k.world.fram marks.gate) ((world_after es k.world).fram marks.gate) (with_effects es k) h.start world);
-          world = now;
-        }
-
-  begun_behind : (b : BoardValue) (k : History) → Begun b k → (m : Moment) → IsMomentFrom b m → P (behind_moment marks m k).world
+  -- a step
+  behind_step : (b : BoardValue) (k : History) → Begun b k → (m : Moment) → Steps b m → P (behind_moment marks m k).world
       → Begun m.after (behind_moment marks m k)
-  begun_behind b k h m (PowersUp p ok e) now =
+  behind_step b k h m s now =
+      let es : List Effect = outside_effects m in
+      let observed_so = step_is_observed marks b m k s in
+      let Q : History → Type 0 = λ y. P y.start in
+      let world : P (world_after es k.world) = subst P (ap (λ (y : History). y.world) observed_so ∙ observed_world marks es k) now in
+      record {
+        whole = s.whole;
+        words = s.words;
+        start = subst Q (sym (observed_so ∙ seen marks es k s.one))
+            (gate_start P marks (k.world.fram marks.gate) ((world_after es k.world).fram marks.gate) (with_effects es k) h.start world);
+        world = now;
+      }
+
+  begun_by : (b : BoardValue) (k : History) → Begun b k → (m : Moment) → IsPowerOrStep b m → P (behind_moment marks m k).world
+      → Begun m.after (behind_moment marks m k)
+  begun_by b k h m (IsPower p ok e) now =
       let Q : Moment → Type 0 = λ y. Begun y.after (behind_moment marks y k) in
       let up = power_up_keeps_words b p h.whole h.words ok in
       subst Q (sym e) (record { whole = up.0; words = up.1; start = h.world; world = h.world })
-  begun_behind b k h m (Instructs i done c a own e) now =
-      let Q : Moment → Type 0 = λ y. P (behind_moment marks y k).world → Begun y.after (behind_moment marks y k) in
-      subst Q (sym e) (behind_instruction b k h i done c a own) now
+  begun_by b k h m (IsStepped s) now = behind_step b k h m s now
+
+  begun_behind : (b : BoardValue) (k : History) → Begun b k → (m : Moment) → IsMomentFrom b m → P (behind_moment marks m k).world
+      → Begun m.after (behind_moment marks m k)
+  begun_behind b k h m from now = begun_by b k h m (moment_is b m h.whole h.words from) now
 
   -- what holds of the world at each front, and at first of the last boot or done, holds of the last boot or done behind all moments
   pub starts_hold : (b : BoardValue) (k : History) (ms : List Moment) → IsWhole b → IsOfWords b → AreMoments b ms → P k.start

@@ -1,10 +1,10 @@
--- Each event that arose in a plain run waits in EVENT, or was lost there.
-use Rattle.std.proofs.Common.{◌≡◌, ℕ, ◌+◌, nat_le, refl, sym, subst, arith, true, false, if◌then◌else◌, List, [], ◌∷◌, Option, Some, None}
+-- Where no moment is the handler's, each event that arose in a run waits in EVENT, or was lost there.
+use Rattle.std.proofs.Common.{◌≡◌, ℕ, ◌+◌, nat_le, refl, sym, ap, ◌∙◌, subst, arith, true, false, if◌then◌else◌, List, [], ◌∷◌, Option, Some, None}
 use Rattle.fram_board.specs.Events.{EventLine, words_in, port_behind, arising, arising_due, line_behind_step}
 use Rattle.fram_board.specs.Board.{BoardValue}
 use Rattle.fram_board.specs.Run.{Moment}
 use Rattle.machine_effects.specs.Runs.{last_board}
-use Rattle.run_charges.specs.View.{IsMomentFrom, PowersUp, Instructs, AreMoments}
+use Rattle.run_charges.specs.View.{NoneServes, is_handlers, IsMomentFrom, PowersUp, Instructs, Serves, AreMoments}
 
 -- each event that arose waits in the port, or was lost there
 abbrev pub AreWaiting : EventLine → Type 0
@@ -25,18 +25,21 @@ due_wait (e ∷ es) q h =
       | false ↦ h
     ]
 
-moment_waits : (b : BoardValue) (m : Moment) → AreWaiting b.line → IsMomentFrom b m → AreWaiting m.after.line
-moment_waits b m h (PowersUp p ok e) =
+moment_waits : (b : BoardValue) (m : Moment) → AreWaiting b.line → IsMomentFrom b m → is_handlers m ≡ false → AreWaiting m.after.line
+moment_waits b m h (PowersUp p ok e) none =
     let P : Moment → Type 0 = λ y. AreWaiting y.after.line in
     subst P (sym e) (due_wait b.line.coming _ (let all : b.line.arisen ≡ b.line.missed + words_in b.line.port + 0 = omega (arith, h) in all))
-moment_waits b m h (Instructs i done c a own e) =
+moment_waits b m h (Instructs i done c a own e) none =
     let P : Moment → Type 0 = λ y. AreWaiting y.after.line in
     let Q : EventLine → Type 0 = λ q. AreWaiting (line_behind_step q) in
     subst P (sym e) (subst Q (sym own.line) (due_wait b.line.coming _ h))
 
--- and so it is behind the moments of a plain run
-pub moments_wait : (b : BoardValue) (ms : List Moment) → AreWaiting b.line → AreMoments b ms → AreWaiting (last_board b ms).line
-moments_wait b [] h are = h
-moments_wait b (m ∷ ms) h are =
+moment_waits b m h (Serves n done next a served e) none =
+    let no : true ≡ false = sym served.handlers ∙ ap is_handlers (sym e) ∙ none in absurd cc
+
+-- and so it is behind such moments
+pub moments_wait : (b : BoardValue) (ms : List Moment) → AreWaiting b.line → AreMoments b ms → NoneServes ms → AreWaiting (last_board b ms).line
+moments_wait b [] h are none = h
+moments_wait b (m ∷ ms) h are none =
     let P : BoardValue → Type 0 = λ y. AreWaiting y.line in
-    moments_wait m.after ms (moment_waits m.before m (subst P (sym are.0.same) h) are.1) are.2
+    moments_wait m.after ms (moment_waits m.before m (subst P (sym are.0.same) h) are.1 none.0) are.2 none.1

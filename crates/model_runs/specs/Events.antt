@@ -1,21 +1,35 @@
 -- The events of a board's run, read off its effects; what is known of the run so far by them; and the lines of its report as a
 -- function of its dones.
-use Rattle.std.specs.Prelude.{◌≡◌, ℕ, zero, suc, ◌-◌, List, [], ◌∷◌, ◌++◌, length, map, flat_map, take, drop, Some}
+use Rattle.std.specs.Prelude.{◌≡◌, ℕ, zero, suc, ◌+◌, ◌-◌, ◌*◌, ◌<◌, ◌≤◌, All, IfSome, List, [], ◌∷◌, ◌++◌, length, map, flat_map, take, drop, Option, Some, None}
 use Rattle.alp_io.specs.Count.{risen}
 use Rattle.alp_io.specs.Report.{accepted_line, step_line}
-use Rattle.image_map.specs.MapValue.{MapValue}
+use Rattle.image_map.specs.declared.parts.RingPlaces.{RingPlaces}
+use Rattle.image_map.specs.MapValue.{MapValue, word_count}
 use Rattle.fram_board.specs.Board.{BoardValue}
 use Rattle.fram_board.specs.Saved.{TakesNextBehind}
 use Rattle.board_run.specs.History.{SharedNumber, number_of, shared_numbers, task_name, changed_line, more_lines}
 use Rattle.board_run.specs.History as board
+use Rattle.machine_effects.specs.event_places.Places.{handler_place}
 use Rattle.machine_effects.specs.World.{World}
 use Rattle.crash_rules.specs.Model.{Marks}
 use Rattle.crash_rules.specs.History.{Done, History}
 use Rattle.run_charges.specs.View.{outside_of}
 
+-- where ANS is, if a map has a ring
+abbrev pub answer_in : Option RingPlaces → Option ℕ
+answer_in None = None
+answer_in (Some ring) = Some ring.answer
+
 -- what happens in a run is told by the words that a map names
 abbrev pub marks_of : MapValue → Marks
-marks_of m = record { gate = m.words.gate }
+marks_of m = record { gate = m.words.gate; answer = answer_in m.ring }
+
+-- the words of a map of which a run's report tells stand in front of the handler, which writes none of them
+pub record IsInFront (m : MapValue) : Type 0 where
+  pub gate : m.words.gate < handler_place
+  pub current_task : m.words.current_task < handler_place
+  pub variables : All (λ v. v.address + 2 * word_count v.value_type v.length ≤ handler_place) m.variables
+  pub answer : IfSome m.ring (λ ring. ring.answer < handler_place)
 
 -- a history tells of this board: its FRAM, the word that its receiver takes next, how many readings were taken
 pub record TellsOf (b : BoardValue) (k : History) : Type 0 where

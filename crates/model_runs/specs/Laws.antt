@@ -12,7 +12,7 @@ use Rattle.crash_rules.specs.Runs.{Program}
 use Rattle.crash_rules.specs.Laws.{Origin, Resting, Pending, IsLawful, Matches, TaskCosts, CoversTasks, ScriptsStore}
 use Rattle.run_charges.specs.View.{outside_of}
 use Rattle.run_charges.specs.Charges.{observed}
-use Rattle.run_charges.specs.Laws.{IsRunOfWords, IsPlainRun}
+use Rattle.run_charges.specs.Laws.{IsRunOfWords, IsProgramRun}
 use Rattle.model_runs.specs.Runs.{BearsModel, history_behind, IsShort, Progresses, all_amounts, AreInOrder, AreInOrderPast}
 
 -- what is known behind each front of a run stands for a run of the source, and the board is so
@@ -27,7 +27,8 @@ StopsWhereShort {St} m c = (readings : List ℕ) (origin : Origin St) (x : World
     → IsRunOfWords cs b r → BearsModel m c readings origin x b → (e : Stop) → r.ending ≡ Stopped e
     → (e ≡ stop.NoReading) × IsShort m readings origin (history_behind m x r.moments)
 
--- each charge that is spent has as many dones as it has bounds; and is less than what its transitions cost and the one that was to come
+-- each charge that is spent has as many dones as it has bounds beside what events take; and is less than that and what its transitions cost and
+-- the one that was to come
 abbrev pub MakesProgress : {St : Type 0} → Model St → Program → Type 0
 MakesProgress {St} m c = (readings : List ℕ) (origin : Origin St) (x : World) (cs : List BoardCharge) (b : BoardValue) (r : RunOutcome)
     → IsRunOfWords cs b r → BearsModel m c readings origin x b → (costs : TaskCosts) → CoversTasks m origin costs
@@ -54,11 +55,11 @@ WordsStayWithin {St} m c P = (readings : List ℕ) (origin : Origin St) (x : Wor
 
 -- no more readings are taken than there are
 abbrev pub TakesWhatIsThere : Type 0
-TakesWhatIsThere = (cs : List BoardCharge) (b : BoardValue) (r : RunOutcome) → IsPlainRun cs b r → (marks : Marks) (h : History) → h.taken ≡ b.taken
+TakesWhatIsThere = (cs : List BoardCharge) (b : BoardValue) (r : RunOutcome) → IsProgramRun cs b r → (marks : Marks) (h : History) → h.taken ≡ b.taken
     → h.since ≤ h.taken
     → (observed marks r.moments h).since ≤ length b.readings
 
 -- a run has no more dones than its charges have cycles or instructions
 abbrev pub DonesAreFew : Type 0
-DonesAreFew = (cs : List BoardCharge) (b : BoardValue) (r : RunOutcome) → IsPlainRun cs b r → (marks : Marks) (h : History)
+DonesAreFew = (cs : List BoardCharge) (b : BoardValue) (r : RunOutcome) → IsProgramRun cs b r → (marks : Marks) (h : History)
     → length (observed marks r.moments h).completed ≤ length h.completed + all_amounts cs

@@ -10,7 +10,7 @@ use Rattle.command_texts.specs.cost_bound.declared.allowance.Allow.{Allow}
 use Rattle.source_values.specs.Statements.{Outcome}
 use Rattle.source_values.specs.Runs.{CheckedProgram, State, Transition, EmitsFit, first_state, state_after, source_run}
 use Rattle.command_texts.specs.source_meaning.Laws.{AcceptedTextsRun}
-use Rattle.command_texts.specs.source_report.SourceReport.{Committed, IsConsecutive, IsEnding, readings_of}
+use Rattle.command_texts.specs.source_report.SourceReport.{Committed, IsConsecutive, IsEnding, given_of}
 use Rattle.command_texts.specs.source_report.Apart.{AreApart}
 use Rattle.command_texts.proofs.source_runs.Interface.{made}
 use Rattle.report_audit.specs.declared.verdict.Verdict.{Verdict}
@@ -36,14 +36,14 @@ apart from end (span ∷ spans) h =
 
 -- so many transitions emit at most 256 words each
 emitted : (program : CheckedProgram) → All EmitsFit program.tasks → (s : State) (readings : List ℕ) (spans : List Committed) (ts : List Transition)
-    → source_run program s (map (readings_of readings) spans) ≡ Some ts → sum_by (λ t. length t.emitted) ts ≤ 256 * length spans
+    → source_run program s (map (given_of readings) spans) ≡ Some ts → sum_by (λ t. length t.emitted) ts ≤ 256 * length spans
 emitted program fit s readings [] ts run =
     let none : [] ≡ ts = cc run in
     let sum : sum_by (λ t. length t.emitted) ts ≡ 0 = ap (sum_by (λ t. length t.emitted)) (sym none) in
     omega (arith, sum)
 emitted program fit s readings (span ∷ spans) ts run =
-    let r = run_on program s (readings_of readings span) (map (readings_of readings) spans) ts run in
-    let one = (made program fit s (readings_of readings span) r.one r.made).few in
+    let r = run_on program s (given_of readings span) (map (given_of readings) spans) ts run in
+    let one = (made program fit s (given_of readings span) r.one r.made).few in
     let more = emitted program fit (state_after s r.one) readings spans r.others r.run in
     let sum : sum_by (λ t. length t.emitted) ts ≡ length r.one.emitted + sum_by (λ t. length t.emitted) r.others
     = ap (sum_by (λ t. length t.emitted)) r.are ∙ sum_by-cons (λ t. length t.emitted) r.one r.others in

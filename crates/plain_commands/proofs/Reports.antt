@@ -12,7 +12,7 @@ use Rattle.fram_board.specs.Run.{End, Charges, Stopped, RunOutcome}
 use Rattle.board_run.specs.History.{History, bound_lines}
 use Rattle.board_run.specs.Events.{event_counts}
 use Rattle.board_run.specs.Report.{events_lines, last_line, after_all, lines_from}
-use Rattle.source_values.specs.Runs.{CheckedProgram, Completion, completion_of, attempt_of}
+use Rattle.source_values.specs.Runs.{CheckedProgram, Completion, completion_of, without_answers, attempt_of}
 use Rattle.command_texts.specs.source_report.MeanReport.{report_from, if_whole, mean_report}
 use Rattle.plain_commands.specs.declared.run.RunEnding.{RunEnding}
 use Rattle.command_texts.specs.command_answers.Ending.{Ending}
@@ -48,7 +48,7 @@ mean_nonempty : (n : ℕ) (text : List ℕ) (program : CheckedProgram) (total k 
 unfolding report_from
 mean_nonempty zero text program total k accepted task shared readings = end_nonempty _ k accepted 0
 mean_nonempty (suc n) text program total k accepted task shared readings =
-    whole_nonempty (completion_of (attempt_of program task shared readings)) _ _ (end_nonempty _ k accepted 0)
+    whole_nonempty (completion_of (attempt_of program task shared (without_answers readings))) _ _ (end_nonempty _ k accepted 0)
     (λ c. behind_nonempty _ _ (mean_nonempty n text program total (k + 1) (accepted + length c.emitted) c.next c.shared c.left))
 
 -- the report of a source that a buffer took, as the output has it in the end

@@ -25,11 +25,12 @@ use Rattle.privatise.specs.declared.sizes.Sizes.{Sizes}
 use Rattle.memory_map.specs.declared.layouts.Regions.{Regions}
 use Rattle.memory_map.specs.declared.place.Region.{Region}
 use Rattle.memory_map.specs.Words.{row_words}
-use Rattle.memory_map.specs.MemoryMap.{TaskPlace, parts, row_region, lone_redo}
+use Rattle.memory_map.specs.declared.runtime.Runtime.{Runtime}
+use Rattle.memory_map.specs.MemoryMap.{TaskPlace, parts, row_region}
 use Rattle.memory_map.specs.View.{map_with}
 use Rattle.memory_map.specs.Places.{end_of, list_entry_room, home_region, copy_regions, version_regions, IsBehind, AreInOrder, IsLaidOut}
 use Rattle.privatise.specs.Sizes.{home_words, copy_part, copy_words, body_words, boot_words, commit_words}
-use Rattle.privatise.specs.Layouts.{IsPlaceOf, AreVariables, IsLayout}
+use Rattle.privatise.specs.Layouts.{IsPlaceOf, AreVariables, IsLayout, runtime_of}
 use Rattle.privatise.specs.Placing.{place_at, copy_sum, version_sum, IsRoom, ArePlaced, is_scalar_place, IsScalarPlaceAt, ArePlacedTasks, AreSizes, AreRegions}
 use Rattle.privatise.proofs.Sums.{words_split, plain_small}
 use Rattle.privatise.proofs.VariablesPlaced.{kind_at}
@@ -186,14 +187,14 @@ right_behind : (end : ℕ) (r : Region) → r.address ≡ end → r.address % 2 
 right_behind end r e f = record { from = omega (arith, e); even = f }
 
 -- the regions in order
-pub chain : (allow : Allow) (s : Sizes) (r : Regions) (places : List VariablePlace) (layouts : List TaskPlace) → AreRegions allow s r
+pub chain : (runtime : Runtime) (allow : Allow) (s : Sizes) (r : Regions) (places : List VariablePlace) (layouts : List TaskPlace) → AreRegions allow s r
     → fram_first + 2 * (row_words + commit_words + 3 * allow.list + allow.emits + allow.versions + s.homes + s.copies + s.boot + s.code) ≤ program_end
-    → AreInOrder fram_first (parts (map_with lone_redo r places layouts)) program_end
-chain allow s r places layouts k fits =
+    → AreInOrder fram_first (parts (map_with runtime r places layouts)) program_end
+chain runtime allow s r places layouts k fits =
     let b = starts allow s r k in
     let e = even_starts allow s r k in
     let end = b.end in
-    let row : IsBehind fram_first (row_region (map_with lone_redo r places layouts)) = right_behind fram_first _ k.row (ap (λ a. a % 2) k.row) in
+    let row : IsBehind fram_first (row_region (map_with runtime r places layouts)) = right_behind fram_first _ k.row (ap (λ a. a % 2) k.row) in
     let list : IsBehind (r.row + 2 * row_words) r.list = right_behind _ r.list k.list (ap (λ a. a % 2) b.list) in
     let emits : IsBehind (end_of r.list) r.emits = right_behind _ r.emits k.emits (even r.emits.address _ b.emits) in
     let versions : IsBehind (end_of r.emits) r.versions = right_behind _ r.versions k.versions e.versions in
@@ -324,10 +325,10 @@ pub record IsPlaced (p : CheckedProgram) (allow : Allow) (plans : List TaskPlanV
   pub variables : ArePlaced p.shared written (record { home = r.homes.address; copy = r.copies.address; version = r.versions.address }) places
   pub tasks : ArePlacedTasks p.shared places p.tasks plans r.code.address layouts
 
-pub laid_out : (p : CheckedProgram) (allow : Allow) (plans : List TaskPlanValue) (s : Sizes) (r : Regions) (written : List Bool) (places : List VariablePlace)
-    (layouts : List TaskPlace) → IsPlaced p allow plans s r written places layouts → IsLaidOut (map_with lone_redo r places layouts)
-laid_out p allow plans s r written places layouts made = record {
-  chain = chain allow s r places layouts g (sizes_fit p allow s made.allowed k);
+pub laid_out : (runtime : Runtime) (p : CheckedProgram) (allow : Allow) (plans : List TaskPlanValue) (s : Sizes) (r : Regions) (written : List Bool) (places : List VariablePlace)
+    (layouts : List TaskPlace) → IsPlaced p allow plans s r written places layouts → IsLaidOut (map_with runtime r places layouts)
+laid_out runtime p allow plans s r written places layouts made = record {
+  chain = chain runtime allow s r places layouts g (sizes_fit p allow s made.allowed k);
   list = g.list_words ∙ ap (λ n. list_entry_room * n) (sym g.entries);
   homes = subst (λ end. AreInOrder r.homes.address (map home_region places) end)
       (words_end r.homes.address r.homes.words s.homes (home_words p.shared) g.homes_words k.homes) made.variables.homes;
@@ -352,13 +353,13 @@ size_is : (e n w : ℕ) → e ≡ fram_first + 2 * n → n + 1 ≡ w → e + 2 �
 size_is e n w h k = omega (arith, h, k)
 
 pub whole : (p : CheckedProgram) (allow : Allow) (plans : List TaskPlanValue) (s : Sizes) (r : Regions) (written : List Bool) (places : List VariablePlace)
-    (layouts : List TaskPlace) → IsPlaced p allow plans s r written places layouts → IsLayout p allow plans (map_with lone_redo r places layouts)
+    (layouts : List TaskPlace) → IsPlaced p allow plans s r written places layouts → IsLayout p allow plans (map_with (runtime_of p) r places layouts)
 whole p allow plans s r written places layouts made =
     let k = made.sizes in
     let g = made.regions in
     record {
       runtime = refl;
-      rules = laid_out p allow plans s r written places layouts made;
+      rules = laid_out (runtime_of p) p allow plans s r written places layouts made;
       list = g.entries;
       emits = g.emits_words;
       versions = g.versions_words;

@@ -5,12 +5,13 @@ use Rattle.task_ast.specs.declared.Extent.TheVariants as extent
 use Rattle.task_ast.specs.declared.SharedDeclaration.{SharedDeclaration}
 use Rattle.cost_bound.specs.declared.allowance.Allow.{Allow}
 use Rattle.cost_bound.specs.Counts.{CheckedBlock}
-use Rattle.cost_bound.specs.Allowance.{CheckedProgram, CheckedTask, is_written, total, plain_words_of}
+use Rattle.cost_bound.specs.Allowance.{CheckedProgram, CheckedTask, is_written, total, plain_words_of, uses_events}
 use Rattle.war_analysis.specs.PlanValue.{TaskPlanValue}
 use Rattle.memory_map.specs.address_space.Limits.{fram_first}
 use Rattle.memory_map.specs.declared.place.ScalarWidth.TheVariants.{OneWord, TwoWords}
 use Rattle.memory_map.specs.declared.place.VariablePlace.{VariablePlace}
 use Rattle.memory_map.specs.declared.place.VariablePlace.TheVariants.{Scalar, Array}
+use Rattle.memory_map.specs.declared.runtime.Runtime.{Runtime}
 use Rattle.memory_map.specs.MemoryMap.{MemoryMap, TaskPlace, lone_redo}
 use Rattle.memory_map.specs.Places.{end_of, IsLaidOut}
 use Rattle.privatise.specs.Sizes.{home_words, copy_words, body_words, boot_words, commit_words}
@@ -42,10 +43,14 @@ pub record AreTasks (p : CheckedProgram) (plans : List TaskPlanValue) (tasks : L
   pub each : (k : ℕ) (task : CheckedTask) (plan : TaskPlanValue) (t : TaskPlace) → slice_get p.tasks k ≡ Some task → slice_get plans k ≡ Some plan
       → slice_get tasks k ≡ Some t → IsTaskLayout p.shared task.body plan t
 
+-- the runtime of a source: that of a board that is alone, which takes events where the source uses some
+abbrev pub runtime_of : CheckedProgram → Runtime
+runtime_of p = record lone_redo { events = uses_events p }
+
 -- The layout of a source for a board that is alone: it keeps the rules of layouts, its buffers have room for what the source's allowance says, its variables
 -- and tasks are those of the source, and the whole takes no more words than the source has without what events need, of which the last is the one at FFFE.
 pub record IsLayout (p : CheckedProgram) (allow : Allow) (plans : List TaskPlanValue) (l : MemoryMap) : Type 0 where
-  pub runtime : l.runtime ≡ lone_redo
+  pub runtime : l.runtime ≡ runtime_of p
   pub rules : IsLaidOut l
   pub list : l.entries ≡ allow.list
   pub emits : l.emits.words ≡ allow.emits

@@ -13,7 +13,7 @@ ghost use Rattle.privatise.specs.Placing.{AreRegions};
 use crate::sizes::{COMMIT, Sizes, sizes_of};
 use crate::tasks::place_tasks;
 use crate::variables::{Free, address_behind, place_variables};
-use cost_bound::{Allow, written_variables};
+use cost_bound::{Allow, uses_events, written_variables};
 use memory_map::{FRAM_FIRST, Layout, Logging, ROW_WORDS, Region, Regions, Role, Runtime};
 use std::alloc::{AllocError, Global};
 use task_ast::CheckedSource;
@@ -96,11 +96,10 @@ fn layout_of(
         plan.tasks(),
         regions.code.address,
     )?;
-    // No source that takes events is compiled so far.
     let runtime = Runtime {
         logging: Logging::Redo,
         role: Role::Alone,
-        events: false,
+        events: uses_events(tasks),
     };
     Ok(Layout::new(runtime, regions, variables, layouts))
 }

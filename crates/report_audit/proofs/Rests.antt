@@ -7,8 +7,8 @@ use Rattle.alp_io.specs.declared.report.Reason.TheVariants.{Off}
 use Rattle.alp_io.specs.Report.{bound_line, end_line}
 use Rattle.source_values.specs.Values.{◌>>?◌}
 use Rattle.source_values.specs.Runs.{CheckedProgram, Completion, State, Transition, first_state, state_after, exactly, attempt_of, completion_of}
-use Rattle.source_values.specs.Runs.{transition_of, source_run}
-use Rattle.source_report.specs.SourceReport.{Committed, readings_of, words_in, transition_lines, source_report}
+use Rattle.source_values.specs.Runs.{TaskInputs, transition_of, source_run}
+use Rattle.source_report.specs.SourceReport.{Committed, given_of, words_in, transition_lines, source_report}
 use Rattle.source_report.specs.Apart.{AreApart}
 use Rattle.report_audit.specs.Good.{IsGoodReport}
 use Rattle.report_audit.specs.Fronts.{IsRest, Ended, More}
@@ -18,51 +18,49 @@ abbrev pub plain : ℕ → List (List ℕ) → State
 plain task shared = record { shared = shared; task = task; emitted = [] }
 
 -- these don't matter to a transition
-exactly_plain : (s : State) (c : Completion) (left : List ℕ) → c.left ≡ left → exactly s c ≡ exactly (plain s.task s.shared) c
-exactly_plain s c left e =
-    let P : List ℕ → Type 0 = λ ws. exactly s (record { next = c.next; shared = c.shared; emitted = c.emitted; left = ws })
-    ≡ exactly (plain s.task s.shared) (record { next = c.next; shared = c.shared; emitted = c.emitted; left = ws }) in
-    subst P (sym e) (by_left left)
+exactly_plain : (s : State) (c : Completion) → exactly s c ≡ exactly (plain s.task s.shared) c
+exactly_plain s c = by_left c.left c.answers
   where
-    by_left : (ws : List ℕ) → exactly s (record { next = c.next; shared = c.shared; emitted = c.emitted; left = ws })
-        ≡ exactly (plain s.task s.shared) (record { next = c.next; shared = c.shared; emitted = c.emitted; left = ws })
-    by_left [] = refl
-    by_left (w ∷ ws) = refl
+    by_left : (left answers : List ℕ) → exactly s (record c { left = left; answers = answers })
+        ≡ exactly (plain s.task s.shared) (record c { left = left; answers = answers })
+    by_left [] [] = refl
+    by_left [] (a ∷ answers) = refl
+    by_left (w ∷ ws) answers = refl
 
-pub transition_plain : (program : CheckedProgram) (s : State) (readings : List ℕ)
-    → transition_of program s readings ≡ transition_of program (plain s.task s.shared) readings
-transition_plain program s readings = by_completion (completion_of (attempt_of program s.task s.shared readings))
+pub transition_plain : (program : CheckedProgram) (s : State) (given : TaskInputs)
+    → transition_of program s given ≡ transition_of program (plain s.task s.shared) given
+transition_plain program s given = by_completion (completion_of (attempt_of program s.task s.shared given))
   where
     by_completion : (o : Option Completion) → (o >>? exactly s) ≡ (o >>? exactly (plain s.task s.shared))
     by_completion None = refl
-    by_completion (Some c) = exactly_plain s c c.left refl
+    by_completion (Some c) = exactly_plain s c
 
 -- a run of one transition and more
-pub record IsRunOn (program : CheckedProgram) (s : State) (readings : List ℕ) (more : List (List ℕ)) (ts : List Transition) : Type 0 where
+pub record IsRunOn (program : CheckedProgram) (s : State) (given : TaskInputs) (more : List TaskInputs) (ts : List Transition) : Type 0 where
   pub one : Transition
   pub others : List Transition
-  pub made : transition_of program s readings ≡ Some one
+  pub made : transition_of program s given ≡ Some one
   pub run : source_run program (state_after s one) more ≡ Some others
   pub are : ts ≡ one ∷ others
 
-pub run_on : (program : CheckedProgram) (s : State) (readings : List ℕ) (more : List (List ℕ)) (ts : List Transition)
-    → source_run program s (readings ∷ more) ≡ Some ts → IsRunOn program s readings more ts
-run_on program s readings more ts e = by_one (transition_of program s readings) refl
+pub run_on : (program : CheckedProgram) (s : State) (given : TaskInputs) (more : List TaskInputs) (ts : List Transition)
+    → source_run program s (given ∷ more) ≡ Some ts → IsRunOn program s given more ts
+run_on program s given more ts e = by_one (transition_of program s given) refl
   where
-    by_others : (t : Transition) (o : Option (List Transition)) → transition_of program s readings ≡ Some t → source_run program (state_after s t) more ≡ o
-        → IsRunOn program s readings more ts
+    by_others : (t : Transition) (o : Option (List Transition)) → transition_of program s given ≡ Some t → source_run program (state_after s t) more ≡ o
+        → IsRunOn program s given more ts
     by_others t None made is =
-        let none : source_run program s (readings ∷ more) ≡ None
+        let none : source_run program s (given ∷ more) ≡ None
         = ap (λ p. p >>? λ y. source_run program (state_after s y) more >>? λ ys. Some (y ∷ ys)) made ∙ ap (λ p. p >>? λ ys. Some (t ∷ ys)) is in
         absurd (cc (e, none))
     by_others t (Some ys) made is =
-        let all : source_run program s (readings ∷ more) ≡ Some (t ∷ ys)
+        let all : source_run program s (given ∷ more) ≡ Some (t ∷ ys)
         = ap (λ p. p >>? λ y. source_run program (state_after s y) more >>? λ ys. Some (y ∷ ys)) made ∙ ap (λ p. p >>? λ ys. Some (t ∷ ys)) is in
         record { one = t; others = ys; made = made; run = is; are = cc (e, all) }
 
-    by_one : (o : Option Transition) → transition_of program s readings ≡ o → IsRunOn program s readings more ts
+    by_one : (o : Option Transition) → transition_of program s given ≡ o → IsRunOn program s given more ts
     by_one None is =
-        let none : source_run program s (readings ∷ more) ≡ None
+        let none : source_run program s (given ∷ more) ≡ None
         = ap (λ p. p >>? λ y. source_run program (state_after s y) more >>? λ ys. Some (y ∷ ys)) is in
         absurd (cc (e, none))
     by_one (Some t) is = by_others t (source_run program (state_after s t) more) is refl
@@ -77,7 +75,7 @@ module _ (source : List ℕ) (program : CheckedProgram) (readings : List ℕ) wh
   -- transitions on spans, and the end, are what may stand there
   rest_of : (t k words position : ℕ) (s : State) (spans : List Committed) (ts : List Transition) (reason : Reason) (accepted repeats : ℕ)
       → HasEnd reason accepted repeats → AreApart position (length readings) spans
-      → source_run program s (map (readings_of readings) spans) ≡ Some ts → k + length spans ≡ t → words + words_in ts ≤ accepted
+      → source_run program s (map (given_of readings) spans) ≡ Some ts → k + length spans ≡ t → words + words_in ts ≤ accepted
       → IsRest source program readings t k words position s.task s.shared (source_report source program (k + 1) spans ts ++ end_line reason t accepted repeats)
   unfolding source_report
   rest_of t k words position s [] ts reason accepted repeats end apart run count enough =
@@ -93,7 +91,7 @@ module _ (source : List ℕ) (program : CheckedProgram) (readings : List ℕ) wh
         line = ap (λ n. end_line reason n accepted repeats) (sym all);
       })
   rest_of t k words position s (span ∷ spans) ts reason accepted repeats end apart run count enough =
-      let r = run_on program s (readings_of readings span) (map (readings_of readings) spans) ts run in
+      let r = run_on program s (given_of readings span) (map (given_of readings) spans) ts run in
       let sum : words_in ts ≡ length r.one.emitted + words_in r.others = ap words_in r.are ∙ sum_by-cons (λ x. length x.emitted) r.one r.others in
       let P : List Transition → Type 0 = λ ys. IsRest source program readings t k words position s.task s.shared
       (source_report source program (k + 1) (span ∷ spans) ys ++ end_line reason t accepted repeats) in
@@ -101,7 +99,7 @@ module _ (source : List ℕ) (program : CheckedProgram) (readings : List ℕ) wh
       subst P (sym r.are) (More k words position s.task s.shared _ (record {
         span = span;
         transition = r.one;
-        is_made = record { behind = apart.0; onward = apart.1; inside = apart.2; made = sym (transition_plain program s (readings_of readings span)) ∙ r.made };
+        is_made = record { behind = apart.0; onward = apart.1; inside = apart.2; made = sym (transition_plain program s (given_of readings span)) ∙ r.made };
         rest = behind;
         lines = append_assoc (transition_lines source program (k + 1) span r.one) (source_report source program (k + 1 + 1) spans r.others) _;
       }) (rest_of t (k + 1) (words + length r.one.emitted) span.to (state_after s r.one) spans r.others reason accepted repeats end apart.3 r.run
@@ -116,7 +114,7 @@ module _ (source : List ℕ) (program : CheckedProgram) (readings : List ℕ) wh
     repeats : ℕ
     end : HasEnd reason accepted repeats
     apart : AreApart position (length readings) spans
-    run : source_run program s (map (readings_of readings) spans) ≡ Some transitions
+    run : source_run program s (map (given_of readings) spans) ≡ Some transitions
     count : k + length spans ≡ t
     enough : words + words_in transitions ≤ accepted
     lines : text ≡ source_report source program (k + 1) spans transitions ++ end_line reason t accepted repeats
@@ -142,9 +140,9 @@ module _ (source : List ℕ) (program : CheckedProgram) (readings : List ℕ) wh
   made_of t k words position task shared text (More _ _ _ _ _ _ g more) s same_task same_shared =
       let u = g.transition in
       let rest = made_of t (k + 1) (words + length u.emitted) g.span.to u.next u.after g.rest more (state_after s u) refl refl in
-      let here : transition_of program s (readings_of readings g.span) ≡ Some u =
-      transition_plain program s (readings_of readings g.span)
-      ∙ ap₂ (λ a b. transition_of program (plain a b) (readings_of readings g.span)) same_task same_shared ∙ g.is_made.made in
+      let here : transition_of program s (given_of readings g.span) ≡ Some u =
+      transition_plain program s (given_of readings g.span)
+      ∙ ap₂ (λ a b. transition_of program (plain a b) (given_of readings g.span)) same_task same_shared ∙ g.is_made.made in
       let sum : words_in (u ∷ rest.transitions) ≡ length u.emitted + words_in rest.transitions = sum_by-cons (λ x. length x.emitted) u rest.transitions in
       let enough = rest.enough in
       let counted = rest.count in
@@ -156,7 +154,7 @@ module _ (source : List ℕ) (program : CheckedProgram) (readings : List ℕ) wh
         repeats = rest.repeats;
         end = rest.end;
         apart = (g.is_made.behind, g.is_made.onward, g.is_made.inside, rest.apart);
-        run = ap (λ p. p >>? λ y. source_run program (state_after s y) (map (readings_of readings) rest.spans) >>? λ ys. Some (y ∷ ys)) here
+        run = ap (λ p. p >>? λ y. source_run program (state_after s y) (map (given_of readings) rest.spans) >>? λ ys. Some (y ∷ ys)) here
             ∙ ap (λ p. p >>? λ ys. Some (u ∷ ys)) rest.run;
         count = omega (arith, counted);
         enough = omega (arith, enough, sum);

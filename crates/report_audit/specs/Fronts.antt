@@ -6,7 +6,7 @@ use Rattle.alp_io.specs.Report.{end_line}
 use Rattle.source_report.specs.task_ast.View.{program_of}
 use Rattle.source_values.specs.Runs.{CheckedProgram, Transition, transition_of}
 use Rattle.source_meaning.specs.declared.passes.Accepted.{Accepted}
-use Rattle.source_report.specs.SourceReport.{Committed, readings_of, transition_lines}
+use Rattle.source_report.specs.SourceReport.{Committed, given_of, transition_lines}
 use Rattle.alp_text.specs.Lines.{line_len}
 use Rattle.report_audit.specs.declared.front.Front.{Front}
 use Rattle.report_audit.specs.Good.{IsGoodReport}
@@ -54,7 +54,7 @@ pub record IsMadeOn (program : CheckedProgram) (readings : List ℕ) (position t
   pub behind : position ≤ span.from
   pub onward : span.from ≤ span.to
   pub inside : span.to ≤ length readings
-  pub made : transition_of program (record { shared = shared; task = task; emitted = [] }) (readings_of readings span) ≡ Some t
+  pub made : transition_of program (record { shared = shared; task = task; emitted = [] }) (given_of readings span) ≡ Some t
 
 -- the lines of one transition more, and what stands behind them
 pub record GoesOn (source : List ℕ) (program : CheckedProgram) (readings : List ℕ) (k position task : ℕ) (shared : List (List ℕ)) (text : List ℕ) : Type 0 where

@@ -4,7 +4,7 @@ use Rattle.alp_io.specs.declared.report.Reason.{Reason}
 use Rattle.alp_io.specs.declared.report.Reason.TheVariants.{Off}
 use Rattle.alp_io.specs.Report.{bound_line, end_line}
 use Rattle.source_values.specs.Runs.{CheckedProgram, Transition, first_state, source_run}
-use Rattle.source_report.specs.SourceReport.{Committed, readings_of, source_report}
+use Rattle.source_report.specs.SourceReport.{Committed, given_of, source_report}
 use Rattle.source_report.specs.Apart.{AreApart}
 use Rattle.source_meaning.specs.Events.{HasEvent}
 use Rattle.report_audit.specs.declared.verdict.AuditFault.{AuditFault}
@@ -24,7 +24,7 @@ pub record IsGoodReport (source : List ℕ) (program : CheckedProgram) (bound : 
   pub repeats : ℕ
   pub bounded : (head ≡ []) ⊎ (head ≡ bound_line bound)
   pub apart : AreApart 0 (length readings) spans
-  pub run : source_run program (first_state program) (map (readings_of readings) spans) ≡ Some transitions
+  pub run : source_run program (first_state program) (map (given_of readings) spans) ≡ Some transitions
   pub count : length spans ≡ t
   pub on_board : reason ≡ Off → ⊥
   pub words : sum_by (λ x. length x.emitted) transitions ≤ accepted

@@ -5,8 +5,8 @@ use Rattle.fram_board.specs.Steps.{IsPowerState}
 use Rattle.fram_board.specs.Run.{Action, PowerUp, Execute, Moment, power_up_of, RunOutcome, BoardCharge, Run, Over, Next, Last}
 use Rattle.machine_effects.specs.Runs.{last_board}
 use Rattle.run_charges.specs.Charges.{ChargeFront, moments_of, IsInstruction, AreInstructionMoments, AreChargesFrom}
-use Rattle.run_charges.specs.View.{Follows, IsMomentFrom, PowersUp, Instructs, AreMoments, BeginWithPower, IsFront}
-use Rattle.run_charges.specs.Laws.{IsPlainRun, IsOfCharges, FrontsAreCharges}
+use Rattle.run_charges.specs.View.{Follows, IsMomentFrom, PowersUp, Instructs, Serves, AreMoments, BeginWithPower, IsFront}
+use Rattle.run_charges.specs.Laws.{IsProgramRun, IsOfCharges, FrontsAreCharges}
 use Rattle.run_charges.proofs.Moments.{front_moments}
 
 -- moments as instructions of a charge that is under way, and then charges
@@ -31,19 +31,23 @@ power_up_part b c ms follows p ok rest =
       follow = (record { follows = follows; start = ok; instructions = rest.instructions; moments = rest.moments }, rest.follow);
     }
 
+-- a step of the charge that is under way
+step_part : (b : BoardValue) (m : Moment) (ms : List Moment) → IsInstruction m.action → AreMoments b (m ∷ []) → Parts m.after ms → Parts b (m ∷ ms)
+step_part b m ms is one rest = record {
+  before = m ∷ rest.before;
+  charges = rest.charges;
+  split = ap (λ l. m ∷ l) rest.split;
+  instructions = (is, rest.instructions);
+  moments = (one.0, one.1, rest.moments);
+  follow = rest.follow;
+}
+
 one_part : (b c : BoardValue) (m : Moment) (ms : List Moment) → Follows b c → IsMomentFrom c m → AreMoments b (m ∷ []) → Parts m.after ms
     → Parts b (m ∷ ms)
 one_part b c m ms follows (PowersUp p ok e) one rest =
     let P : Moment → Type 0 = λ x. Parts x.after ms → Parts b (x ∷ ms) in subst P (sym e) (power_up_part b c ms follows p ok) rest
-one_part b c m ms follows (Instructs i done at a own e) one rest =
-    record {
-      before = m ∷ rest.before;
-      charges = rest.charges;
-      split = ap (λ l. m ∷ l) rest.split;
-      instructions = (subst (λ (x : Moment). IsInstruction x.action) (sym e) tt, rest.instructions);
-      moments = (one.0, one.1, rest.moments);
-      follow = rest.follow;
-    }
+one_part b c m ms follows (Instructs i done at a own e) one rest = step_part b m ms (subst (λ (x : Moment). IsInstruction x.action) (sym e) tt) one rest
+one_part b c m ms follows (Serves n done next a served e) one rest = step_part b m ms (subst (λ (x : Moment). IsInstruction x.action) (sym e) tt) one rest
 
 parts_of : (b : BoardValue) (ms : List Moment) → AreMoments b ms → Parts b ms
 parts_of b [] h = record { before = []; charges = []; split = refl; instructions = tt; moments = tt; follow = tt }
@@ -80,8 +84,8 @@ whole_charges b ms p h =
 pub front_charges : (b : BoardValue) (ms : List Moment) → IsFront b ms → IsOfCharges b ms
 front_charges b ms f = whole_charges b ms (parts_of b ms f.moments) f.begins
 
--- each front of a plain run is one
-pub run_front : (cs : List BoardCharge) (b : BoardValue) (r : RunOutcome) (ms rest : List Moment) → IsPlainRun cs b r
+-- each front of a program's run is one
+pub run_front : (cs : List BoardCharge) (b : BoardValue) (r : RunOutcome) (ms rest : List Moment) → IsProgramRun cs b r
     → r.moments ≡ ms ++ rest → IsFront b ms
 run_front cs b r ms rest h e = record {
   whole = h.of_words.whole;

@@ -1,44 +1,96 @@
--- A board on which a program that stands in FRAM runs: its instructions are the program's steps, it accepts no interrupt, and EVENT is left alone.
-use Rattle.std.proofs.Common.{◌≡◌, ◌-◌, ⊎_elim, ℕ, suc, refl, sym, ap, ◌∙◌, subst, true, false, List, [], ◌∷◌, length, Ok}
+-- A board on which a program runs that stands in FRAM, and its handler beside it: its instructions are the program's steps, and the handler's
+-- are none of them.
+use Rattle.std.proofs.Common.{◌≡◌, ◌==◌, ◌+◌, ◌*◌, ◌-◌, ◌≤◌, ◌<◌, ⊎_elim, ℕ, suc, refl, sym, ap, ◌∙◌, subst, arith, Bool, true, false, if◌then◌else◌, nat_le, List, []}
+use Rattle.std.proofs.Common.{◌∷◌, ◌++◌, append_assoc, length, Option, Some, None, Ok, Err, leb-true, eqb-true}
 use Rattle.std.proofs.lemmas.Bool.{and_parts}
+use Rattle.std.proofs.lemmas.Bool.Decides.{nat_tests}
+use Rattle.address_space.specs.Limits.{event_vector, stack_floor, stack_start}
+use Rattle.event_places.specs.Places.{handler_place, is_ring}
 use Rattle.msp_isa.specs.declared.instructions.Instr.{Instr}
+use Rattle.msp_isa.specs.Encoding.{encoding}
+use Rattle.msp_cycles.specs.Cycles.{cycles_of}
+use Rattle.msp_step.specs.declared.machine.Stop.{Stop}
 use Rattle.msp_step.specs.declared.machine.Stop.TheVariants as stop
 use Rattle.msp_step.specs.Registers.{registers_of}
-use Rattle.msp_step.specs.Step.{is_interruptible}
+use Rattle.msp_step.specs.Step.{is_interruptible, off_bit, IsCurrentInstruction, IsStopped}
+use Rattle.machine_effects.proofs.msp_step.Interface.{same_current, not_stopped}
+use Rattle.fram_board.specs.declared.board.NextStep.{NextStep}
 use Rattle.fram_board.specs.declared.board.NextStep.TheVariants as next_step
 use Rattle.fram_board.specs.declared.board.Stepped.{Stepped}
+use Rattle.fram_board.specs.Bus.{board_bus}
 use Rattle.fram_board.specs.Events.{is_full}
-use Rattle.fram_board.specs.Board.{BoardValue, executed, at_boundary, is_accepting, IsNextInstruction}
-use Rattle.fram_board.specs.Effects.{Effect}
-use Rattle.fram_board.specs.Run.{Measure, price, Moment, moment_of, RunOutcome, ChargeRun, Spent, NoInstruction, TooDear, Refused, Executed}
+use Rattle.fram_board.specs.Board.{BoardValue, opened, executed, performed, at_boundary, is_accepting, IsNextInstruction, IsStoppedBy, IsNextStep, HasNoStep}
+use Rattle.fram_board.specs.Board.{step_cycles}
+use Rattle.fram_board.specs.Effects.{Effect, effects_of}
+use Rattle.fram_board.specs.Run.{Measure, price, kind_of, Moment, moment_of, RunOutcome, ChargeRun, Spent, TooDear, Refused, Executed}
+use Rattle.fram_board.specs.Run as run
 use Rattle.machine_effects.specs.World.{fram_after, EachStore}
 use Rattle.machine_effects.specs.Going.{Goes, Stops, At, Halted, stretch, after_effects, continued, going}
-use Rattle.machine_effects.specs.Machine.{MachineBoard, MachineOutcome, MachineStretch, IsMachineStep, machine_executed, exec}
-use Rattle.machine_effects.specs.View.{IsWhole, IsOfWords, IsBusFault, IsMachines}
-use Rattle.machine_effects.specs.Runs.{moments_effects, moments_cycles, last_board}
-use Rattle.machine_effects.proofs.Interface.{fram_after-append, each_store-front, each_store-back, executed_same, current_to_machine}
-use Rattle.code_forms.specs.Placed.{placed, words_of, Holds, LeavesCode, IsOutside}
+use Rattle.machine_effects.specs.Inputs.{Look, SeeWords, look_effects}
+use Rattle.machine_effects.specs.Machine.{Code, MachineBoard, MachineOutcome, MachineStretch, IsStepBy, NoInstruction, Executes, code_executed, standing, step_with, undisturbed, exec, fram_of}
+use Rattle.machine_effects.specs.Machine.{machine_bus, machine_opened, word_in, is_prepared, in_stack}
+use Rattle.machine_effects.specs.View.{machine_with, IsWhole, IsOfWords, looks_at, seen_at_pc, IsBusFault}
+use Rattle.machine_effects.specs.Laws.{KeepsTheHandler, ChangesByEffects}
+use Rattle.machine_effects.specs.Runs.{action_cycles, last_board}
+use Rattle.machine_effects.proofs.Interface.{each_store-front, each_store-back, machine_is_of_words, seen_by_words, current_on, stopped_to_machine, code_keeps_the_handler}
+use Rattle.machine_effects.proofs.Interface.{code_changes_by_effects}
+use Rattle.event_handler.specs.Handler.{Stage, HasHandler, handler_length, instruction_at, place_at}
+use Rattle.event_handler.specs.Boundaries.{IsInterrupted, IsInHandler, cycles_left, instructions_left}
+use Rattle.program_view.specs.View.{steady, Shows, StandsAs, AtCode, InHandler, cycles_due, steps_due, is_handlers_step}
+use Rattle.program_view.specs.Laws.{KeepsItsStack, KeepsRules, DoesAlike, Begins, GoesOn}
+use Rattle.program_view.proofs.Interface.{steady_low, steady_off, instructions_are_the_programs, acceptances_begin, handlers_go_on}
+use Rattle.code_forms.specs.Placed.{placed, placed_at, words_of, Holds, LeavesCode, IsOutside}
 use Rattle.code_forms.specs.Laws.{IsNoHole}
-use Rattle.code_forms.proofs.Interface.{holds_stores, code_in_fram_steps, code_goes_undisturbed}
+use Rattle.code_forms.proofs.Interface.{placed_next, placed_within, holds_stores, code_in_fram_steps, code_goes_undisturbed, code_stays_prepared}
 use Rattle.crash_rules.specs.Model.{Marks}
 use Rattle.crash_rules.specs.Runs.{Program}
-use Rattle.run_charges.specs.View.{outside_of, Follows, IsMomentFrom, PowersUp, Instructs, AreMoments}
-use Rattle.run_charges.specs.Charges.{IsInstruction, AreInstructionMoments, IsPlacedProgram}
+use Rattle.run_charges.specs.View.{is_handlers, outside_looks, looks_in, outside_effects, all_outside_effects, Follows, IsServed, IsMomentFrom, PowersUp}
+use Rattle.run_charges.specs.View.{Instructs, Serves, AreMoments}
+use Rattle.run_charges.specs.Charges.{IsInstruction, AreInstructionMoments, IsPlacedProgram, program_steps, program_cycles, handler_steps, handler_cycles}
+use Rattle.run_charges.specs.Charges.{accepts_in, acceptances}
 use Rattle.run_charges.proofs.View.{no_gap}
-use Rattle.run_charges.proofs.Moments.{told, same_step, whole_after, words_after, fram_changed}
+use Rattle.run_charges.proofs.Moments.{told_alike, step_is_programs, front_sees, nothing_seen, whole_behind, served_effects, served_looks}
+use Rattle.run_charges.proofs.Rules.{stack_kept}
 
--- a program in FRAM, with the marks of its runs: where it stands, and the entry in the reset vector
+-- a program in FRAM, with the marks of its runs: whether it takes events, where it stands, and the entry in the reset vector
 pub record PlacedProgram : Type 1 where
   pub program : Program
   pub marks : Marks
+  pub events : Bool
   pub place : ℕ
   pub instructions : List Instr
   pub entry : ℕ
-  pub is : IsPlacedProgram program place instructions entry
+  pub is : IsPlacedProgram program events place instructions entry
+
+-- words in front of the handler stand steadily where they stand
+holds_steady : (f : ℕ → ℕ) (p : ℕ) (ws : List ℕ) → p + 2 * length ws ≤ handler_place → Holds (steady f) p ws → Holds f p ws
+holds_steady f p [] l h = tt
+holds_steady f p (w ∷ ws) l h = (sym (steady_low f p (omega (arith, l))) ∙ h.0, holds_steady f (p + 2) ws (omega (arith, l)) h.1)
+
+-- the handler is no ring
+handler_off : (k : ℕ) → k < handler_length → is_ring (handler_place + 2 * k) ≡ false
+handler_off k l = grind (arith, nat_tests)
+
+handler_stands : (f : ℕ → ℕ) → HasHandler (steady f) → HasHandler f
+handler_stands f h = record {
+  words = λ k l. sym (steady_off f (handler_place + 2 * k) (handler_off k l)) ∙ h.words k l;
+  vector = sym (steady_off f event_vector refl) ∙ h.vector;
+}
+
+-- what sees nothing of the ring but what stands at PC
+abbrev pub looks_of : BoardValue → NextStep → List Look
+looks_of b n = if is_handlers_step (kind_of n) b then [] else seen_at_pc b
+
+sees_if : (c : Bool) (looks more : List Look) → SeeWords (looks ++ more) → SeeWords more → SeeWords ((if c then [] else looks) ++ more)
+sees_if true looks more h k = k
+sees_if false looks more h k = h
 
 module _ (on : PlacedProgram) where
   abbrev step : MachineBoard → MachineOutcome
   step = on.program.step
+
+  abbrev code : Code
+  code = placed on.events on.place on.instructions
 
   abbrev code_words : List ℕ
   code_words = words_of on.instructions
@@ -46,16 +98,38 @@ module _ (on : PlacedProgram) where
   abbrev Leaves : MachineStretch → Type 0
   Leaves r = LeavesCode on.place (length code_words) r
 
+  -- the program's machine on a board, which is to see these of the ring next
+  pub record Machine (b : BoardValue) (more : List Look) : Type 0 where
+    pub u : MachineBoard
+    pub looks : u.inputs.looks ≡ more
+    pub stands : StandsAs b u
+    pub quiet : on.events ≡ false → is_interruptible u.registers ≡ false
+    pub handler : on.events ≡ true → HasHandler u.fram
+    pub prepared : on.events ≡ true → is_interruptible u.registers ≡ true → is_prepared u ≡ true
+    pub holds : Holds u.fram on.place code_words
+    pub leaves : (n : ℕ) → Leaves (going step n u)
+
+  -- one that is to see the same
+  abbrev pub relooked : (b : BoardValue) (looks more : List Look) → looks ≡ more → Machine b looks → Machine b more
+  relooked b looks more e x = record {
+    u = x.u;
+    looks = x.looks ∙ e;
+    stands = x.stands;
+    quiet = x.quiet;
+    handler = x.handler;
+    prepared = x.prepared;
+    holds = x.holds;
+    leaves = x.leaves;
+  }
+
   -- what holds of a board while the program runs on it
   pub record Running (b : BoardValue) : Type 0 where
     pub whole : IsWhole b
     pub words : IsOfWords b
-    pub quiet : is_interruptible (registers_of b.cpu) ≡ false
-    pub holds : Holds (outside_of b).fram on.place code_words
-    pub leaves : (n : ℕ) → Leaves (going step n (outside_of b))
+    pub machine : (more : List Look) → SeeWords more → Machine b more
 
   -- a step that leaves the code isn't astray, and each access is served
-  no_hole : (s : MachineBoard) → Leaves (going step 1 s) → IsNoHole (exec (placed on.place on.instructions) s)
+  no_hole : (s : MachineBoard) → Leaves (going step 1 s) → IsNoHole (exec code s)
   no_hole s l es price pc word e =
       l.stands price pc word (ap (λ o. (continued o (going step 0)).status) (ap (λ f. f s) on.is.steps ∙ e))
 
@@ -84,97 +158,393 @@ module _ (on : PlacedProgram) where
       let k = subst Leaves all l in
       each_store-front (IsOutside on.place (length code_words)) es [] k.stores
 
-  -- a board on which it runs: no interrupt is accepted there
-  module _ (b : BoardValue) (run : Running b) where
-    pub none_accepted : is_accepting b ≡ true → ⊥
-    none_accepted e = let yes = and_parts (is_full b.line.port) (is_interruptible (registers_of b.cpu)) e in
-        let no : true ≡ false = sym yes.1 ∙ run.quiet in absurd cc
+  -- the instruction at PC is the program's
+  pub record IsCode (b : BoardValue) (u : MachineBoard) (i : Instr) : Type 0 where
+    pub at : code.at (u.registers 0) ≡ Some i
+    pub below : registers_of b.cpu 0 < handler_place
+    pub step_is : code_executed u i ≡ step u
 
-    -- what the machine does there the program does
-    pub program_steps : (o : MachineOutcome) → IsMachineStep (outside_of b) o → o ≡ step (outside_of b)
-    program_steps o is =
-        code_in_fram_steps on.place on.instructions (outside_of b) o on.is.instructions on.is.even on.is.low on.is.high refl is run.holds
-        (no_hole (outside_of b) (run.leaves 1))
-        ∙ ap (λ f. f (outside_of b)) (sym on.is.steps)
+  -- on a board that shows a machine of the program
+  module _ (b : BoardValue) (u : MachineBoard) (shows : Shows b u) (holds : Holds u.fram on.place code_words) (leaves : Leaves (going step 1 u)) where
+    abbrev s : MachineBoard
+    s = machine_with [] b
 
-    -- the next instruction is a step of the program, and leaves EVENT alone
-    module _ (i : Instr) (current : IsNextInstruction b i) where
-      pub made : machine_executed (outside_of b) i ≡ step (outside_of b)
-      made = program_steps _ (current_to_machine b i run.whole current)
+    abbrev pc : ℕ
+    pc = u.registers 0
 
-      pub own : IsMachines b i
-      own =
-          ⊎_elim {C = IsMachines b i} (λ at. absurd (no_fault (outside_of b) (machine_executed (outside_of b) i) (run.leaves 1) (sym made) at))
-          (λ o. o) (executed_same b i run.whole)
+    hole : IsNoHole (exec code u)
+    hole = no_hole u leaves
 
-      module _ (done : Stepped) (answer : (executed b i).answer ≡ Ok done) where
-        abbrev next : BoardValue
-        next = at_boundary (executed b i).board
+    in_fram : on.place + 2 * length code_words < 0x10000
+    in_fram = let l = on.is.high in omega (arith, l)
 
-        abbrev es : List Effect
-        es = told b run.whole i done current answer own
+    same_pc : registers_of b.cpu 0 ≡ pc
+    same_pc = ap (λ r. r 0) (sym shows.registers)
 
-        pub goes : step (outside_of b) ≡ Goes es done.cycles (outside_of next)
-        goes = sym made ∙ same_step b run.whole i done current answer own
+    holds_there : Holds s.fram on.place code_words
+    holds_there = holds_steady (fram_of b.fram) on.place code_words on.is.high (subst (λ (f : ℕ → ℕ). Holds f on.place code_words) shows.fram holds)
 
-        fram : (outside_of next).fram ≡ fram_after es (outside_of b).fram
-        fram = fram_changed b run.whole i done current answer own
+    -- while the CPU is on an instruction of the program stands at PC
+    module _ (on_bit : off_bit u.registers ≡ 0) where
+      none_there : code.at pc ≡ None → ⊥
+      none_there e =
+          hole [] 0 _ _
+          (ap (λ (q : Option Instr). undisturbed code.events q u (step_with q u)) e
+          ∙ ap (λ n. undisturbed code.events None u (if n == 1 then Stops [] 0 stop.Off else Stops [] 0 (stop.Illegal pc (word_in u.fram u.ram pc)))) on_bit)
 
-        -- and it runs on behind it
-        pub runs_on : Running next
-        runs_on = record {
-          whole = whole_after b run.whole i done current answer own;
-          words = words_after b run.whole i done current answer own run.words;
-          quiet = code_goes_undisturbed (placed on.place on.instructions) (outside_of b) (outside_of next) es done.cycles
-              (ap (λ f. f (outside_of b)) (sym on.is.steps) ∙ goes);
-          holds = subst (λ (g : ℕ → ℕ). Holds g on.place code_words) (sym fram)
-              (holds_stores es (outside_of b).fram on.place code_words
-              (first_stores (outside_of b) (outside_of next) es done.cycles goes (run.leaves 1)) run.holds);
-          leaves = λ n. leaves_behind (outside_of b) (outside_of next) es done.cycles n goes (run.leaves (suc n));
+      on_board : (j : Instr) → code.at pc ≡ Some j → IsCurrentInstruction machine_bus (registers_of b.cpu) (machine_opened s) j
+      on_board j e =
+          let next = placed_next s on.instructions on.place (registers_of b.cpu 0) j on.is.instructions on.is.even on.is.low in_fram holds_there
+          (ap code.at same_pc ∙ e) in
+          record { on = ap off_bit (sym shows.registers) ∙ on_bit; is = next.0; fetched = next.1 }
+
+    -- where the board has a next instruction, it is that
+    module _ (whole : IsWhole b) (i : Instr) (current : IsNextInstruction b i) where
+      there : IsCurrentInstruction machine_bus (registers_of b.cpu) (machine_opened s) i
+      there = current_on [] b whole i current
+
+      on_bit : off_bit u.registers ≡ 0
+      on_bit = ap off_bit shows.registers ∙ there.on
+
+      one_there : (j : Instr) → code.at pc ≡ Some j → IsCode b u i
+      one_there j e =
+          let next = placed_next u on.instructions on.place pc j on.is.instructions on.is.even on.is.low in_fram holds e in
+          let same : i ≡ j = same_current machine_bus (registers_of b.cpu) (machine_opened s) i j there (on_board on_bit j e) in
+          let mine : IsCurrentInstruction machine_bus u.registers (machine_opened u) j = record { on = on_bit; is = next.0; fetched = next.1 } in
+          let within = placed_within on.instructions on.place on.is.even pc j e in
+          let below = within.2 in
+          let high = on.is.high in
+          let made : code_executed u j ≡ exec code u =
+          code_in_fram_steps on.events on.place on.instructions u (code_executed u j) on.is.instructions on.is.even on.is.low in_fram (Executes j mine)
+          holds hole in
+          record {
+            at = e ∙ ap (λ x. Some x) (sym same);
+            below = omega (arith, same_pc, below, high);
+            step_is = ap (λ x. code_executed u x) same ∙ made ∙ ap (λ f. f u) (sym on.is.steps);
+          }
+
+      pub is_code : IsCode b u i
+      is_code = by (code.at pc) refl
+        where
+          by : (q : Option Instr) → code.at pc ≡ q → IsCode b u i
+          by None e = absurd (none_there on_bit e)
+          by (Some j) e = one_there j e
+
+    -- where it has none, the program has none
+    module _ (whole : IsWhole b) (e : Stop) (none : IsStoppedBy b e) where
+      no_step : IsStopped machine_bus (registers_of b.cpu) (machine_opened s) e
+      no_step = by _ (stopped_to_machine (λ t i. Goes [] 0 t) [] b whole e none) refl
+        where
+          by : (o : MachineOutcome) → IsStepBy (λ t i. Goes [] 0 t) s o → o ≡ Stops [] 0 e → IsStopped machine_bus (registers_of b.cpu) (machine_opened s) e
+          by o (NoInstruction f k) same = let at : f ≡ e = cc in subst (λ (y : Stop). IsStopped machine_bus (registers_of b.cpu) (machine_opened s) y) at k
+          by o (Executes i c) same = absurd cc
+
+      absent : off_bit u.registers ≡ 0 → ⊥
+      absent on_bit = by (code.at pc) refl
+        where
+          by : (q : Option Instr) → code.at pc ≡ q → ⊥
+          by None q = none_there on_bit q
+          by (Some j) q = not_stopped machine_bus (registers_of b.cpu) (machine_opened s) e j no_step (on_board on_bit j q)
+
+      pub is_off : (f : Stop) → f ≡ e → IsStopped machine_bus (registers_of b.cpu) (machine_opened s) f → step u ≡ Stops [] 0 f
+      is_off stop.Off same k =
+          let bit : off_bit u.registers ≡ 1 = ap off_bit shows.registers ∙ k in
+          ap (λ f. f u) on.is.steps
+          ∙ ap (λ n. undisturbed code.events (code.at pc) u (if n == 1 then Stops [] 0 stop.Off else standing (code.at pc) u)) bit
+      is_off (stop.Illegal at w) same k = absurd (absent (ap off_bit shows.registers ∙ k.0))
+      is_off (stop.Bus at a) same k = absurd (absent (ap off_bit shows.registers ∙ k.0))
+      is_off stop.NoReading same k = absurd k
+
+      pub stops_too : step u ≡ Stops [] 0 e
+      stops_too = is_off e refl no_step
+
+  -- whose the next step is, of a machine of which so many cycles and steps are the handler's yet
+  pub data Turn (b : BoardValue) (more : List Look) (u : MachineBoard) (due left : ℕ) : NextStep → Type 0 where
+    IsAcceptance : Begins b u → Turn b more u due left next_step.Acceptance
+    IsHandlers : (at : Stage) → due ≡ cycles_left at → left ≡ instructions_left at → GoesOn b u at
+        → Turn b more u due left (next_step.Instruction (instruction_at at))
+    IsProgram : (i : Instr) → IsNextInstruction b i → Shows b u → IsCode b u i → DoesAlike b u i more → Turn b more u due left (next_step.Instruction i)
+
+  sees_of : (b : BoardValue) → IsOfWords b → (n : NextStep) (more : List Look) → SeeWords more → SeeWords (looks_of b n ++ more)
+  sees_of b words n more see =
+      sees_if (is_handlers_step (kind_of n) b) (seen_at_pc b) more (front_sees _ (fram_of b.fram) more (machine_is_of_words b words).fram see) see
+
+  -- on a board with its machine
+  module _ (b : BoardValue) (whole : IsWhole b) (words : IsOfWords b) (more : List Look) where
+    -- where the program stands
+    pub program_turn : (i : Instr) → (x : Machine b (looks_of b (next_step.Instruction i) ++ more)) → (shows : Shows b x.u) → IsNextInstruction b i
+        → Turn b more x.u 0 0 (next_step.Instruction i)
+    program_turn i x shows current =
+        let c = is_code b x.u shows x.holds (x.leaves 1) whole i current in
+        let handlers = step_is_programs i b c.below in
+        let seen : looks_of b (next_step.Instruction i) ≡ looks_at b i =
+        ap (λ (d : Bool). if d then [] else seen_at_pc b) handlers ∙ seen_by_words b i whole current in
+        let alike = instructions_are_the_programs b x.u i more whole shows current (x.looks ∙ ap (λ l. l ++ more) seen) in
+        IsProgram i current shows c
+        (⊎_elim {C = DoesAlike b x.u i more} (λ f. absurd (no_fault x.u (code_executed x.u i) (x.leaves 1) (sym c.step_is) f)) (λ d. d) alike)
+
+    -- where the CPU accepts an interrupt: a program without events never lets it
+    interrupted : (x : Machine b more) → Shows b x.u → is_accepting b ≡ true → IsInterrupted b
+    interrupted x shows accepting = by on.events refl
+      where
+        accepts : is_interruptible x.u.registers ≡ true
+        accepts = ap is_interruptible shows.registers ∙ (and_parts (is_full b.line.port) (is_interruptible (registers_of b.cpu)) accepting).1
+
+        by : (c : Bool) → on.events ≡ c → IsInterrupted b
+        by true e =
+            let inside = and_parts (nat_le stack_floor (x.u.registers 1)) (nat_le (x.u.registers 1) stack_start)
+            (and_parts _ (in_stack (x.u.registers 1)) (x.prepared e accepts)).1 in
+            let sp : x.u.registers 1 ≡ registers_of b.cpu 1 = ap (λ r. r 1) shows.registers in
+            let low = leb-true stack_floor (x.u.registers 1) inside.0 in
+            let high = leb-true (x.u.registers 1) stack_start inside.1 in
+            record {
+              whole = whole;
+              words = words;
+              accepting = accepting;
+              handler = handler_stands (fram_of b.fram) (subst HasHandler shows.fram (x.handler e));
+              low = omega (arith, sp, low);
+              high = omega (arith, sp, high);
+            }
+        by false e = let no : true ≡ false = sym accepts ∙ x.quiet e in absurd cc
+
+    accepting_turn : (x : Machine b more) → Shows b x.u → is_accepting b ≡ true → (due left : ℕ) → Turn b more x.u due left next_step.Acceptance
+    accepting_turn x shows accepting due left = IsAcceptance (acceptances_begin b x.u shows (interrupted x shows accepting))
+
+    -- in the handler
+    handlers_turn : (u : MachineBoard) (from : BoardValue) (at : Stage) → Shows from u → IsInterrupted from → IsInHandler from at b → (i : Instr)
+        → IsNextInstruction b i → Turn b more u (cycles_left at) (instructions_left at) (next_step.Instruction i)
+    handlers_turn u from at shows interrupted inside i current =
+        let step = handlers_go_on b u from at shows interrupted inside in
+        let same : i ≡ instruction_at at = same_current board_bus (registers_of b.cpu) (opened b) i (instruction_at at) current step.next in
+        subst (λ (j : Instr). Turn b more u (cycles_left at) (instructions_left at) (next_step.Instruction j)) (sym same) (IsHandlers at refl refl step)
+
+    never_accepts : (u : MachineBoard) (from : BoardValue) (at : Stage) → Shows from u → IsInterrupted from → IsInHandler from at b → is_accepting b ≡ true → ⊥
+    never_accepts u from at shows interrupted inside e =
+        let no : true ≡ false = sym e ∙ (handlers_go_on b u from at shows interrupted inside).none in absurd cc
+
+    -- whose the next step is
+    pub turn : (n : NextStep) → IsNextStep b n → (x : Machine b (looks_of b n ++ more)) → Turn b more x.u (cycles_due x.stands) (steps_due x.stands) n
+    turn n next x = by n next x x.stands
+      where
+        by : (n : NextStep) → IsNextStep b n → (x : Machine b (looks_of b n ++ more)) → (st : StandsAs b x.u)
+            → Turn b more x.u (cycles_due st) (steps_due st) n
+        by next_step.Acceptance next x (AtCode shows) = accepting_turn x shows next 0 0
+        by (next_step.Instruction i) next x (AtCode shows) = program_turn i x shows next.1
+        by next_step.Acceptance next x (InHandler from at shows interrupted inside) = absurd (never_accepts x.u from at shows interrupted inside next)
+        by (next_step.Instruction i) next x (InHandler from at shows interrupted inside) =
+            handlers_turn x.u from at shows interrupted inside i next.1
+
+  -- a step of the program's that is made leaves its machine
+  module _ (u next : MachineBoard) (es : List Effect) (c : ℕ) (goes : step u ≡ Goes es c next) where
+    exec_goes : exec code u ≡ Goes es c next
+    exec_goes = ap (λ f. f u) (sym on.is.steps) ∙ goes
+
+    stores_so : next.fram ≡ fram_after es u.fram
+    stores_so = (subst (λ (o : MachineOutcome). ChangesByEffects u o) exec_goes (code_changes_by_effects code u)).0
+
+    handler_stays : HasHandler u.fram → HasHandler next.fram
+    handler_stays h =
+        let keeps : KeepsTheHandler u (Goes es c next) = subst (λ (o : MachineOutcome). KeepsTheHandler u o) exec_goes (code_keeps_the_handler code u) in
+        record {
+          words = λ k l. keeps (handler_place + 2 * k) (omega arith) ∙ h.words k l;
+          vector = keeps event_vector (omega arith) ∙ h.vector;
         }
 
-  -- the moments of a charge of such a board are instructions, and none accepts an interrupt
+    program_rules : (i : Instr) → code.at (u.registers 0) ≡ Some i → (on.events ≡ false → is_interruptible u.registers ≡ false)
+        → (on.events ≡ true → is_interruptible u.registers ≡ true → is_prepared u ≡ true) → KeepsRules i u next
+    program_rules i at quiet prepared accepts = by on.events refl
+      where
+        by : (d : Bool) → on.events ≡ d → KeepsItsStack i u next
+        by true e = stack_kept code i u next es c e at exec_goes (prepared e accepts) accepts
+        by false e = let no : true ≡ false = sym accepts ∙ quiet e in absurd cc
+
+    abbrev machine_behind : (b after : BoardValue) (more rest : List Look) (x : Machine b more) → x.u ≡ u → next.inputs.looks ≡ rest → StandsAs after next
+        → Machine after rest
+    machine_behind b after more rest x is looks stands =
+        let leaves : (n : ℕ) → Leaves (going step n u) = λ n. subst (λ v. Leaves (going step n v)) is (x.leaves n) in
+        record {
+          u = next;
+          looks = looks;
+          stands = stands;
+          quiet = λ e. code_goes_undisturbed code u next es c e exec_goes (subst (λ v. is_interruptible v.registers ≡ false) is (x.quiet e));
+          handler = λ e. handler_stays (subst (λ (v : MachineBoard). HasHandler v.fram) is (x.handler e));
+          prepared = λ e. code_stays_prepared code u next es c e exec_goes
+              (subst (λ v. is_interruptible v.registers ≡ true → is_prepared v ≡ true) is (x.prepared e));
+          holds = subst (λ (g : ℕ → ℕ). Holds g on.place code_words) (sym stores_so)
+              (holds_stores es u.fram on.place code_words (first_stores u next es c goes (leaves 1))
+              (subst (λ (v : MachineBoard). Holds v.fram on.place code_words) is x.holds));
+          leaves = λ n. leaves_behind u next es c n goes (leaves (suc n));
+        }
+
+  -- what a step that is made, as this moment, leaves of the machine: behind its look it does what the moment tells, and the handler takes of
+  -- the cycles and steps that it has
+  pub record Leads (b : BoardValue) (m : Moment) (more : List Look) (x : Machine b (outside_looks m ++ more)) : Type 0 where
+    pub next : Machine m.after more
+    pub runs : (n : ℕ) → going step (if is_handlers m then n else suc n) x.u
+        ≡ (if is_handlers m then going step n next.u else after_effects (outside_effects m) (action_cycles m.action) (going step n next.u))
+    pub cycles : (if is_handlers m then action_cycles m.action else 0) + cycles_due next.stands ≤ 48 * accepts_in m.action + cycles_due x.stands
+    pub steps : (if is_handlers m then 1 else 0) + steps_due next.stands ≤ 16 * accepts_in m.action + steps_due x.stands
+
+  -- a step of the handler's leaves it as it is
+  module _ (b : BoardValue) (m : Moment) (more : List Look) (x : Machine b (outside_looks m ++ more)) (handlers : is_handlers m ≡ true)
+      (stands : StandsAs m.after x.u) where
+    abbrev same_machine : Machine m.after more
+    same_machine = record {
+      u = x.u;
+      looks = x.looks ∙ ap (λ l. l ++ more) (served_looks m handlers);
+      stands = stands;
+      quiet = x.quiet;
+      handler = x.handler;
+      prepared = x.prepared;
+      holds = x.holds;
+      leaves = x.leaves;
+    }
+
+    handler_leads : action_cycles m.action + cycles_due stands ≤ 48 * accepts_in m.action + cycles_due x.stands
+        → 1 + steps_due stands ≤ 16 * accepts_in m.action + steps_due x.stands → Leads b m more x
+    handler_leads cycles steps = record {
+      next = same_machine;
+      runs = λ n.
+          ap (λ (c : Bool). going step (if c then n else suc n) x.u) handlers
+          ∙ ap (λ (c : Bool). if c then going step n x.u else after_effects (outside_effects m) (action_cycles m.action) (going step n x.u)) (sym handlers);
+      cycles = subst (λ (c : Bool). (if c then action_cycles m.action else 0) + cycles_due stands ≤ 48 * accepts_in m.action + cycles_due x.stands)
+          (sym handlers) cycles;
+      steps = subst (λ (c : Bool). (if c then 1 else 0) + steps_due stands ≤ 16 * accepts_in m.action + steps_due x.stands) (sym handlers) steps;
+    }
+
+  -- a step of the program's is the machine's
+  module _ (b : BoardValue) (whole : IsWhole b) (i : Instr) (done : Stepped) (more : List Look) (current : IsNextInstruction b i)
+      (answer : (executed b i).answer ≡ Ok done) where
+    abbrev m : Moment
+    m = moment_of b (next_step.Instruction i) done
+
+    program_leads : (x : Machine b (outside_looks m ++ more)) → IsCode b x.u i → DoesAlike b x.u i more → Leads b m more x
+    program_leads x c alike =
+        let made = alike.made done answer in
+        let fs : List Effect = look_effects (looks_at b i) ++ effects_of b (executed b i) in
+        let handlers : is_handlers m ≡ false = step_is_programs i b c.below in
+        let goes : step x.u ≡ Goes fs done.cycles made.next = sym c.step_is ∙ made.goes in
+        let rules = program_rules x.u made.next fs done.cycles goes i c.at x.quiet x.prepared in
+        let told : outside_effects m ≡ fs = told_alike b whole i done current answer handlers in
+        let r : ℕ → MachineStretch = λ n. going step n made.next in
+        record {
+          next = machine_behind x.u made.next fs done.cycles goes b m.after (outside_looks m ++ more) more x refl made.looks (AtCode (made.shows rules));
+          runs = λ n.
+              ap (λ (d : Bool). going step (if d then n else suc n) x.u) handlers
+              ∙ ap (λ o. continued o (going step n)) goes
+              ∙ ap (λ es. after_effects es done.cycles (r n)) (sym told)
+              ∙ ap (λ (d : Bool). if d then r n else after_effects (outside_effects m) done.cycles (r n)) (sym handlers);
+          cycles = subst (λ (d : Bool). (if d then done.cycles else 0) + 0 ≤ 48 * accepts_in m.action + cycles_due x.stands) (sym handlers) (omega arith);
+          steps = subst (λ (d : Bool). (if d then 1 else 0) + 0 ≤ 16 * accepts_in m.action + steps_due x.stands) (sym handlers) (omega arith);
+        }
+
+  -- any step that is made
+  module _ (b : BoardValue) (whole : IsWhole b) (words : IsOfWords b) (more : List Look) where
+    pub turn_leads : (n : NextStep) (done : Stepped) → (performed b n).answer ≡ Ok done → (x : Machine b (looks_of b n ++ more))
+        → Turn b more x.u (cycles_due x.stands) (steps_due x.stands) n → Leads b (moment_of b n done) more x
+    turn_leads _ done answer x (IsAcceptance begins) =
+        let same : begins.done ≡ done = cc (sym begins.made ∙ answer) in
+        let cycles : done.cycles ≡ 6 = ap (λ (d : Stepped). d.cycles) (sym same) ∙ begins.cycles in
+        let due = begins.due in
+        let left = begins.steps in
+        handler_leads b (moment_of b next_step.Acceptance done) more x refl begins.stands (omega (arith, cycles, due)) (omega (arith, left))
+    turn_leads _ done answer x (IsHandlers at due left goes_on) =
+        let same : goes_on.done ≡ done = cc (sym goes_on.made ∙ answer) in
+        let cycles : done.cycles ≡ goes_on.done.cycles = ap (λ (d : Stepped). d.cycles) (sym same) in
+        let cost = goes_on.cycles in
+        let count = goes_on.steps in
+        handler_leads b (moment_of b (next_step.Instruction (instruction_at at)) done) more x goes_on.served.handlers goes_on.stands
+        (omega (arith, cycles, cost, due)) (omega (arith, count, left))
+    turn_leads _ done answer x (IsProgram i current shows c alike) = program_leads b whole i done more current answer x c alike
+
+    pub leads_on : (n : NextStep) (done : Stepped) → IsNextStep b n → (performed b n).answer ≡ Ok done → (x : Machine b (looks_of b n ++ more))
+        → Leads b (moment_of b n done) more x
+    leads_on n done next answer x = turn_leads n done answer x (turn b whole words more n next x)
+
+    -- no instruction can be had
+    pub none_to_make : (e : Stop) → HasNoStep b e → (x : Machine b more) → step x.u ≡ Stops [] 0 e
+    none_to_make e none x = by x.stands
+      where
+        by : StandsAs b x.u → step x.u ≡ Stops [] 0 e
+        by (AtCode shows) = stops_too b x.u shows x.holds (x.leaves 1) whole e none.stopped
+        by (InHandler from at shows interrupted inside) =
+            let goes_on = handlers_go_on b x.u from at shows interrupted inside in
+            absurd (not_stopped board_bus (registers_of b.cpu) (opened b) e (instruction_at at) none.stopped goes_on.next)
+
+    -- a step that is refused is the program's
+    pub record IsRefused (n : NextStep) (x : Machine b (looks_of b n ++ more)) (e : Stop) : Type 0 where
+      pub i : Instr
+      pub is : n ≡ next_step.Instruction i
+      pub answer : (executed b i).answer ≡ Err e
+      pub looks : looks_of b n ≡ looks_at b i
+      pub line : (executed b i).board.line ≡ b.line
+      pub stops : step x.u ≡ Stops (look_effects (looks_at b i) ++ effects_of b (executed b i)) (cycles_of i) e
+
+    turn_refused : (n : NextStep) (e : Stop) → (performed b n).answer ≡ Err e → (x : Machine b (looks_of b n ++ more))
+        → Turn b more x.u (cycles_due x.stands) (steps_due x.stands) n → IsRefused n x e
+    turn_refused _ e answer x (IsAcceptance begins) = absurd (cc (begins.made, answer))
+    turn_refused _ e answer x (IsHandlers at due left goes_on) = absurd (cc (goes_on.made, answer))
+    turn_refused _ e answer x (IsProgram i current shows c alike) = record {
+      i = i;
+      is = refl;
+      answer = answer;
+      looks = ap (λ (d : Bool). if d then [] else seen_at_pc b) (step_is_programs i b c.below) ∙ seen_by_words b i whole current;
+      line = alike.line;
+      stops = sym c.step_is ∙ alike.stopped e answer;
+    }
+
+    pub refused_on : (n : NextStep) (e : Stop) → IsNextStep b n → (performed b n).answer ≡ Err e → (x : Machine b (looks_of b n ++ more)) → IsRefused n x e
+    refused_on n e next answer x = turn_refused n e answer x (turn b whole words more n next x)
+
+  -- the moment of a step that is made
+  module _ (b : BoardValue) (whole : IsWhole b) (words : IsOfWords b) where
+    same_served : (n : NextStep) (done other : Stepped) → (performed b n).answer ≡ Ok other → (performed b n).answer ≡ Ok done
+        → IsServed b (moment_of b n other) → IsServed b (moment_of b n done)
+    same_served n done other made answer served =
+        let same : other ≡ done = cc (sym made ∙ answer) in subst (λ (d : Stepped). IsServed b (moment_of b n d)) same served
+
+    turn_moment : (n : NextStep) (done : Stepped) → IsNextStep b n → (performed b n).answer ≡ Ok done → (x : Machine b (looks_of b n ++ []))
+        → Turn b [] x.u (cycles_due x.stands) (steps_due x.stands) n → IsMomentFrom b (moment_of b n done)
+    turn_moment _ done next answer x (IsAcceptance begins) =
+        Serves next_step.Acceptance done next answer (same_served next_step.Acceptance done begins.done begins.made answer begins.served) refl
+    turn_moment _ done next answer x (IsHandlers at due left goes_on) =
+        let n = next_step.Instruction (instruction_at at) in
+        Serves n done next answer (same_served n done goes_on.done goes_on.made answer goes_on.served) refl
+    turn_moment _ done next answer x (IsProgram i current shows c alike) =
+        let made = alike.made done answer in
+        let goes : step x.u ≡ Goes (look_effects (looks_at b i) ++ effects_of b (executed b i)) done.cycles made.next = sym c.step_is ∙ made.goes in
+        let rules = program_rules x.u made.next _ done.cycles goes i c.at x.quiet x.prepared in
+        Instructs i done current answer (made.programs rules refl c.below) refl
+
+  -- a board on which the program runs
+  module _ (b : BoardValue) (r : Running b) (n : NextStep) (done : Stepped) (next : IsNextStep b n) (answer : (performed b n).answer ≡ Ok done) where
+    abbrev after : BoardValue
+    after = at_boundary (performed b n).board
+
+    pub moment_from : IsMomentFrom b (moment_of b n done)
+    moment_from =
+        let x = r.machine (looks_of b n ++ []) (sees_of b r.words n [] nothing_seen) in
+        turn_moment b r.whole r.words n done next answer x (turn b r.whole r.words [] n next x)
+
+    -- it runs on behind it
+    pub runs_on : Running after
+    runs_on =
+        let both = whole_behind b (moment_of b n done) r.whole r.words moment_from in
+        record {
+          whole = both.0;
+          words = both.1;
+          machine = λ more see.
+              (leads_on b r.whole r.words more n done next answer (r.machine (looks_of b n ++ more) (sees_of b r.words n more see))).next;
+        }
+
+  -- the moments of a charge of such a board
   pub charge_moments : (m : Measure) (left : ℕ) (b : BoardValue) (r : RunOutcome) → Running b → ChargeRun m left b r → AreMoments b r.moments
-  charge_moments m left b r run (Spent _ _ none) = tt
-  charge_moments m left b r run (NoInstruction _ _ e pos h) = tt
-  charge_moments m left b r run (TooDear _ _ n pos c dear) = tt
-  charge_moments m left b r run (Refused _ _ n e pos c paid a) = tt
-  charge_moments m left b r run (Executed _ _ next_step.Acceptance done rest pos c paid a h) = absurd (none_accepted b run c)
-  charge_moments m left b r run (Executed _ _ (next_step.Instruction i) done rest pos c paid a h) = (
+  charge_moments m left b r running (Spent _ _ none) = tt
+  charge_moments m left b r running (run.NoInstruction _ _ e pos h) = tt
+  charge_moments m left b r running (TooDear _ _ n pos c dear) = tt
+  charge_moments m left b r running (Refused _ _ n e pos c paid a) = tt
+  charge_moments m left b r running (Executed _ _ n done rest pos c paid a h) = (
     no_gap b,
-    Instructs i done c.1 a (own b run i c.1) refl,
-    charge_moments m (left - price m (next_step.Instruction i)) (at_boundary (executed b i).board) rest (runs_on b run i c.1 done a) h,
+    moment_from b running n done c a,
+    charge_moments m (left - price m n) (at_boundary (performed b n).board) rest (runs_on b running n done c a) h,
   )
-
-  -- so many instructions are as many steps of the program
-  pub record Reaches (b : BoardValue) (ms : List Moment) : Type 0 where
-    pub run : going step (length ms) (outside_of b) ≡ stretch (moments_effects ms) (moments_cycles ms) (At (outside_of (last_board b ms)))
-    pub fram : (outside_of (last_board b ms)).fram ≡ fram_after (moments_effects ms) (outside_of b).fram
-    pub running : Running (last_board b ms)
-
-  instruction_reaches : (b : BoardValue) (run : Running b) (i : Instr) (done : Stepped) (c : IsNextInstruction b i) (a : (executed b i).answer ≡ Ok done)
-      (ms : List Moment) → Reaches (at_boundary (executed b i).board) ms → Reaches b (moment_of b (next_step.Instruction i) done ∷ ms)
-  instruction_reaches b run i done c a ms more =
-      let es : List Effect = told b run.whole i done c a (own b run i c) in
-      record {
-        run = ap (λ o. continued o (going step (length ms))) (goes b run i c done a) ∙ ap (after_effects es done.cycles) more.run;
-        fram = more.fram ∙ ap (fram_after (moments_effects ms)) (fram_changed b run.whole i done c a (own b run i c))
-            ∙ sym (fram_after-append es (moments_effects ms) (outside_of b).fram);
-        running = more.running;
-      }
-
-  one_reaches : (b : BoardValue) (run : Running b) (m : Moment) (ms : List Moment) → IsMomentFrom b m → IsInstruction m.action
-      → (Running m.after → Reaches m.after ms) → Reaches b (m ∷ ms)
-  one_reaches b run m ms (PowersUp p ok e) is more = absurd (subst (λ (y : Moment). IsInstruction y.action) e is)
-  one_reaches b run m ms (Instructs i done c a same e) is more =
-      let P : Moment → Type 0 = λ y. (Running y.after → Reaches y.after ms) → Reaches b (y ∷ ms) in
-      subst P (sym e) (λ go. instruction_reaches b run i done c a ms (go (runs_on b run i c done a))) more
-
-  follows_reach : (b c : BoardValue) (m : Moment) (ms : List Moment) → Follows b c → Reaches c (m ∷ ms) → Reaches b (m ∷ ms)
-  follows_reach b c m ms f reach = let P : BoardValue → Type 0 = λ y. Reaches y (m ∷ ms) in subst P f.same reach
-
-  pub instructions_reach : (b : BoardValue) (ms : List Moment) → Running b → AreMoments b ms → AreInstructionMoments ms → Reaches b ms
-  instructions_reach b [] run are is = record { run = refl; fram = refl; running = run }
-  instructions_reach b (m ∷ ms) run are is =
-      follows_reach b m.before m ms are.0
-      (one_reaches m.before (subst Running (sym are.0.same) run) m ms are.1 is.0 (λ next. instructions_reach m.after ms next are.2 is.1))

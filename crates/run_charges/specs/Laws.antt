@@ -1,16 +1,19 @@
 -- Laws that join a board's run, the machine, and the charges of the crash theorem.
-use Rattle.std.specs.Prelude.{◌≡◌, ℕ, List, ◌++◌, length}
+use Rattle.std.specs.Prelude.{◌≡◌, ℕ, ◌*◌, ◌≤◌, Bool, true, false, List, ◌++◌, length}
 use Rattle.msp_isa.specs.declared.instructions.Instr.{Instr}
 use Rattle.fram_board.specs.Board.{BoardValue}
 use Rattle.fram_board.specs.Run.{BoardCharge, Moment, RunOutcome, Run}
+use Rattle.machine_effects.specs.Machine.{MachineBoard}
 use Rattle.machine_effects.specs.View.{IsWhole, IsOfWords}
+use Rattle.machine_effects.specs.Runs.{last_board}
+use Rattle.event_handler.specs.Handler.{HasHandler}
 use Rattle.code_forms.specs.Placed.{words_of, Holds}
 use Rattle.crash_rules.specs.Model.{Marks}
 use Rattle.crash_rules.specs.History.{History}
 use Rattle.crash_rules.specs.Runs.{Program, Charged}
-use Rattle.run_charges.specs.View.{outside_of, AreMoments}
-use Rattle.run_charges.specs.Charges.{ArePowerStates, ChargeFront, board_behind_all, moments_of, AreChargesFrom, observed, charges_of}
-use Rattle.run_charges.specs.Charges.{IsPlacedProgram, AlwaysLeaves}
+use Rattle.run_charges.specs.View.{outside_of, NoneServes, AreMoments}
+use Rattle.run_charges.specs.Charges.{ArePowerStates, ChargeFront, moments_of, AreChargesFrom, observed, charges_of, handler_cycles, handler_steps}
+use Rattle.run_charges.specs.Charges.{acceptances, IsPlacedProgram, AlwaysLeaves}
 
 -- a run of a whole board of words under charges with any power-ups
 pub record IsRunOfWords (cs : List BoardCharge) (b : BoardValue) (r : RunOutcome) : Type 0 where
@@ -19,42 +22,62 @@ pub record IsRunOfWords (cs : List BoardCharge) (b : BoardValue) (r : RunOutcome
   pub starts : ArePowerStates cs
   pub run : Run cs b r
 
--- one in which no interrupt is accepted and EVENT is left alone: its moments are power-ups, and instructions that do as the machine's
-pub record IsPlainRun (cs : List BoardCharge) (b : BoardValue) (r : RunOutcome) : Type 0 where
+-- one of a program, and of a handler beside it: its moments are power-ups, instructions that do as the machine's, and the handler's steps
+pub record IsProgramRun (cs : List BoardCharge) (b : BoardValue) (r : RunOutcome) : Type 0 where
   pub of_words : IsRunOfWords cs b r
   pub moments : AreMoments b r.moments
 
--- a front of a run is charges, the last one up to some instruction
+-- a front of a run is charges, the last one up to some step
 pub record IsOfCharges (b : BoardValue) (ms : List Moment) : Type 0 where
   pub charges : List ChargeFront
   pub moments : ms ≡ moments_of charges
   pub follow : AreChargesFrom b charges
 
--- each front of a plain run is, also the whole run
+-- each front of such a run is, also the whole run
 abbrev pub FrontsAreCharges : Type 0
-FrontsAreCharges = (cs : List BoardCharge) (b : BoardValue) (r : RunOutcome) (ms rest : List Moment) → IsPlainRun cs b r
+FrontsAreCharges = (cs : List BoardCharge) (b : BoardValue) (r : RunOutcome) (ms rest : List Moment) → IsProgramRun cs b r
     → r.moments ≡ ms ++ rest → IsOfCharges b ms
 
--- a front of a run is charges of a program, with the history of its moments behind them
+-- a front of a run is charges of a program, with the history of its moments behind them: they lead to a machine that has the FRAM of the board
+-- behind the front, and the readings that are left. Its registers and RAM are the board's too, but while the handler runs
 pub record IsChargedBy (c : Program) (marks : Marks) (b : BoardValue) (h : History) (ms : List Moment) : Type 0 where
   pub front : IsOfCharges b ms
-  pub charged : Charged c marks (outside_of b) h (charges_of front.charges) (outside_of (board_behind_all b front.charges)) (observed marks ms h)
+  pub end : MachineBoard
+  pub charged : Charged c marks (outside_of b) h (charges_of front.charges) end (observed marks ms h)
+  pub fram : end.fram ≡ (outside_of (last_board b ms)).fram
+  pub readings : end.inputs.readings ≡ (outside_of (last_board b ms)).inputs.readings
 
--- a program stands in FRAM, and wherever its charges lead a further one leaves it and the reset vector as they are, never goes astray, and
--- has each access served
+-- a program stands in FRAM, with the handler behind it where it takes events, and wherever its charges lead a further one leaves it and the
+-- reset vector as they are, never goes astray, and has each access served
 pub record StandsIn (c : Program) (marks : Marks) (b : BoardValue) (h : History) : Type 0 where
+  pub events : Bool
   pub place : ℕ
   pub instructions : List Instr
-  pub placed : IsPlacedProgram c place instructions ((outside_of b).fram 0xFFFE)
+  pub placed : IsPlacedProgram c events place instructions ((outside_of b).fram 0xFFFE)
   pub holds : Holds (outside_of b).fram place (words_of instructions)
+  pub handler : events ≡ true → HasHandler (outside_of b).fram
   pub leaves : AlwaysLeaves c place (length (words_of instructions)) marks (outside_of b) h
 
--- then each run is plain
-abbrev pub ProgramsRunPlainly : Program → Type 0
-ProgramsRunPlainly c = (cs : List BoardCharge) (b : BoardValue) (r : RunOutcome) → IsRunOfWords cs b r
-    → (marks : Marks) (h : History) → StandsIn c marks b h → IsPlainRun cs b r
+-- then each run is one of the program and its handler
+abbrev pub ProgramsRun : Program → Type 0
+ProgramsRun c = (cs : List BoardCharge) (b : BoardValue) (r : RunOutcome) → IsRunOfWords cs b r
+    → (marks : Marks) (h : History) → StandsIn c marks b h → IsProgramRun cs b r
 
--- and each front of it is charges of that program
+-- without events it has no moment of the handler's: no interrupt is accepted
+abbrev pub ProgramsRunAlone : Program → Type 0
+ProgramsRunAlone c = (cs : List BoardCharge) (b : BoardValue) (r : RunOutcome) → IsRunOfWords cs b r
+    → (marks : Marks) (h : History) → (stands : StandsIn c marks b h) → stands.events ≡ false → NoneServes r.moments
+
+-- and each front of a run is charges of that program
 abbrev pub FrontsAreCharged : Program → Type 0
 FrontsAreCharged c = (cs : List BoardCharge) (b : BoardValue) (r : RunOutcome) (ms rest : List Moment) → IsRunOfWords cs b r
     → r.moments ≡ ms ++ rest → (marks : Marks) (h : History) → StandsIn c marks b h → IsChargedBy c marks b h ms
+
+-- the handler takes 48 cycles at most for each of its acceptances, in 16 steps at most
+pub record HandlerIsBrief (ms : List Moment) : Type 0 where
+  pub cycles : handler_cycles ms ≤ 48 * acceptances ms
+  pub steps : handler_steps ms ≤ 16 * acceptances ms
+
+abbrev pub HandlersAreBrief : Program → Type 0
+HandlersAreBrief c = (cs : List BoardCharge) (b : BoardValue) (r : RunOutcome) (ms rest : List Moment) → IsRunOfWords cs b r
+    → r.moments ≡ ms ++ rest → (marks : Marks) (h : History) → StandsIn c marks b h → HandlerIsBrief ms

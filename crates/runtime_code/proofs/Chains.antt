@@ -67,14 +67,14 @@ moved_to e a = so_ends a (λ v h. record { pc = h.pc ∙ e; fram = h.fram; input
 
 module _ (code : Code) (tidy : IsTidy code) where
   -- straight code
-  pub straight : (ms : List Form) (u : Core) → AreStraight ms → Stands code u.pc ms → FormsNeed ms u → (forms_run ms u).status ≡ At (behind ms u)
+  pub straight : (ms : List Form) (u : Core) → AreStraight ms → Stands code u.pc ms → FormsNeed code.events ms u → (forms_run ms u).status ≡ At (behind ms u)
       → Comes code (forms_run ms u).effects (length ms) (forms_run ms u).cycles u (λ v. v ≡ behind ms u)
   straight ms u st h w e =
       let r = forms_run ms u in
       straight_comes code tidy ms u (behind ms u) r.effects r.cycles (λ v. v ≡ behind ms u) st h w (ap (stretch r.effects r.cycles) e) refl
 
   -- a jump, by whether its condition is met
-  pub jumps : (c : Condition) (o to next : ℕ) (b : Bool) (u : Core) → code u.pc ≡ Some (instruction_of (Jump c o)) → word_sum (u.pc + 2) (distance o) ≡ to
+  pub jumps : (c : Condition) (o to next : ℕ) (b : Bool) (u : Core) → code.at u.pc ≡ Some (instruction_of (Jump c o)) → word_sum (u.pc + 2) (distance o) ≡ to
       → u.pc + 2 ≡ next → is_met c u.flags ≡ b → Comes code [] 1 2 u (λ v. v ≡ record u { pc = if b then to else next })
   jumps c o to next b u h there here met =
       form_comes code tidy (Jump c o) u (record u { pc = if b then to else next }) [] 2 (λ v. v ≡ record u { pc = if b then to else next }) h tt

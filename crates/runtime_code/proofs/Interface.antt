@@ -13,6 +13,7 @@ pub use Rattle.runtime_code.proofs.Ladder.{rung_in, IsRung, Deed, Does, HasLadde
 pub use Rattle.runtime_code.proofs.Sending.{BehindSends, sends_are_made}
 -- Code that a runtime has where it takes events.
 pub use Rattle.runtime_code.proofs.WhereEvents.{count_is_place, tail_is_place, sent_is_place, with_events_most, where_bytes, where_instructions}
+pub use Rattle.runtime_code.proofs.WhereEvents.{with_events_sum, with_events_even}
 pub use Rattle.runtime_code.proofs.WhereEvents.{behind_where, where_comes}
 -- The length of code.
 pub use Rattle.runtime_code.proofs.Sizes.{code_bytes, are_instructions-append}

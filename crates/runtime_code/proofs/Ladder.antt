@@ -1,5 +1,5 @@
 -- The ladder and the stubs, whatever is done in them.
-use Rattle.std.proofs.Common.{◌≡◌, ℕ, zero, suc, ◌+◌, ◌*◌, ◌%◌, ◌<◌, List, [], ◌∷◌, length, get_or, Some, refl, sym, ap, ◌∙◌, subst, arith, false}
+use Rattle.std.proofs.Common.{◌≡◌, ℕ, zero, suc, ◌+◌, ◌*◌, ◌%◌, ◌<◌, List, [], ◌∷◌, length, get_or, Some, refl, sym, ap, ◌∙◌, subst, arith, Bool, true, false}
 use Rattle.std.proofs.Common.{append-nil}
 use Rattle.std.specs.List.{All}
 use Rattle.std.proofs.lemmas.List.Elements.{All-head, All-tail, All-get_or}
@@ -11,10 +11,11 @@ use Rattle.runtime_effects.specs.machine_effects.World.{fram_after}
 use Rattle.runtime_effects.specs.machine_effects.Machine.{Code, IsPlace}
 use Rattle.runtime_effects.specs.memory_map.declared.words.RuntimeWord.TheVariants.{CurrentTask}
 use Rattle.runtime_effects.specs.memory_map.MemoryMap.{MemoryMap, word_place}
-use Rattle.runtime_effects.specs.address_space.Limits.{stack_top}
+use Rattle.runtime_effects.specs.address_space.Limits.{stack_start}
 use Rattle.code_forms.specs.Forms.{Core, Form, Branch, SkipBy, R4, instruction_of}
 use Rattle.code_forms.specs.Code.{Stands, IsTidy, forms_bytes}
 use Rattle.code_forms.proofs.Interface.{stands_front, stands_back, form_comes, comes_on}
+use Rattle.runtime_code.specs.Addresses.{stack_origin}
 use Rattle.runtime_code.specs.Comes.{Comes, IsAt, Enters}
 use Rattle.runtime_code.specs.Counted.{if_any}
 use Rattle.runtime_code.specs.Ladder.{task_found, dispatch, Rung, stub_with, stub_of, rung_with, ladder, all_stubs}
@@ -54,11 +55,11 @@ rung_even stub code (m ∷ ms) s c = s
 
 -- a task's rung of the ladder
 rung_stands : (code : Code) (ss : List Rung) (p q k : ℕ) → Stands code p (ladder q ss) → k < length ss
-    → code (p + 4 * k) ≡ Some (instruction_of (Branch (rung_at q ss k)))
+    → code.at (p + 4 * k) ≡ Some (instruction_of (Branch (rung_at q ss k)))
 rung_stands code [] p q k h l = absurd (omega (arith, l))
-rung_stands code (s ∷ ss) p q zero h l = subst (λ x. code x ≡ Some (instruction_of (Branch (rung_with q s.code s.body)))) (omega arith) h.0
+rung_stands code (s ∷ ss) p q zero h l = subst (λ x. code.at x ≡ Some (instruction_of (Branch (rung_with q s.code s.body)))) (omega arith) h.0
 rung_stands code (s ∷ ss) p q (suc k) h l =
-    subst (λ x. code x ≡ Some (instruction_of (Branch (rung_at (q + s.bytes) ss k)))) (omega arith)
+    subst (λ x. code.at x ≡ Some (instruction_of (Branch (rung_at (q + s.bytes) ss k)))) (omega arith)
     (rung_stands code ss (p + 4) (q + s.bytes) k h.1 (omega (arith, l)))
 
 -- its stub stands at its place
@@ -83,14 +84,14 @@ pub record Deed : Type 0 where
   pub steps : ℕ
   pub cycles : ℕ
 
--- code does it, wherever it stands, with nothing on the stack
-abbrev pub Does : Code → List Form → Deed → Type 0
-Does code body d = (p : ℕ) (u : Core) → Stands code p body → Enters p stack_top d.memory d.inputs u
-    → Comes code d.effects d.steps d.cycles u (Enters (p + forms_bytes body) stack_top (fram_after d.effects d.memory) d.inputs)
+-- code does it, wherever it stands, with SP where it is
+abbrev pub Does : Code → ℕ → List Form → Deed → Type 0
+Does code sp body d = (p : ℕ) (u : Core) → Stands code p body → Enters p sp d.memory d.inputs u
+    → Comes code d.effects d.steps d.cycles u (Enters (p + forms_bytes body) sp (fram_after d.effects d.memory) d.inputs)
 
 -- and the task is entered behind it
-abbrev pub Entered : Deed → ℕ → Core → Type 0
-Entered d code u = Enters code stack_top (fram_after d.effects d.memory) d.inputs u
+abbrev pub Entered : ℕ → Deed → ℕ → Core → Type 0
+Entered sp d code u = Enters code sp (fram_after d.effects d.memory) d.inputs u
 
 -- the dispatch stands at an address with the ladder right behind it, and the stubs at another
 pub record HasLadder (code : Code) (m : MemoryMap) (p q : ℕ) (ss : List Rung) : Type 0 where
@@ -101,12 +102,22 @@ pub record HasLadder (code : Code) (m : MemoryMap) (p q : ℕ) (ss : List Rung) 
   pub even : q % 2 ≡ 0
   pub each : All IsRung ss
   pub current : IsPlace (word_place m CurrentTask)
+  pub events : code.events ≡ m.runtime.events
+
+-- SP may be set to where the stack begins
+origin_is_even : (events : Bool) → stack_origin events % 2 ≡ 0
+origin_is_even true = refl
+origin_is_even false = refl
+
+origin_is_start : (events : Bool) → events ≡ true → stack_origin events ≡ stack_start
+origin_is_start true e = refl
+origin_is_start false e = absurd (cc (e))
 
 module _ (code : Code) (tidy : IsTidy code) where
   -- to where the rung of the task that CUR names leads
   dispatched : (m : MemoryMap) (p q : ℕ) (ss : List Rung) (f : ℕ → ℕ) (l : Inputs) (u : Core) → HasLadder code m p q ss → IsAt p f l u
       → f (word_place m CurrentTask) < length ss
-      → Comes code [] 6 12 u (Enters (rung_at q ss (f (word_place m CurrentTask))) stack_top f l)
+      → Comes code [] 6 12 u (Enters (rung_at q ss (f (word_place m CurrentTask))) (stack_origin m.runtime.events) f l)
   dispatched m p q ss f l u h at named =
       let k = f (word_place m CurrentTask) in
       let s = core_at p f l u in
@@ -121,33 +132,35 @@ module _ (code : Code) (tidy : IsTidy code) where
       (All-get_or IsRung ss k (record { body = []; bytes = 0; code = 0 }) named h.each).even in
       from_there u at (then_on
       (straight code tidy (task_found m) s (tt, (tt, (tt, (tt, tt)))) (stands_front code p (task_found m) (SkipBy R4 ∷ []) h.dispatches)
-      (refl, ((h.current, tt), ((tt, tt), ((tt, tt), tt)))) refl)
+      ((origin_is_even m.runtime.events, λ e. origin_is_start m.runtime.events (sym h.events ∙ e)), ((h.current, tt), ((tt, tt), ((tt, tt), tt)))) refl)
       (then_on (form_comes code tidy (SkipBy R4) found skipped [] 2 (λ v. v ≡ skipped) h.dispatches.1.1.1.1.0 (omega (arith, far)) refl refl)
-      (form_comes code tidy (Branch to) skipped (record skipped { pc = to }) [] 3 (Enters to stack_top f l)
-      (ap code there ∙ rung_stands code ss (p + 14) q k h.rungs named) even refl (record { pc = refl; sp = refl; fram = refl; inputs = refl }))))
+      (form_comes code tidy (Branch to) skipped (record skipped { pc = to }) [] 3 (Enters to (stack_origin m.runtime.events) f l)
+      (ap code.at there ∙ rung_stands code ss (p + 14) q k h.rungs named) even refl (record { pc = refl; sp = refl; fram = refl; inputs = refl }))))
 
   -- from where a rung leads to the task's code, through its stub where it has one
-  entered : (body : List Form) (stub to : ℕ) (d : Deed) (u : Core) → to % 2 ≡ 0 → Stands code stub (stub_with to body) → Does code body d
-      → Enters (rung_with stub to body) stack_top d.memory d.inputs u
-      → Comes code d.effects (d.steps + if_any (length body) 1) (d.cycles + if_any (length body) 3) u (Entered d to)
-  entered [] stub to d u even h does at =
+  entered : (body : List Form) (stub to sp : ℕ) (d : Deed) (u : Core) → to % 2 ≡ 0 → Stands code stub (stub_with to body) → Does code sp body d
+      → Enters (rung_with stub to body) sp d.memory d.inputs u
+      → Comes code d.effects (d.steps + if_any (length body) 1) (d.cycles + if_any (length body) 3) u (Entered sp d to)
+  entered [] stub to sp d u even h does at =
       recounted (omega arith) (omega arith) (so_ends (does to u tt at) (λ v k. record { pc = k.pc ∙ omega arith; sp = k.sp; fram = k.fram; inputs = k.inputs }))
-  entered (m ∷ ms) stub to d u even h does at =
-      let leaves : (v : Core) → Entered d (stub + forms_bytes (m ∷ ms)) v → Comes code [] 1 3 v (Entered d to) = λ v k.
-      form_comes code tidy (Branch to) v (record v { pc = to }) [] 3 (Entered d to)
-      (ap code k.pc ∙ (stands_back code stub (m ∷ ms) (Branch to ∷ []) h).0) even refl (record { pc = refl; sp = k.sp; fram = k.fram; inputs = k.inputs }) in
-      subst (λ x. Comes code x (d.steps + 1) (d.cycles + 3) u (Entered d to)) (append-nil d.effects)
+  entered (m ∷ ms) stub to sp d u even h does at =
+      let leaves : (v : Core) → Entered sp d (stub + forms_bytes (m ∷ ms)) v → Comes code [] 1 3 v (Entered sp d to) = λ v k.
+      form_comes code tidy (Branch to) v (record v { pc = to }) [] 3 (Entered sp d to)
+      (ap code.at k.pc ∙ (stands_back code stub (m ∷ ms) (Branch to ∷ []) h).0) even refl (record { pc = refl; sp = k.sp; fram = k.fram; inputs = k.inputs }) in
+      subst (λ x. Comes code x (d.steps + 1) (d.cycles + 3) u (Entered sp d to)) (append-nil d.effects)
       (comes_on (does stub u (stands_front code stub (m ∷ ms) (Branch to ∷ []) h) at) leaves)
 
   -- from the dispatch to the code of the task that CUR names
   pub to_task : (m : MemoryMap) (p q : ℕ) (ss : List Rung) (s : Rung) (d : Deed) (u : Core) → HasLadder code m p q ss → IsAt p d.memory d.inputs u
-      → d.memory (word_place m CurrentTask) < length ss → rung_in ss (d.memory (word_place m CurrentTask)) ≡ s → Does code s.body d
-      → Comes code d.effects (6 + (d.steps + if_any (length s.body) 1)) (12 + (d.cycles + if_any (length s.body) 3)) u (Entered d s.code)
+      → d.memory (word_place m CurrentTask) < length ss → rung_in ss (d.memory (word_place m CurrentTask)) ≡ s → Does code (stack_origin m.runtime.events) s.body d
+      → Comes code d.effects (6 + (d.steps + if_any (length s.body) 1)) (12 + (d.cycles + if_any (length s.body) 3)) u
+      (Entered (stack_origin m.runtime.events) d s.code)
   to_task m p q ss s d u h at named is does =
       let k = d.memory (word_place m CurrentTask) in
       let t = rung_in ss k in
       let even = (All-get_or IsRung ss k (record { body = []; bytes = 0; code = 0 }) named h.each).even in
-      subst (λ r. Comes code d.effects (6 + (d.steps + if_any (length r.body) 1)) (12 + (d.cycles + if_any (length r.body) 3)) u (Entered d r.code)) is
+      let sp = stack_origin m.runtime.events in
+      subst (λ r. Comes code d.effects (6 + (d.steps + if_any (length r.body) 1)) (12 + (d.cycles + if_any (length r.body) 3)) u (Entered sp d r.code)) is
       (comes_on (dispatched m p q ss d.memory d.inputs u h at named)
-      (λ v e. entered t.body (stub_at q ss k) t.code d v even (stub_stands code ss q k h.each h.stubs named)
-      (subst (λ r. Does code r.body d) (sym is) does) e))
+      (λ v e. entered t.body (stub_at q ss k) t.code sp d v even (stub_stands code ss q k h.each h.stubs named)
+      (subst (λ r. Does code sp r.body d) (sym is) does) e))

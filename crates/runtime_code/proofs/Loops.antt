@@ -129,8 +129,8 @@ module _ (code : Code) (tidy : IsTidy code) (loop : Loop code) where
   test : (b : Bool) (u : Core) → u.pc ≡ p → ((u.work 4 + 65535 + 1) % 65536 == 0) ≡ b
       → Comes code [] 2 3 u (λ v. v ≡ record (tested u) { pc = if b then p + (12 + bytes) else p + 2 + 2 })
   test b u e z =
-      then_on (straight code tidy (Calculate Cmp (Constant Zero) R4 ∷ []) u (tt, tt) (ap code e ∙ stands.0, tt) ((tt, tt), tt) refl)
-      (jumps code tidy Equal (over_loop turn) (p + (12 + bytes)) (p + 2 + 2) b (tested u) (ap (λ x. code (x + 2)) e ∙ stands.1.0)
+      then_on (straight code tidy (Calculate Cmp (Constant Zero) R4 ∷ []) u (tt, tt) (ap code.at e ∙ stands.0, tt) ((tt, tt), tt) refl)
+      (jumps code tidy Equal (over_loop turn) (p + (12 + bytes)) (p + 2 + 2) b (tested u) (ap (λ x. code.at (x + 2)) e ∙ stands.1.0)
       (ap (λ x. word_sum (x + 2 + 2) (distance (over_loop turn))) e ∙ passed) (ap (λ x. x + 2 + 2) e) z)
 
   -- the state at the first turn
@@ -159,8 +159,8 @@ module _ (code : Code) (tidy : IsTidy code) (loop : Loop code) where
   count n b u e c l z =
       let to : ℕ = if not b then p + 8 else p + (12 + bytes) in
       let less : (u.work 4 + 65534 + 1) % 65536 ≡ n = omega (arith, c, l) in
-      so_ends (then_on (straight code tidy (Calculate Sub (Constant One) R4 ∷ []) u (tt, tt) (ap code e ∙ count_there.0, tt) ((tt, tt), tt) refl)
-      (jumps code tidy NotEqual (back_to_turn turn) (p + 8) (p + (12 + bytes)) (not b) (one_less u) (ap (λ x. code (x + 2)) e ∙ count_there.1.0)
+      so_ends (then_on (straight code tidy (Calculate Sub (Constant One) R4 ∷ []) u (tt, tt) (ap code.at e ∙ count_there.0, tt) ((tt, tt), tt) refl)
+      (jumps code tidy NotEqual (back_to_turn turn) (p + 8) (p + (12 + bytes)) (not b) (one_less u) (ap (λ x. code.at (x + 2)) e ∙ count_there.1.0)
       (ap (λ x. word_sum (x + 2 + 2) (distance (back_to_turn turn))) e ∙ again) (ap (λ x. x + 2 + 2) e ∙ omega arith) (ap not z)))
       (λ v is. is ∙ ap (λ k. record (one_less u) { pc = to; work = put u.work 4 k }) less)
 

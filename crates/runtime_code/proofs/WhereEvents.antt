@@ -1,5 +1,5 @@
 -- Code that a runtime has where it takes events.
-use Rattle.std.proofs.Common.{◌≡◌, ℕ, ◌+◌, ◌≤◌, List, [], ◌++◌, Bool, true, false, refl, subst, arith}
+use Rattle.std.proofs.Common.{◌≡◌, ℕ, ◌+◌, ◌%◌, ◌≤◌, List, [], ◌++◌, Bool, true, false, refl, subst, arith}
 use Rattle.runtime_effects.specs.fram_board.Effects.{Effect}
 use Rattle.runtime_effects.specs.machine_effects.Machine.{Code, IsPlace}
 use Rattle.runtime_effects.specs.memory_map.MemoryMap.{where_events, with_events}
@@ -24,6 +24,16 @@ sent_is_place = record { even = refl; low = omega arith; high = omega arith }
 pub with_events_most : (events : Bool) (n : ℕ) → with_events events n ≤ n
 with_events_most true n = omega arith
 with_events_most false n = omega arith
+
+-- two of them
+pub with_events_sum : (events : Bool) (m n : ℕ) → with_events events m + with_events events n ≡ with_events events (m + n)
+with_events_sum true m n = refl
+with_events_sum false m n = refl
+
+-- even ones
+pub with_events_even : (events : Bool) (n : ℕ) → n % 2 ≡ 0 → with_events events n % 2 ≡ 0
+with_events_even true n e = e
+with_events_even false n e = refl
 
 -- how long it is
 pub where_bytes : (events : Bool) (ms : List Form) → forms_bytes (where_events events ms) ≡ with_events events (forms_bytes ms)

@@ -1,7 +1,8 @@
 -- A store that is made where a program takes events.
 use Rattle.std.proofs.Common.{◌≡◌, ℕ, [], ◌∷◌, Bool, true, false, refl}
 use Rattle.machine_effects.specs.fram_board.Effects.{Store}
-use Rattle.machine_effects.specs.World.{readings_taken, fram_after, EachStore}
+use Rattle.machine_effects.specs.World.{fram_after, EachStore}
+use Rattle.machine_effects.specs.Inputs.{inputs_taken, no_inputs}
 use Rattle.machine_effects.proofs.Interface.{put_other}
 use Rattle.memory_map.specs.MemoryMap.{where_events}
 
@@ -15,7 +16,7 @@ pub where_stores : (P : ℕ → ℕ → Type 0) (events : Bool) (a w : ℕ) → 
 where_stores P true a w h = (h refl, tt)
 where_stores P false a w h = tt
 
--- it takes no reading
-pub where_takes : (events : Bool) (a w : ℕ) → readings_taken (where_events events (Store a w ∷ [])) ≡ []
+-- it takes nothing of what is ready
+pub where_takes : (events : Bool) (a w : ℕ) → inputs_taken (where_events events (Store a w ∷ [])) ≡ no_inputs
 where_takes true a w = refl
 where_takes false a w = refl

@@ -1,5 +1,5 @@
 -- A map that is made call by call is the source's.
-use Rattle.std.proofs.Common.{◌≡◌, ◌∙◌, ℕ, List, [], ◌∷◌, map, ap, ap₂, Some, None}
+use Rattle.std.proofs.Common.{◌≡◌, ◌∙◌, ℕ, Bool, cond, List, [], ◌∷◌, map, ap, ap₂, Some, None}
 use Rattle.std.specs.Prelude.{All}
 use Rattle.std.proofs.lemmas.List.Elements.{All-nil, All-cons, All-head, All-tail}
 use Rattle.alp_text.specs.declared.lines.Span.{Span}
@@ -16,7 +16,7 @@ use Rattle.cost_bound.specs.Allowance.{CheckedTask}
 use Rattle.source_report.specs.source_values.Runs.{CheckedProgram}
 use Rattle.memory_map.specs.declared.place.VariablePlace.{VariablePlace}
 use Rattle.memory_map.specs.MemoryMap.{MemoryMap, TaskPlace}
-use Rattle.source_maps.specs.Maps.{map_words, map_list, map_buffer, variables_of, tasks_of, map_of}
+use Rattle.source_maps.specs.Maps.{map_words, map_list, map_buffer, event_ring, variables_of, tasks_of, map_of}
 use Rattle.source_maps.specs.Adding.{bare_map, with_variables, with_tasks}
 use Rattle.source_maps.proofs.Takes.{all_variables, all_tasks}
 
@@ -41,17 +41,25 @@ bare bound words list emits versions = record {
 
 pub bare_is : (l : MemoryMap) (allow : Allow) (m : MapValue) (w : RuntimeWords) (a b d : Place) → m ≡ bare allow.cycles w a b d → w ≡ map_words l → a
     ≡ map_list l
-    → b ≡ map_buffer l.emits → d ≡ map_buffer l.versions → m ≡ record (bare_map l allow) { copies = None }
+    → b ≡ map_buffer l.emits → d ≡ map_buffer l.versions → m ≡ record (bare_map l allow) { copies = None; ring = None }
 bare_is l allow m w a b d e i j k n =
     let bound = allow.cycles in
     e ∙ ap (λ x. bare bound x a b d) i ∙ ap (λ x. bare bound (map_words l) x b d) j ∙ ap (λ x. bare bound (map_words l) (map_list l) x d) k
     ∙ ap (bare bound (map_words l) (map_list l) (map_buffer l.emits)) n
 
 -- the same with the place of the copies
-pub copies_are : (l : MemoryMap) (allow : Allow) (m n : MapValue) (c : Place) → m ≡ record (bare_map l allow) { copies = None }
+pub copies_are : (l : MemoryMap) (allow : Allow) (m n : MapValue) (c : Place) → m ≡ record (bare_map l allow) { copies = None; ring = None }
     → n ≡ record m { copies = Some c }
-    → c ≡ map_buffer l.copies → n ≡ bare_map l allow
-copies_are l allow m n c e f g = f ∙ ap (λ (m : MapValue). record m { copies = Some c }) e ∙ ap (λ c. record (bare_map l allow) { copies = Some c }) g
+    → c ≡ map_buffer l.copies → n ≡ record (bare_map l allow) { ring = None }
+copies_are l allow m n c e f g =
+    f ∙ ap (λ (m : MapValue). record m { copies = Some c }) e ∙ ap (λ c. record (bare_map l allow) { copies = Some c; ring = None }) g
+
+-- and of the ring, if there is one
+pub ring_is_set : (l : MemoryMap) (allow : Allow) (m n : MapValue) (events : Bool) → m ≡ record (bare_map l allow) { ring = None }
+    → events ≡ l.runtime.events → n ≡ record m { ring = cond events (Some event_ring) None } → n ≡ bare_map l allow
+ring_is_set l allow m n events e f g =
+    g ∙ ap (λ (m : MapValue). record m { ring = cond events (Some event_ring) None }) e
+    ∙ ap (λ b. record (bare_map l allow) { ring = cond b (Some event_ring) None }) f
 
 -- from the map without variables and tasks, with those that the calls were given
 pub made : (text : List ℕ) (p : CheckedProgram) (l : MemoryMap) (allow : Allow) (first second third : MapValue) (ds es : List SharedDeclaration)

@@ -1,10 +1,11 @@
 -- The map of a source.
-use Rattle.std.proofs.Common.{◌≡◌, ◌∙◌, ℕ, suc, ◌*◌, ◌%◌, ◌<◌, ◌≤◌, true, List, [], ◌∷◌, ◌++◌, map, length, refl, sym, ap, ap₂, subst, arith, Some, get_or}
-use Rattle.std.specs.Prelude.{All, slice_get}
+use Rattle.std.proofs.Common.{◌≡◌, ◌∙◌, ℕ, suc, ◌*◌, ◌%◌, ◌<◌, ◌≤◌, true, List, [], ◌∷◌, ◌++◌, map, length, refl, sym, ap, ap₂, subst, arith, Some, None, get_or}
+use Rattle.std.proofs.Common.{Bool, false, cond}
+use Rattle.std.specs.Prelude.{All, IfSome, slice_get}
 use Rattle.std.proofs.lemmas.Option.{slice_get_within, slice_get-get_or}
 use Rattle.std.proofs.lemmas.List.Elements.{All-nil, All-cons, All-weaker}
 use Rattle.task_ast.specs.declared.SharedDeclaration.{SharedDeclaration}
-use Rattle.image_map.specs.MapValue.{IsFramWord, AreFramWords, IsPlace, are_different, are_scalars, task_names}
+use Rattle.image_map.specs.MapValue.{IsFramWord, AreFramWords, IsPlace, IsRing, are_different, are_scalars, task_names}
 use Rattle.image_map.specs.Kept.{IsMap}
 use Rattle.cost_bound.specs.Allowance.{CheckedTask, is_written}
 use Rattle.privatise.specs.war_analysis.PlanValue.{TaskPlanValue}
@@ -19,7 +20,8 @@ use Rattle.memory_map.specs.MemoryMap.{MemoryMap, TaskPlace, word_place}
 use Rattle.memory_map.specs.Places.{end_of, list_entry_room, HasItsPlace, IsLaidOut}
 use Rattle.memory_map.proofs.Interface.{parts_in_fram, words_stand}
 use Rattle.privatise.specs.Layouts.{IsTaskLayout}
-use Rattle.source_maps.specs.Maps.{map_words, map_list, map_buffer, variables_of, private_names, shared_name, tasks_of, map_of}
+use Rattle.memory_map.specs.event_places.Places.{head_place, tail_place, count_place, sent_place, answer_place, ring_place}
+use Rattle.source_maps.specs.Maps.{map_words, map_list, map_buffer, event_ring, variables_of, private_names, shared_name, tasks_of, map_of}
 use Rattle.source_maps.specs.Adding.{TakesTasks}
 use Rattle.source_maps.specs.Placing.{ArePlacesOf}
 use Rattle.source_maps.specs.Laws.{MapsAreOfSources}
@@ -36,6 +38,22 @@ map_map f g (x ∷ xs) = ap (λ l. g (f x) ∷ l) (map_map f g xs)
 
 fram_word : (a : ℕ) → fram_first ≤ a → a < fram_end → a % 2 ≡ 0 → IsFramWord a
 fram_word a low high even = record { low = low; high = high; even = even }
+
+-- the words of the ring are words of the FRAM, with all its slots
+pub event_ring_is : IsRing event_ring
+event_ring_is = record {
+  head = fram_word head_place (omega arith) (omega arith) refl;
+  tail = fram_word tail_place (omega arith) (omega arith) refl;
+  event_count = fram_word count_place (omega arith) (omega arith) refl;
+  sent_tail = fram_word sent_place (omega arith) (omega arith) refl;
+  answer = fram_word answer_place (omega arith) (omega arith) refl;
+  slots = fram_word ring_place (omega arith) (omega arith) refl;
+  fits = refl;
+}
+
+ring_is : (events : Bool) → IfSome (cond events (Some event_ring) None) IsRing
+ring_is true = event_ring_is
+ring_is false = tt
 
 pub runtime_words : (l : MemoryMap) → IsLaidOut l → AreFramWords (map_words l)
 runtime_words l h = record {
@@ -170,7 +188,7 @@ maps_are_of_sources text p allow plans l h =
       emits = placed.emits;
       versions = placed.versions;
       copies = placed.copies;
-      ring = tt;
+      ring = ring_is l.runtime.events;
       variables = variables_are text l.homes.address (end_of l.homes) p.shared l.variables places rules.homes placed.low placed.high h.names.words;
       few_variables = omega (arith, few_shared, shared_length);
       few_tasks = omega (arith, few_tasks, task_length);

@@ -1,5 +1,5 @@
 -- The map of a compiled image.
-use Rattle.std.specs.Prelude.{ℕ, List, [], ◌∷◌, map, Option, Some, None, slice_get}
+use Rattle.std.specs.Prelude.{ℕ, if◌then◌else◌, List, [], ◌∷◌, map, Option, Some, None, slice_get}
 use Rattle.task_ast.specs.declared.WordType.{WordType}
 use Rattle.task_ast.specs.declared.WordType.TheVariants as word_type
 use Rattle.task_ast.specs.declared.Extent.{Extent}
@@ -7,6 +7,7 @@ use Rattle.task_ast.specs.declared.Extent.TheVariants as extent
 use Rattle.task_ast.specs.declared.SharedDeclaration.{SharedDeclaration}
 use Rattle.image_map.specs.declared.parts.RuntimeWords.{RuntimeWords}
 use Rattle.image_map.specs.declared.parts.Place.{Place}
+use Rattle.image_map.specs.declared.parts.RingPlaces.{RingPlaces}
 use Rattle.image_map.specs.declared.parts.ValueType.{ValueType}
 use Rattle.image_map.specs.declared.parts.ValueType.TheVariants as value_type
 use Rattle.image_map.specs.declared.parts.Variable.{Variable}
@@ -20,6 +21,7 @@ use Rattle.memory_map.specs.declared.place.VariablePlace.{VariablePlace}
 use Rattle.memory_map.specs.declared.place.PrivateScalar.{PrivateScalar}
 use Rattle.memory_map.specs.declared.place.Region.{Region}
 use Rattle.memory_map.specs.declared.words.RuntimeWord.TheVariants.{CurrentTask, NextTask, Gate, ListLength, EmitCount, Base, SentBase, Version}
+use Rattle.memory_map.specs.event_places.Places.{head_place, tail_place, count_place, sent_place, answer_place, ring_place}
 use Rattle.memory_map.specs.MemoryMap.{MemoryMap, TaskPlace, word_place}
 use Rattle.memory_map.specs.Places.{home_region}
 
@@ -92,6 +94,20 @@ map_list m = record { address = m.list.address; capacity = m.entries }
 abbrev pub map_buffer : Region → Place
 map_buffer r = record { address = r.address; capacity = r.words }
 
+-- the ring of a source that takes events: it stands at one place in each image
+abbrev pub event_ring : RingPlaces
+event_ring = record {
+  head = head_place;
+  tail = tail_place;
+  event_count = count_place;
+  sent_tail = sent_place;
+  answer = answer_place;
+  slots = ring_place;
+}
+
+abbrev pub map_ring : MemoryMap → Option RingPlaces
+map_ring m = if m.runtime.events then Some event_ring else None
+
 -- the map of a source with its layout and its allowance
 abbrev pub map_of : List ℕ → CheckedProgram → MemoryMap → Allow → MapValue
 map_of text p l allow = record {
@@ -101,7 +117,7 @@ map_of text p l allow = record {
   emits = map_buffer l.emits;
   versions = map_buffer l.versions;
   copies = Some (map_buffer l.copies);
-  ring = None;
+  ring = map_ring l;
   variables = variables_of text p.shared l.variables;
   tasks = tasks_of text p.shared p.tasks l.tasks;
 }

@@ -1,5 +1,5 @@
 //! The map of a source.
-ghost use Rattle.std.specs.Prelude.{◌≡◌, ◌<◌, ◌≤◌, ◌∷◌, [], true, All, IfOk, OnOk, length, map};
+ghost use Rattle.std.specs.Prelude.{◌≡◌, ◌<◌, ◌≤◌, ◌∷◌, [], true, All, IfOk, OnOk, length, map, None, Some, if◌then◌else◌};
 ghost use Rattle.task_ast.specs.View as tree;
 ghost use Rattle.image_map.specs.Names.{is_name};
 ghost use Rattle.image_map.specs.MapValue.{takes_task, with_task};
@@ -14,7 +14,8 @@ ghost use Rattle.source_maps.specs.Adding.{with_tasks, TakesTasks, TakesSource};
 
 use alp_text::Span;
 use cost_bound::Allow;
-use image_map::{Map, Name, Place, RuntimeWords, ValueType, Variable};
+use event_places::{ANSWER, EVENT_COUNT, HEAD, RING, SENT_TAIL, TAIL};
+use image_map::{Map, Name, Place, RingPlaces, RuntimeWords, ValueType, Variable};
 use memory_map::{Layout, PrivateScalar, Region, RuntimeWord, TaskLayout, VariablePlace};
 use source_report::spelled;
 use std::alloc::{AllocError, Global};
@@ -205,6 +206,30 @@ fn map_buffer(region: Region) -> Place
     }
 }
 
+// The ring, which stands at one place in each image of a source that takes events.
+fn event_ring() -> RingPlaces
+    ensures { result ≡ maps.event_ring }
+{
+    RingPlaces {
+        head: HEAD,
+        tail: TAIL,
+        event_count: EVENT_COUNT,
+        sent_tail: SENT_TAIL,
+        answer: ANSWER,
+        slots: RING,
+    }
+}
+
+// Says where the ring is, where the source takes events.
+fn set_ring(added: &mut Map, events: bool)
+    requires { added.old.ring ≡ None }
+    ensures { added.new ≡ record added.old { ring = if events then Some maps.event_ring else None } }
+{
+    if events {
+        added.set_ring(event_ring());
+    }
+}
+
 /// The map of a source with its layout and its allowance.
 pub fn map_of(
     alloc: Global,
@@ -228,6 +253,7 @@ pub fn map_of(
     let copies = map_buffer(layout.copies());
     let mut map = Map::new(alloc, allow.cycles, words, list, emits, versions);
     map.set_copies(copies);
+    set_ring(&mut map, layout.runtime().events);
     add_variables(&mut map, text, source.shared.as_slice(), layout.variables())?;
     add_tasks(
         alloc,

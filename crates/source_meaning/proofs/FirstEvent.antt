@@ -4,18 +4,13 @@ use Rattle.std.specs.Prelude.{All, slice_get}
 use Rattle.std.proofs.lemmas.List.{take_all}
 use Rattle.std.proofs.lemmas.List.Elements.{All-more}
 use Rattle.std.proofs.lemmas.Option.{slice_get-get_or, slice_get_within, get_or_from_slice_get}
-use Rattle.source_values.specs.Runs.{CheckedProgram}
-use Rattle.cost_bound.specs.declared.allowance.Allow.{Allow}
 use Rattle.task_lex.specs.declared.token.Token.{Token}
 use Rattle.task_lex.specs.Lex.{lexed, tokens}
 use Rattle.task_lex.specs.Faults.{line_of}
 use Rattle.task_lex.specs.Spans.{InOrder}
 use Rattle.task_lex.proofs.Interface.{all_within}
 use Rattle.task_parse.specs.Stops.{from_of}
-use Rattle.source_meaning.specs.declared.fault.SourceFault.{SourceFault}
-use Rattle.source_meaning.specs.declared.fault.SourceFault.TheVariants.{Lex, Syntax, Check, Over, NotYet, Memory}
-use Rattle.source_meaning.specs.Acceptance.{IsAcceptedText, IsRefusedText}
-use Rattle.source_meaning.specs.Events.{is_event_kind, NoEvent, IsFirstEvent, HasEvent, HasNoEvent, IsUncompiled}
+use Rattle.source_meaning.specs.Events.{is_event_kind, NoEvent, IsFirstEvent, HasEvent, HasNoEvent}
 use Rattle.source_meaning.proofs.Unique.{same_tokens}
 
 pub none_more : (ts : List Token) (i : ℕ) (d : Token) → i < length ts → All NoEvent (take i ts) → is_event_kind (get_or ts i d).kind ≡ false
@@ -45,27 +40,3 @@ one_or_none text line clean has =
     let none = clean.none has.at has.is_first.token (slice_get_within clean.words has.at has.is_first.token there) in
     let both : true ≡ false = sym has.is_first.is_event ∙ sym (ap (λ t. is_event_kind t.kind) is) ∙ none in
     cc
-
--- what a pass refuses isn't compiled
-pub uncompiled_by_pass : (text : List ℕ) (f : SourceFault) → IsRefusedText text f → IsUncompiled text f
-uncompiled_by_pass text (Lex e) h = h
-uncompiled_by_pass text (Syntax line) h = h
-uncompiled_by_pass text (Check e) h = h
-uncompiled_by_pass text (Over e) h = h
-uncompiled_by_pass text (NotYet line) h = absurd h
-uncompiled_by_pass text Memory h = h
-
--- and neither is an accepted text with an event
-pub uncompiled_by_event : (text own : List ℕ) (p : CheckedProgram) (allow : Allow) (line : ℕ) → IsAcceptedText text p allow → own ≡ text → HasEvent own line
-    → IsUncompiled text (NotYet line)
-uncompiled_by_event text own p allow line accepted same has =
-    record { program = p; allow = allow; accepted = accepted; has_event = subst (λ t. HasEvent t line) same has }
-
--- where there is none, a pass refuses what isn't compiled
-pub refused_by_pass : (text : List ℕ) (f : SourceFault) → HasNoEvent text → IsUncompiled text f → IsRefusedText text f
-refused_by_pass text (Lex e) none h = h
-refused_by_pass text (Syntax line) none h = h
-refused_by_pass text (Check e) none h = h
-refused_by_pass text (Over e) none h = h
-refused_by_pass text (NotYet line) none h = absurd (one_or_none text line none h.has_event)
-refused_by_pass text Memory none h = h

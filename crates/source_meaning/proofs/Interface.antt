@@ -4,5 +4,5 @@
 pub use Rattle.source_meaning.proofs.Emits.{emits_same}
 -- An accepted source can be run.
 pub use Rattle.source_meaning.proofs.Runnable.{accepted_texts_run}
--- No text has a `next_event` and none; where it has none, a pass refuses what isn't compiled.
-pub use Rattle.source_meaning.proofs.FirstEvent.{one_or_none, refused_by_pass}
+-- No text has a `next_event` and none.
+pub use Rattle.source_meaning.proofs.FirstEvent.{one_or_none}

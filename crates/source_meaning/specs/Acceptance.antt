@@ -63,12 +63,10 @@ pub record IsTooCostly (text : List ℕ) (over : Over) : Type 0 where
   pub checks : Checks text program
   pub costs : IsOver program (task_lines text program) over
 
--- the first pass that refuses a text does so by this fault; nothing is said where memory runs out, which stands alone. No pass says that
--- something isn't compiled yet: it is accepted
+-- the first pass that refuses a text does so by this fault; nothing is said where memory runs out, which stands alone
 abbrev pub IsRefusedText : List ℕ → SourceFault → Type 0
 IsRefusedText text (source_fault.Lex fault) = (fault ≡ lex_fault.Memory → ⊥) × (let answer : Result (Vec Token) LexFault = Err fault in Lexes text answer)
 IsRefusedText text (source_fault.Syntax line) = IsNoProgram text line
 IsRefusedText text (source_fault.Check fault) = (fault ≡ check_fault.Memory → ⊥) × IsUnchecked text fault
 IsRefusedText text (source_fault.Over over) = IsTooCostly text over
-IsRefusedText text (source_fault.NotYet line) = ⊥
 IsRefusedText text source_fault.Memory = Unit {0}

@@ -1,15 +1,10 @@
--- Texts with `next_event()`, which aren't compiled yet, and those without.
+-- Texts with `next_event()`, and those without.
 use Rattle.std.specs.Prelude.{◌≡◌, ℕ, Bool, true, false, List, All, take, Option, Some, None, slice_get}
-use Rattle.source_values.specs.Runs.{CheckedProgram}
-use Rattle.cost_bound.specs.declared.allowance.Allow.{Allow}
 use Rattle.task_lex.specs.declared.token.Token.{Token}
 use Rattle.task_lex.specs.declared.token.Kind.{Kind}
 use Rattle.task_lex.specs.declared.token.Kind.TheVariants as k
 use Rattle.task_lex.specs.Lex.{lexed, tokens}
 use Rattle.task_parse.specs.Stops.{token_line}
-use Rattle.source_meaning.specs.declared.fault.SourceFault.{SourceFault}
-use Rattle.source_meaning.specs.declared.fault.SourceFault.TheVariants as source_fault
-use Rattle.source_meaning.specs.Acceptance.{IsAcceptedText, IsRefusedText}
 
 -- the keyword `next_event`
 abbrev pub is_event_kind : Kind → Bool
@@ -45,15 +40,3 @@ pub record HasNoEvent (text : List ℕ) : Type 0 where
 abbrev pub FirstEvent : List ℕ → Option ℕ → Type 0
 FirstEvent text None = HasNoEvent text
 FirstEvent text (Some line) = HasEvent text line
-
--- the text is accepted, and isn't compiled yet: its first `next_event` is on this line
-pub record IsNotYet (text : List ℕ) (line : ℕ) : Type 0 where
-  pub program : CheckedProgram
-  pub allow : Allow
-  pub accepted : IsAcceptedText text program allow
-  pub has_event : HasEvent text line
-
--- why a text isn't compiled: a pass refuses it, or behind all of them it has a `next_event`
-abbrev pub IsUncompiled : List ℕ → SourceFault → Type 0
-IsUncompiled text (source_fault.NotYet line) = IsNotYet text line
-IsUncompiled text fault = IsRefusedText text fault

@@ -1,17 +1,10 @@
-//! The events of a source: a source with `next_event()` isn't compiled yet.
-ghost use Rattle.std.specs.Prelude.{◌≡◌, ◌<◌, ◌^◌, ◌-◌, All, length, IfOk, IfErr, IfNone, IfSome};
-ghost use Rattle.task_ast.specs.View.{program_of};
-ghost use Rattle.task_ast.specs.Tree.{Program};
-ghost use Rattle.task_ast.specs.declared.names.VariableName.{VariableName};
-ghost use Rattle.task_ast.specs.declared.names.TaskName.{TaskName};
-ghost use Rattle.cost_bound.specs.declared.allowance.Allow.{Allow};
+//! Whether a source asks for events, and where first.
+ghost use Rattle.std.specs.Prelude.{◌≡◌, ◌<◌, ◌^◌, ◌-◌, All, length, IfOk, IfNone, IfSome};
 ghost use Rattle.task_lex.specs.Lex.{lexed, tokens};
 ghost use Rattle.task_lex.specs.Spans.{InOrder};
-ghost use Rattle.source_meaning.specs.Acceptance.{IsAcceptedText};
-ghost use Rattle.source_meaning.specs.Events.{FirstEvent, HasEvent, HasNoEvent, IsFirstEvent, IsUncompiled, NoEvent, is_event_kind};
+ghost use Rattle.source_meaning.specs.Events.{FirstEvent, HasEvent, HasNoEvent, IsFirstEvent, NoEvent, is_event_kind};
 
-use crate::fault::SourceFault;
-use crate::passes::{Accepted, accept};
+use crate::passes::Accepted;
 use std::alloc::{AllocError, Global};
 use task_lex::{Kind, Token, lex, line_at};
 
@@ -71,25 +64,4 @@ pub fn first_event(alloc: Global, accepted: &Accepted) -> Result<Option<u32>, Al
         return Err(AllocError);
     };
     Ok(first_in(text, words.as_slice()))
-}
-
-/// Takes a text through all passes, as `accept` does, and behind them through the last one of what is compiled: a source with
-/// `next_event()` isn't compiled yet.
-///
-/// # Errors
-/// Those of `accept`; and `NotYet` at the line of the first `next_event` of a source that is accepted.
-pub fn accept_compiled(alloc: Global, text: &[u8]) -> Result<Accepted, SourceFault>
-    requires { length text.now < 2 ^ 32 - 1 }
-    ensures text { IfOk result (λ a. a.text.items ≡ text.now) }
-    ensures accepted { IfOk result (λ a. IsAcceptedText text.now (program_of a.checked.source) a.allow) }
-    ensures only { IfOk result (λ a. (program : Program VariableName TaskName) (allow : Allow)
-        → IsAcceptedText text.now program allow → (program ≡ program_of a.checked.source) × (allow ≡ a.allow)) }
-    ensures no_event { IfOk result (λ _. HasNoEvent text.now) }
-    ensures refused { IfErr result (IsUncompiled text.now) }
-{
-    let accepted = accept(alloc, text)?;
-    match first_event(alloc, &accepted)? {
-        Some(line) => Err(SourceFault::NotYet { line }),
-        None => Ok(accepted),
-    }
 }

@@ -7,7 +7,7 @@ mod laws;
 mod passes;
 mod state;
 
-pub use events::{accept_compiled, first_event};
+pub use events::first_event;
 pub use fault::SourceFault;
 pub use laws::{accepted_texts_run, one_answer, one_program};
 pub use passes::{Accepted, accept};

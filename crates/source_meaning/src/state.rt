@@ -4,7 +4,7 @@ ghost use Rattle.std.specs.Prelude.{◌≡◌, ◌≤◌, ◌<◌, ◌^◌, [], 
 ghost use Rattle.task_ast.specs.View.{program_of};
 ghost use Rattle.source_values.specs.Statements.{short};
 ghost use Rattle.source_values.specs.Values.{shown};
-ghost use Rattle.source_values.specs.Runs.{is_long_extent, attempt_of, completion_of};
+ghost use Rattle.source_values.specs.Runs.{is_long_extent, without_answers, attempt_of, completion_of};
 ghost use Rattle.source_values.specs.Running.{fresh_run};
 
 use crate::passes::Accepted;
@@ -53,20 +53,22 @@ impl Meaning {
         })
     }
 
-    /// Runs the current task once, from the shared words as they are, on the front of the readings. The meaning is one of this
-    /// source. Takes no memory. `Short` where the readings run out before its transition; the meaning is then as before.
+    /// Runs the current task once, from the shared words as they are, on the front of the readings, each `next_event()` being 0. The meaning is one
+    /// of this source. Takes no memory. `Short` where the readings run out before its transition; the meaning is then as before.
     pub fn task_step(&mut self, source: &Accepted, readings: &[u16]) -> Result<Done, Short>
         requires task { self.old.run.task < length (program_of source.now.checked.source).tasks }
         requires few_readings { length readings.now < 2 ^ 32 }
-        ensures done { IfOk result (λ d. completion_of (attempt_of (program_of source.now.checked.source) self.old.run.task self.old.run.shared readings.now)
-            ≡ Some (record { next = d.next; shared = self.new.run.shared; emitted = self.new.run.emitted; left = drop d.used readings.now })) }
+        ensures done { IfOk result (λ d. completion_of
+            (attempt_of (program_of source.now.checked.source) self.old.run.task self.old.run.shared (without_answers readings.now))
+            ≡ Some (record { next = d.next; shared = self.new.run.shared; emitted = self.new.run.emitted; left = drop d.used readings.now; answers = [] })) }
         ensures from { IfOk result (λ d. d.from ≡ self.old.run.task) }
         ensures next { IfOk result (λ d. (d.next ≡ self.new.run.task) × (d.next < length (program_of source.now.checked.source).tasks)) }
         ensures used { IfOk result (λ d. d.used ≤ length readings.now) }
         ensures before { OnOk result (self.new.run.before ≡ self.old.run.shared) }
         ensures same_lengths { map length self.new.run.shared ≡ map length self.old.run.shared }
         ensures few_emitted { OnOk result (length self.new.run.emitted ≤ 256) }
-        ensures short { OnErr result (attempt_of (program_of source.now.checked.source) self.old.run.task self.old.run.shared readings.now ≡ short) }
+        ensures short { OnErr result
+            (attempt_of (program_of source.now.checked.source) self.old.run.task self.old.run.shared (without_answers readings.now) ≡ short) }
         ensures as_before { OnErr result (self.new.run ≡ self.old.run) }
         ensures same_longs { self.new.longs ≡ self.old.longs }
     {

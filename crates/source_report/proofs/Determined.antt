@@ -12,12 +12,14 @@ use Rattle.task_ast.specs.Tree.{Task}
 use Rattle.task_ast.specs.declared.names.VariableName.{VariableName}
 use Rattle.task_ast.specs.declared.names.TaskName.{TaskName}
 use Rattle.source_values.specs.Values.{◌>>?◌}
-use Rattle.source_values.specs.Statements.{Outcome, goes_on, to_task, short, run_block}
-use Rattle.source_values.specs.Runs.{CheckedProgram, EndsWell, TransitionComes, fresh_attempt, body_of, attempt_of, Completion, completion_of}
+use Rattle.source_values.specs.Statements.{Attempt, Outcome, goes_on, to_task, short, run_block}
+use Rattle.source_values.specs.Runs.{CheckedProgram, EndsWell, TransitionComes, without_answers, fresh_attempt, body_of, attempt_of, Completion}
+use Rattle.source_values.specs.Runs.{completion_of}
 use Rattle.source_values.specs.Running.{IsRunnable}
 use Rattle.source_values.specs.Runs.{State, Transition, exactly, transition_of, source_run, state_after, state_behind, first_state}
 use Rattle.source_values.proofs.Interface.{readings_left_over_lem}
-use Rattle.source_report.specs.SourceReport.{Committed, transition_lines, source_report, readings_of, IsConsecutive, position_after, IsEnding, IsMeanReport}
+use Rattle.source_report.specs.SourceReport.{Committed, transition_lines, source_report, readings_of, given_of, IsConsecutive, position_after, IsEnding}
+use Rattle.source_report.specs.SourceReport.{IsMeanReport}
 use Rattle.source_report.specs.MeanReport.{report_from, mean_report}
 use Rattle.source_report.proofs.ReportSteps.{report_at_limit, report_short, report_more}
 
@@ -51,11 +53,12 @@ found P (x ∷ xs) i h all = (get_or (x ∷ xs) i x, slice_get-get_or (x ∷ xs)
 
 -- an attempt of a task of a runnable source comes to a transition to a task, or is short
 attempt_ends : (program : CheckedProgram) (task : ℕ) (shared : List (List ℕ)) (readings : List ℕ) → IsRunnable program → task < length program.tasks
-    → EndsWell (length program.tasks) (attempt_of program task shared readings)
+    → EndsWell (length program.tasks) (attempt_of program task shared (without_answers readings))
 attempt_ends program task shared readings r h =
     let f = found (TransitionComes (length program.tasks)) program.tasks task h r.transition_comes in
-    let P : Option (Task VariableName TaskName) → Type 0 = λ o. EndsWell (length program.tasks) (run_block (body_of o) (fresh_attempt shared readings)) in
-    subst P (sym f.1) (f.2 (fresh_attempt shared readings))
+    let start : Attempt = fresh_attempt shared (without_answers readings) in
+    let P : Option (Task VariableName TaskName) → Type 0 = λ o. EndsWell (length program.tasks) (run_block (body_of o) start) in
+    subst P (sym f.1) (f.2 start)
 
 -- what `report_from` gives: the lines of further transitions on spans from `at` on, and the end
 record IsReportFrom (n : ℕ) (source_text : List ℕ) (program : CheckedProgram) (trace : List ℕ) (k accepted at : ℕ) (s : State) (text : List ℕ) : Type 0 where
@@ -63,9 +66,9 @@ record IsReportFrom (n : ℕ) (source_text : List ℕ) (program : CheckedProgram
   transitions : List Transition
   reason : Reason
   consecutive : IsConsecutive at (length trace) spans
-  run : source_run program s (map (readings_of trace) spans) ≡ Some transitions
+  run : source_run program s (map (given_of trace) spans) ≡ Some transitions
   ending : IsEnding reason n (length spans)
-      (attempt_of program (state_behind s transitions).task (state_behind s transitions).shared (drop (position_after at spans) trace))
+      (attempt_of program (state_behind s transitions).task (state_behind s transitions).shared (without_answers (drop (position_after at spans) trace)))
   lines : text ≡ source_report source_text program (k + 1) spans transitions
       ++ end_line reason (k + length spans) (accepted + sum_by (λ t. length t.emitted) transitions) 0
 
@@ -92,11 +95,11 @@ from_here zero text program trace k accepted at s left r i h e = record {
 }
 from_here (suc n) text program trace k accepted at s left r i h e =
     go (λ accepted' at' s' left' i' h' e'. from_here n text program trace (k + 1) accepted' at' s' left' r i' h' e')
-    (attempt_of program s.task s.shared left) refl
+    (attempt_of program s.task s.shared (without_answers left)) refl
   where
     go : (ih : (accepted' at' : ℕ) (s' : State) (left' : List ℕ) → s'.task < length program.tasks → at' ≤ length trace → drop at' trace ≡ left'
         → IsReportFrom n text program trace (k + 1) accepted' at' s' (report_from n text program (length trace) (k + 1) accepted' s'.task s'.shared left'))
-        (o : Outcome) → attempt_of program s.task s.shared left ≡ o
+        (o : Outcome) → attempt_of program s.task s.shared (without_answers left) ≡ o
         → IsReportFrom (suc n) text program trace k accepted at s (report_from (suc n) text program (length trace) k accepted s.task s.shared left)
     go ih (goes_on a) o =
         let P : Outcome → Type 0 = EndsWell (length program.tasks) in
@@ -107,7 +110,7 @@ from_here (suc n) text program trace k accepted at s left r i h e =
       reason = Readings;
       consecutive = h;
       run = refl;
-      ending = (omega arith, ap (attempt_of program s.task s.shared) e ∙ o);
+      ending = (omega arith, ap (λ x. attempt_of program s.task s.shared (without_answers x)) e ∙ o);
       lines = report_short (suc n) text program (length trace) k accepted s.task s.shared left (omega arith) (ap completion_of o)
           ∙ ap (λ m. end_line Readings m accepted 0) (let same : k ≡ k + 0 = omega arith in same)
           ∙ ap (λ m. end_line Readings (k + 0) m 0) (let same : accepted ≡ accepted + 0 = omega arith in same);
@@ -115,20 +118,21 @@ from_here (suc n) text program trace k accepted at s left r i h e =
     go ih (to_task next a) o =
         let P : Outcome → Type 0 = EndsWell (length program.tasks) in
         let inside : next < length program.tasks = subst P o (attempt_ends program s.task s.shared left r i) in
-        let c : Completion = record { next = next; shared = a.variables.shared; emitted = a.emitted; left = a.left } in
-        let completes : completion_of (attempt_of program s.task s.shared left) ≡ Some c = ap completion_of o in
-        let law = readings_left_over_lem program s.task s.shared left c completes in
+        let c : Completion = record { next = next; shared = a.variables.shared; emitted = a.emitted; left = a.left; answers = a.answers } in
+        let completes : completion_of (attempt_of program s.task s.shared (without_answers left)) ≡ Some c = ap completion_of o in
+        let law = readings_left_over_lem program s.task s.shared (without_answers left) c completes in
         let takes = span_takes trace law.0 c.left at h (e ∙ law.1) in
         let span : Committed = record { from = at; to = takes.to } in
         let t : Transition = record { from = s.task; next = next; before = s.shared; after = c.shared; emitted = c.emitted } in
         let rest = ih (accepted + length c.emitted) takes.to (state_after s t) c.left inside takes.inside takes.rest in
         let from_is : length trace - length left ≡ at = omega (arith, length-drop at trace, ap length e) in
-        let whole : completion_of (attempt_of program s.task s.shared (readings_of trace span)) ≡ Some
-        (record { next = next; shared = c.shared; emitted = c.emitted; left = [] })
-        = ap (λ x. completion_of (attempt_of program s.task s.shared x)) takes.taken ∙ law.2 [] in
-        let one : transition_of program s (readings_of trace span) ≡ Some t = ap (λ x. x >>? exactly s) whole in
-        let run : source_run program s (readings_of trace span ∷ map (readings_of trace) rest.spans) ≡ Some (t ∷ rest.transitions)
-        = ap (λ x. x >>? λ u. source_run program (state_after s u) (map (readings_of trace) rest.spans) >>? λ ts. Some (u ∷ ts)) one
+        let whole : completion_of (attempt_of program s.task s.shared (given_of trace span)) ≡ Some
+        (record { next = next; shared = c.shared; emitted = c.emitted; left = []; answers = [] })
+        = ap (λ x. completion_of (attempt_of program s.task s.shared (without_answers x))) takes.taken ∙ law.2 []
+        ∙ ap (λ x. Some (record c { left = []; answers = x })) (law.3 refl) in
+        let one : transition_of program s (given_of trace span) ≡ Some t = ap (λ x. x >>? exactly s) whole in
+        let run : source_run program s (given_of trace span ∷ map (given_of trace) rest.spans) ≡ Some (t ∷ rest.transitions)
+        = ap (λ x. x >>? λ u. source_run program (state_after s u) (map (given_of trace) rest.spans) >>? λ ts. Some (u ∷ ts)) one
         ∙ ap (λ x. x >>? λ ts. Some (t ∷ ts)) rest.run in
         let made : k + 1 + length rest.spans ≡ k + suc (length rest.spans) = omega arith in
         let more : sum_by (λ t. length t.emitted) (t ∷ rest.transitions) ≡ length c.emitted + sum_by (λ t. length t.emitted) rest.transitions

@@ -2,7 +2,7 @@
 use Rattle.std.proofs.Common.{◌≡◌, ◌<◌, ℕ, zero, suc, ◌+◌, ◌-◌, List, ◌++◌, length, arith, refl, ap, ◌∙◌, Some, None}
 use Rattle.alp_io.specs.declared.report.Reason.TheVariants.{Readings, Limit}
 use Rattle.alp_io.specs.Report.{end_line}
-use Rattle.source_values.specs.Runs.{CheckedProgram, Completion, completion_of, attempt_of}
+use Rattle.source_values.specs.Runs.{CheckedProgram, Completion, completion_of, without_answers, attempt_of}
 use Rattle.source_report.specs.SourceReport.{transition_lines}
 use Rattle.source_report.specs.MeanReport.{report_from, if_whole}
 
@@ -19,7 +19,7 @@ report_at_limit zero text program total k accepted task shared readings e = refl
 report_at_limit (suc n) text program total k accepted task shared readings e = absurd (omega arith)
 
 pub report_short : (n : ℕ) (text : List ℕ) (program : CheckedProgram) (total k accepted task : ℕ) (shared : List (List ℕ)) (readings : List ℕ) → 0 < n
-    → completion_of (attempt_of program task shared readings) ≡ None
+    → completion_of (attempt_of program task shared (without_answers readings)) ≡ None
     → report_from n text program total k accepted task shared readings ≡ end_line Readings k accepted 0
 unfolding report_from
 report_short zero text program total k accepted task shared readings h e = absurd (omega arith)
@@ -29,7 +29,7 @@ report_short (suc n) text program total k accepted task shared readings h e = ap
 
 pub report_more : (n m : ℕ) (text : List ℕ) (program : CheckedProgram) (total k accepted task : ℕ) (shared : List (List ℕ)) (readings : List ℕ)
     (c : Completion) → n ≡ m + 1
-    → completion_of (attempt_of program task shared readings) ≡ Some c
+    → completion_of (attempt_of program task shared (without_answers readings)) ≡ Some c
     → report_from n text program total k accepted task shared readings
     ≡ attempt_lines text program total k task shared readings c ++ report_from m text program total (k + 1) (accepted + length c.emitted) c.next c.shared c.left
 unfolding report_from

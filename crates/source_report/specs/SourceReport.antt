@@ -12,7 +12,7 @@ use Rattle.task_ast.specs.declared.Extent.{Extent}
 use Rattle.task_ast.specs.declared.Extent.TheVariants.{Scalar, Long, Array}
 use Rattle.source_values.specs.Values.{shown}
 use Rattle.source_values.specs.Statements.{Outcome, short}
-use Rattle.source_values.specs.Runs.{CheckedProgram, Transition, first_state, state_behind, attempt_of, source_run}
+use Rattle.source_values.specs.Runs.{CheckedProgram, Transition, TaskInputs, without_answers, first_state, state_behind, attempt_of, source_run}
 
 -- the piece of a text that a span says
 abbrev pub spelled : List ℕ → Span → List ℕ
@@ -66,6 +66,10 @@ source_report text program k spans ts = []
 abbrev pub readings_of : List ℕ → Committed → List ℕ
 readings_of readings span = take (span.to - span.from) (drop span.from readings)
 
+-- what a task is given that takes these: no report carries answers of `next_event()`, and it is given none
+abbrev pub given_of : List ℕ → Committed → TaskInputs
+given_of readings span = without_answers (readings_of readings span)
+
 -- each span begins where the one before it ended, at first at `from`, and none passes the end
 abbrev pub IsConsecutive : ℕ → ℕ → List Committed → Type 0
 IsConsecutive from end [] = from ≤ end
@@ -88,14 +92,14 @@ IsEnding Charges most made next = ⊥
 IsEnding Off most made next = ⊥
 
 -- what `mean` reports of a source and its text: a run from the first state on consecutive spans of the readings, each of
--- which one task takes exactly, and why it ended, with the transitions made and the words that they emitted
+-- which one task takes exactly, where each `next_event()` is 0; and why it ended, with the transitions made and the words that they emitted
 pub record IsMeanReport (source_text : List ℕ) (program : CheckedProgram) (readings text : List ℕ) : Type 0 where
   pub spans : List Committed
   pub transitions : List Transition
   pub reason : Reason
   pub consecutive : IsConsecutive 0 (length readings) spans
-  pub run : source_run program (first_state program) (map (readings_of readings) spans) ≡ Some transitions
+  pub run : source_run program (first_state program) (map (given_of readings) spans) ≡ Some transitions
   pub ending : let end = state_behind (first_state program) transitions in
-      IsEnding reason 10000 (length spans) (attempt_of program end.task end.shared (drop (position_after 0 spans) readings))
+      IsEnding reason 10000 (length spans) (attempt_of program end.task end.shared (without_answers (drop (position_after 0 spans) readings)))
   pub lines : text ≡ source_report source_text program 1 spans transitions
       ++ end_line reason (length spans) (words_in transitions) 0

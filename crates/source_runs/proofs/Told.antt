@@ -15,7 +15,7 @@ use Rattle.board_run.specs.History as board
 use Rattle.board_run.specs.Events.{none_accepted}
 use Rattle.board_run.specs.Report.{events_lines, report_of, last_line}
 use Rattle.source_values.specs.Statements.{Outcome, short}
-use Rattle.source_values.specs.Runs.{CheckedProgram, State, Transition, first_state, state_after, state_behind, attempt_of}
+use Rattle.source_values.specs.Runs.{CheckedProgram, State, Transition, first_state, state_after, state_behind, without_answers, attempt_of}
 use Rattle.source_report.specs.Apart.{AreApart}
 use Rattle.source_report.specs.SourceReport.{IsConsecutive, position_after, source_report}
 use Rattle.machine_effects.specs.World.{World}
@@ -165,7 +165,7 @@ module _ (text : List ℕ) (program : CheckedProgram) (m : MapValue) (model : Mo
 
     -- the end
     abbrev next : List ℕ → State → Outcome
-    next left s = attempt_of program s.task s.shared left
+    next left s = attempt_of program s.task s.shared (without_answers left)
 
     -- how it ended, by its end
     record EndsSo (end : End) : Type 0 where
@@ -214,7 +214,7 @@ module _ (text : List ℕ) (program : CheckedProgram) (m : MapValue) (model : Mo
     told_from =
         let es = ends_so in
         let end = state_behind s all.transitions in
-        let Ends : ℕ → Type 0 = λ n. IsEndOf r.ending (attempt_of program end.task end.shared (drop n b.readings)) es.why in
+        let Ends : ℕ → Type 0 = λ n. IsEndOf r.ending (attempt_of program end.task end.shared (without_answers (drop n b.readings))) es.why in
         let Alone : ℕ → Type 0 = λ n. length cs ≡ 1 → IsUninterrupted b.readings n (committed_by ds) in
         record {
           spans = committed_by ds;

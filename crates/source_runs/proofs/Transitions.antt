@@ -10,10 +10,10 @@ use Rattle.image_map.specs.MapValue.{MapValue}
 use Rattle.source_values.specs.Values.{◌>>?◌}
 use Rattle.source_values.specs.Statements.{Outcome, goes_on, to_task, short, block_emits}
 use Rattle.source_values.specs.Runs.{CheckedProgram, State, Transition, Completion, EmitsFit, body_of, task_body, fresh_attempt, attempt_of}
-use Rattle.source_values.specs.Runs.{completion_of}
+use Rattle.source_values.specs.Runs.{TaskInputs, without_answers, completion_of}
 use Rattle.source_values.specs.Runs.{exactly, transition_of, source_run, state_after, state_behind}
 use Rattle.source_values.proofs.Interface.{EmitsUpTo, block_up_to}
-use Rattle.source_report.specs.SourceReport.{readings_of}
+use Rattle.source_report.specs.SourceReport.{given_of}
 use Rattle.crash_rules.specs.Model.{Model}
 use Rattle.crash_rules.specs.History.{Done, done_readings, done_inputs}
 use Rattle.crash_rules.specs.Laws.{SourceRun}
@@ -27,24 +27,20 @@ pub record IsMadeBy (s : State) (t : Transition) : Type 0 where
   pub few : length t.emitted ≤ 256
 
 exact_made : (s : State) (c : Completion) (t : Transition) → length c.emitted ≤ 256 → exactly s c ≡ Some t → IsMadeBy s t
-exact_made s c t few e = by_left c.left refl e
+exact_made s c t few e = by_left c.left c.answers e
   where
-    by_left : (left : List ℕ) → c.left ≡ left → exactly s c ≡ Some t → IsMadeBy s t
-    by_left [] l e =
-        let P : List ℕ → Type 0 = λ ws. exactly s (record { next = c.next; shared = c.shared; emitted = c.emitted; left = ws }) ≡ Some t in
-        let k = subst P l e in
-        let same : record { from = s.task; next = c.next; before = s.shared; after = c.shared; emitted = c.emitted } ≡ t = cc k in
+    by_left : (left answers : List ℕ) → exactly s (record c { left = left; answers = answers }) ≡ Some t → IsMadeBy s t
+    by_left [] [] e =
+        let same : record { from = s.task; next = c.next; before = s.shared; after = c.shared; emitted = c.emitted } ≡ t = cc e in
         let Q : Transition → Type 0 = λ y. IsMadeBy s y in
         subst Q same (record { from = refl; before = refl; few = few })
-    by_left (w ∷ ws) l e =
-        let P : List ℕ → Type 0 = λ ws. exactly s (record { next = c.next; shared = c.shared; emitted = c.emitted; left = ws }) ≡ Some t in
-        let k = subst P l e in
-        absurd (cc k)
+    by_left [] (a ∷ answers) e = absurd (cc e)
+    by_left (w ∷ ws) answers e = absurd (cc e)
 
 outcome_made : (s : State) (o : Outcome) (t : Transition) → EmitsUpTo 256 o → (completion_of o >>? exactly s) ≡ Some t → IsMadeBy s t
 outcome_made s (goes_on m) t few e = absurd (cc e)
 outcome_made s (to_task next m) t few e =
-    exact_made s (record { next = next; shared = m.variables.shared; emitted = m.emitted; left = m.left }) t few e
+    exact_made s (record { next = next; shared = m.variables.shared; emitted = m.emitted; left = m.left; answers = m.answers }) t few e
 outcome_made s short t few e = absurd (cc e)
 
 body_fits : (o : Option (Task VariableName TaskName)) → ((task : Task VariableName TaskName) → o ≡ Some task → EmitsFit task) → block_emits (body_of o) ≤ 256
@@ -57,16 +53,16 @@ module _ (program : CheckedProgram) (fit : All EmitsFit program.tasks) where
   fits task = body_fits (slice_get program.tasks task) (λ t e. subst EmitsFit (get_or_from_slice_get program.tasks task t t e)
       (All-get_or EmitsFit program.tasks task t (slice_get_within program.tasks task t e) fit))
 
-  pub made : (s : State) (readings : List ℕ) (t : Transition) → transition_of program s readings ≡ Some t → IsMadeBy s t
-  made s readings t e =
-      outcome_made s (attempt_of program s.task s.shared readings) t
-      (block_up_to (task_body program s.task) (fresh_attempt s.shared readings) 256 (let f = fits s.task in omega (arith, f))) e
+  pub made : (s : State) (given : TaskInputs) (t : Transition) → transition_of program s given ≡ Some t → IsMadeBy s t
+  made s given t e =
+      outcome_made s (attempt_of program s.task s.shared given) t
+      (block_up_to (task_body program s.task) (fresh_attempt s.shared given) 256 (let f = fits s.task in omega (arith, f))) e
 
 module _ (text : List ℕ) (program : CheckedProgram) (m : MapValue) (model : Model State) (is : IsOfSource text program m model) where
   -- dones of a run from a state to a state, as transitions
   pub record Tells (readings : List ℕ) (s : State) (ds : List Done) (u : State) : Type 0 where
     pub transitions : List Transition
-    pub source : source_run program s (map (readings_of readings) (committed_by ds)) ≡ Some transitions
+    pub source : source_run program s (map (given_of readings) (committed_by ds)) ≡ Some transitions
     pub stand : StandForTransitions m s ds transitions
     pub end : u ≡ state_behind s transitions
 
@@ -79,10 +75,10 @@ module _ (text : List ℕ) (program : CheckedProgram) (m : MapValue) (model : Mo
       let P : State → Type 0 = λ y. SourceRun model readings y ds u in
       let Q : State → Type 0 = λ y. model.Rests y d.world in
       let more = tells readings (state_after s t) u ds (subst P k.2 run.3) in
-      let by = made program is.emits_fit s (done_readings readings d) t k.1 in
+      let by = made program is.emits_fit s (without_answers (done_readings readings d)) t k.1 in
       record {
         transitions = t ∷ more.transitions;
-        source = ap (λ p. p >>? λ y. source_run program (state_after s y) (map (readings_of readings) (committed_by ds)) >>? λ ys. Some (y ∷ ys)) k.1
+        source = ap (λ p. p >>? λ y. source_run program (state_after s y) (map (given_of readings) (committed_by ds)) >>? λ ys. Some (y ∷ ys)) k.1
             ∙ ap (λ q. q >>? λ ys. Some (t ∷ ys)) more.source;
         stand = (
           record { from = by.from; before = by.before; few = by.few; behind = is.rests (state_after s t) d.world (subst Q k.2 run.2) },

@@ -1,13 +1,14 @@
 -- A model of the crash theorem that is a source's, and a board that begins with it.
-use Rattle.std.specs.Prelude.{◌≡◌, ℕ, ◌<◌, List, All, Some}
+use Rattle.std.specs.Prelude.{◌≡◌, ℕ, ◌<◌, false, List, All, Some, None}
 use Rattle.image_map.specs.MapValue.{MapValue}
 use Rattle.image_map.specs.Kept.{IsMap}
 use Rattle.fram_board.specs.Board.{BoardValue}
 use Rattle.fram_board.specs.Run.{RunOutcome}
 use Rattle.source_values.specs.Statements.{short}
-use Rattle.source_values.specs.Runs.{CheckedProgram, State, Transition, EmitsFit, first_state, state_after, transition_of, attempt_of}
+use Rattle.cost_bound.specs.Allowance.{uses_events}
+use Rattle.source_values.specs.Runs.{CheckedProgram, State, Transition, TaskInputs, EmitsFit, first_state, state_after, transition_of, attempt_of}
 use Rattle.machine_effects.specs.World.{World}
-use Rattle.crash_rules.specs.Model.{Model, Inputs, no_inputs, Ends, Short, bound}
+use Rattle.crash_rules.specs.Model.{Model, Given, nothing_given, Ends, Short, bound}
 use Rattle.crash_rules.specs.History.{History, first_history}
 use Rattle.crash_rules.specs.Runs.{Program}
 use Rattle.crash_rules.specs.Laws.{Resting}
@@ -19,20 +20,25 @@ use Rattle.source_runs.specs.Tells.{cost_of}
 use Rattle.source_runs.specs.Transitions.{HasWordsOf}
 use Rattle.model_runs.specs.Runs.{BearsModel, no_delay}
 
+-- what a task of the source is given, by what its model's is
+abbrev pub inputs_of : Given → TaskInputs
+inputs_of given = record { readings = given.readings; answers = given.answers }
+
 -- a model whose tasks are a source's, with their costs, and whose commits nothing delays, and where GATE and the words of each state are as a map says
 pub record IsOfSource (text : List ℕ) (program : CheckedProgram) (m : MapValue) (model : Model State) : Type 0 where
   pub is_map : IsMap m
   pub of_source : IsMapOf text program m
+  pub ring : uses_events program ≡ false → m.ring ≡ None
   pub emits_fit : All EmitsFit program.tasks
   pub marks : model.marks ≡ marks_of m
   pub task_number : (s : State) → model.task_number s ≡ s.task
   pub bound : bound model ≡ m.bound
   pub costs : model.task_cost ≡ cost_of program
   pub delay : model.delay ≡ no_delay
-  pub transits : (s u : State) (inputs : Inputs) → model.task s inputs ≡ Ends u no_inputs
-      → (t : Transition) × (transition_of program s inputs.readings ≡ Some t) × (u ≡ state_after s t)
-  pub is_short : (s : State) (inputs : Inputs) → model.task_number s < model.tasks → model.task s inputs ≡ Short
-      → attempt_of program s.task s.shared inputs.readings ≡ short
+  pub transits : (s u : State) (given : Given) → model.task s given ≡ Ends u nothing_given
+      → (t : Transition) × (transition_of program s (inputs_of given) ≡ Some t) × (u ≡ state_after s t)
+  pub is_short : (s : State) (given : Given) → model.task_number s < model.tasks → model.task s given ≡ Short
+      → attempt_of program s.task s.shared (inputs_of given) ≡ short
   pub rests : (s : State) (x : World) → model.Rests s x → HasWordsOf m x s
 
 -- a board that begins with a compiled source at its first state

@@ -3,9 +3,9 @@ use Rattle.std.specs.Prelude.{◌≡◌, ◌≤◌, ◌+◌, ℕ, zero, suc, Lis
 use Rattle.image_map.specs.declared.parts.Variable.{Variable}
 use Rattle.image_map.specs.MapValue.{MapValue, word_count}
 use Rattle.source_values.specs.Runs.{State, Transition, state_after}
-use Rattle.source_report.specs.SourceReport.{Committed}
 use Rattle.machine_effects.specs.World.{World}
 use Rattle.crash_rules.specs.History.{Done}
+use Rattle.source_runs.specs.Tells.{CommittedAttempt}
 
 -- so many words of a world, from an address on
 abbrev pub words_at : World → ℕ → ℕ → List ℕ
@@ -36,6 +36,6 @@ StandForTransitions m s [] (t ∷ ts) = ⊥
 StandForTransitions m s (d ∷ ds) [] = ⊥
 StandForTransitions m s (d ∷ ds) (t ∷ ts) = StandsForTransition m s d t × StandForTransitions m (state_after s t) ds ts
 
--- the committed readings of dones, by their positions
-abbrev pub committed_by : List Done → List Committed
-committed_by ds = map (λ d. record { from = d.span_from; to = d.span_to }) ds
+-- the attempts that dones committed
+abbrev pub committed_by : List Done → List CommittedAttempt
+committed_by ds = map (λ d. record { span = record { from = d.span_from; to = d.span_to }; answers = d.answers }) ds

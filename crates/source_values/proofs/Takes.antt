@@ -1,25 +1,45 @@
--- The value of an expression depends on the readings that it takes, and on no others; all else stays as it was.
-use Rattle.std.proofs.Common.{◌≡◌, ℕ, List, [], ◌∷◌, ◌++◌, Bool, true, false, refl, ap, sym, ◌∙◌, subst, Option, Some, None, append_assoc, if◌then◌else◌}
+-- The value of an expression depends on the readings and the answers that it takes, and on no others; all else stays as it was.
+use Rattle.std.proofs.Common.{◌≡◌, ℕ, List, [], ◌∷◌, ◌++◌, Bool, true, false, refl, ap, sym, ◌∙◌, subst, Option, Some, None, append_assoc, drop, slice_index, length}
+use Rattle.std.proofs.Common.{if◌then◌else◌, ◌<◌, arith, length-append}
 use Rattle.task_ast.specs.Tree.{Expression, number, long_number, name, element, sense, next_event, unary, binary, shift, short_circuit}
 use Rattle.task_ast.specs.declared.names.VariableName.{VariableName}
 use Rattle.source_values.specs.Values.{◌>>?◌, Variables, Attempt, Evaluated, word_at, scalar_value, type_of, unary_result, binary_result, shift_result}
-use Rattle.source_values.specs.Values.{gives, made_of, reading_of, next_reading, truth_word, is_settled, value_of}
+use Rattle.source_values.specs.Values.{gives, made_of, reading_of, next_reading, next_answer, AreTaken, truth_word, is_settled, value_of}
 use Rattle.source_values.specs.Statements.{Outcome, short, if_value, with_value}
 
 pub bind_some : {A B : Type 0} (o : Option A) (f : A → Option B) (y : B) → (o >>? f) ≡ Some y → (x : A) × (o ≡ Some x) × (f x ≡ Some y)
 bind_some None f y e = cc
 bind_some (Some x) f y e = (x, refl, e)
 
--- an attempt that has the variables and the emitted words of another one
+-- an attempt that has the variables and the emitted words of another one, and of no answers none left
 pub record IsBehind (s u : Attempt) : Type 0 where
   pub variables : u.variables ≡ s.variables
   pub emitted : u.emitted ≡ s.emitted
+  pub no_answers : s.answers ≡ [] → u.answers ≡ []
 
--- the readings that were taken, and that any others may stand behind them
+-- answers taken one list behind the other
+pub taken_then : (given first between second left : List ℕ) → AreTaken given first between → AreTaken between second left
+    → AreTaken given (first ++ second) left
+taken_then given [] between second left a b = subst (λ g. AreTaken g second left) a b
+taken_then given (x ∷ more) between second left a b = (a.0, taken_then (drop 1 given) more between second left a.1 b)
+
+-- where some answers are left, those taken stand in front of them
+pub taken_in_front : (given taken left : List ℕ) → AreTaken given taken left → 0 < length left → given ≡ taken ++ left
+taken_in_front given [] left a some = sym a
+taken_in_front [] (x ∷ taken) left a some =
+    let none = ap (length {A = ℕ}) (taken_in_front [] taken left a.1 some) in
+    let both = length-append taken left in
+    absurd (omega (arith, none, both, some))
+taken_in_front (g ∷ given) (x ∷ taken) left a some = ap (λ v. v ∷ given) (sym a.0) ∙ ap (λ l. x ∷ l) (taken_in_front given taken left a.1 some)
+
+-- the readings and the answers that were taken, and that any others may stand behind either
 pub record Takes (read : Attempt → Option Evaluated) (s : Attempt) (x : Evaluated) : Type 0 where
   pub used : List ℕ
   pub front : s.left ≡ used ++ x.behind.left
   pub same : (more : List ℕ) → read (record s { left = used ++ more }) ≡ gives x.value (record x.behind { left = more })
+  pub answered : List ℕ
+  pub answers : AreTaken s.answers answered x.behind.answers
+  pub same_answered : (more : List ℕ) → read (record s { answers = answered ++ more }) ≡ gives x.value (record x.behind { answers = more })
   pub keeps : IsBehind s x.behind
 
 abbrev pub TakesItsOwn : (Attempt → Option Evaluated) → Type 0
@@ -33,7 +53,16 @@ OfValue P (Some x) = P x
 takes_none : (value : Variables → ℕ) → TakesItsOwn (λ s. gives (value s.variables) s)
 takes_none value s x e =
     let read : Attempt → Option Evaluated = λ s. gives (value s.variables) s in
-    subst (OfValue (Takes read s)) e (record { used = []; front = refl; same = λ more. refl; keeps = record { variables = refl; emitted = refl } })
+    subst (OfValue (Takes read s)) e
+    (record {
+      used = [];
+      front = refl;
+      same = λ more. refl;
+      answered = [];
+      answers = refl;
+      same_answered = λ more. refl;
+      keeps = record { variables = refl; emitted = refl; no_answers = λ none. none };
+    })
 
 takes_one : TakesItsOwn next_reading
 takes_one s x e = go s.left refl e
@@ -41,7 +70,33 @@ takes_one s x e = go s.left refl e
     go : (rs : List ℕ) → s.left ≡ rs → reading_of rs s ≡ Some x → Takes next_reading s x
     go [] is e = cc
     go (r ∷ rs) is e = subst (OfValue (Takes next_reading s)) e
-        (record { used = r ∷ []; front = is; same = λ more. refl; keeps = record { variables = refl; emitted = refl } })
+        (record {
+          used = r ∷ [];
+          front = is;
+          same = λ more. refl;
+          answered = [];
+          answers = refl;
+          same_answered = λ more. ap (λ l. reading_of l (record s { answers = more })) is;
+          keeps = record { variables = refl; emitted = refl; no_answers = λ none. none };
+        })
+
+-- an answer takes no reading
+takes_answer : TakesItsOwn next_answer
+takes_answer s x e = subst (OfValue (Takes next_answer s)) e (record {
+  used = [];
+  front = refl;
+  same = λ more. refl;
+  answered = slice_index s.answers 0 ∷ [];
+  answers = (refl, refl);
+  same_answered = λ more. refl;
+  keeps = record { variables = refl; emitted = refl; no_answers = ap (drop 1) };
+})
+
+-- where no answers are left, the next one is 0, and none are left behind it
+pub no_answer : (s : Attempt) → s.answers ≡ [] → next_answer s ≡ gives 0 s
+no_answer s e =
+    ap (λ answers. gives (slice_index answers 0) (record s { answers = drop 1 answers })) e
+    ∙ ap (λ answers. gives 0 (record s { answers = answers })) (sym e)
 
 -- one behind the other
 takes_then : (first : Attempt → Option Evaluated) (next : ℕ → Attempt → Option Evaluated) → TakesItsOwn first → ((w : ℕ) → TakesItsOwn (next w))
@@ -55,7 +110,16 @@ takes_then first next p q s x e =
       front = one.front ∙ ap (λ t. one.used ++ t) two.front ∙ sym (append_assoc one.used two.used x.behind.left);
       same = λ more. ap (λ t. first (record s { left = t }) >>? λ x. next x.value x.behind) (append_assoc one.used two.used more)
           ∙ ap (λ o. o >>? λ x. next x.value x.behind) (one.same (two.used ++ more)) ∙ two.same more;
-      keeps = record { variables = two.keeps.variables ∙ one.keeps.variables; emitted = two.keeps.emitted ∙ one.keeps.emitted };
+      answered = one.answered ++ two.answered;
+      answers = taken_then s.answers one.answered y.0.behind.answers two.answered x.behind.answers one.answers two.answers;
+      same_answered = λ more.
+          ap (λ t. first (record s { answers = t }) >>? λ x. next x.value x.behind) (append_assoc one.answered two.answered more)
+          ∙ ap (λ o. o >>? λ x. next x.value x.behind) (one.same_answered (two.answered ++ more)) ∙ two.same_answered more;
+      keeps = record {
+        variables = two.keeps.variables ∙ one.keeps.variables;
+        emitted = two.keeps.emitted ∙ one.keeps.emitted;
+        no_answers = λ none. two.keeps.no_answers (one.keeps.no_answers none);
+      };
     }
 
 takes_if : (b : Bool) (first second : Attempt → Option Evaluated) → TakesItsOwn first → TakesItsOwn second
@@ -74,7 +138,7 @@ value_takes (name x) = takes_none (λ m. scalar_value m x)
 value_takes (element x index) = takes_then (value_of index) (λ i s. gives (word_at s.variables x.variable i) s) (value_takes index)
     (λ i. takes_none (λ m. word_at m x.variable i))
 value_takes sense = takes_one
-value_takes next_event = takes_none (λ m. 0)
+value_takes next_event = takes_answer
 value_takes (unary op e) = takes_made (unary_result op (type_of e)) (value_of e) (value_takes e)
 value_takes (binary op a b) =
     let value : ℕ → ℕ → ℕ = binary_result op.operator (type_of a) (type_of b) in

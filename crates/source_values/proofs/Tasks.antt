@@ -15,8 +15,8 @@ use Rattle.task_ast.specs.declared.TaskDeclaration.{TaskDeclaration}
 use Rattle.task_ast.specs.declared.Source.{Source}
 use Rattle.source_values.specs.declared.scratch.Scratch.{Scratch}
 use Rattle.source_values.specs.Statements.{Attempt, to_task, run_block}
-use Rattle.source_values.specs.Runs.{body_of, task_body, fresh_attempt, new_locals, attempt_of, Completion}
-use Rattle.source_values.specs.View.{attempt_in}
+use Rattle.source_values.specs.Runs.{body_of, task_body, TaskInputs, without_answers, fresh_attempt, new_locals, attempt_of, Completion}
+use Rattle.source_values.specs.View.{variables_of, attempt_in}
 use Rattle.source_values.proofs.Uses.{block_uses}
 
 -- what holds of each task holds of the one that the code reached
@@ -43,17 +43,18 @@ pub record IsFresh (s : Scratch) (shared : List (List ℕ)) : Type 0 where
 -- the attempt that the code makes
 pub attempt_is : (source : Source VariableName TaskName) (task i : ℕ) (t : TaskDeclaration VariableName TaskName) (body : List (Stmt VariableName TaskName))
     (s : Scratch) (shared : List (List ℕ)) (readings : List ℕ) → i ≡ task → ReachesBody source i t body → IsFresh s shared
-    → attempt_of (program_of source) task shared readings ≡ run_block (block_view body) (attempt_in s readings)
+    → attempt_of (program_of source) task shared (without_answers readings) ≡ run_block (block_view body) (attempt_in s readings)
 attempt_is source task i t body s shared readings same reached begins =
     let found : task_body (program_of source) i ≡ block_view body =
     ap body_of (slice_get-map task_of source.tasks.items i ∙ ap (option_map task_of) (slice_get-get_or source.tasks.items i t reached.inside))
     ∙ ap (λ t. block_view t.body.items) (sym reached.is) ∙ ap block_view (sym reached.of_task) in
-    let fresh : fresh_attempt shared readings ≡ attempt_in s readings =
-    ap (λ r. fresh_attempt r readings) (sym begins.rows)
-    ∙ ap (λ l. record { variables = record { shared = s.shared.rows; locals = l }; emitted = []; left = readings }) (sym begins.locals)
-    ∙ ap (λ e. record { variables = record { shared = s.shared.rows; locals = s.locals.items }; emitted = e; left = readings }) (sym begins.emitted) in
-    ap (λ j. attempt_of (program_of source) j shared readings) (sym same)
-    ∙ ap (λ b. run_block b (fresh_attempt shared readings)) found ∙ ap (run_block (block_view body)) fresh
+    let given : TaskInputs = without_answers readings in
+    let fresh : fresh_attempt shared given ≡ attempt_in s readings =
+    ap (λ r. fresh_attempt r given) (sym begins.rows)
+    ∙ ap (λ l. record { variables = record { shared = s.shared.rows; locals = l }; emitted = []; left = readings; answers = [] }) (sym begins.locals)
+    ∙ ap (λ e. record { variables = variables_of s; emitted = e; left = readings; answers = [] }) (sym begins.emitted) in
+    ap (λ j. attempt_of (program_of source) j shared given) (sym same)
+    ∙ ap (λ b. run_block b (fresh_attempt shared given)) found ∙ ap (run_block (block_view body)) fresh
 
 -- a task leaves the end of its readings
 pub record Leaves (readings left : List ℕ) : Type 0 where
@@ -72,6 +73,6 @@ task_leaves b s t end e =
     leaves_end s.left uses.used end.left uses.front
 
 pub same_completion : (next : ℕ) {rows rows' : List (List ℕ)} {words words' left left' : List ℕ} → rows ≡ rows' → words ≡ words' → left ≡ left'
-    → (let before : Completion = record { next = next; shared = rows; emitted = words; left = left } in Some before)
-    ≡ Some (record { next = next; shared = rows'; emitted = words'; left = left' })
+    → (let before : Completion = record { next = next; shared = rows; emitted = words; left = left; answers = [] } in Some before)
+    ≡ Some (record { next = next; shared = rows'; emitted = words'; left = left'; answers = [] })
 same_completion next e f h = cc

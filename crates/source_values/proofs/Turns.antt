@@ -1,5 +1,5 @@
 -- One turn of a loop.
-use Rattle.std.proofs.Common.{◌≡◌, ◌+◌, ◌*◌, ℕ, zero, suc, ap, ◌∙◌, refl, arith, sym, List, add_comm, IsSome, is_some, false, Option, Some, None}
+use Rattle.std.proofs.Common.{◌≡◌, ◌+◌, ◌*◌, ℕ, zero, suc, ap, ◌∙◌, refl, arith, sym, List, [], add_comm, IsSome, is_some, false, Option, Some, None}
 use Rattle.std.proofs.Math.Nat.{suc-mul}
 use Rattle.task_ast.specs.declared.names.Variable.{Variable}
 use Rattle.source_values.specs.declared.scratch.Scratch.{Scratch}
@@ -19,8 +19,8 @@ pub attempt_set : (old new : Scratch) (left : List ℕ) (x : Variable) (i w : �
     → new.emitted ≡ old.emitted
     → assigned (attempt_in old left) x i w ≡ attempt_in new left
 attempt_set old new left x i w v e =
-    ap (λ m. record { variables = m; emitted = old.emitted.items; left = left }) (sym v)
-    ∙ ap (λ es. record { variables = variables_of new; emitted = es.items; left = left }) (sym e)
+    ap (λ m. record { variables = m; emitted = old.emitted.items; left = left; answers = [] }) (sym v)
+    ∙ ap (λ es. record { variables = variables_of new; emitted = es.items; left = left; answers = [] }) (sym e)
 
 pub turn_emits : (n m e : ℕ) → n ≡ m + 1 → n * e ≡ e + m * e
 turn_emits zero m e h = absurd (omega arith)

@@ -1,4 +1,4 @@
--- What statements do depends on the readings that they take, and on no others.
+-- What statements do depends on the readings and the answers that they take, and on no others.
 use Rattle.std.proofs.Common.{◌≡◌, ℕ, zero, suc, ◌+◌, ◌-◌, ◌/◌, ◌%◌, List, [], ◌∷◌, ◌++◌, Bool, true, false, refl, ap, sym, ◌∙◌, subst, Option, Some, None}
 use Rattle.std.proofs.Common.{append_assoc, if◌then◌else◌}
 use Rattle.task_ast.specs.Tree.{Expression, Statement, declare, assign, store, choose, loop, emit, transition, Choice, nothing, otherwise, test, Block, end}
@@ -8,11 +8,11 @@ use Rattle.task_ast.specs.declared.WordType.TheVariants.{Unsigned, Int, Long}
 use Rattle.task_ast.specs.declared.names.Variable.{Variable}
 use Rattle.task_ast.specs.declared.names.VariableName.{VariableName}
 use Rattle.task_ast.specs.declared.names.TaskName.{TaskName}
-use Rattle.source_values.specs.Values.{Evaluated, by_width, type_of, converted, value_of, holds}
+use Rattle.source_values.specs.Values.{Evaluated, by_width, type_of, converted, AreTaken, value_of, holds}
 use Rattle.source_values.specs.Statements.{Attempt, Outcome, goes_on, to_task, short, and_then, if_value, with_value, assigned, assigned_to, assigned_value}
 use Rattle.source_values.specs.Statements.{word_of, turns, run_statement}
 use Rattle.source_values.specs.Statements.{run_choice, run_block}
-use Rattle.source_values.proofs.Takes.{value_takes}
+use Rattle.source_values.proofs.Takes.{taken_then, value_takes}
 
 abbrev pub IsWhole : Outcome → Type 0
 IsWhole (goes_on s) = Unit {0}
@@ -24,17 +24,32 @@ left_of (goes_on s) = s.left
 left_of (to_task t s) = s.left
 left_of short = []
 
+abbrev pub answers_of : Outcome → List ℕ
+answers_of (goes_on s) = s.answers
+answers_of (to_task t s) = s.answers
+answers_of short = []
+
 -- the same outcome with other readings left
 abbrev pub leaving : Outcome → List ℕ → Outcome
 leaving (goes_on s) more = goes_on (record s { left = more })
 leaving (to_task t s) more = to_task t (record s { left = more })
 leaving short more = short
 
--- the readings that were taken, and that any others may stand behind them
+-- and with other answers left
+abbrev pub answering : Outcome → List ℕ → Outcome
+answering (goes_on s) more = goes_on (record s { answers = more })
+answering (to_task t s) more = to_task t (record s { answers = more })
+answering short more = short
+
+-- the readings and the answers that were taken, and that any others may stand behind either; and of no answers none are left
 pub record Uses (run : Attempt → Outcome) (s : Attempt) (o : Outcome) : Type 0 where
   pub used : List ℕ
   pub front : s.left ≡ used ++ left_of o
   pub same : (more : List ℕ) → run (record s { left = used ++ more }) ≡ leaving o more
+  pub answered : List ℕ
+  pub answers : AreTaken s.answers answered (answers_of o)
+  pub same_answered : (more : List ℕ) → run (record s { answers = answered ++ more }) ≡ answering o more
+  pub no_answers : s.answers ≡ [] → answers_of o ≡ []
 
 abbrev pub UsesItsOwn : (Attempt → Outcome) → Type 0
 UsesItsOwn run = (s : Attempt) (o : Outcome) → run s ≡ o → IsWhole o → Uses run s o
@@ -42,19 +57,30 @@ UsesItsOwn run = (s : Attempt) (o : Outcome) → run s ≡ o → IsWhole o → U
 not_short : (o : Outcome) → short ≡ o → IsWhole o → ⊥
 not_short o e w = let P : Outcome → Type 0 = IsWhole in subst P (sym e) w
 
-uses_none : (run : Attempt → Outcome) (s : Attempt) (p : Outcome) → s.left ≡ left_of p → ((more : List ℕ) → run (record s { left = more }) ≡ leaving p more)
+uses_none : (run : Attempt → Outcome) (s : Attempt) (p : Outcome) → (s.left ≡ left_of p) × (s.answers ≡ answers_of p)
+    → ((more : List ℕ) → run (record s { left = more }) ≡ leaving p more) → ((more : List ℕ) → run (record s { answers = more }) ≡ answering p more)
     → (o : Outcome) → p ≡ o → Uses run s o
-uses_none run s p front same o e = let P : Outcome → Type 0 = λ o. Uses run s o in subst P e (record { used = []; front = front; same = same })
+uses_none run s p kept same same_answered o e =
+    let P : Outcome → Type 0 = λ o. Uses run s o in
+    subst P e (record {
+      used = [];
+      front = kept.0;
+      same = same;
+      answered = [];
+      answers = sym kept.1;
+      same_answered = same_answered;
+      no_answers = λ none. sym kept.1 ∙ none;
+    })
 
 uses_on : UsesItsOwn goes_on
-uses_on s o e w = uses_none goes_on s (goes_on s) refl (λ more. refl) o e
+uses_on s o e w = uses_none goes_on s (goes_on s) (refl, refl) (λ more. refl) (λ more. refl) o e
 
 uses_assigned : (x : Variable) (i v : ℕ) → UsesItsOwn (λ s. goes_on (assigned s x i v))
-uses_assigned x i v s o e w = uses_none (λ s. goes_on (assigned s x i v)) s (goes_on (assigned s x i v)) refl (λ more. refl) o e
+uses_assigned x i v s o e w = uses_none (λ s. goes_on (assigned s x i v)) s (goes_on (assigned s x i v)) (refl, refl) (λ more. refl) (λ more. refl) o e
 
 uses_two : (x : Variable) (low high : ℕ) → UsesItsOwn (λ s. goes_on (assigned (assigned s x 0 low) x 1 high))
-uses_two x low high s o e w = uses_none (λ s. goes_on (assigned (assigned s x 0 low) x 1 high)) s (goes_on (assigned (assigned s x 0 low) x 1 high)) refl
-    (λ more. refl) o e
+uses_two x low high s o e w = uses_none (λ s. goes_on (assigned (assigned s x 0 low) x 1 high)) s (goes_on (assigned (assigned s x 0 low) x 1 high))
+    (refl, refl) (λ more. refl) (λ more. refl) o e
 
 uses_assigned_to : (x : VariableName) (v : ℕ) → UsesItsOwn (λ s. goes_on (assigned_to s x v))
 uses_assigned_to x v = go x.word_type
@@ -66,11 +92,11 @@ uses_assigned_to x v = go x.word_type
     go Unsigned = uses_assigned x.variable 0 v
 
 uses_emitted : (v : ℕ) → UsesItsOwn (λ s. goes_on (record s { emitted = s.emitted ++ v ∷ [] }))
-uses_emitted v s o e w = uses_none (λ s. goes_on (record s { emitted = s.emitted ++ v ∷ [] })) s (goes_on (record s { emitted = s.emitted ++ v ∷ [] })) refl
-    (λ more. refl) o e
+uses_emitted v s o e w = uses_none (λ s. goes_on (record s { emitted = s.emitted ++ v ∷ [] })) s (goes_on (record s { emitted = s.emitted ++ v ∷ [] }))
+    (refl, refl) (λ more. refl) (λ more. refl) o e
 
 uses_to_task : (t : ℕ) → UsesItsOwn (to_task t)
-uses_to_task t s o e w = uses_none (to_task t) s (to_task t s) refl (λ more. refl) o e
+uses_to_task t s o e w = uses_none (to_task t) s (to_task t s) (refl, refl) (λ more. refl) (λ more. refl) o e
 
 uses_then : (first second : Attempt → Outcome) → UsesItsOwn first → UsesItsOwn second → UsesItsOwn (λ s. and_then (first s) second)
 uses_then first second p q s o e w = go (first s) refl e
@@ -84,11 +110,24 @@ uses_then first second p q s o e w = go (first s) refl e
           front = one.front ∙ ap (λ t. one.used ++ t) two.front ∙ sym (append_assoc one.used two.used (left_of o));
           same = λ more. ap (λ t. and_then (first (record s { left = t })) second) (append_assoc one.used two.used more)
               ∙ ap (λ o. and_then o second) (one.same (two.used ++ more)) ∙ two.same more;
+          answered = one.answered ++ two.answered;
+          answers = taken_then s.answers one.answered m.answers two.answered (answers_of o) one.answers two.answers;
+          same_answered = λ more. ap (λ t. and_then (first (record s { answers = t })) second) (append_assoc one.answered two.answered more)
+              ∙ ap (λ o. and_then o second) (one.same_answered (two.answered ++ more)) ∙ two.same_answered more;
+          no_answers = λ none. two.no_answers (one.no_answers none);
         }
     go (to_task t m) h e =
         let one = p s (to_task t m) h tt in
         let P : Outcome → Type 0 = λ o. Uses (λ s. and_then (first s) second) s o in
-        subst P e (record { used = one.used; front = one.front; same = λ more. ap (λ o. and_then o second) (one.same more) })
+        subst P e (record {
+          used = one.used;
+          front = one.front;
+          same = λ more. ap (λ o. and_then o second) (one.same more);
+          answered = one.answered;
+          answers = one.answers;
+          same_answered = λ more. ap (λ o. and_then o second) (one.same_answered more);
+          no_answers = one.no_answers;
+        })
     go short h e = absurd (not_short o e w)
 
 uses_value : (e : Expression VariableName) (next : ℕ → Attempt → Outcome) → ((v : ℕ) → UsesItsOwn (next v)) → UsesItsOwn (λ s. with_value e s next)
@@ -104,6 +143,11 @@ uses_value e next p s o h w = go (value_of e s) refl h
           front = one.front ∙ ap (λ t. one.used ++ t) two.front ∙ sym (append_assoc one.used two.used (left_of o));
           same = λ more. ap (λ t. with_value e (record s { left = t }) next) (append_assoc one.used two.used more)
               ∙ ap (λ v. if_value v next) (one.same (two.used ++ more)) ∙ two.same more;
+          answered = one.answered ++ two.answered;
+          answers = taken_then s.answers one.answered x.behind.answers two.answered (answers_of o) one.answers two.answers;
+          same_answered = λ more. ap (λ t. with_value e (record s { answers = t }) next) (append_assoc one.answered two.answered more)
+              ∙ ap (λ v. if_value v next) (one.same_answered (two.answered ++ more)) ∙ two.same_answered more;
+          no_answers = λ none. two.no_answers (one.keeps.no_answers none);
         }
 
 uses_if : (b : Bool) (first second : Attempt → Outcome) → UsesItsOwn first → UsesItsOwn second → UsesItsOwn (λ s. if b then first s else second s)
@@ -117,7 +161,15 @@ uses_turns (suc n) k x body p = uses_then (λ s. body (assigned s x 0 k)) (turns
     first : UsesItsOwn (λ s. body (assigned s x 0 k))
     first s o e w =
         let one = p (assigned s x 0 k) o e w in
-        record { used = one.used; front = one.front; same = one.same }
+        record {
+          used = one.used;
+          front = one.front;
+          same = one.same;
+          answered = one.answered;
+          answers = one.answers;
+          same_answered = one.same_answered;
+          no_answers = one.no_answers;
+        }
 
 mutual
   pub statement_uses : (s : Statement VariableName TaskName) → UsesItsOwn (run_statement s)

@@ -1,4 +1,4 @@
--- The run of a source: whole tasks, one after another, each on its own list of readings.
+-- The run of a source: whole tasks, one after another, each on its own readings and answers of `next_event()`.
 use Rattle.std.specs.Prelude.{ℕ, ◌<◌, ◌≤◌, ◌/◌, ◌%◌, Bool, true, false, List, [], ◌∷◌, ◌++◌, map, replicate, Option, Some, None, slice_get}
 use Rattle.task_ast.specs.Tree.{Task, Block, end}
 pub use Rattle.task_ast.specs.Paths.{CheckedProgram}
@@ -37,25 +37,40 @@ body_of (Some task) = task.body
 abbrev pub task_body : CheckedProgram → ℕ → Block VariableName TaskName
 task_body program task = body_of (slice_get program.tasks task)
 
--- an attempt at its start: nothing emitted, all readings left
-abbrev pub fresh_attempt : List (List ℕ) → List ℕ → Attempt
-fresh_attempt shared readings = record { variables = record { shared = shared; locals = new_locals }; emitted = []; left = readings }
+-- what a task is given: readings, and answers of `next_event()`
+pub record TaskInputs : Type 0 where
+  pub readings : List ℕ
+  pub answers : List ℕ
 
--- one attempt of a task on these shared words and readings
-abbrev pub attempt_of : CheckedProgram → ℕ → List (List ℕ) → List ℕ → Outcome
-attempt_of program task shared readings = run_block (task_body program task) (fresh_attempt shared readings)
+-- readings, and no answers: each `next_event()` is then 0
+abbrev pub without_answers : List ℕ → TaskInputs
+without_answers readings = record { readings = readings; answers = [] }
 
--- what outlives a whole task: the next task, the shared words, the words emitted, the readings left
+-- an attempt at its start: nothing emitted, all readings and answers left
+abbrev pub fresh_attempt : List (List ℕ) → TaskInputs → Attempt
+fresh_attempt shared given = record {
+  variables = record { shared = shared; locals = new_locals };
+  emitted = [];
+  left = given.readings;
+  answers = given.answers;
+}
+
+-- one attempt of a task on these shared words, readings and answers
+abbrev pub attempt_of : CheckedProgram → ℕ → List (List ℕ) → TaskInputs → Outcome
+attempt_of program task shared given = run_block (task_body program task) (fresh_attempt shared given)
+
+-- what outlives a whole task: the next task, the shared words, the words emitted, the readings and answers left
 pub record Completion : Type 0 where
   pub next : ℕ
   pub shared : List (List ℕ)
   pub emitted : List ℕ
   pub left : List ℕ
+  pub answers : List ℕ
 
 -- what an outcome leaves where it ends at a transition
 abbrev pub completion_of : Outcome → Option Completion
 completion_of (goes_on s) = None
-completion_of (to_task t s) = Some (record { next = t; shared = s.variables.shared; emitted = s.emitted; left = s.left })
+completion_of (to_task t s) = Some (record { next = t; shared = s.variables.shared; emitted = s.emitted; left = s.left; answers = s.answers })
 completion_of short = None
 
 -- a state of a source: the shared words, the current task, and the words emitted so far
@@ -85,23 +100,24 @@ abbrev pub state_behind : State → List Transition → State
 state_behind s [] = s
 state_behind s (t ∷ ts) = state_behind (state_after s t) ts
 
--- the transition of a completion, if no readings are left over
+-- the transition of a completion, if no readings and no answers are left over
 abbrev pub exactly : State → Completion → Option Transition
-exactly s c = if_none_left c.left
+exactly s c = if_none_left c.left c.answers
   where
-    if_none_left : List ℕ → Option Transition
-    if_none_left [] = Some (record { from = s.task; next = c.next; before = s.shared; after = c.shared; emitted = c.emitted })
-    if_none_left (r ∷ rs) = None
+    if_none_left : List ℕ → List ℕ → Option Transition
+    if_none_left [] [] = Some (record { from = s.task; next = c.next; before = s.shared; after = c.shared; emitted = c.emitted })
+    if_none_left [] (a ∷ answers) = None
+    if_none_left (r ∷ rs) answers = None
 
--- a whole task from a state on, which ends at a transition and takes exactly these readings
-abbrev pub transition_of : CheckedProgram → State → List ℕ → Option Transition
-transition_of program s readings = completion_of (attempt_of program s.task s.shared readings) >>? exactly s
+-- a whole task from a state on, which ends at a transition and takes exactly these readings, and no fewer answers than these
+abbrev pub transition_of : CheckedProgram → State → TaskInputs → Option Transition
+transition_of program s given = completion_of (attempt_of program s.task s.shared given) >>? exactly s
 
--- whole tasks from a state on, each of which takes exactly its own list of readings
-abbrev pub source_run : CheckedProgram → State → List (List ℕ) → Option (List Transition)
+-- whole tasks from a state on, each of which takes exactly the readings that it is given, and all its answers
+abbrev pub source_run : CheckedProgram → State → List TaskInputs → Option (List Transition)
 source_run program s [] = Some []
-source_run program s (readings ∷ more) =
-    transition_of program s readings >>? λ t. source_run program (state_after s t) more >>? λ ts. Some (t ∷ ts)
+source_run program s (given ∷ more) =
+    transition_of program s given >>? λ t. source_run program (state_after s t) more >>? λ ts. Some (t ∷ ts)
 
 -- an outcome that is no end without a transition, and whose transition goes to a task
 abbrev pub EndsWell : ℕ → Outcome → Type 0

@@ -1,4 +1,4 @@
--- What statements do: the new words of the variables, the words emitted, the readings left, and whether the task goes on.
+-- What statements do: the new words of the variables, the words emitted, the readings and answers left, and whether the task goes on.
 use Rattle.std.specs.Prelude.{ℕ, zero, suc, ◌+◌, ◌-◌, ◌*◌, ◌/◌, ◌%◌, max, [], ◌∷◌, ◌++◌, Option, Some, None, if◌then◌else◌}
 use Rattle.task_ast.specs.Tree.{Expression, Statement, declare, assign, store, choose, loop, emit, transition, Choice, nothing, otherwise, test, Block, end}
 use Rattle.task_ast.specs.Tree.{step}

@@ -1,8 +1,8 @@
 -- The values of expressions: C's arithmetic on numbers of 16 bits, and of 32 bits where the type is long, and the rules of the language
 -- where C leaves one open.
-use Rattle.std.specs.Prelude.{ℕ, ◌^◌, ◌+◌, ◌-◌, ◌*◌, ◌/◌, ◌%◌, List, [], ◌∷◌, Bool, not, ◌==◌, nat_le, nat_lt, bit_and, bit_or, bit_xor, if◌then◌else◌}
+use Rattle.std.specs.Prelude.{◌≡◌, ℕ, ◌^◌, ◌+◌, ◌-◌, ◌*◌, ◌/◌, ◌%◌, List, [], ◌∷◌, Bool, not, ◌==◌, nat_le, nat_lt, bit_and, bit_or, bit_xor, if◌then◌else◌}
 use Rattle.std.specs.Prelude.{Option, Some, None}
-use Rattle.std.specs.Prelude.{slice_index, slice_index_or, slice_set}
+use Rattle.std.specs.Prelude.{slice_index, slice_index_or, slice_set, drop}
 pub use Rattle.task_ast.specs.alp_text.Sequence.{◌>>?◌}
 use Rattle.alp_words.specs.Words.{word_sum, word_difference, word_product, quotient, remainder, arithmetic_shift, biased, bit}
 pub use Rattle.alp_words.specs.Words.{two_words, sign_word}
@@ -39,11 +39,13 @@ abbrev pub with_word : Variables → Variable → ℕ → ℕ → Variables
 with_word m (Shared v) i w = record m { shared = slice_set m.shared v (slice_set (slice_index_or m.shared v []) i w) }
 with_word m (Local n) i w = record m { locals = slice_set m.locals n w }
 
--- what an attempt has made so far: the words of the variables, the words emitted, and the readings left
+-- what an attempt has made so far: the words of the variables, the words emitted, and the readings and the answers of `next_event()` that are
+-- left
 pub record Attempt : Type 0 where
   pub variables : Variables
   pub emitted : List ℕ
   pub left : List ℕ
+  pub answers : List ℕ
 
 -- what a row of words shows at an index: a word, or at 0 the number of a long's two words
 abbrev pub shown : Bool → List ℕ → ℕ → ℕ
@@ -189,6 +191,15 @@ reading_of (r ∷ rs) s = gives r (record s { left = rs })
 abbrev pub next_reading : Attempt → Option Evaluated
 next_reading s = reading_of s.left s
 
+-- the next answer, with those behind it left; 0 where none is left
+abbrev pub next_answer : Attempt → Option Evaluated
+next_answer s = gives (slice_index s.answers 0) (record s { answers = drop 1 s.answers })
+
+-- these are taken from a list of answers one after another, 0 behind its last, and leave this of it
+abbrev pub AreTaken : List ℕ → List ℕ → List ℕ → Type 0
+AreTaken given [] left = left ≡ given
+AreTaken given (a ∷ taken) left = (a ≡ slice_index given 0) × AreTaken (drop 1 given) taken left
+
 -- a condition as a number: 1 where it holds, else 0
 abbrev pub truth_word : ℕ → ℕ
 truth_word w = bit (holds w)
@@ -206,8 +217,7 @@ value_of (long_number n) s = gives n s
 value_of (name x) s = gives (scalar_value s.variables x) s
 value_of (element x index) s = value_of index s >>? λ i. gives (word_at i.behind.variables x.variable i.value) i.behind
 value_of sense s = next_reading s
--- 0 always: events come with a handler, which there is none of yet
-value_of next_event s = gives 0 s
+value_of next_event s = next_answer s
 value_of (unary op e) s = made_of (λ w. unary_result op (type_of e) w) (value_of e s)
 value_of (binary op a b) s =
     value_of a s >>? λ x. made_of (λ w. binary_result op.operator (type_of a) (type_of b) x.value w) (value_of b x.behind)

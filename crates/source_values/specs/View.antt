@@ -17,9 +17,9 @@ use Rattle.source_values.specs.declared.statements.Chosen.TheVariants.{Behind, N
 abbrev pub variables_of : Scratch → Variables
 variables_of s = record { shared = s.shared.rows; locals = s.locals.items }
 
--- an attempt that has these readings left
+-- an attempt that has these readings left, and no answers
 abbrev pub attempt_in : Scratch → List ℕ → Attempt
-attempt_in s left = record { variables = variables_of s; emitted = s.emitted.items; left = left }
+attempt_in s left = record { variables = variables_of s; emitted = s.emitted.items; left = left; answers = [] }
 
 -- a value that left an attempt
 abbrev pub evaluated_in : Scratch → Value → Evaluated

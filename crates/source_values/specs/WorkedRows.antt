@@ -1,7 +1,7 @@
 -- Worked examples of values, types and statements, as the definitions give them.
 use Rattle.std.specs.Prelude.{◌≡◌, ℕ, List, [], ◌∷◌, Some, None}
 use Rattle.task_ast.specs.Worked.{nowhere, here}
-use Rattle.task_ast.specs.Tree.{number, long_number, name, element, sense, unary, binary, shift, short_circuit, declare, assign, store, loop, emit}
+use Rattle.task_ast.specs.Tree.{number, long_number, name, element, sense, next_event, unary, binary, shift, short_circuit, declare, assign, store, loop, emit}
 use Rattle.task_ast.specs.Tree.{transition, end, step}
 use Rattle.task_ast.specs.declared.WordType.TheVariants.{Unsigned, Int, Long}
 use Rattle.task_ast.specs.declared.UnaryOperator.TheVariants.{Negate, Complement, Not}
@@ -14,7 +14,7 @@ use Rattle.task_ast.specs.declared.names.Variable.TheVariants.{Shared, Local}
 use Rattle.task_ast.specs.declared.names.VariableName.{VariableName}
 use Rattle.source_values.specs.Values.{Variables, Attempt, gives, value_of, type_of}
 use Rattle.source_values.specs.Statements.{goes_on, to_task, short, run_statement, run_block}
-use Rattle.source_values.specs.Runs.{initial_words}
+use Rattle.source_values.specs.Runs.{State, Completion, exactly, initial_words}
 
 -- `shared int p = -3; shared unsigned a[2];` and a local
 abbrev pub p : VariableName
@@ -45,13 +45,24 @@ longs_are word low high local = record { shared = (word ∷ []) ∷ (low ∷ hig
 abbrev pub longs : Variables
 longs = longs_are 65533 65535 65535 7
 
--- an attempt on these words that has these readings left
+-- an attempt on these words that has these readings left, and no answers
 abbrev pub attempt : Variables → List ℕ → List ℕ → Attempt
-attempt m emitted left = record { variables = m; emitted = emitted; left = left }
+attempt m emitted left = record { variables = m; emitted = emitted; left = left; answers = [] }
 
 -- the same where nothing is emitted
 abbrev pub on : Variables → List ℕ → Attempt
 on m left = attempt m [] left
+
+-- and where these answers are left beside the readings
+abbrev pub answered : List ℕ → List ℕ → Attempt
+answered left answers = record (on words left) { answers = answers }
+
+-- a state, and a task from it on that came to a transition with these readings and answers left
+abbrev pub first : State
+first = record { shared = words.shared; task = 0; emitted = [] }
+
+abbrev pub completed : List ℕ → List ℕ → Completion
+completed left answers = record { next = 2; shared = words.shared; emitted = []; left = left; answers = answers }
 
 abbrev pub locals_are : ℕ → Variables
 locals_are w = record { shared = (65533 ∷ []) ∷ (5 ∷ 6 ∷ []) ∷ []; locals = w ∷ [] }
@@ -73,6 +84,8 @@ pub record WorkedRows : Type 0 where
   pub and_leaves_the_right_side : value_of (short_circuit short_circuit_operator.And (number 0) sense) (on words (9 ∷ [])) ≡ gives 0 (on words (9 ∷ []))
   pub and_takes_the_right_side : value_of (short_circuit short_circuit_operator.And (number 3) sense) (on words (9 ∷ [])) ≡ gives 1 (on words [])
   pub or_leaves_the_right_side : value_of (short_circuit short_circuit_operator.Or (number 3) sense) (on words (9 ∷ [])) ≡ gives 1 (on words (9 ∷ []))
+  pub answers_from_the_left : value_of (binary (here Subtract) next_event next_event) (answered (7 ∷ []) (9 ∷ 4 ∷ 2 ∷ []))
+      ≡ gives 5 (answered (7 ∷ []) (2 ∷ []))
   pub too_few_readings : value_of (binary (here Add) sense sense) (on words (7 ∷ [])) ≡ None
   pub index_at_the_length_writes_nothing : run_statement (store a (number 2) (number 1)) (attempt words [] []) ≡ goes_on (attempt words [] [])
   pub index_before_value : run_statement (store a sense sense) (attempt words [] (1 ∷ 9 ∷ []))
@@ -82,6 +95,9 @@ pub record WorkedRows : Type 0 where
   pub nothing_behind_a_transition : run_block (step (transition (record { span = nowhere; task = 2 })) (step (emit (number 1)) end)) (attempt words [] [])
       ≡ to_task 2 (attempt words [] [])
   pub short_of_a_reading : run_block (step (emit sense) end) (attempt words [] []) ≡ short
+  pub zero_behind_the_last_answer : run_block (step (emit next_event) (step (emit next_event) (step (emit next_event) end))) (answered [] (9 ∷ 4 ∷ []))
+      ≡ goes_on (attempt words (9 ∷ 4 ∷ 0 ∷ []) [])
+  pub an_answer_left_over : exactly first (completed [] (4 ∷ [])) ≡ None
   pub shared_words_start_at_0 : initial_words (extent.Array 2) ≡ 0 ∷ 0 ∷ []
   pub long_scalar : value_of (name l) (on longs []) ≡ gives 4294967295 (on longs [])
   pub long_sums_wrap : value_of (binary (here Add) (name l) (number 1)) (on longs []) ≡ gives 0 (on longs [])

@@ -5,7 +5,7 @@ ghost use Rattle.std.specs.Prelude.{slice_index, slice_index_or, replicate, vec_
 ghost use Rattle.task_ast.specs.View.{block_view, program_of};
 ghost use Rattle.task_ast.specs.declared.Extent.TheVariants.{Long};
 ghost use Rattle.source_values.specs.Statements.{Attempt, run_block, block_emits, short, to_task};
-ghost use Rattle.source_values.specs.Runs.{initial_words, initial_rows, new_locals, fresh_attempt, attempt_of, completion_of, EndsWell};
+ghost use Rattle.source_values.specs.Runs.{initial_words, initial_rows, new_locals, without_answers, fresh_attempt, attempt_of, completion_of, EndsWell};
 ghost use Rattle.source_values.specs.Marks.{IsMarked};
 ghost use Rattle.source_values.specs.Running.{IsRunnable, fresh_run};
 ghost use Rattle.source_values.specs.View.{rows_of, attempt_in, outcome_of};
@@ -155,21 +155,21 @@ impl SourceRun {
         })
     }
 
-    /// Runs the current task once, from the shared words as they are, on the front of the readings. Takes no memory.
+    /// Runs the current task once, from the shared words as they are, on the front of the readings, each `next_event()` being 0. Takes no memory.
     /// `Short` where the readings run out before its transition; the run is then as before.
     pub fn task_step(&mut self, source: &CheckedSource, readings: &[u16]) -> Result<Done, Short>
         requires runnable { IsRunnable (program_of source.now) }
         requires task { self.old.task < length (program_of source.now).tasks }
         requires few_readings { length readings.now < 2 ^ 32 }
-        ensures done { IfOk result (λ d. completion_of (attempt_of (program_of source.now) self.old.task self.old.shared readings.now)
-            ≡ Some (record { next = d.next; shared = self.new.shared; emitted = self.new.emitted; left = drop d.used readings.now })) }
+        ensures done { IfOk result (λ d. completion_of (attempt_of (program_of source.now) self.old.task self.old.shared (without_answers readings.now))
+            ≡ Some (record { next = d.next; shared = self.new.shared; emitted = self.new.emitted; left = drop d.used readings.now; answers = [] })) }
         ensures from { IfOk result (λ d. d.from ≡ self.old.task) }
         ensures next { IfOk result (λ d. (d.next ≡ self.new.task) × (d.next < length (program_of source.now).tasks)) }
         ensures used { IfOk result (λ d. d.used ≤ length readings.now) }
         ensures before { OnOk result (self.new.before ≡ self.old.shared) }
         ensures same_lengths { map length self.new.shared ≡ map length self.old.shared }
         ensures few_emitted { OnOk result (length self.new.emitted ≤ 256) }
-        ensures short { OnErr result (attempt_of (program_of source.now) self.old.task self.old.shared readings.now ≡ short) }
+        ensures short { OnErr result (attempt_of (program_of source.now) self.old.task self.old.shared (without_answers readings.now) ≡ short) }
         ensures as_before { OnErr result (self.new ≡ self.old) }
     {
         restart(&mut self.scratch);

@@ -40,7 +40,7 @@ fn sense(readings: &[u16]) -> Option<Value<'_>>
     })
 }
 
-/// The value of an expression over these words, with its type. None where the readings run out.
+/// The value of an expression over these words and no answers, with its type. None where the readings run out.
 pub fn evaluate<'r>(
     e: &Expr<VariableName>,
     scratch: &Scratch,
@@ -70,6 +70,7 @@ pub fn evaluate<'r>(
             })
         }
         Expr::Sense => sense(readings),
+        // There are no answers: it is 0.
         Expr::NextEvent => Some(Value {
             number: Number::Unsigned(0),
             left: readings,

@@ -1,11 +1,12 @@
 -- An attempt's start keeps a world undecided, and leaves an attempt that has started.
 use Rattle.stands_for.proofs.Names.{◌≡◌, ℕ, zero, suc, ◌+◌, ◌*◌, ◌<◌, ◌≤◌, List, [], ◌∷◌, ◌++◌, refl, sym, ap, ◌∙◌, subst, ⊎_elim, inl, inr, arith, ◌==◌, ◌%◌}
 use Rattle.stands_for.proofs.Names.{Bool, true, false, cases_eq, Effect, Store, Take, Outside, World, put, world_after_one, world_after, fram_after}
-use Rattle.stands_for.proofs.Names.{readings_taken, EachStore, readings_taken-append, world_after-append, each_store-append, put_same, put_other, CopyPair}
+use Rattle.stands_for.proofs.Names.{inputs_taken, no_inputs, EachStore, none_taken_through, world_after-append, each_store-append, put_same, put_other, CopyPair}
 use Rattle.stands_for.proofs.Names.{is_at_end, clearing_if, cleared, counting_effects, opening_effects, copied_in, start_effects, HoldsThroughout, IsElsewhere}
 use Rattle.stands_for.proofs.Names.{world_fram, holds-append, ProgramPlaces, StateView, IsSharedWord, IsAmong, ArePrivate, VersionsWithin, UndecidedAt}
 use Rattle.stands_for.proofs.Names.{StartedAt, IsStartStore, StartContract, MemoryMap, word_place, CurrentTask, Gate, ListLength, EmitCount, Base, Version}
-use Rattle.stands_for.proofs.Names.{AreApart, where_events, where_stores, where_takes, count_place}
+use Rattle.stands_for.proofs.Names.{AreApart, where_events, where_stores, where_takes, count_place, answer_place, answer_word, words_stored, answers_at}
+use Rattle.stands_for.proofs.Names.{if◌then◌else◌, Option, Some, None, ne_eqb}
 use Rattle.std.proofs.lemmas.Bool.Decides.{nat_tests}
 use Rattle.memory_map.specs.Places.{end_of}
 use Rattle.stands_for.proofs.Keeps.{put_either, put_words}
@@ -17,6 +18,22 @@ each_weaker P Q h (Store a w ∷ es) k = (h a w k.0, each_weaker P Q h es k.1)
 each_weaker P Q h (Take w ∷ es) k = (tt, each_weaker P Q h es k.1)
 each_weaker P Q h (Outside o ∷ es) k = (tt, each_weaker P Q h es k.1)
 
+-- stores elsewhere store no word there
+pub none_stored : (address : ℕ) (es : List Effect) → EachStore (IsElsewhere address) es → words_stored address es ≡ []
+none_stored address [] h = refl
+none_stored address (Store a w ∷ es) h =
+    ap (λ b. if b then w ∷ words_stored address es else words_stored address es) (ne_eqb a address h.0) ∙ none_stored address es h.1
+none_stored address (Take w ∷ es) h = none_stored address es h.1
+none_stored address (Outside o ∷ es) h = none_stored address es h.1
+
+-- so no answer, where they aren't to ANS
+pub none_answered : (m : MemoryMap) (es : List Effect) → EachStore (IsElsewhere answer_place) es → answers_at (answer_word m) es ≡ []
+none_answered m es h = by m.runtime.events
+  where
+    by : (events : Bool) → answers_at (if events then Some answer_place else None) es ≡ []
+    by true = none_stored answer_place es h
+    by false = refl
+
 -- stores elsewhere leave a word
 pub elsewhere_same : (address : ℕ) (es : List Effect) (f : ℕ → ℕ) → EachStore (IsElsewhere address) es → fram_after es f address ≡ f address
 elsewhere_same address [] f h = refl
@@ -24,17 +41,17 @@ elsewhere_same address (Store a w ∷ es) f h = elsewhere_same address es (put f
 elsewhere_same address (Take w ∷ es) f h = elsewhere_same address es f h.1
 elsewhere_same address (Outside o ∷ es) f h = elsewhere_same address es f h.1
 
-cleared_takes : (n p : ℕ) → readings_taken (cleared n p) ≡ []
+cleared_takes : (n p : ℕ) → inputs_taken (cleared n p) ≡ no_inputs
 cleared_takes zero p = refl
 cleared_takes (suc n) p = cleared_takes n (p + 2)
 
-clearing_takes : (m : MemoryMap) (b : Bool) → readings_taken (clearing_if m b) ≡ []
+clearing_takes : (m : MemoryMap) (b : Bool) → inputs_taken (clearing_if m b) ≡ no_inputs
 clearing_takes m true =
     let c = cleared m.versions.words m.versions.address in
-    readings_taken-append c (Store (word_place m Version) 0 ∷ []) ∙ ap (λ z. z ++ []) (cleared_takes m.versions.words m.versions.address)
+    none_taken_through c (Store (word_place m Version) 0 ∷ []) (cleared_takes m.versions.words m.versions.address) refl
 clearing_takes m false = refl
 
-copied_in_takes : (ps : List CopyPair) (f : ℕ → ℕ) → readings_taken (copied_in ps f) ≡ []
+copied_in_takes : (ps : List CopyPair) (f : ℕ → ℕ) → inputs_taken (copied_in ps f) ≡ no_inputs
 copied_in_takes [] f = refl
 copied_in_takes (p ∷ ps) f = copied_in_takes ps (put f p.copy (f p.home))
 
@@ -287,7 +304,13 @@ module _ {St : Type 0} (l : ProgramPlaces) (apart : AreApart l.map) (v : StateVi
   cleared_so zero j e = tt
   cleared_so (suc n) j e =
       let next : l.map.versions.address + 2 * suc j ≡ l.map.versions.address + 2 * j + 2 = omega arith in (
-        record { from = omega (arith, apart); below = inl (omega (arith, apart, e)); list_length = λ q. refl; emit_count = λ q. refl },
+        record {
+          from = omega (arith, apart);
+          below = inl (omega (arith, apart, e));
+          answer = λ q. omega (arith, apart, e, q);
+          list_length = λ q. refl;
+          emit_count = λ q. refl;
+        },
         subst (λ p. EachStore (IsStartStore l) (cleared n p)) next (cleared_so n (suc j) (omega (arith, e))),
       )
 
@@ -295,6 +318,7 @@ module _ {St : Type 0} (l : ProgramPlaces) (apart : AreApart l.map) (v : StateVi
   version_so w = record {
     from = omega (arith, apart);
     below = inl (omega (arith, apart));
+    answer = λ e. omega (arith, apart, e);
     list_length = λ e. omega (arith, e);
     emit_count = λ e. omega (arith, e);
   }
@@ -306,6 +330,7 @@ module _ {St : Type 0} (l : ProgramPlaces) (apart : AreApart l.map) (v : StateVi
         record {
           from = omega (arith, apart, c);
           below = inl (omega (arith, c));
+          answer = λ e. omega (arith, apart, c, e);
           list_length = λ e. omega (arith, apart, c, e);
           emit_count = λ e. omega (arith, apart, c, e);
         },
@@ -319,10 +344,21 @@ module _ {St : Type 0} (l : ProgramPlaces) (apart : AreApart l.map) (v : StateVi
       (subst (λ p. EachStore (IsStartStore l) (cleared l.map.versions.words p)) first (cleared_so l.map.versions.words 0 (omega arith))) (version_so 0, tt)
   clearing_so false = tt
 
+  -- 0 to a word of the runtime
+  runtime_so : (a : ℕ) → word_place l.map Gate < a → a < end_of l.map.copies → IsStartStore l a 0
+  runtime_so a from below = record {
+    from = from;
+    below = inl below;
+    answer = λ e. omega (arith, apart, below, e);
+    list_length = λ e. refl;
+    emit_count = λ e. refl;
+  }
+
   count_so : l.map.runtime.events ≡ true → IsStartStore l count_place 0
   count_so on = record {
     from = omega (arith, apart);
     below = inr (record { events = on; from = omega arith; below = omega arith });
+    answer = λ e. omega (arith, e);
     list_length = λ e. refl;
     emit_count = λ e. refl;
   }
@@ -334,9 +370,9 @@ module _ {St : Type 0} (l : ProgramPlaces) (apart : AreApart l.map) (v : StateVi
       each_store-append (IsStartStore l) (clearing_if l.map b) (counting_effects l.map g) (clearing_so b) (
         version_so ((g (word_place l.map Version) + 1) % 0x10000),
         (
-          record { from = omega (arith, apart); below = inl (omega (arith, apart)); list_length = λ e. refl; emit_count = λ e. refl },
+          runtime_so (word_place l.map ListLength) (omega (arith, apart)) (omega (arith, apart)),
           (
-            record { from = omega (arith, apart); below = inl (omega (arith, apart)); list_length = λ e. refl; emit_count = λ e. refl },
+            runtime_so (word_place l.map EmitCount) (omega (arith, apart)) (omega (arith, apart)),
             where_stores (IsStartStore l) l.map.runtime.events count_place 0 count_so,
           ),
         ),
@@ -349,6 +385,10 @@ module _ {St : Type 0} (l : ProgramPlaces) (apart : AreApart l.map) (v : StateVi
   pub start_off_gate : (es : List Effect) → EachStore (IsStartStore l) es → EachStore (IsElsewhere (word_place l.map Gate)) es
   start_off_gate es h = each_weaker (IsStartStore l) (IsElsewhere (word_place l.map Gate)) (λ a w k e. let from = k.from in omega (arith, from, e)) es h
 
+  pub start_answers_none : (es : List Effect) → EachStore (IsStartStore l) es → answers_at (answer_word l.map) es ≡ []
+  start_answers_none es h =
+      none_answered l.map es (each_weaker (IsStartStore l) (IsElsewhere answer_place) (λ a w k. k.answer) es h)
+
   module _ (privates : ℕ → List CopyPair) (laid : (t : ℕ) → ArePrivate l t (privates t)) where
     start_stores : (f : ℕ → ℕ) → EachStore (IsStartStore l) (start_effects l.map privates f)
     start_stores f =
@@ -356,16 +396,15 @@ module _ {St : Type 0} (l : ProgramPlaces) (apart : AreApart l.map) (v : StateVi
         each_store-append (IsStartStore l) (opening_effects l.map f) _ (opening_so f)
         (copied_in_so task (privates task) (fram_after (opening_effects l.map f) f) (laid task))
 
-    start_takes : (f : ℕ → ℕ) → readings_taken (start_effects l.map privates f) ≡ []
+    start_takes : (f : ℕ → ℕ) → inputs_taken (start_effects l.map privates f) ≡ no_inputs
     start_takes f =
         let op = opening_effects l.map f in
         let rest = copied_in (privates (f (word_place l.map CurrentTask))) (fram_after op f) in
         let b = is_at_end l.map f in
         let c = clearing_if l.map b in
         let more = counting_effects l.map (fram_after c f) in
-        readings_taken-append op rest ∙ ap (λ z. z ++ readings_taken rest)
-        (readings_taken-append c more ∙ ap (λ z. z ++ readings_taken more) (clearing_takes l.map b) ∙ where_takes l.map.runtime.events count_place 0)
-        ∙ copied_in_takes (privates (f (word_place l.map CurrentTask))) (fram_after op f)
+        none_taken_through op rest (none_taken_through c more (clearing_takes l.map b) (where_takes l.map.runtime.events count_place 0))
+        (copied_in_takes (privates (f (word_place l.map CurrentTask))) (fram_after op f))
 
     -- the start of the state's task is the one that CUR names
     there : (s : St) (x : World) → UndecidedAt l v s x → Starts s (privates (x.fram (word_place l.map CurrentTask))) x

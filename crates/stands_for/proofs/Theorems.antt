@@ -5,7 +5,7 @@ use Rattle.stands_for.proofs.Pending.{sent_first, commit_keeps, commit_stores, c
 use Rattle.stands_for.proofs.Behind.{behind_commit}
 use Rattle.stands_for.proofs.Again.{committing}
 use Rattle.stands_for.proofs.Commits.{stays_decided, decided_committing}
-use Rattle.stands_for.proofs.Starts.{numbered_start}
+use Rattle.stands_for.proofs.Starts.{none_answered, numbered_start}
 use Rattle.stands_for.proofs.Attempts.{attempts}
 
 -- from a start and tasks that keep their contracts, all that the crash theorem asks of a source
@@ -32,7 +32,7 @@ keeps_the_laws St l v privates p apart room start tasks =
       committing_words = λ to x d. subst (λ ws. IsBetween [] ws x.accepted)
           (sym (ap (λ y. y.accepted) (behind_commit l.map x)) ∙ d.rests.is_open.accepted) (sent_first l apart x d.pending room);
       commits = λ to x inputs d. commit_keeps l v p apart _ to inputs x d (committing l v apart room to x d);
-      recovers = λ s x u. record { stays = record { takes_none = refl; elsewhere = tt; undecided = u }; settled = u };
+      recovers = λ s x u. record { stays = record { takes_none = refl; answers_none = none_answered l.map [] tt; elsewhere = tt; undecided = u }; settled = u };
       attempts = attempts l v privates p apart start tasks;
     }
 

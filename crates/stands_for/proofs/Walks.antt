@@ -1,6 +1,6 @@
 -- The effects of a commit one by one: what each of them keeps, the commit keeps up to its last.
 use Rattle.stands_for.proofs.Names.{◌≡◌, ℕ, zero, suc, ◌+◌, ◌%◌, ◌<◌, List, [], ◌∷◌, ◌++◌, refl, sym, ap, ◌∙◌, subst, inl, inr, arith, append_assoc, Effect}
-use Rattle.stands_for.proofs.Names.{Store, Outside, Offered, World, put, world_after_one, world_after, readings_taken, EachStore, readings_taken-append}
+use Rattle.stands_for.proofs.Names.{Store, Outside, Offered, World, put, world_after_one, world_after, inputs_taken, no_inputs, EachStore, none_taken_through}
 use Rattle.stands_for.proofs.Names.{each_store-append, CopyPair, listed, copied_home, sends, emits_sent, commit_effects, sends_store, HoldsThroughout}
 use Rattle.stands_for.proofs.Names.{Bool, true, false, tail_moved, where_events, where_stores, where_takes, tail_place, sent_place}
 use Rattle.stands_for.proofs.Names.{holds-append, IsAmong, MemoryMap, word_place, CurrentTask, NextTask, Gate, EmitCount, Base, SentBase}
@@ -24,21 +24,21 @@ commit_is m f =
     let g : List Effect = Store (word_place m Gate) 0 ∷ [] in
     sym (append_assoc a (b ++ c) g ∙ ap (λ z. a ++ z) (append_assoc b c g ∙ ap (λ z. b ++ z) (append_assoc (tail_moved m f) (moved_on m f) g)))
 
--- copies and sends take no reading
-copied_takes : (qs : List CopyPair) (f : ℕ → ℕ) → readings_taken (copied_home qs f) ≡ []
+-- copies and sends take nothing of what is ready
+copied_takes : (qs : List CopyPair) (f : ℕ → ℕ) → inputs_taken (copied_home qs f) ≡ no_inputs
 copied_takes [] f = refl
 copied_takes (q ∷ qs) f = copied_takes qs (put f q.home (f q.copy))
 
-sends_take : (n k p : ℕ) (f : ℕ → ℕ) → readings_taken (sends n k p f) ≡ []
+sends_take : (n k p : ℕ) (f : ℕ → ℕ) → inputs_taken (sends n k p f) ≡ no_inputs
 sends_take zero k p f = refl
 sends_take (suc n) k p f = sends_take n ((k + 1) % 0x10000) (p + 2) f
 
-pub commit_takes : (m : MemoryMap) (f : ℕ → ℕ) → readings_taken (commit_before m f) ≡ []
+pub commit_takes : (m : MemoryMap) (f : ℕ → ℕ) → inputs_taken (commit_before m f) ≡ no_inputs
 commit_takes m f =
     let a = copied_home (listed m f) f in let b = emits_sent m f in let c = closed_before m f in
-    readings_taken-append a (b ++ c) ∙ ap (λ z. z ++ readings_taken (b ++ c)) (copied_takes (listed m f) f) ∙ readings_taken-append b c
-    ∙ ap (λ z. z ++ readings_taken c) (sends_take (f (word_place m EmitCount)) (f (word_place m SentBase)) m.emits.address f)
-    ∙ readings_taken-append (tail_moved m f) (moved_on m f) ∙ ap (λ z. z ++ []) (where_takes m.runtime.events tail_place (f sent_place))
+    none_taken_through a (b ++ c) (copied_takes (listed m f) f)
+    (none_taken_through b c (sends_take (f (word_place m EmitCount)) (f (word_place m SentBase)) m.emits.address f)
+    (none_taken_through (tail_moved m f) (moved_on m f) (where_takes m.runtime.events tail_place (f sent_place)) refl))
 
 -- where a commit stores
 copied_store : (P : ℕ → ℕ → Type 0) (qs : List CopyPair) (f : ℕ → ℕ) → ((q : CopyPair) (w : ℕ) → IsAmong qs q → P q.home w) → EachStore P (copied_home qs f)

@@ -1,10 +1,12 @@
 -- The program of a task decides, or is short exactly where the task is, and stores before the code.
 use Rattle.task_attempts.proofs.Names.{◌≡◌, ℕ, ◌≤◌, List, [], ◌∷◌, ◌++◌, length, true, false, refl, sym, ap, ◌∙◌, subst, arith, append-nil, append_cancel_right}
-use Rattle.task_attempts.proofs.Names.{get_or_from_slice_get, Effect, Store, readings_taken, EachStore, InputsAreWords, inputs_taken, no_inputs}
+use Rattle.task_attempts.proofs.Names.{get_or_from_slice_get, Effect, Store, readings_taken, EachStore, InputsAreWords}
+use Rattle.task_attempts.proofs.Names.{looks_taken, looks_taken-append, answer_place, answers_in, given_by, nothing_given}
 use Rattle.task_attempts.proofs.Names.{readings_taken-append, each_store-append, emits_of, Attempt, Outcome, to_task, short, run_block, block_emits, State}
-use Rattle.task_attempts.proofs.Names.{Completion, completion_of, attempt_of, fresh_attempt, EndsWell, TransitionComes, readings_left_over_lem, WordState, End}
+use Rattle.task_attempts.proofs.Names.{Completion, completion_of, attempt_of, fresh_attempt, EndsWell, answered_by, answers_told, StoresBelow, false, ⊎_elim, inr, TransitionComes, readings_left_over_lem}
+use Rattle.task_attempts.proofs.Names.{WordState, End}
 use Rattle.task_attempts.proofs.Names.{GoesOn, Jumps, Broken, behaviour, started, behaves_by_effects, whole_ends_soundly, StoresWords, stores_words, Ends}
-use Rattle.task_attempts.proofs.Names.{program_effects, IsElsewhere, Model, AttemptContract, Decides, RunsShort, TakesAndStores, EndsAs, BlocksAgree}
+use Rattle.task_attempts.proofs.Names.{program_effects, IsElsewhere, Model, AttemptContract, Comes, Lacks, Decides, RunsShort, TakesAndStores, EndsAs, BlocksAgree}
 use Rattle.task_attempts.proofs.Names.{lowered_block, task_program, outcome_of, whole_task, has_jumped, effects_of, program_parts, redo_model, LeavesFor}
 use Rattle.task_attempts.proofs.Names.{inl, IsBelowCode, Gate, word_place}
 use Rattle.array_versions.specs.Program.{Program}
@@ -12,10 +14,10 @@ use Rattle.array_versions.specs.Behaviour.{Short as Starves}
 use Rattle.array_versions.specs.Laws.{EndsByEffects, IsSound}
 use Rattle.source_meaning.proofs.Interface.{emits_same}
 use Rattle.task_attempts.proofs.Rows.{HasRows, block_rows}
-use Rattle.task_attempts.proofs.Quiet.{stores_each, stores_as, quiet_through}
+use Rattle.task_attempts.proofs.Quiet.{stores_each, stores_as, quiet_through, answers_seen}
 use Rattle.task_attempts.proofs.Tasks.{body_is, program_is}
 use Rattle.task_attempts.proofs.Stores.{Safe, StoresOf, task_safe, emits_fit}
-use Rattle.task_attempts.proofs.Starts.{held_attempt, held_runs, attempt_stands}
+use Rattle.task_attempts.proofs.Starts.{held_attempt, held_runs, attempt_stands, readings_and}
 use Rattle.task_attempts.proofs.Started.{Started, scene}
 use Rattle.task_attempts.proofs.Decided.{setting, bounds, Transition, before, effects_are, safe_before, quiet_before, quiet_start, quiet_of, next, decided}
 
@@ -28,13 +30,20 @@ module _ (run : Started) where
 
   -- what is known of a behaviour's effects and end, and of the source's outcome
   record Meets (es : List Effect) (e : End) (o : Outcome) : Type 0 where
-    agrees : EndsAs here (bounds run) [] es e o
+    agrees : EndsAs here (bounds run) [] [] es e o
     by_effects : EndsByEffects (started x.fram inputs) es e
     sound : IsSound e
     of_words : StoresWords es
     well : EndsWell (length p.tasks) o
     rows : HasRows (length s.shared) o
-    source : completion_of (attempt_of p s.task s.shared inputs.readings) ≡ completion_of o
+    source : completion_of (attempt_of p s.task s.shared (readings_and run (answers_told es))) ≡ completion_of o
+
+  -- where no events are taken no store is to ANS
+  off_answer : (es : List Effect) → TakesAndStores (Safe run) es → l.runtime.events ≡ false → EachStore (IsElsewhere answer_place) es
+  off_answer es h off =
+      let apart = given.apart in
+      stores_each (Safe run) (IsElsewhere answer_place)
+      (λ a w q e. ⊎_elim (λ low. omega (arith, apart, low, e)) (λ counter. let on = counter.events in cc (on, off)) q.below) es h
 
   off_gate : (es : List Effect) → TakesAndStores (Safe run) es → EachStore (IsElsewhere (word_place l Gate)) es
   off_gate es h = stores_each (Safe run) (IsElsewhere (word_place l Gate)) (λ a w q e. q.quiet.gate e) es h
@@ -45,7 +54,7 @@ module _ (run : Started) where
       let fits = emits_fit run in
       stores_each (Safe run) (IsBelowCode l) (λ a w q. record {
         from = q.from;
-        below = let b = q.below in inl (omega (arith, b, c));
+        below = ⊎_elim {C = StoresBelow l l.boot.address a w} (λ b. inl (omega (arith, b, c))) (λ counter. inr counter) q.below;
         list = q.list_length;
         emits = λ e. let few = q.emit_count e in omega (arith, few, fits);
       }) es h
@@ -56,11 +65,15 @@ module _ (run : Started) where
     safe_short : TakesAndStores (Safe run) es
     safe_short = stores_as (StoresOf run) (Safe run) (task_safe run) es h.agrees h.of_words
 
-    runs_short : RunsShort model s x (program_effects es false)
+    answers_are : answers_in model.marks es ≡ answers_told es
+    answers_are = answers_seen l es (off_answer es safe_short)
+
+    runs_short : RunsShort model s inputs x (program_effects es false)
     runs_short = record {
       is = refl;
       elsewhere = off_gate es safe_short;
       undecided = quiet_through sites view s ver es x (quiet_of run es safe_short h.of_words) (quiet_start run);
+      short = ap (λ answers. whole_task p s (record { readings = inputs.readings; answers = answers })) answers_are ∙ ap (outcome_of s) h.source;
     }
 
   -- ---- a transition
@@ -81,20 +94,41 @@ module _ (run : Started) where
     reads = ap (λ r. r ++ m.left) (sym taken) ∙ ap (λ r. readings_taken es ++ r) (sym h.agrees.readings) ∙ h.by_effects.1.readings
 
     abbrev completion : Completion
-    completion = record { next = task; shared = m.variables.shared; emitted = m.emitted; left = m.left }
+    completion = record { next = task; shared = m.variables.shared; emitted = m.emitted; left = m.left; answers = m.answers }
 
-    exact : whole_task p s (inputs_taken front) ≡ Ends (next run t) no_inputs
+    -- and see what these see
+    looks : looks_taken front ++ end.inputs.looks ≡ inputs.looks
+    looks =
+        ap (λ l. l ++ end.inputs.looks) (sym (append-nil (looks_taken front)) ∙ sym (looks_taken-append front (Store (word_place l Gate) 1 ∷ []))
+        ∙ sym (ap looks_taken (effects_are run t)))
+        ∙ h.by_effects.1.looks
+
+    -- the effects with the last store
+    abbrev whole : List Effect
+    whole = front ++ Store (word_place l Gate) 1 ∷ []
+
+    answers_are : answers_in model.marks whole ≡ answers_told es
+    answers_are =
+        let apart = given.apart in
+        answers_seen l whole (λ off. each_store-append (IsElsewhere answer_place) front (Store (word_place l Gate) 1 ∷ [])
+        (off_answer front (safe_before run t) off) ((λ e. omega (arith, apart, e)), tt))
+        ∙ sym (ap answers_told (effects_are run t))
+
+    exact : whole_task p s (given_by model.marks whole) ≡ Ends (next run t) nothing_given
     exact =
-        let r = readings_left_over_lem p s.task s.shared inputs.readings completion h.source in
+        let r = readings_left_over_lem p s.task s.shared (readings_and run (answers_told es)) completion h.source in
         let used : r.0 ≡ readings_taken front = append_cancel_right r.0 (readings_taken front) m.left (sym r.1 ∙ sym reads) in
-        ap (λ taken. whole_task p s (record { readings = taken; looks = [] })) (sym used ∙ sym (append-nil r.0)) ∙ ap (outcome_of [] s) (r.2 [])
+        let read : readings_taken whole ≡ r.0 ++ [] = sym (ap readings_taken (effects_are run t)) ∙ taken ∙ sym used ∙ sym (append-nil r.0) in
+        (λ j. whole_task p s (record { readings = read j; answers = answers_are j })) ∙ ap (outcome_of s) (r.2 [])
+        ∙ ap (λ answers. Ends (next run t) (record { readings = []; answers = answers })) h.agrees.answers
 
-    decides : Decides model s (next run t) (record { readings = m.left; looks = inputs.looks }) inputs x (program_effects es true)
+    decides : Decides model s (next run t) inputs x (program_effects es true)
     decides = record {
       before = front;
+      left = record { readings = m.left; looks = end.inputs.looks };
       is = ap (λ e. program_effects e true) (effects_are run t);
       elsewhere = off_gate front (safe_before run t);
-      reads = record { readings = reads; seen = []; looks = refl };
+      reads = record { readings = reads; looks = looks };
       undecided = quiet_through sites view s ver front x (quiet_before run t) (quiet_start run);
       decided = decided run t;
       exact = exact;
@@ -118,12 +152,11 @@ module _ (run : Started) where
 
   -- ---- each end
 
-  keeps : (es : List Effect) (e : End) (o : Outcome) → Meets es e o → AttemptContract model s inputs x (outcome_of inputs.looks s (completion_of o))
-      (program_effects es (has_jumped e))
+  keeps : (es : List Effect) (e : End) (o : Outcome) → Meets es e o → AttemptContract model s inputs x (program_effects es (has_jumped e))
   keeps es (GoesOn t) o h = absurd h.sound
   keeps es Broken o h = absurd h.sound
-  keeps es (Jumps to t) (to_task task m) h = decides es to t task m h
-  keeps es Starves short h = runs_short es h
+  keeps es (Jumps to end) (to_task task m) h = Comes (next run (t es to end task m h)) (decides es to end task m h)
+  keeps es Starves short h = Lacks (runs_short es h)
   keeps es _ _ h = absurd h.agrees
 
   stores_before_code : (es : List Effect) (e : End) (o : Outcome) → Meets es e o → EachStore (IsBelowCode l) es
@@ -145,8 +178,12 @@ module _ (run : Started) where
   abbrev program : Program
   program = lowered_block here code
 
+  -- the answers that it tells
+  abbrev told : List ℕ
+  told = answers_told (behaviour program (started x.fram inputs)).effects
+
   abbrev attempt : Attempt
-  attempt = fresh_attempt s.shared inputs.readings
+  attempt = fresh_attempt s.shared (readings_and run told)
 
   few_emits : block_emits code ≤ emits_of code
   few_emits = let e = emits_same code in omega (arith, e)
@@ -163,9 +200,10 @@ module _ (run : Started) where
       let b = behaviour program w in
       record {
         -- the program agrees with the attempt from what FRAM has, which comes to what the source's attempt comes to
-        agrees = subst (EndsAs here (bounds run) [] b.effects b.end) (held_runs run)
-            (agree (setting run) code (held_attempt run) [] w refl facts.formed (λ v h. h) (attempt_stands run)
-            (let f = few_emits in omega (arith, f)) (λ v. omega arith));
+        agrees = subst (EndsAs here (bounds run) [] [] b.effects b.end)
+            (ap (λ l. run_block code (answered_by l (held_attempt run))) (append-nil told) ∙ held_runs run told)
+            (agree (setting run) code (held_attempt run) [] w refl facts.formed facts.admits (λ v h. h) (attempt_stands run)
+            (let f = few_emits in omega (arith, f)) (λ v. omega arith) []);
         by_effects = behaves_by_effects program w;
         sound = whole_ends_soundly program x.fram inputs facts.whole;
         of_words = stores_words program w facts.of_words
@@ -176,14 +214,11 @@ module _ (run : Started) where
       }
 
   pub program_keeps : BlocksAgree → InputsAreWords inputs
-      → AttemptContract model s inputs x (whole_task p s inputs) ((program_parts p l).body s.task x.fram inputs)
+      → AttemptContract model s inputs x ((program_parts p l).body s.task x.fram inputs)
   program_keeps agree small =
       let b = behaviour program (started x.fram inputs) in
-      let k = keeps b.effects b.end (run_block code attempt) (meets agree small) in
-      subst (λ q. AttemptContract model s inputs x (whole_task p s inputs) (effects_of (behaviour q (started x.fram inputs))))
-      (sym (program_is p l given s.task i))
-      (subst (λ c. AttemptContract model s inputs x (outcome_of inputs.looks s (completion_of (run_block c attempt))) (effects_of b))
-      (sym (body_is p l given s.task i)) k)
+      subst (λ q. AttemptContract model s inputs x (effects_of (behaviour q (started x.fram inputs)))) (sym (program_is p l given s.task i))
+      (keeps b.effects b.end (run_block code attempt) (meets agree small))
 
   pub program_stores : BlocksAgree → InputsAreWords inputs → EachStore (IsBelowCode l) ((program_parts p l).body s.task x.fram inputs).effects
   program_stores agree small =

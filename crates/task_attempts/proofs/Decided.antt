@@ -22,7 +22,8 @@ use Rattle.task_attempts.proofs.Entries.{closed_entries, IsLeft, closed_left, Cl
 use Rattle.task_attempts.proofs.Listed.{among_map, map_among}
 use Rattle.task_attempts.proofs.Tasks.{body_is, private_copy, private_not_in_place}
 use Rattle.task_attempts.proofs.Started.{Started, scene}
-use Rattle.task_attempts.proofs.Stores.{Safe, StoresOf, task_safe, transition_safe}
+use Rattle.task_attempts.proofs.Names.{event_index, program_end}
+use Rattle.task_attempts.proofs.Stores.{Safe, StoresOf, emits_fit, task_safe, transition_safe}
 use Rattle.task_attempts.proofs.Words.{OwnWord, marked, unmarked, own_word_of, IsTaskWord, left_there, private, element as an_element, task_word, scalar_there}
 use Rattle.task_attempts.proofs.Words.{element_there, element_word}
 
@@ -63,7 +64,7 @@ module _ (run : Started) where
     pub end : WordState
     pub task : ℕ
     pub m : Attempt
-    pub left : Left here bounds es to end task m
+    pub left : Left here bounds [] es to end task m
     pub stored : StoresWords es
     pub next_task : task < length p.tasks
     pub rows : length m.variables.shared ≡ length s.shared
@@ -78,11 +79,14 @@ module _ (run : Started) where
     abbrev base : ℕ
     base = left.there.fram (word_place l Base)
 
+    abbrev index : ℕ
+    index = event_index left.there.fram
+
     abbrev transition : List Effect
-    transition = transition_effects here task count base
+    transition = transition_effects here task count base index
 
     abbrev leaving : Closing
-    leaving = record { places = here; room = space; apart = facts.apart; task = task; base = base; fram = left.there.fram }
+    leaving = record { places = here; room = space; apart = facts.apart; task = task; base = base; index = index; fram = left.there.fram }
 
     -- the effects but the last
     abbrev pub before : List Effect
@@ -111,7 +115,7 @@ module _ (run : Started) where
         (stores_as (StoresOf run) (Safe run) (task_safe run) left.body left.stores
         (each_store-front (λ a w. w < 0x10000) left.body transition words_before))
         (stores_as (IsTransitionStore here space) (Safe run) (transition_safe run) transition
-        (transition_stores here space task count base few) (each_store-back (λ a w. w < 0x10000) left.body transition words_before))
+        (transition_stores here space task count base index few) (each_store-back (λ a w. w < 0x10000) left.body transition words_before))
 
     pub quiet_before : TakesAndStores (IsQuiet sites s.task ver) before
     quiet_before = quiet_of before safe_before words_before
@@ -146,8 +150,8 @@ module _ (run : Started) where
     z_there : (a : ℕ) → Stays a → z.fram a ≡ left.there.fram a
     z_there a h = ap (λ f. f a) z_is ∙ closed_left leaving a h
 
-    high_stays : (a : ℕ) → l.emits.address ≤ a → Stays a
-    high_stays a h =
+    high_stays : (a : ℕ) → l.emits.address ≤ a → a < program_end → Stays a
+    high_stays a h below =
         let apart = facts.apart in
         let most = few in
         record {
@@ -155,6 +159,7 @@ module _ (run : Started) where
           gate = λ e. omega (arith, apart, e, h);
           list_length = λ e. omega (arith, apart, e, h);
           sent_base = λ e. omega (arith, apart, e, h);
+          sent_tail = λ e. omega (arith, e, below);
           entries = λ lo hi. omega (arith, apart, hi, h, most);
         }
 
@@ -162,7 +167,8 @@ module _ (run : Started) where
     spot_stays : (q : Spot) → IsSpot here q → z.fram (spot_address here q) ≡ left.there.fram (spot_address here q)
     spot_stays q h =
         let low = facts.apart.spots q h in
-        z_there (spot_address here q) (high_stays (spot_address here q) (omega (arith, low)))
+        let below = facts.apart.below q h in
+        z_there (spot_address here q) (high_stays (spot_address here q) (omega (arith, low)) (omega (arith, below)))
 
     -- the state that the source comes to
     abbrev pub next : State
@@ -223,7 +229,7 @@ module _ (run : Started) where
     z_pairs : listed sites.map z.fram ≡ map (element_pair here) left.listed ++ flat_map scalar_pairs i.layout.privates
     z_pairs =
         ap (λ f. entries_from (f (word_place l ListLength)) l.list.address f) z_is
-        ∙ closed_pairs leaving
+        ∙ closed_pairs leaving few
         ∙ ap (λ ps. ps ++ flat_map scalar_pairs i.layout.privates) left.stands.list.pairs
 
     abbrev Listed : CopyPair → Type 0
@@ -269,7 +275,7 @@ module _ (run : Started) where
 
     -- each entry has a word
     entries_have_words : EntriesHaveWords sites z.fram
-    entries_have_words = subst (EntriesHaveWords sites) (sym z_is) (closed_entries leaving left.stands.list.runs)
+    entries_have_words = subst (EntriesHaveWords sites) (sym z_is) (closed_entries leaving few left.stands.list.runs)
 
     -- ---- the next state
 
@@ -413,6 +419,7 @@ module _ (run : Started) where
           gate = λ e. omega (arith, apart, e);
           list_length = λ e. omega (arith, apart, e);
           sent_base = λ e. omega (arith, apart, e);
+          sent_tail = λ e. omega (arith, apart, e);
           entries = λ lo hi. omega (arith, apart, lo);
         })
 
@@ -433,6 +440,7 @@ module _ (run : Started) where
           gate = λ e. omega (arith, apart, e);
           list_length = λ e. omega (arith, apart, e);
           sent_base = λ e. omega (arith, apart, e);
+          sent_tail = λ e. omega (arith, apart, e);
           entries = λ lo hi. omega (arith, apart, lo);
         }) ∙ left.stands.emitted.emit_count
 
@@ -450,7 +458,10 @@ module _ (run : Started) where
     buffer_is : (n : ℕ) → n < length m.emitted → z.fram (l.emits.address + 2 * n) ≡ get_or m.emitted n 0
     buffer_is n h =
         let same : l.emits.address + 2 * n ≡ 2 * n + l.emits.address = omega arith in
-        z_there (l.emits.address + 2 * n) (high_stays (l.emits.address + 2 * n) (omega arith)) ∙ ap left.there.fram same ∙ left.stands.emitted.emits n h
+        let most = few_emits in
+        let fits = emits_fit run in
+        let apart = given.apart in
+        z_there (l.emits.address + 2 * n) (high_stays (l.emits.address + 2 * n) (omega arith) (omega (arith, h, most, fits, apart))) ∙ ap left.there.fram same ∙ left.stands.emitted.emits n h
 
     sends_and_closes : SendsAndCloses sites view s next m.emitted 0 z
     sends_and_closes =

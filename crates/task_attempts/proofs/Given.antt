@@ -8,7 +8,7 @@ use Rattle.task_attempts.proofs.Names.{AsDeclared, HasCopies, is_private_in, pro
 use Rattle.task_attempts.proofs.Names.{each_is_one_word, scalar_declared, places_are_declared, addresses_are, tasks_match, places_are_apart, tasks_have_room}
 use Rattle.task_attempts.proofs.Names.{places_are_as_declared, written_arrays_have_copies, shared_words_are_of_variables, words_of_variables_are_shared}
 use Rattle.task_attempts.proofs.Names.{lists_have_room, privates_are_theirs, elements_stand, task_places_are_apart, task_places_are_even, view_has_their_words}
-use Rattle.task_attempts.proofs.Names.{rows_fit_places, WellFormedBlock}
+use Rattle.task_attempts.proofs.Names.{rows_fit_places, WellFormedBlock, AdmitsBlock, ap, tasks_are_admitted}
 use Rattle.memory_map.specs.Laws as memory
 use Rattle.cost_bound.specs.declared.allowance.Allow.{Allow}
 use Rattle.war_analysis.specs.PlanValue.{TaskPlanValue}
@@ -60,6 +60,7 @@ pub record IsTaskGiven (p : CheckedProgram) (l : MemoryMap) (task : CheckedTask)
   pub declared : AsDeclared p.shared (task_places l task t)
   pub copied : HasCopies p.shared (task_places l task t) (some_path_writes task.body)
   pub formed : WellFormedBlock p.shared task.body
+  pub admits : AdmitsBlock l.runtime.events task.body
   pub scalars : (v home copy : ℕ) (width : ScalarWidth) → slice_get l.variables v ≡ Some (Scalar home copy width)
       → IsScalarIn v (scalar_words width) task.body
   pub whole : IsWhole (lowered_task l t task.body)
@@ -109,12 +110,13 @@ module _ (text : List ℕ) (p : CheckedProgram) (allow : Allow) (plans : List Ta
         declared = places_are_as_declared p allow plans l has k task t at;
         copied = written_arrays_have_copies p allow plans l has k task t at formed;
         formed = formed;
+        admits = tasks_are_admitted l.runtime.events p.tasks k task is_task (ap (λ r. r.events) laid.layout.runtime);
         scalars = λ v home copy width is.
             let match = places_are_declared p allow plans l has in
             let scalar = match.is_scalar v home copy width is in
             let d = scalar_declared p.shared v scalar in
             scalar_block p.shared v scalar d.0 d.1 d.2 (scalar_words width) (match.is_wide v home copy width d.0 is d.1) task.body formed;
-        whole = w.0;
+        whole = w.0.whole;
         of_words = w.1;
       }
 

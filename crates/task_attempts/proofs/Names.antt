@@ -10,7 +10,10 @@ pub use Rattle.std.specs.List.{AllByRecursion, flat_map}
 pub use Rattle.std.specs.Prelude.{Contains, IsSomeAnd, nat_lt, option_map, slice_get, slice_index}
 -- the machine
 pub use Rattle.memory_map.proofs.Interface.{IsPlaceOfScalar, apart_of, privates_few, scalar_home, scalar_place, words_scalar}
-pub use Rattle.memory_map.specs.MemoryMap.{MemoryMap, TaskPlace, word_place}
+pub use Rattle.memory_map.specs.address_space.Limits.{program_end}
+pub use Rattle.memory_map.specs.MemoryMap.{MemoryMap, TaskPlace, where_events, word_place}
+pub use Rattle.memory_map.specs.event_places.Places.{answer_place, sent_place}
+pub use Rattle.runtime_effects.specs.Needs.{IsEventWord}
 pub use Rattle.memory_map.specs.Places.{HasItsPlace, end_of, home_region, scalar_words}
 pub use Rattle.memory_map.specs.Spots.{Element, IsCopied, IsElement, IsScalarWord, IsSpot, IsWordOf, Places, Spot, address_of, copy, copy_address, copy_in}
 pub use Rattle.memory_map.specs.Spots.{element_address, element_in, home_in, places_of, private_words, scalar, scalar_address, spot_address, version_address}
@@ -21,16 +24,18 @@ pub use Rattle.memory_map.specs.declared.place.VariablePlace.{VariablePlace}
 pub use Rattle.memory_map.specs.declared.place.VariablePlace.TheVariants.{Array, Scalar}
 pub use Rattle.memory_map.specs.declared.words.RuntimeWord.TheVariants.{Base, CurrentTask, EmitCount, Gate, ListLength, NextTask, SentBase, Version}
 -- the board
-pub use Rattle.fram_board.specs.Effects.{Effect, Outside, Store, Take}
+pub use Rattle.fram_board.specs.Effects.{Effect, Looked, Offered, Outside, Store, Take}
 pub use Rattle.machine_effects.proofs.Interface.{each_store-append, each_store-back, each_store-front, fram_after-append, put_at, put_other, put_same}
-pub use Rattle.machine_effects.proofs.Interface.{readings_taken-append, world_after-append}
+pub use Rattle.machine_effects.proofs.Interface.{looks_taken-append, readings_taken-append, world_after-append}
 pub use Rattle.machine_effects.specs.Inputs.{Inputs, InputsAreWords, inputs_taken, no_inputs}
-pub use Rattle.machine_effects.specs.World.{EachStore, World, fram_after, put, readings_taken, world_after, world_after_one}
+pub use Rattle.machine_effects.specs.World.{EachStore, World, fram_after, looks_taken, put, readings_taken, world_after, world_after_one}
 pub use Rattle.runtime_effects.proofs.Interface.{entries_alike, scalar_pairs_count}
 pub use Rattle.runtime_effects.specs.Places.{CopyPair, entries_from, listed, run_pairs, scalar_pairs}
 pub use Rattle.crash_rules.proofs.Interface.{world_fram}
-pub use Rattle.crash_rules.specs.Model.{AttemptContract, Decides, Ends, HoldsThroughout, IsElsewhere, Model, ModelLaws, RunsShort, program_effects}
+pub use Rattle.crash_rules.specs.Model.{AttemptContract, Comes, Decides, Ends, HoldsThroughout, IsElsewhere, Lacks, Model, ModelLaws}
+pub use Rattle.crash_rules.specs.Model.{RunsShort, answers_at, answers_in, given_by, nothing_given, program_effects, words_stored}
 pub use Rattle.stands_for.proofs.Interface.{each_weaker, keeps_the_laws, numbered_starts, put_either, put_words}
+pub use Rattle.stands_for.specs.Program.{answer_word}
 pub use Rattle.stands_for.specs.Layout.{ArePrivate, HaveRoom, IsAmong, IsCopyWord, IsSharedWord, ProgramPlaces, StateView}
 pub use Rattle.stands_for.specs.StandsFor.{CopiesHome, DecidedFrom, EntriesHaveWords, SendsAndCloses, StartedAt, UndecidedAt, VersionsWithin}
 -- sources
@@ -47,7 +52,7 @@ pub use Rattle.cost_bound.specs.Counts.{CheckedBlock, emits_of, stores_of}
 pub use Rattle.privatise.specs.Layouts.{AreVariables, IsPlaceOf}
 pub use Rattle.source_values.proofs.Interface.{for_value, readings_left_over_lem}
 pub use Rattle.source_values.specs.Runs.{CheckedProgram, Completion, EndsWell, State, TransitionComes, attempt_of, body_of, completion_of, fresh_attempt}
-pub use Rattle.source_values.specs.Runs.{initial_words, is_long_extent, task_body}
+pub use Rattle.source_values.specs.Runs.{TaskInputs, initial_words, is_long_extent, task_body}
 pub use Rattle.source_values.specs.Statements.{Attempt, Outcome, and_then, assigned, assigned_to, assigned_value, block_emits, goes_on, run_block, run_choice}
 pub use Rattle.source_values.specs.Statements.{run_statement, short, to_task, turns, with_value, word_of}
 pub use Rattle.source_values.specs.Values.{Variables, by_width, converted, holds, type_of, with_word, word_at}
@@ -55,12 +60,13 @@ pub use Rattle.path_runs.specs.Laws.{IsScalarIn, IsScalarInChoice, IsScalarInSta
 pub use Rattle.checked_trees.specs.WellFormed.{IsArrayName, IsLocal, IsOfType, WellFormedBlock, WellFormedChoice, WellFormedStatement}
 -- word programs and their code
 pub use Rattle.array_versions.proofs.Interface.{StoresWords, behaves_by_effects, stores_words, whole_ends_soundly}
-pub use Rattle.array_versions.specs.Behaviour.{Broken, End, GoesOn, Jumps, WordState, behaviour, started}
+pub use Rattle.array_versions.specs.Behaviour.{Broken, End, GoesOn, Jumps, WordState, behaviour, event_index, started}
 pub use Rattle.lower.proofs.Interface.{SeenFrom, after_entry, array_read, array_seen, blocks_agree, entered_pairs, few_entries, pairs_of_runs, program_at}
-pub use Rattle.lower.proofs.Interface.{row_length, runs_are_few, runs_have_words, runs_pairs, scalar_seen, seen_from, takes_append, word_other, word_same}
+pub use Rattle.lower.proofs.Interface.{row_length, runs_are_few, tasks_are_admitted, runs_have_words, runs_pairs, scalar_seen, seen_from, takes_append, word_other, word_same}
 pub use Rattle.lower.specs.Agreement.{AsDeclared, BlocksAgree, Bounds, EndsAs, HasCopies, IsTaskStore, Left, StandsFor, TakesAndStores, at_copy, at_emit_count}
 pub use Rattle.lower.specs.Agreement.{at_list_length, at_variable, at_version, element_pair, entry_effects, in_buffer, in_list, own_word, place_length}
-pub use Rattle.lower.specs.Agreement.{transition_effects}
+pub use Rattle.lower.specs.Agreement.{answered_by, answers_told, at_answer, freeze_effects, transition_effects}
+pub use Rattle.lower.specs.Events.{AdmitsBlock}
 pub use Rattle.lower.specs.Lowered.{lowered_block, lowered_task}
 pub use Rattle.lower.specs.Runs.{runs_of}
 pub use Rattle.lower.specs.Seen.{map_seen, some_path_writes}
@@ -69,7 +75,7 @@ pub use Rattle.lower.specs.Spots.{AreApart, AreEven, HasRoom, Room, listed_of}
 pub use Rattle.boot_runtime.specs.Entries.{entry_of, task_entries}
 pub use Rattle.boot_runtime.specs.Listing.{privates_in}
 -- compiled sources
-pub use Rattle.compiled_model.specs.Needs.{AttemptsStore, LeavesFor}
+pub use Rattle.compiled_model.specs.Needs.{AttemptsStore, LeavesFor, StoresBelow}
 pub use Rattle.compiled_model.specs.Parts.{effects_of, has_jumped, model_by, outcome_of, program_parts, redo_model, started_under, task_program, whole_task}
 pub use Rattle.compiled_model.specs.Places.{is_private_in, program_places, stays_in_place}
 pub use Rattle.compiled_model.specs.View.{are_rows, are_words, shared_word, state_view}

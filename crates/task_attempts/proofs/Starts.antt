@@ -1,7 +1,9 @@
 -- A started attempt stands for the source's attempt of the task.
 use Rattle.task_attempts.proofs.Names.{◌≡◌, ℕ, ◌+◌, ◌*◌, ◌<◌, [], length, Option, Some, None, Bool, true, false, ◌&&◌, not, refl, sym, ap, ◌∙◌, subst, ⊎_elim}
 use Rattle.task_attempts.proofs.Names.{arith, cases_Bool, and_parts, and_from, slice_get_within, Contains, slice_get, slice_index_or, entries_from}
-use Rattle.task_attempts.proofs.Names.{is_private_of, Variables, word_at, Attempt, run_block, fresh_attempt, task_body, Shared, started, own_word, place_length}
+use Rattle.task_attempts.proofs.Names.{is_private_of, Variables, word_at, Attempt, run_block, fresh_attempt, task_body, Shared, started}
+use Rattle.task_attempts.proofs.Names.{List, TaskInputs, answered_by}
+use Rattle.task_attempts.proofs.Names.{own_word, place_length}
 use Rattle.task_attempts.proofs.Names.{StandsFor, some_path_writes, map_seen, SeenFrom, seen_from, IsScalarIn, word_pair, scalar_of_seen, scalar_found}
 use Rattle.task_attempts.proofs.Names.{found_word, in_place_written, in_place_not_private, is_private_in, stays_in_place, program_places, scalar_home}
 use Rattle.task_attempts.proofs.Names.{IsPlaceOfScalar, scalar_place, words_scalar, Version, ScalarWidth, PrivateScalar, VariablePlace, Scalar, Array}
@@ -45,15 +47,19 @@ module _ (run : Started) where
   abbrev held_word : ℕ → ℕ → ℕ
   held_word v n = x.fram (2 * n + home_in (slice_get l.variables v))
 
+  -- the readings that are left, and these answers
+  abbrev pub readings_and : List ℕ → TaskInputs
+  readings_and answers = record { readings = inputs.readings; answers = answers }
+
   abbrev own : Variables
-  own = (fresh_attempt s.shared inputs.readings).variables
+  own = (fresh_attempt s.shared (readings_and [])).variables
 
   -- the variables as FRAM has them: the state's words, but for the scalars that the task writes in place
   abbrev held : Variables
   held = refreshed is_held held_words held_word (length l.variables) own
 
   abbrev pub held_attempt : Attempt
-  held_attempt = record (fresh_attempt s.shared inputs.readings) { variables = held }
+  held_attempt = record (fresh_attempt s.shared (readings_and [])) { variables = held }
 
   count_is : length s.shared ≡ length l.variables
   count_is = rows_count p.shared s.shared st.undecided.is_open.is_state ∙ sym given.variables.count
@@ -64,8 +70,9 @@ module _ (run : Started) where
       (scalar_at_is (slice_get l.variables v) parts.0, parts.1)
 
   -- the task comes to the same from what FRAM has as from the state
-  pub held_runs : run_block code held_attempt ≡ run_block code (fresh_attempt s.shared inputs.readings)
-  held_runs =
+  pub held_runs : (answers : List ℕ)
+      → run_block code (answered_by answers held_attempt) ≡ run_block code (fresh_attempt s.shared (readings_and answers))
+  held_runs answers =
       refreshed_runs is_held held_words held_word code (λ v h.
       let at = held_scalar v h in
       let place = at.0 in (
@@ -74,7 +81,7 @@ module _ (run : Started) where
         λ private.
             let clash : true ≡ false = sym (is_private_of (Shared v) code private) ∙ in_place_not_private code v at.1 in absurd (cc),
       ))
-      (length l.variables) (fresh_attempt s.shared inputs.readings)
+      (length l.variables) (fresh_attempt s.shared (readings_and answers))
 
   -- a word that is written in place is one of a held scalar
   in_place_held : (v n a : ℕ) → IsWordOf l v n a → (program_places p l).written_in_place s.task a ≡ true → is_held v ≡ true

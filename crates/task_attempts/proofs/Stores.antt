@@ -7,7 +7,8 @@ use Rattle.task_attempts.proofs.Names.{at_copy, at_version, in_list, at_list_len
 use Rattle.task_attempts.proofs.Entries as transition
 use Rattle.task_attempts.proofs.Given.{IsVersionWord}
 use Rattle.task_attempts.proofs.Quiet.{IsQuiet}
-use Rattle.task_attempts.proofs.Entries.{IsTransitionStore, at_next_task, at_sent_base, in_entries}
+use Rattle.task_attempts.proofs.Names.{IsEventWord, StoresBelow, at_answer, inl, inr}
+use Rattle.task_attempts.proofs.Entries.{IsTransitionStore, at_next_task, at_sent_base, at_sent_tail, in_entries}
 use Rattle.task_attempts.proofs.Tasks.{body_is, private_copy}
 use Rattle.task_attempts.proofs.Started.{Started, scene}
 
@@ -21,7 +22,7 @@ module _ (run : Started) where
     pub list_length : a ≡ word_place l ListLength → w ≤ l.entries
     pub emit_count : a ≡ word_place l EmitCount → w ≤ emits_of code
     pub from : 0x4400 ≤ a
-    pub below : a < end_of l.copies
+    pub below : StoresBelow l (end_of l.copies) a w
 
   -- a word of the runtime behind CUR that is none of GATE, BASE and VER
   safe_word : (a w : ℕ) → w < 0x10000 → word_place l CurrentTask < a → a < l.list.address → (a ≡ word_place l Gate → ⊥) → (a ≡ word_place l Base → ⊥)
@@ -41,7 +42,27 @@ module _ (run : Started) where
         list_length = list;
         emit_count = few;
         from = omega (arith, apart, lo);
-        below = omega (arith, apart, hi);
+        below = inl (omega (arith, apart, hi));
+      }
+
+  -- a word that counts events
+  safe_event : (a w : ℕ) → w < 0x10000 → IsEventWord l a → Safe a w
+  safe_event a w small is =
+      let apart = given.apart in
+      record {
+        quiet = record {
+          is_word = small;
+          in_place = λ h. absurd (omega (arith, apart, h, is));
+          current_task = λ e. omega (arith, apart, e, is);
+          gate = λ e. omega (arith, apart, e, is);
+          base = λ e. omega (arith, apart, e, is);
+          version = λ e. omega (arith, apart, e, is);
+          versions = λ i h e. absurd (omega (arith, apart, e, h, is));
+        };
+        list_length = λ e. absurd (omega (arith, apart, e, is));
+        emit_count = λ e. absurd (omega (arith, apart, e, is));
+        from = omega (arith, is);
+        below = inr is;
       }
 
   -- a word behind the runtime's, and before the code: where a scalar stands, the task writes it in place, and a version word becomes VER
@@ -62,7 +83,7 @@ module _ (run : Started) where
         list_length = λ e. absurd (omega (arith, apart, e, lo));
         emit_count = λ e. absurd (omega (arith, apart, e, lo));
         from = omega (arith, apart, lo);
-        below = hi;
+        below = inl hi;
       }
 
   -- one of the list or of the buffer
@@ -155,6 +176,11 @@ module _ (run : Started) where
   task_safe a w (in_buffer j h is) small =
       let apart = given.apart in let fits = emits_fit in safe_buffer a w small (omega (arith, apart, is)) (omega (arith, apart, is, h, fits))
 
+  task_safe a w (at_answer k) small =
+      ⊎_elim {C = Safe a w}
+      (λ e. safe_event a w small (record { events = k.0; from = omega (arith, e); below = omega (arith, e) }))
+      (λ e. safe_event a w small (record { events = k.0; from = omega (arith, e); below = omega (arith, e) })) k.1
+
   pub transition_safe : (a w : ℕ) → IsTransitionStore here space a w → w < 0x10000 → Safe a w
   transition_safe a w (at_next_task is) small =
       safe_word a w small (omega (arith, is)) (before_list a (omega (arith, is))) (λ q. omega (arith, is, q)) (λ q. omega (arith, is, q))
@@ -165,3 +191,4 @@ module _ (run : Started) where
       (λ q. omega (arith, is, q)) (λ q. absurd (omega (arith, is, q))) (λ q. absurd (omega (arith, is, q)))
   transition_safe a w (in_entries lo hi) small =
       let apart = given.apart in let fits = list_fits in safe_buffer a w small (omega (arith, lo)) (omega (arith, apart, hi, fits))
+  transition_safe a w (at_sent_tail on e) small = safe_event a w small (record { events = on; from = omega (arith, e); below = omega (arith, e) })

@@ -48,8 +48,7 @@ module _ (p : CheckedProgram) (l : MemoryMap) (g : IsGiven p l) where
 pub tasks_contract : TasksKeepTheirContract
 tasks_contract text p allow plans l laid runnable =
     let P : Logging → Role → Type 0 = λ logging role. (s : State) (x : World) (inputs : Inputs) → InputsAreWords inputs → started_under logging p l s x
-    → AttemptContract (model_by logging role p l) s inputs x (whole_task p s inputs)
-    (effects_of (behaviour (task_program p l s.task) (started x.fram inputs))) in
+    → AttemptContract (model_by logging role p l) s inputs x (effects_of (behaviour (task_program p l s.task) (started x.fram inputs))) in
     under_map l P (keeps p l (given text p allow plans l laid runnable))
 
 pub compiled_laws : CompiledSourcesKeepTheLaws

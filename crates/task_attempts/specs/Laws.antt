@@ -23,8 +23,7 @@ OfTexts F = (text : List ℕ) (p : CheckedProgram) (allow : Allow) (plans : List
 -- the word programs keep the tasks' contract: from a started attempt on they decide, or are short exactly where the source is
 abbrev pub TasksKeepTheirContract : Type 0
 TasksKeepTheirContract = OfTexts (λ p l. (s : State) (x : World) (inputs : Inputs) → InputsAreWords inputs → IsStarted p l s x
-    → AttemptContract (compiled_model p l) s inputs x ((compiled_model p l).task s inputs)
-    (effects_of (behaviour (task_program p l s.task) (started x.fram inputs))))
+    → AttemptContract (compiled_model p l) s inputs x (effects_of (behaviour (task_program p l s.task) (started x.fram inputs))))
 
 -- so a compiled source has all that the crash theorem needs
 abbrev pub CompiledSourcesKeepTheLaws : Type 0

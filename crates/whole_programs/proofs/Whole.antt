@@ -11,7 +11,7 @@ use Rattle.memory_map.specs.MemoryMap.{MemoryMap, TaskPlace}
 use Rattle.memory_map.specs.Places.{HasItsPlace}
 use Rattle.memory_map.proofs.Interface.{even_of}
 use Rattle.array_versions.specs.Program as word
-use Rattle.array_versions.specs.Form.{IsWhole, OfWords}
+use Rattle.array_versions.specs.Form.{IsWhole, FitsTheStack, OfWords}
 use Rattle.memory_map.specs.Spots.{Places, places_of}
 use Rattle.lower.specs.Seen.{some_path_writes, map_seen}
 use Rattle.lower.specs.Lowered.{lowered_block, lowered_task, lowered_tasks}
@@ -25,16 +25,19 @@ use Rattle.checked_trees.proofs.Interface.{all_at, task_checked, safe_paths}
 
 -- a well-formed task's program, where its places are words and the commit stands at an even address
 block_whole : (p : Places) (shared : List SharedDeclaration) (b : CheckedBlock) → PlacesOfWords p → p.map.commit.address % 2 ≡ 0 → IsWellFormed shared b
-    → IsWhole (lowered_block p b) × OfWords (lowered_block p b)
+    → FitsTheStack (lowered_block p b) × OfWords (lowered_block p b)
 block_whole p shared b words even formed =
     let sound : Sound (lowered_block p b) = block_sound p words shared b formed.statements in (
       record {
-        locals = 256;
-        room = enough;
-        fits = record { fits = omega arith };
-        low_locals = sound.0;
-        loops_count = sound.1;
-        ways = task_way p words shared even b formed.statements (safe_paths b formed.assigned) formed.ends;
+        whole = record {
+          locals = 256;
+          room = enough;
+          fits = record { fits = omega arith };
+          low_locals = sound.0;
+          loops_count = sound.1;
+          ways = task_way p words shared even b formed.statements (safe_paths b formed.assigned) formed.ends;
+        };
+        fits = record { low = omega arith; room = record { fits = omega arith } };
       },
       sound.2,
     )
@@ -60,6 +63,6 @@ all_lowered P l (task ∷ tasks) (t ∷ layouts) h =
 
 pub programs_are_whole : ProgramsAreWhole
 programs_are_whole text program allow plans l laid = (
-  all_lowered IsWhole l program.tasks l.tasks (λ k task t e f. (tasks_are_whole text program allow plans l laid k task t e f).0),
+  all_lowered IsWhole l program.tasks l.tasks (λ k task t e f. (tasks_are_whole text program allow plans l laid k task t e f).0.whole),
   all_lowered OfWords l program.tasks l.tasks (λ k task t e f. (tasks_are_whole text program allow plans l laid k task t e f).1),
 )

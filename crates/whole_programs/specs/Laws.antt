@@ -11,7 +11,7 @@ use Rattle.war_analysis.specs.Plans.{IsPlan}
 use Rattle.memory_map.specs.MemoryMap.{MemoryMap, TaskPlace}
 use Rattle.memory_map.specs.Spots.{private_words}
 use Rattle.privatise.specs.Layouts.{IsLayout}
-use Rattle.array_versions.specs.Form.{IsWhole, OfWords}
+use Rattle.array_versions.specs.Form.{IsWhole, FitsTheStack, OfWords}
 use Rattle.lower.specs.Lowered.{lowered_task, lowered}
 
 -- an accepted text, with a plan and a layout of its source
@@ -30,9 +30,9 @@ abbrev OfTasks : (Task VariableName TaskName → MemoryMap → TaskPlace → Typ
 OfTasks F = OfTexts (λ program l. (k : ℕ) (task : Task VariableName TaskName) (t : TaskPlace)
     → slice_get program.tasks k ≡ Some task → slice_get l.tasks k ≡ Some t → F task l t)
 
--- the word program of each task is whole, and of words
+-- the word program of each task is whole, with room for its stack where that of compiled code begins, and of words
 abbrev pub TasksAreWhole : Type 0
-TasksAreWhole = OfTasks (λ task l t. IsWhole (lowered_task l t task.body) × OfWords (lowered_task l t task.body))
+TasksAreWhole = OfTasks (λ task l t. FitsTheStack (lowered_task l t task.body) × OfWords (lowered_task l t task.body))
 
 -- the same of all of them
 abbrev pub ProgramsAreWhole : Type 0

@@ -90,7 +90,7 @@ module _ (z : Setting) where
   abbrev pub zero_test : Form
   zero_test = Calculate op.Cmp (Constant konst.Zero) R4
 
-  pub holds_part : (pc v : ℕ) (w : WordState) (t : Core) → v < 0x10000 → z.code pc ≡ Some (instruction_of zero_test) → Has z R4 pc w v t
+  pub holds_part : (pc v : ℕ) (w : WordState) (t : Core) → v < 0x10000 → z.code.at pc ≡ Some (instruction_of zero_test) → Has z R4 pc w v t
       → Runs z.code [] 1 t (Decided z (pc + 2) w (is_true v) condition.NotEqual condition.Equal)
   holds_part pc v w t l h k =
       let zero : ((t.work 4 + 65535 + 1) % 65536 == 0) ≡ (v == 0) = ap (λ x. (x + 65535 + 1) % 65536 == 0) k.held ∙ equal_flag v 0 l (omega arith) in
@@ -107,23 +107,23 @@ module _ (z : Setting) where
   -- an operation that writes no register leaves these flags
   flags_part : (o : TwoOp) (x : Source) (b : WorkRegister) (c pc : ℕ) {l r : ℕ} {w : WordState} {t : Core} (f : Flags) → IsNotMov o × (writes_destination o ≡ false)
       → source_cycles to_register (source_operand x) ≤ c
-      → (let m = Calculate o x b in z.code pc ≡ Some (instruction_of m) → StandsFor z pc w t → IsRead x b l r t t
+      → (let m = Calculate o x b in z.code.at pc ≡ Some (instruction_of m) → StandsFor z pc w t → IsRead z.code.events x b l r t t
       → flags_after (operated o Word l r t.flags).flags t.flags ≡ f → Runs z.code [] c t (HasFlags (pc + form_bytes m) w f))
   flags_part o x b c pc {l} {r} {w} {t} f reads price h i k made =
-      calculate z o x b c t false _ reads.0 reads.1 price (ap z.code i.at ∙ h) k (record {
+      calculate z o x b c t false _ reads.0 reads.1 price (ap z.code.at i.at ∙ h) k (record {
         is = stands_elsewhere z pc (pc + form_bytes (Calculate o x b)) w t _ i (ap (λ n. n + (2 + source_bytes x)) i.at) refl refl refl refl refl;
         flags = made;
       })
 
   -- R5, the right side, with R4
-  turned_part : (pc x y : ℕ) (w : WordState) (t : Core) → z.code pc ≡ Some (instruction_of (Calculate op.Cmp (Register R4) R5))
+  turned_part : (pc x y : ℕ) (w : WordState) (t : Core) → z.code.at pc ≡ Some (instruction_of (Calculate op.Cmp (Register R4) R5))
       → Holds z (Aiming true (Register R5) x y w.fram) pc w t → Runs z.code [] 1 t (HasFlags (pc + 2) w (difference_flags y x))
   turned_part pc x y w t h k =
       line z (Calculate op.Cmp (Register R4) R5 ∷ []) 1 (pc + 2) _ k.is (tt, tt) (h, tt) ((tt, tt), tt) refl refl (omega (arith, k.is.at))
       (λ s. record { is = s; flags = ap₂ difference_flags (k.held.gives.word t k.is.fram refl) k.held.four })
 
   compare_part : (c : Comparison) (o : Option Waiting) (pc x y : ℕ) (w : WordState) (t : Core)
-      → (let s = compare_source c o in let m = compare_form c s in z.code pc ≡ Some (instruction_of m) → Holds z (Aiming true s x y w.fram) pc w t
+      → (let s = compare_source c o in let m = compare_form c s in z.code.at pc ≡ Some (instruction_of m) → Holds z (Aiming true s x y w.fram) pc w t
       → Runs z.code [] (reading_cycles (compare_stays (is_turned c) o)) t (HasFlags (pc + form_bytes m) w (compared_flags c x y)))
   compare_part CommonBit o pc x y w t h k =
       let s = right_source o in
@@ -137,7 +137,7 @@ module _ (z : Setting) where
       (is_read true s R4 x y w.fram t k.is.fram k.held.four k.held.gives) refl
 
   pub compares_part : (c : Comparison) (o : Option Waiting) (pc x y : ℕ) (w : WordState) (t : Core) → x < 0x10000 → y < 0x10000
-      → (let s = compare_source c o in let m = compare_form c s in z.code pc ≡ Some (instruction_of m) → Holds z (Aiming true s x y w.fram) pc w t
+      → (let s = compare_source c o in let m = compare_form c s in z.code.at pc ≡ Some (instruction_of m) → Holds z (Aiming true s x y w.fram) pc w t
       → Runs z.code [] (reading_cycles (compare_stays (is_turned c) o)) t (Decided z (pc + form_bytes m) w (compare_words c x y) (holding c) (failing c)))
   compares_part c o pc x y w t l m h k =
       so_runs (compare_part c o pc x y w t h k) (λ s j.

@@ -253,8 +253,9 @@ module _ {k : ℕ} where
   behind_below n os x = joined (flushed_takes (below_top os)) x (omega (arith, source_short os))
 
   -- what sets the place of the stack
-  set_takes : Takes k (stack_set k) 0 (set_bytes k)
-  set_takes =
+  set_takes : (events : Bool) → Takes k (stack_set events k) 0 (set_bytes k)
+  set_takes true = nothing_takes 0 (set_bytes k) (omega arith)
+  set_takes false =
       either_takes (nat_lt 8 k) (λ b. if b then 4 else 0) (made_of (SetStack (stack_base k) ∷ []) 4 (refl, tt) (omega arith))
       (nothing_takes 0 0 (omega arith))
 
@@ -385,11 +386,11 @@ block_fits bs p = let k = locals_of p in block_takes bs p (steps_takes bs p [] (
 pub inner_takes : (bs : List Bound) (p : Program) → Takes (locals_of p) (block_code bs p) 0 (2 * words_of p)
 inner_takes bs p = so_takes (block_fits bs p) (omega arith)
 
-pub whole_takes : (p : Program) → Takes (locals_of p) (code_of p) 0 (2 * words_of p)
-whole_takes p = joined set_takes (block_fits [] p) (omega arith)
+pub whole_takes : (events : Bool) (p : Program) → Takes (locals_of p) (code_of events p) 0 (2 * words_of p)
+whole_takes events p = joined (set_takes events) (block_fits [] p) (omega arith)
 
-pub code_short : (p : Program) → forms_bytes (code_of p) ≤ 2 * words_of p
-code_short p = omega (arith, (whole_takes p).bytes)
+pub code_short : (events : Bool) (p : Program) → forms_bytes (code_of events p) ≤ 2 * words_of p
+code_short events p = omega (arith, (whole_takes events p).bytes)
 
 instructions_length : (ms : List Form) → 2 * length (instruction_words (instructions ms)) ≡ forms_bytes ms
 instructions_length [] = refl
@@ -397,7 +398,7 @@ instructions_length (m ∷ ms) =
     omega (arith, bytes_are m, instructions_length ms, length-append (encoding (instruction_of m)) (instruction_words (instructions ms)))
 
 pub code_has_its_bytes : CodeHasItsBytes
-code_has_its_bytes p = code_short p
+code_has_its_bytes events p = code_short events p
 
 pub code_has_its_words : CodeHasItsWords
-code_has_its_words p = omega (arith, code_short p, instructions_length (code_of p))
+code_has_its_words events p = omega (arith, code_short events p, instructions_length (code_of events p))

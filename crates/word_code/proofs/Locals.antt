@@ -2,7 +2,7 @@
 use Rattle.word_code.proofs.Names.{◌≡◌, ℕ, ◌+◌, ◌≤◌, Bool, true, false, nat_lt, if◌then◌else◌, nat_tests, List, [], ◌∷◌, refl, arith, Step, Test, Program}
 use Rattle.word_code.proofs.Names.{local, set_local, update_local, truth, choose, repeat, holds, compares, both, either, fails, nothing, step, StepLocalsBelow}
 use Rattle.word_code.proofs.Names.{TestLocalsBelow, LocalsBelow, step_locals, test_locals, locals_of, Core, Form, SetStack, forms_bytes, Stands, Runs}
-use Rattle.word_code.proofs.Names.{stack_base, stack_set, stack_cycles}
+use Rattle.word_code.proofs.Names.{stack_top, stack_base, stack_set, stack_cycles, ◌%◌}
 use Rattle.word_code.proofs.Stretches.{Setting, hop, nothing_run, dearer}
 
 -- ---- each local is below a number where the greatest is
@@ -60,18 +60,19 @@ pub record HasStack (pc base : ℕ) (u t : Core) : Type 0 where
   pub fram : t.fram ≡ u.fram
   pub inputs : t.inputs ≡ u.inputs
 
-set_by : (z : Setting) (locals : ℕ) (b : Bool) (u : Core) → nat_lt 8 locals ≡ b → u.sp ≡ 0x2400
+set_by : (z : Setting) (locals : ℕ) (b : Bool) (u : Core) → z.code.events ≡ false → nat_lt 8 locals ≡ b → u.sp ≡ stack_top
     → (let ms : List Form = if b then SetStack (stack_base locals) ∷ [] else [] in Stands z.code u.pc ms
     → Runs z.code [] stack_cycles u (HasStack (u.pc + forms_bytes ms) (stack_base locals) u))
-set_by z locals true u e sp h =
+set_by z locals true u none e sp h =
     let base = stack_base locals in
+    let even : base % 2 ≡ 0 = omega arith in
     let t : Core = record u { pc = u.pc + 4; sp = base } in
-    hop z (SetStack base) 2 u t [] 2 (HasStack (u.pc + 4) base u) h.0 (omega arith) refl (omega arith)
+    hop z (SetStack base) 2 u t [] 2 (HasStack (u.pc + 4) base u) h.0 (even, λ k. absurd (cc (k, none))) refl (omega arith)
     (record { at = refl; sp = refl; fram = refl; inputs = refl })
-set_by z locals false u e sp h =
+set_by z locals false u none e sp h =
     let few : locals ≤ 8 = grind (arith, nat_tests) in
     dearer z (omega arith) (nothing_run z (record { at = omega arith; sp = omega (arith, sp, few); fram = refl; inputs = refl }))
 
-pub stack_part : (z : Setting) (locals : ℕ) (u : Core) → u.sp ≡ 0x2400 → Stands z.code u.pc (stack_set locals)
-    → Runs z.code [] stack_cycles u (HasStack (u.pc + forms_bytes (stack_set locals)) (stack_base locals) u)
-stack_part z locals u sp h = set_by z locals (nat_lt 8 locals) u refl sp h
+pub stack_part : (z : Setting) (locals : ℕ) (u : Core) → z.code.events ≡ false → u.sp ≡ stack_top → Stands z.code u.pc (stack_set false locals)
+    → Runs z.code [] stack_cycles u (HasStack (u.pc + forms_bytes (stack_set false locals)) (stack_base locals) u)
+stack_part z locals u none sp h = set_by z locals (nat_lt 8 locals) u none refl sp h

@@ -66,15 +66,15 @@ module _ (z : Setting) where
   module _ (x y : Source) (c d : ℕ) (low : source_cycles to_register (source_operand x) ≤ c) (high : source_cycles to_register (source_operand y) ≤ d)
       (b : Pair) (w : WordState) where
     -- an operation on the low word
-    low_step : (o : TwoOp) (pc : ℕ) (a : Pair) (t : Core) → Writes o → z.code pc ≡ Some (instruction_of (Calculate o x R4))
+    low_step : (o : TwoOp) (pc : ℕ) (a : Pair) (t : Core) → Writes o → z.code.at pc ≡ Some (instruction_of (Calculate o x R4))
         → Holds z (HasLongs x y a b w.fram) pc w t
         → (let made = operated o Word a.low b.low t.flags in
         Runs z.code [] c t
         (Flagged z (HasLongs x y (pair made.value a.high) b w.fram) (AreFlags (flags_after made.flags t.flags)) (pc + (2 + source_bytes x)) w))
     low_step o pc a t writes h i =
         let k = i.held in
-        calculate z o x R4 c t true _ writes.0 writes.1 low (ap z.code i.is.at ∙ h)
-        (record { needs = k.low.needs t; still = k.low.still t; left = k.four; right = k.low.word t i.is.fram refl })
+        calculate z o x R4 c t true _ writes.0 writes.1 low (ap z.code.at i.is.at ∙ h)
+        (record { needs = k.low.needs z.code.events t; quiet = k.low.quiet t; still = k.low.still t; left = k.four; right = k.low.word t i.is.fram refl })
         (record {
           all = record {
             is = stands_elsewhere z pc (pc + (2 + source_bytes x)) w t _ i.is (omega (arith, i.is.at)) refl refl refl refl refl;
@@ -84,14 +84,14 @@ module _ (z : Setting) where
         })
 
     -- and one on the high word
-    high_step : (o : TwoOp) (pc : ℕ) (a : Pair) (t : Core) → Writes o → z.code pc ≡ Some (instruction_of (Calculate o y R6))
+    high_step : (o : TwoOp) (pc : ℕ) (a : Pair) (t : Core) → Writes o → z.code.at pc ≡ Some (instruction_of (Calculate o y R6))
         → Holds z (HasLongs x y a b w.fram) pc w t
         → (let made = operated o Word a.high b.high t.flags in
         Runs z.code [] d t (Flagged z (HasPair (pair a.low made.value)) (AreFlags (flags_after made.flags t.flags)) (pc + (2 + source_bytes y)) w))
     high_step o pc a t writes h i =
         let k = i.held in
-        calculate z o y R6 d t true _ writes.0 writes.1 high (ap z.code i.is.at ∙ h)
-        (record { needs = k.high.needs t; still = k.high.still t; left = k.six; right = k.high.word t i.is.fram refl })
+        calculate z o y R6 d t true _ writes.0 writes.1 high (ap z.code.at i.is.at ∙ h)
+        (record { needs = k.high.needs z.code.events t; quiet = k.high.quiet t; still = k.high.still t; left = k.six; right = k.high.word t i.is.fram refl })
         (record {
           all = record {
             is = stands_elsewhere z pc (pc + (2 + source_bytes y)) w t _ i.is (omega (arith, i.is.at)) refl refl refl refl refl;

@@ -28,7 +28,7 @@ module _ (z : Setting) where
 
   -- behind the addition the local is compared
   compare_raised : (r : WorkRegister) (pc n k below : ℕ) (w : WordState) (t : Core) → k < 0x10000 → below < 0x10000
-      → (let m = Calculate op.Cmp (number_source below) r in z.code pc ≡ Some (instruction_of m) → Has z r pc (with_local n k w) k t
+      → (let m = Calculate op.Cmp (number_source below) r in z.code.at pc ≡ Some (instruction_of m) → Has z r pc (with_local n k w) k t
       → Runs z.code [] 2 t (Raised (pc + form_bytes m) n k below w))
   compare_raised r pc n k below w t l lb h i =
       let end = pc + form_bytes (Calculate op.Cmp (number_source below) r) in

@@ -1,7 +1,7 @@
 -- The stack and the locals: the first eight in registers, the others in RAM, above the stack.
 use Rattle.word_code.proofs.Names.{◌≡◌, ℕ, zero, suc, ◌+◌, ◌-◌, ◌*◌, ◌<◌, ◌≤◌, List, [], ◌∷◌, length, get_or, Option, Some, refl, sym, ap, ◌∙◌, subst, arith}
 use Rattle.word_code.proofs.Names.{Bool, true, false, nat_eq, nat_lt, eq-eqb, ne_eqb, if◌then◌else◌, nat_tests, same_Some, put, IsPlace, IsRam}
-use Rattle.word_code.proofs.Names.{put_same, put_other, work_number, HasPushRoom, is_place, assigned, local_register, local_address, stack_base, eqb-true}
+use Rattle.word_code.proofs.Names.{stack_start, put_same, put_other, work_number, HasPushRoom, is_place, assigned, local_register, local_address, eqb-true}
 use Rattle.word_code.proofs.Stretches.{Setting}
 pub use Rattle.array_versions.specs.alp_words.Words.{AreWords, HoldsWords}
 
@@ -76,7 +76,7 @@ address_same k n l = by (nat_eq k n) refl
 
 -- the locals, and the stack down from its base
 pub record Memory (z : Setting) (sp : ℕ) (ram : ℕ → ℕ) (words vs : List ℕ) (ls : ℕ → Option ℕ) : Type 0 where
-  pub depth : sp + 2 * length vs ≡ stack_base z.locals
+  pub depth : sp + 2 * length vs ≡ z.base
   pub fits : length vs ≤ z.room
   pub stack : StackIs ram sp vs
   pub vars : (n v : ℕ) → n < z.locals → ls n ≡ Some v → local_word words ram n ≡ v
@@ -85,25 +85,30 @@ module _ (z : Setting) where
   pub pop_memory : {sp v : ℕ} {ram : ℕ → ℕ} {words vs : List ℕ} {ls : ℕ → Option ℕ} → Memory z sp ram words (v ∷ vs) ls → Memory z (sp + 2) ram words vs ls
   pop_memory m = record { depth = omega (arith, m.depth); fits = omega (arith, m.fits); stack = m.stack.1; vars = m.vars }
 
-  pub pop_needs : {sp v : ℕ} {ram : ℕ → ℕ} {words vs : List ℕ} {ls : ℕ → Option ℕ} → Memory z sp ram words (v ∷ vs) ls → IsRam sp
+  pub pop_needs : {sp v : ℕ} {ram : ℕ → ℕ} {words vs : List ℕ} {ls : ℕ → Option ℕ} → Memory z sp ram words (v ∷ vs) ls
+      → IsRam sp × (z.code.events ≡ true → sp + 2 ≤ stack_start)
   pop_needs m =
-      let d = m.depth in let f = m.fits in let r = z.roomy.fits in record { even = omega arith; low = omega arith; high = omega arith }
+      let d = m.depth in let f = m.fits in let r = z.roomy.fits in let e = z.even in let b = z.low in
+      (record { even = omega arith; low = omega arith; high = omega arith }, λ h. let s = z.start h in omega arith)
 
   pub push_needs : {sp : ℕ} {ram : ℕ → ℕ} {words vs : List ℕ} {ls : ℕ → Option ℕ} → Memory z sp ram words vs ls → length vs < z.room → HasPushRoom sp
-  push_needs m l = let d = m.depth in let r = z.roomy.fits in record { even = omega arith; room = record { fits = omega arith }; high = omega arith }
+  push_needs m l =
+      let d = m.depth in let r = z.roomy.fits in let e = z.even in let b = z.low in
+      record { even = omega arith; room = record { fits = omega arith }; high = omega arith }
 
   pub local_needs : (n : ℕ) → nat_lt n 8 ≡ false → n < z.locals → IsRam (local_address n)
-  local_needs n e l = let r = z.roomy.fits in let m = from_eight n e in record { even = omega arith; low = omega arith; high = omega arith }
+  local_needs n e l = let r = z.roomy.fits in let b = z.low in let m = from_eight n e in record { even = omega arith; low = omega arith; high = omega arith }
 
   -- a local in RAM is read above the stack
   pub local_read : {sp : ℕ} {ram : ℕ → ℕ} {words vs : List ℕ} {ls : ℕ → Option ℕ} (n : ℕ) → Memory z sp ram words vs ls → nat_lt n 8 ≡ false
       → n < z.locals → IsRam (local_address n) × (sp ≤ local_address n)
-  local_read n m e l = let d = m.depth in let r = z.roomy.fits in let from = from_eight n e in (local_needs n e l, omega arith)
+  local_read n m e l =
+      let d = m.depth in let r = z.roomy.fits in let b = z.low in let from = from_eight n e in (local_needs n e l, omega arith)
 
   pub push_memory : {sp : ℕ} {ram : ℕ → ℕ} {words vs : List ℕ} {ls : ℕ → Option ℕ} (v : ℕ) → Memory z sp ram words vs ls → length vs < z.room
       → Memory z (sp - 2) (put ram (sp - 2) v) words (v ∷ vs) ls
   push_memory {sp} {ram} {words} {vs} v m l =
-      let d = m.depth in let r = z.roomy.fits in
+      let d = m.depth in let r = z.roomy.fits in let b = z.low in
       let up : sp - 2 + 2 ≡ sp = omega arith in
       let apart : (n : ℕ) → n < z.locals → put ram (sp - 2) v (local_address n) ≡ ram (local_address n) =
       λ n h. put_other ram (sp - 2) v (local_address n) (λ e. omega arith) in
@@ -150,7 +155,7 @@ module _ (z : Setting) where
   pub set_ram : (sp n v : ℕ) (ram : ℕ → ℕ) (words vs : List ℕ) (ls : ℕ → Option ℕ) → nat_lt n 8 ≡ false → n < z.locals → Memory z sp ram words vs ls
       → Memory z sp (put ram (local_address n) v) words vs (assigned ls n v)
   set_ram sp n v ram words vs ls e lt m =
-      let d = m.depth in let h = from_eight n e in
+      let d = m.depth in let h = from_eight n e in let b = z.low in
       assign sp n v ram (put ram (local_address n) v) words words vs ls m (stack_below ram (local_address n) v sp vs (omega arith) m.stack)
       (λ k. by (nat_lt k 8) k refl)
     where
@@ -161,4 +166,5 @@ module _ (z : Setting) where
           let other : nat_eq k n ≡ false = ne_eqb k n (λ q. omega arith) in
           ap (λ b. if b then v else get_or words k 0) (sym other)
       by false k t =
-          let r = z.roomy.fits in ap (λ b. if b then v else ram (local_address k)) (address_same k n (omega (arith, r, lt)))
+          let r = z.roomy.fits in let low = z.low in
+          ap (λ b. if b then v else ram (local_address k)) (address_same k n (omega (arith, r, low, lt)))

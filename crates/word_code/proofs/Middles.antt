@@ -1,5 +1,5 @@
 -- Operations on registers: what each leaves, and the steps that they are.
-use Rattle.word_code.proofs.Names.{if◌then◌else◌, ◌≤◌, IsNotMov, writes_destination, TwoOp, Bool, Calculate, Goes, Some, Source, SourceNeeds, cycles_of}
+use Rattle.word_code.proofs.Names.{source_effects, if◌then◌else◌, ◌≤◌, IsNotMov, writes_destination, TwoOp, Bool, Calculate, Goes, Some, Source, SourceNeeds, cycles_of}
 use Rattle.word_code.proofs.Names.{flags_after, instruction_of, put, source_bytes, source_cycles, source_operand, source_read, source_value, subst, sym}
 use Rattle.word_code.proofs.Names.{to_register, true, work_number, ◌≡◌, ℕ, ◌+◌, ◌-◌, ◌%◌, ◌<◌, List, [], refl, ap, ap₂, ◌∙◌, arith, Flags, Word, operated}
 use Rattle.word_code.proofs.Names.{WorkRegister, R4, R5, Core, Form, Stands, forms_bytes, Runs, Negate, Complement, PlainOperation, Add, Subtract, Plain}
@@ -19,8 +19,9 @@ plain_needs Add = (tt, refl)
 plain_needs _ = (tt, refl)
 
 -- an operation reads these words in a register and from a source, and the machine is left so
-pub record IsRead (x : Source) (b : WorkRegister) (l r : ℕ) (t s : Core) : Type 0 where
-  pub needs : SourceNeeds x t
+pub record IsRead (events : Bool) (x : Source) (b : WorkRegister) (l r : ℕ) (t s : Core) : Type 0 where
+  pub needs : SourceNeeds events x t
+  pub quiet : source_effects x t ≡ []
   pub still : source_read x t ≡ s
   pub left : s.work (work_number b) ≡ l
   pub right : source_value x t ≡ r
@@ -29,8 +30,8 @@ module _ (z : Setting) where
   module _ (o : TwoOp) (x : Source) (b : WorkRegister) (c : ℕ) where
     -- an operation on a register: its value is written or not, and its flags are
     pub calculate : {l r : ℕ} {t : Core} (s : Core) (writes : Bool) (P : Core → Type 0) → IsNotMov o
-        → writes_destination o ≡ writes → source_cycles to_register (source_operand x) ≤ c → z.code t.pc ≡ Some (instruction_of (Calculate o x b))
-        → IsRead x b l r t s → (let does = operated o Word l r t.flags in P (record s {
+        → writes_destination o ≡ writes → source_cycles to_register (source_operand x) ≤ c → z.code.at t.pc ≡ Some (instruction_of (Calculate o x b))
+        → IsRead z.code.events x b l r t s → (let does = operated o Word l r t.flags in P (record s {
           pc = t.pc + (2 + source_bytes x);
           flags = flags_after does.flags s.flags;
           work = if writes then put s.work (work_number b) does.value else s.work;
@@ -41,14 +42,15 @@ module _ (z : Setting) where
         let after : Bool → Core → ℕ → ℕ → Core = λ d q i j. let does = operated o Word i j t.flags in
         record q { pc = t.pc + (2 + source_bytes x); flags = flags_after does.flags q.flags; work = if d then put q.work n does.value else q.work } in
         hop z (Calculate o x b) c t (after writes s l r) [] cost P h (reads, k.needs)
-        (ap (λ q. Goes [] cost (after (writes_destination o) q (q.work n) (source_value x t))) k.still
+        (ap (λ es. Goes es cost (let q = source_read x t in after (writes_destination o) q (q.work n) (source_value x t))) k.quiet
+        ∙ ap (λ q. Goes [] cost (after (writes_destination o) q (q.work n) (source_value x t))) k.still
         ∙ ap₂ (λ i j. Goes [] cost (after (writes_destination o) s i j)) k.left k.right ∙ ap (λ d. Goes [] cost (after d s l r)) e) price p
 
   module _ (o : PlainOperation) (x : Source) (b : WorkRegister) (c : ℕ) where
     -- what an operation makes of the two is written
     pub plain_step : {l r : ℕ} {t : Core} (s : Core) (P : Core → Type 0) → l < 0x10000
-        → r < 0x10000 → source_cycles to_register (source_operand x) ≤ c → z.code t.pc ≡ Some (instruction_of (Calculate (plain_instruction o) x b))
-        → IsRead x b l r t s → ((f : Flags) → P (record s {
+        → r < 0x10000 → source_cycles to_register (source_operand x) ≤ c → z.code.at t.pc ≡ Some (instruction_of (Calculate (plain_instruction o) x b))
+        → IsRead z.code.events x b l r t s → ((f : Flags) → P (record s {
           pc = t.pc + (2 + source_bytes x);
           flags = f;
           work = put s.work (work_number b) (plain_word o l r);

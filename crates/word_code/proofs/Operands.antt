@@ -1,5 +1,5 @@
 -- Words that wait to be pushed: what the machine stands for where some do, how they are pushed, and how they come to registers.
-use Rattle.word_code.proofs.Names.{◌≡◌, ℕ, suc, ◌+◌, ◌-◌, ◌%◌, ◌<◌, ◌≤◌, nat_le, Bool, true, false, nat_lt, if◌then◌else◌, List, [], ◌∷◌, ◌++◌, length, get_or}
+use Rattle.word_code.proofs.Names.{source_effects, ◌≡◌, ℕ, suc, ◌+◌, ◌-◌, ◌%◌, ◌<◌, ◌≤◌, nat_le, Bool, true, false, nat_lt, if◌then◌else◌, List, [], ◌∷◌, ◌++◌, length, get_or}
 use Rattle.word_code.proofs.Names.{Inputs, drop, Option, Some, None, ◌==◌, eqb-true, refl, sym, ap, ap₂, ◌∙◌, subst, arith, append_assoc, append-nil}
 use Rattle.word_code.proofs.Names.{length-append, Flags, unwrap_or, AllByRecursion, put, Goes, IsPlace, Konst, constant_value, CycleRow, cycles_of}
 use Rattle.word_code.proofs.Names.{source_cycles, to_register, to_memory, push, put_same, put_other, WorkRegister, R4, R5, work_number, Core, Source, Number}
@@ -174,10 +174,16 @@ pub source_still : (o : Waiting) (u : Core) → source_read (waiting_source o) u
 source_still (waiting.Number n) u = number_cases (λ s. source_read s u ≡ u) n refl (λ k e. refl)
 source_still _ u = refl
 
-pub source_needs : (most : ℕ) (locals : ℕ → Option ℕ) (o : Waiting) (u : Core) → IsThere most locals o → SourceNeeds (waiting_source o) u
-source_needs most locals (waiting.Number n) u h = number_cases (λ s. SourceNeeds s u) n tt (λ k e. tt)
-source_needs most locals (waiting.Fram a) u h = h
-source_needs most locals _ u h = tt
+-- no look
+pub source_quiet : (o : Waiting) (u : Core) → source_effects (waiting_source o) u ≡ []
+source_quiet (waiting.Number n) u = number_cases (λ s. source_effects s u ≡ []) n refl (λ k e. refl)
+source_quiet _ u = refl
+
+pub source_needs : (events : Bool) (most : ℕ) (locals : ℕ → Option ℕ) (o : Waiting) (u : Core) → IsThere most locals o
+    → SourceNeeds events (waiting_source o) u
+source_needs events most locals (waiting.Number n) u h = number_cases (λ s. SourceNeeds events s u) n tt (λ k e. tt)
+source_needs events most locals (waiting.Fram a) u h = h
+source_needs events most locals _ u h = tt
 
 -- the flags of a register that is compared with a number
 pub record IsCompared (x k : ℕ) (f : Flags) : Type 0 where
@@ -197,7 +203,8 @@ pub record Top (z : Setting) (x : Source) (os : List Waiting) (pc : ℕ) (w : Wo
   pub at : u.pc ≡ pc
   pub fram : u.fram ≡ w.fram
   pub value : source_value x u ≡ v
-  pub needs : SourceNeeds x u
+  pub needs : SourceNeeds z.code.events x u
+  pub quiet : source_effects x u ≡ []
   pub left : Describes z os pc (with_stack vs w) (source_read x u)
   pub same : (source_read x u).work ≡ u.work
 
@@ -242,7 +249,7 @@ module _ (z : Setting) where
   -- ---- pushes
 
   push_waiting : (o : Waiting) (pc : ℕ) (w : WordState) (u : Core) → StandsFor z pc w u → IsThere z.locals w.locals o → length w.stack < z.room
-      → z.code pc ≡ Some (instruction_of (Push (waiting_source o))) → Runs z.code [] (owed_by o) u
+      → z.code.at pc ≡ Some (instruction_of (Push (waiting_source o))) → Runs z.code [] (owed_by o) u
       (Holds z (AreThese u.work) (pc + forms_bytes (Push (waiting_source o) ∷ [])) (pushed (waiting_word w.fram w.locals u.work o) w))
   push_waiting o pc w u i h s c =
       let x = waiting_source o in
@@ -250,9 +257,9 @@ module _ (z : Setting) where
       let price = cycles_of (instruction_of (Push x)) in
       let after : Core → Core = λ t. record t { pc = u.pc + (2 + source_bytes x); sp = t.sp - 2; ram = put t.ram (t.sp - 2) (source_value x u) } in
       let still = source_still o u in
-      hop z (Push x) (owed_by o) u (after u) [] price _ (ap z.code i.at ∙ c)
-      (source_needs z.locals w.locals o u h, subst (λ (t : Core). HasPushRoom t.sp) (sym still) (push_needs z i.memory s))
-      (ap (λ t. Goes [] price (after t)) still) (push_cycles o)
+      hop z (Push x) (owed_by o) u (after u) [] price _ (ap z.code.at i.at ∙ c)
+      (source_needs z.code.events z.locals w.locals o u h, subst (λ (t : Core). HasPushRoom t.sp) (sym still) (push_needs z i.memory s))
+      (ap (λ es. Goes es price (after (source_read x u))) (source_quiet o u) ∙ ap (λ t. Goes [] price (after t)) still) (push_cycles o)
       (record {
         is =
             record {
@@ -349,6 +356,7 @@ module _ (z : Setting) where
         fram = i.fram;
         value = m.stack.0;
         needs = pop_needs z m;
+        quiet = refl;
         left = dressed pc (with_stack vs w) _ (record { at = i.at; memory = pop_memory z m; fram = i.fram; inputs = i.inputs });
         same = refl;
       }
@@ -359,7 +367,8 @@ module _ (z : Setting) where
         at = d.is.at;
         fram = d.is.fram;
         value = source_word o pc (with_stack d.rest w) u d.is d.there.0 ∙ sym (head_is q);
-        needs = source_needs z.locals w.locals o u d.there.0;
+        needs = source_needs z.code.events z.locals w.locals o u d.there.0;
+        quiet = source_quiet o u;
         left = subst (λ t. Describes z os pc (with_stack vs w) t) (sym still)
             (record { rest = d.rest; is = d.is; stack = tail_is q; there = d.there.1; fits = omega (arith, d.fits, ap (length {A = ℕ}) e) });
         same = ap (λ (t : Core). t.work) still;
@@ -373,7 +382,8 @@ module _ (z : Setting) where
         at = i.at;
         fram = i.fram;
         value = source_word (waiting.Number k) pc w u i tt;
-        needs = source_needs z.locals w.locals (waiting.Number k) u tt;
+        needs = source_needs z.code.events z.locals w.locals (waiting.Number k) u tt;
+        quiet = source_quiet (waiting.Number k) u;
         left = subst (λ t. Describes z [] pc w t) (sym still) (dressed pc w u i);
         same = ap (λ (t : Core). t.work) still;
       }
@@ -401,7 +411,8 @@ module _ (z : Setting) where
       let y = source_value x u in
       let end : u.pc + (2 + source_bytes x + 0) ≡ pc + forms_bytes (m ∷ []) = omega (arith, k.at) in
       let after : Core = record t { pc = u.pc + (2 + source_bytes x + 0); work = put t.work (work_number b) y } in
-      hop z m (load_cycles o) u after [] price _ (ap z.code k.at ∙ h.0) (k.needs, tt) refl (load_price o)
+      hop z m (load_cycles o) u after [] price _ (ap z.code.at k.at ∙ h.0) (k.needs, tt)
+      (ap (λ es. Goes es price after) k.quiet) (load_price o)
       (record {
         is = describes_on os pc _ (with_stack vs w) w.inputs t after k.left (spare t.work y)
             (stands_elsewhere z pc _ (with_stack k.left.rest w) t after k.left.is end refl refl (clean t.work y) refl refl);
@@ -515,12 +526,12 @@ module _ (z : Setting) where
   -- ---- a comparison with a number
 
   pub compare_number : (b : WorkRegister) (pc x k : ℕ) (w : WordState) (t : Core) → x < 0x10000 → k < 0x10000 → t.work (work_number b) ≡ x
-      → StandsFor z pc w t → (let m = Calculate op.Cmp (number_source k) b in z.code pc ≡ Some (instruction_of m)
+      → StandsFor z pc w t → (let m = Calculate op.Cmp (number_source k) b in z.code.at pc ≡ Some (instruction_of m)
       → Runs z.code [] 2 t (Flagged z (AreThese t.work) (IsCompared x k) (pc + form_bytes m) w))
   compare_number b pc x k w t l r v i =
       let zero = ap (λ y. (y + (0xFFFF - k) + 1) % 0x10000 == 0) v ∙ equal_flag x k l r in
       let carry = ap (λ y. nat_le 0x10000 (y + (0xFFFF - k) + 1)) v ∙ no_borrow x k l r in
-      let P : Source → Type 0 = λ s. let m = Calculate op.Cmp s b in z.code pc ≡ Some (instruction_of m)
+      let P : Source → Type 0 = λ s. let m = Calculate op.Cmp s b in z.code.at pc ≡ Some (instruction_of m)
       → Runs z.code [] 2 t (Flagged z (AreThese t.work) (IsCompared x k) (pc + form_bytes m) w) in
       number_cases P k
       (λ h. line z (Calculate op.Cmp (Number k) b ∷ []) 2 (pc + 4) _ i (tt, tt) (h, tt) ((tt, tt), tt) refl refl (omega (arith, i.at))

@@ -1,6 +1,6 @@
 -- The steps that are straight code: words of FRAM, locals, jumps.
 use Rattle.word_code.proofs.Names.{◌≡◌, ℕ, ◌+◌, ◌-◌, ◌%◌, ◌<◌, Bool, true, false, nat_lt, List, [], ◌∷◌, length, Option, Some, refl, sym, ap, ap₂, ◌∙◌, ◌++◌}
-use Rattle.word_code.proofs.Names.{◌==◌, subst, arith, put_other, ◌≤◌, eq-eqb, if◌then◌else◌, cycles_of, source_cycles, to_register, to_memory, Store, put}
+use Rattle.word_code.proofs.Names.{source_value, ◌==◌, subst, arith, put_other, ◌≤◌, eq-eqb, if◌then◌else◌, cycles_of, source_cycles, to_register, to_memory, Store, put}
 use Rattle.word_code.proofs.Names.{Goes, At, stretch, IsPlace, Konst, constant_value, work_number, Core, Source, source_operand, source_bytes, source_read}
 use Rattle.word_code.proofs.Names.{Constant, Fram, Ram, ToRegister, ToFram, ToRam, Move, Push, Branch, instruction_of, Stands, forms_bytes, forms_run, Runs}
 use Rattle.word_code.proofs.Names.{stands_at, end_of, WordState, behaves, goes_on, Jumps, broken, with_stack, pushed, stored, with_local, is_place, word_stored}
@@ -57,8 +57,9 @@ module _ (z : Setting) where
       let price = cycles_of (instruction_of m) in
       let after : ℕ → Core = λ y. record t { pc = u.pc + (2 + source_bytes s + 2); fram = put t.fram a y } in
       guarded z (is_place a) end most u (goes_on (Store a v ∷ []) (stored a v (with_stack vs w))) (λ g.
-      hop z m most u (after v) (Store a v ∷ []) price _ (ap z.code k.at ∙ h.0) (k.needs, place_is a g)
-      (ap (λ y. Goes (Store a y ∷ []) price (after y)) k.value) l
+      hop z m most u (after v) (Store a v ∷ []) price _ (ap z.code.at k.at ∙ h.0) (k.needs, place_is a g)
+      (ap (λ es. let y = source_value s u in Goes (es ++ Store a y ∷ []) price (after y)) k.quiet
+      ∙ ap (λ y. Goes (Store a y ∷ []) price (after y)) k.value) l
       (record { at = to; memory = i.memory; fram = ap (λ f. put f a v) i.fram; inputs = i.inputs }))
 
   pub keep_part : (x : Option Waiting) (a pc v : ℕ) (vs : List ℕ) (w : WordState) (u : Core)
@@ -88,8 +89,9 @@ module _ (z : Setting) where
       let to : u.pc + (2 + source_bytes s + 2) ≡ pc + forms_bytes (m ∷ []) = omega (arith, k.at) in
       let price = cycles_of (instruction_of m) in
       let after : ℕ → Core = λ y. record t { pc = u.pc + (2 + source_bytes s + 2); fram = put t.fram a y } in
-      hop z m (store_cycles x) u (after v) (Store a v ∷ []) price _ (ap z.code k.at ∙ h.0) (k.needs, place_is a g)
-      (ap (λ y. Goes (Store a y ∷ []) price (after y)) k.value) (store_price x)
+      hop z m (store_cycles x) u (after v) (Store a v ∷ []) price _ (ap z.code.at k.at ∙ h.0) (k.needs, place_is a g)
+      (ap (λ es. let y = source_value s u in Goes (es ++ Store a y ∷ []) price (after y)) k.quiet
+      ∙ ap (λ y. Goes (Store a y ∷ []) price (after y)) k.value) (store_price x)
       (record {
         rest = d.rest;
         is = record { at = to; memory = d.is.memory; fram = ap (λ f. put f a v) d.is.fram; inputs = d.is.inputs };
@@ -117,7 +119,8 @@ module _ (z : Setting) where
       let price = cycles_of (instruction_of m) in
       let to : u.pc + (2 + source_bytes s + 0) ≡ pc + forms_bytes (m ∷ []) = omega (arith, k.at) in
       let after : ℕ → Core = λ y. record t { pc = u.pc + (2 + source_bytes s + 0); work = put t.work r y } in
-      hop z m most u (after v) [] price _ (ap z.code k.at ∙ h.0) (k.needs, tt) (ap (λ y. Goes [] price (after y)) k.value) price_is.0
+      hop z m most u (after v) [] price _ (ap z.code.at k.at ∙ h.0) (k.needs, tt)
+      (ap (λ es. Goes es price (after (source_value s u))) k.quiet ∙ ap (λ y. Goes [] price (after y)) k.value) price_is.0
       (record { at = to; memory = set_register z t.sp n v t.ram t.work vs w.locals e i.memory; fram = i.fram; inputs = i.inputs })
   set_by false s most n v pc vs w u e lt price_is h k =
       let m = Move s (ToRam (local_address n)) in
@@ -126,7 +129,8 @@ module _ (z : Setting) where
       let price = cycles_of (instruction_of m) in
       let to : u.pc + (2 + source_bytes s + 2) ≡ pc + forms_bytes (m ∷ []) = omega (arith, k.at) in
       let after : ℕ → Core = λ y. record t { pc = u.pc + (2 + source_bytes s + 2); ram = put t.ram (local_address n) y } in
-      hop z m most u (after v) [] price _ (ap z.code k.at ∙ h.0) (k.needs, local_needs z n e lt) (ap (λ y. Goes [] price (after y)) k.value) price_is.1
+      hop z m most u (after v) [] price _ (ap z.code.at k.at ∙ h.0) (k.needs, local_needs z n e lt)
+      (ap (λ es. Goes es price (after (source_value s u))) k.quiet ∙ ap (λ y. Goes [] price (after y)) k.value) price_is.1
       (record { at = to; memory = set_ram z t.sp n v t.ram (local_words t.work) vs w.locals e lt i.memory; fram = i.fram; inputs = i.inputs })
 
   pub set_part : (x : Option Waiting) (n v pc : ℕ) (vs : List ℕ) (w : WordState) (u : Core) → n < z.locals
@@ -156,5 +160,5 @@ module _ (z : Setting) where
       → Follows z (pc + 4) 3 u (jumped to w)
   jump_part to pc w u ev h i =
       subst (λ b. Follows z (pc + 4) 3 u (if b then behaves [] (Jumps to w) else broken)) (sym (eq-eqb (to % 2) 0 ev))
-      (hop z (Branch to) 3 u (record u { pc = to }) [] 3 (HasJumped to w) (ap z.code i.at ∙ h.0) ev refl (omega arith)
+      (hop z (Branch to) 3 u (record u { pc = to }) [] 3 (HasJumped to w) (ap z.code.at i.at ∙ h.0) ev refl (omega arith)
       (record { pc = refl; fram = i.fram; inputs = i.inputs }))

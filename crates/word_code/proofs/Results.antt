@@ -367,7 +367,7 @@ module _ (z : Setting) where
       let s = right_source top in
       let ms = Calculate (plain_instruction o) s R4 ∷ [] in
       in_four ms (reading_cycles (stays top)) r (λ p xs t h k.
-      plain_step z o s R4 (reading_cycles (stays top)) t _ lx ly (reading_price (stays top) top) (ap z.code k.is.at ∙ h.0)
+      plain_step z o s R4 (reading_cycles (stays top)) t _ lx ly (reading_price (stays top) top) (ap z.code.at k.is.at ∙ h.0)
       (is_read true s R4 x y w.fram t k.is.fram k.held.four k.held.gives) (λ f. record {
         is = stands_elsewhere z p (p + forms_bytes ms) (with_stack xs w) t _ k.is (omega (arith, k.is.at)) refl refl refl refl refl;
         held = is;
@@ -568,7 +568,7 @@ module _ (z : Setting) where
   taken_part ks pc w r rs t none room e h d =
       let left : WordState = with_readings rs w in
       let after : Core = record t { pc = t.pc + 4; work = put t.work 4 r; inputs = record t.inputs { readings = rs } } in
-      hop z (forms.Sense R4) 3 t after (Take r ∷ []) 3 _ (ap z.code d.is.at ∙ h.0) tt (ap (λ l. sensed l R4 t) (ap (λ x. x.readings) d.is.inputs ∙ e))
+      hop z (forms.Sense R4) 3 t after (Take r ∷ []) 3 _ (ap z.code.at d.is.at ∙ h.0) tt (ap (λ l. sensed l R4 t) (ap (λ x. x.readings) d.is.inputs ∙ e))
       (omega arith) (waits_more z waiting.R4 ks (pc + 4) left r after tt refl room
       (describes_on z ks pc (pc + 4) w left.inputs t after d (words_kept w.fram w.locals after.work t.work ks none) (record {
         at = omega (arith, d.is.at);
@@ -589,7 +589,7 @@ module _ (z : Setting) where
           → Does (waiting.R4 ∷ kept os) (pc + forms_bytes (cleared os) + 4) (6 + owed (kept os)) t (reading_pushed rs w)
       by [] t q s j =
           dearer_stall z [] 3 (6 + owed (kept os)) t (omega arith)
-          (starved z (forms.Sense R4) t 3 (ap z.code j.is.at ∙ s.0) tt (ap (λ l. sensed l R4 t) (ap (λ x. x.readings) j.is.inputs ∙ q)))
+          (starved z (forms.Sense R4) t 3 (ap z.code.at j.is.at ∙ s.0) tt (ap (λ l. sensed l R4 t) (ap (λ x. x.readings) j.is.inputs ∙ q)))
       by (r ∷ rs) t q s j =
           record {
             spent = 3;

@@ -77,15 +77,15 @@ module _ (all : List Form) where
   ending (jump b ∷ ls) j = ending ls (next b j)
 
   -- what it needs: its forms what they need, and that each jump is one, is decided so and comes to a form
-  abbrev pub RouteNeeds : ℕ → List Leg → ℕ → Core → Type 0
-  RouteNeeds p [] j u = Unit {0}
-  RouteNeeds p (on n ∷ ls) j u =
+  abbrev pub RouteNeeds : Bool → ℕ → List Leg → ℕ → Core → Type 0
+  RouteNeeds events p [] j u = Unit {0}
+  RouteNeeds events p (on n ∷ ls) j u =
       let ms = take n (drop j all) in
-      AreStraight ms × FormsNeed ms u × OnAt (forms_run ms u).status (λ t. (t.pc ≡ end_at u.pc ms) × RouteNeeds p ls (j + n) t)
-  RouteNeeds p (jump b ∷ ls) j u =
+      AreStraight ms × FormsNeed events ms u × OnAt (forms_run ms u).status (λ t. (t.pc ≡ end_at u.pc ms) × RouteNeeds events p ls (j + n) t)
+  RouteNeeds events p (jump b ∷ ls) j u =
       let ms = drop j all in
       (ms ≡ Jump (condition_of ms) (offset_of ms) ∷ drop 1 ms) × (is_met (condition_of ms) u.flags ≡ b) × (place (next b j) ≡ far b j)
-      × RouteNeeds p ls (next b j) (record u { pc = p + place (next b j) })
+      × RouteNeeds events p ls (next b j) (record u { pc = p + place (next b j) })
 
 -- what so many forms need that need nothing
 abbrev pub Free : ℕ → Type 0
@@ -108,7 +108,7 @@ module _ (z : Setting) (p : ℕ) (all : List Form) (h : Stands z.code p all) whe
   Comes j v t = (t ≡ v) × (v.pc ≡ p + place all j)
 
   on_by : {fs : List Effect} {d : ℕ} (s : Status Core Stop) (n j to : ℕ) {u v : Core} (go : Core → CoreStretch) (More : Core → Type 0)
-      → (let ms = take n (drop j all) in u.pc ≡ p + place all j → AreStraight ms → FormsNeed ms u → forms_run ms u ≡ stretch fs d s → OnAt s More
+      → (let ms = take n (drop j all) in u.pc ≡ p + place all j → AreStraight ms → FormsNeed z.code.events ms u → forms_run ms u ≡ stretch fs d s → OnAt s More
       → ((t : Core) → More t → (go t).status ≡ At v → Runs z.code (go t).effects (go t).cycles t (Comes to v))
       → (let r = onward s fs d go in r.status ≡ At v → Runs z.code r.effects r.cycles u (Comes to v)))
   on_by {fs} {d} (At t) n j to {u} {v} go More at st needs made more on_then e =
@@ -118,13 +118,13 @@ module _ (z : Setting) (p : ℕ) (all : List Form) (h : Stands z.code p all) whe
       runs_on z front (λ x same. subst (λ y. Runs z.code (go t).effects (go t).cycles y (Comes to v)) (sym same) (on_then t more e))
   on_by (Halted price x) n j to go More at st needs made more on_then e = absurd (cc)
 
-  leads : (ls : List Leg) (j : ℕ) (u v : Core) → u.pc ≡ p + place all j → RouteNeeds all p ls j u
+  leads : (ls : List Leg) (j : ℕ) (u v : Core) → u.pc ≡ p + place all j → RouteNeeds all z.code.events p ls j u
       → (let r = routed all p ls j u in r.status ≡ At v → Runs z.code r.effects r.cycles u (Comes (ending all ls j) v))
   leads [] j u v at needs e = let same : u ≡ v = cc in nothing_run z (same, ap (λ x. x.pc) (sym same) ∙ at)
   leads (on n ∷ ls) j u v at needs e =
       let ms = take n (drop j all) in
       let there = ap forms_bytes (take-add j n all) ∙ forms_bytes-append (take j all) ms in
-      on_by (forms_run ms u).status n j (ending all (on n ∷ ls) j) (routed all p ls (j + n)) (λ t. (t.pc ≡ end_at u.pc ms) × RouteNeeds all p ls (j + n) t)
+      on_by (forms_run ms u).status n j (ending all (on n ∷ ls) j) (routed all p ls (j + n)) (λ t. (t.pc ≡ end_at u.pc ms) × RouteNeeds all z.code.events p ls (j + n) t)
       at needs.0 needs.1 refl needs.2 (λ t more s. leads ls (j + n) t v (more.0 ∙ omega (arith, end_is u.pc ms, at, there)) more.1 s) e
   leads (jump b ∷ ls) j u v at needs e =
       let c = condition_of (drop j all) in
@@ -138,7 +138,7 @@ module _ (z : Setting) (p : ℕ) (all : List Form) (h : Stands z.code p all) whe
       let end = stands_low z p (take i all) (first_forms z.code p i all h) (omega (arith, high)) in
       let goes : (if is_met c u.flags then sum16 (u.pc + 2) (distance d) else u.pc + 2) ≡ p + place all i =
       ap₂ (λ x q. if x then sum16 (q + 2) (distance d) else q + 2) needs.1 at ∙ lands b p (place all j) (distance d) (place all i) needs.2 end in
-      runs_on z (hop z (Jump c d) 2 u _ [] 2 (λ x. x ≡ t) (ap z.code at ∙ here.0) tt refl (omega arith) (ap (λ q. record u { pc = q }) goes))
+      runs_on z (hop z (Jump c d) 2 u _ [] 2 (λ x. x ≡ t) (ap z.code.at at ∙ here.0) tt refl (omega arith) (ap (λ q. record u { pc = q }) goes))
       (λ x same. subst (λ y. Runs z.code r.effects r.cycles y to) (sym same) (leads ls i t v refl needs.3 e))
 
 -- ---- the words of R4 to R7 by name
@@ -181,7 +181,7 @@ module _ (z : Setting) where
     begun = named (p + place all j) a b c d w t
 
     -- through code that writes R4 to R7 and words of FRAM, and takes some of the inputs
-    pub look_route : (ls : List Leg) (es : List Effect) (f : ℕ → ℕ) (n : Inputs) (c : ℕ) (Q : Core → Type 0) → RouteNeeds all p ls j begun
+    pub look_route : (ls : List Leg) (es : List Effect) (f : ℕ → ℕ) (n : Inputs) (c : ℕ) (Q : Core → Type 0) → RouteNeeds all z.code.events p ls j begun
         → (let r = routed all p ls j begun in let v = end_of begun r.status in r ≡ stretch r.effects c (At v)
         → kept_by (record v { fram = w.fram; inputs = w.inputs }) ≡ kept_by begun → r.effects ≡ es → v.fram ≡ f → v.inputs ≡ n
         → (StandsFor z (p + place all (ending all ls j)) (record w { fram = f; inputs = n }) v → Q v) → Runs z.code es c t Q)
@@ -195,7 +195,7 @@ module _ (z : Setting) where
         subst Q (sym k.0) (q (record { at = k.1; memory = memory; fram = fram; inputs = inputs }))))))
 
     -- through code that writes R4 to R7 and words of FRAM
-    pub store_route : (ls : List Leg) (es : List Effect) (f : ℕ → ℕ) (c : ℕ) (Q : Core → Type 0) → RouteNeeds all p ls j begun
+    pub store_route : (ls : List Leg) (es : List Effect) (f : ℕ → ℕ) (c : ℕ) (Q : Core → Type 0) → RouteNeeds all z.code.events p ls j begun
         → (let r = routed all p ls j begun in let v = end_of begun r.status in r ≡ stretch r.effects c (At v)
         → kept_by (record v { fram = w.fram }) ≡ kept_by begun → r.effects ≡ es → v.fram ≡ f
         → (StandsFor z (p + place all (ending all ls j)) (record w { fram = f }) v → Q v) → Runs z.code es c t Q)
@@ -203,7 +203,7 @@ module _ (z : Setting) where
         look_route ls es f w.inputs c Q needs made (λ i. record (kept i) { inputs = w.inputs }) effects fram (ap (λ x. x.inputs) kept) q
 
     -- through code that writes R4 to R7 alone
-    pub route : (ls : List Leg) (c : ℕ) (Q : Core → Type 0) → RouteNeeds all p ls j begun
+    pub route : (ls : List Leg) (c : ℕ) (Q : Core → Type 0) → RouteNeeds all z.code.events p ls j begun
         → (let r = routed all p ls j begun in let v = end_of begun r.status in r ≡ stretch [] c (At v) → kept_by v ≡ kept_by begun
         → (StandsFor z (p + place all (ending all ls j)) w v → Q v) → Runs z.code [] c t Q)
     route ls c Q needs made kept q =

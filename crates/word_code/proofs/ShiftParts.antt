@@ -164,7 +164,7 @@ module _ (z : Setting) where
   Turns ms c f = (pc y : ℕ) (w : WordState) (t : Core) → y < 0x10000 → Stands z.code pc ms → Has z R4 pc w y t
       → Runs z.code [] c t (Has z R4 (pc + forms_bytes ms) w (f y))
 
-  repeat_part : (m : Form) (g : ℕ → ℕ) → form_bytes m ≡ 2 → ((pc y : ℕ) (w : WordState) (t : Core) → z.code pc ≡ Some (instruction_of m) → Has z R4 pc w y t
+  repeat_part : (m : Form) (g : ℕ → ℕ) → form_bytes m ≡ 2 → ((pc y : ℕ) (w : WordState) (t : Core) → z.code.at pc ≡ Some (instruction_of m) → Has z R4 pc w y t
       → Runs z.code [] 1 t (Has z R4 (pc + 2) w (g y))) → (k pc y : ℕ) (w : WordState) (t : Core) → Stands z.code pc (repeated k m) → Has z R4 pc w y t
       → Runs z.code [] k t (Has z R4 (pc + forms_bytes (repeated k m)) w (times k g y))
   repeat_part m g s one zero pc y w t h i = let e : pc ≡ pc + 0 = omega arith in nothing_run z (subst (λ n. Has z R4 n w y t) e i)
@@ -175,14 +175,14 @@ module _ (z : Setting) where
       dearer z q (subst (λ n. Runs z.code [] (1 + k) t (Has z R4 n w (times k g (g y)))) e
       (runs_on z (one pc y w t h.0 i) (λ v j. repeat_part m g s one k (pc + 2) (g y) w v h' j)))
 
-  double_step : (pc y : ℕ) (w : WordState) (t : Core) → z.code pc ≡ Some (instruction_of (Calculate op.Add (Register R4) R4)) → Has z R4 pc w y t
+  double_step : (pc y : ℕ) (w : WordState) (t : Core) → z.code.at pc ≡ Some (instruction_of (Calculate op.Add (Register R4) R4)) → Has z R4 pc w y t
       → Runs z.code [] 1 t (Has z R4 (pc + 2) w (double y))
   double_step pc y w t h i =
       let ms = Calculate op.Add (Register R4) R4 ∷ [] in
       line z ms 1 (pc + 2) _ i.is (tt, tt) (h, tt) ((tt, tt), tt) refl refl (omega (arith, i.is.at))
       (λ s. record { is = s; held = ap (λ v. (v + v + 0) % 0x10000) i.held ∙ omega arith })
 
-  halve_step : (pc y : ℕ) (w : WordState) (t : Core) → z.code pc ≡ Some (instruction_of (Modify change.Rra R4)) → Has z R4 pc w y t
+  halve_step : (pc y : ℕ) (w : WordState) (t : Core) → z.code.at pc ≡ Some (instruction_of (Modify change.Rra R4)) → Has z R4 pc w y t
       → Runs z.code [] 1 t (Has z R4 (pc + 2) w (half_signed y))
   halve_step pc y w t h i =
       let ms = Modify change.Rra R4 ∷ [] in

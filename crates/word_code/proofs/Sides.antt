@@ -1,6 +1,6 @@
 -- The two sides of an operation: the left one in R4, and the right one in R5, or read where it waits.
 use Rattle.word_code.specs.Code.{is_turned, compare_sides, compare_source}
-use Rattle.word_code.proofs.Names.{Comparison, Core, Form, R5, Register, Runs, Source, SourceNeeds, Stands, Waiting, WordState, WorkRegister, any_held}
+use Rattle.word_code.proofs.Names.{source_effects, Comparison, Core, Form, R5, Register, Runs, Source, SourceNeeds, Stands, Waiting, WordState, WorkRegister, any_held}
 use Rattle.word_code.proofs.Names.{below_top, cleared, drop, five_from, flushed, forms_bytes, four_from, get_or, kept, rest_source, rests, right_source}
 use Rattle.word_code.proofs.Names.{right_to_rest, sides, source_cycles, source_from, source_operand, source_read, source_value, stays, to_memory, to_register}
 use Rattle.word_code.proofs.Names.{to_rest, top_of, two_to_registers, update_sides, waiting_source, with_stack, work_number, ◌≡◌, ℕ, ◌+◌, ◌≤◌, Bool, true}
@@ -9,7 +9,7 @@ use Rattle.word_code.specs.declared.waiting.Waiting.TheVariants as waiting
 use Rattle.word_code.proofs.Stretches.{two_parts, Setting, dearer, nothing_run, so_runs}
 use Rattle.word_code.proofs.Registers.{With, HasSides}
 use Rattle.word_code.proofs.Middles.{IsRead}
-use Rattle.word_code.proofs.Operands.{IsThere, owed, owed_least, load_cycles, load_price, load_owed, store_price, number_cases, source_still, source_needs}
+use Rattle.word_code.proofs.Operands.{IsThere, owed, owed_least, load_cycles, load_price, load_owed, store_price, number_cases, source_still, source_quiet, source_needs}
 use Rattle.word_code.proofs.Operands.{source_word, Describes, Waits, bare, flush_under, drop_part, five_part, four_part, clear_cycles, none_held}
 use Rattle.word_code.proofs.Operands.{behind_cleared}
 use Rattle.word_code.proofs.Memory.{local_words, local_word, in_register}
@@ -55,7 +55,8 @@ kept_words six g = g 5 ∷ ((if six then g 6 else 0) ∷ local_words g)
 -- on each machine with this FRAM and these of its registers' words a source gives this word
 pub record Gives (keeps : (ℕ → ℕ) → List ℕ) (x : Source) (v : ℕ) (f : ℕ → ℕ) (ws : List ℕ) : Type 0 where
   pub word : (s : Core) → s.fram ≡ f → keeps s.work ≡ ws → source_value x s ≡ v
-  pub needs : (s : Core) → SourceNeeds x s
+  pub needs : (events : Bool) (s : Core) → SourceNeeds events x s
+  pub quiet : (s : Core) → source_effects x s ≡ []
   pub still : (s : Core) → source_read x s ≡ s
 
 abbrev pub GivesOn : Bool → Source → ℕ → (ℕ → ℕ) → (ℕ → ℕ) → Type 0
@@ -67,7 +68,7 @@ pub record Aiming (six : Bool) (x : Source) (k v : ℕ) (f g : ℕ → ℕ) : Ty
   pub gives : GivesOn six x v f g
 
 five_gives : (six : Bool) (v : ℕ) (f g : ℕ → ℕ) → g 5 ≡ v → GivesOn six (Register R5) v f g
-five_gives six v f g e = record { word = λ s a l. ap (λ ws. get_or ws 0 0) l ∙ e; needs = λ s. tt; still = λ s. refl }
+five_gives six v f g e = record { word = λ s a l. ap (λ ws. get_or ws 0 0) l ∙ e; needs = λ events s. tt; quiet = λ s. refl; still = λ s. refl }
 
 -- it stays where it waits, in R6 too where this is said
 abbrev pub lies : Bool → Option Waiting → Bool
@@ -97,14 +98,15 @@ pub waiting_gives : (keeps : (ℕ → ℕ) → List ℕ) (six : Bool) (most : �
 waiting_gives keeps six most locals o v t b h q same =
     record {
       word = λ s a l. let k = same s l in word_same six most locals o s t b h a k.0 k.1 ∙ q;
-      needs = λ s. source_needs most locals o s h;
+      needs = λ events s. source_needs events most locals o s h;
+      quiet = λ s. source_quiet o s;
       still = λ s. source_still o s;
     }
 
 -- with other registers, where those words are the same
 pub gives_on : (keeps : (ℕ → ℕ) → List ℕ) {x : Source} {v : ℕ} {f : ℕ → ℕ} (g h : ℕ → ℕ) → Gives keeps x v f (keeps g) → keeps h ≡ keeps g
     → Gives keeps x v f (keeps h)
-gives_on keeps g h k e = record { word = λ s a b. k.word s a (b ∙ e); needs = k.needs; still = k.still }
+gives_on keeps g h k e = record { word = λ s a b. k.word s a (b ∙ e); needs = k.needs; quiet = k.quiet; still = k.still }
 
 -- and they are where but R4 is the same
 kept_same : (six : Bool) (f g : ℕ → ℕ) → ((n : ℕ) → (n ≡ 4 → ⊥) → f n ≡ g n) → kept_words six f ≡ kept_words six g
@@ -115,9 +117,9 @@ kept_same six f g h =
     ∷ other 15 (omega arith) k ∷ []))
 
 -- an operation on a register reads what a source gives
-pub is_read : (six : Bool) (x : Source) (b : WorkRegister) (k v : ℕ) (f : ℕ → ℕ) (t : Core) → t.fram ≡ f → t.work (work_number b) ≡ k → GivesOn six x v f t.work
-    → IsRead x b k v t t
-is_read six x b k v f t e l g = record { needs = g.needs t; still = g.still t; left = l; right = g.word t e refl }
+pub is_read : {events : Bool} (six : Bool) (x : Source) (b : WorkRegister) (k v : ℕ) (f : ℕ → ℕ) (t : Core) → t.fram ≡ f → t.work (work_number b) ≡ k
+    → GivesOn six x v f t.work → IsRead events x b k v t t
+is_read {events} six x b k v f t e l g = record { needs = g.needs events t; quiet = g.quiet t; still = g.still t; left = l; right = g.word t e refl }
 
 module _ (z : Setting) where
   -- the right side to where it is read

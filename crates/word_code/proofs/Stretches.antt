@@ -1,26 +1,31 @@
 -- Stretches of code that stays, with room for locals and a stack.
 use Rattle.word_code.proofs.Names.{subst, ◌≡◌, ℕ, ◌+◌, ◌≤◌, List, [], ◌++◌, Some, arith, forms_bytes, stands_front, stands_back, forms_bytes-append}
 use Rattle.word_code.proofs.Names.{Effect, Goes, Stops, At, stretch, Code, Core, Form, instruction_of, form_step, FormNeeds, Stands, AreStraight, forms_run}
-use Rattle.word_code.proofs.Names.{FormsNeed, IsTidy, Runs, Starves, stack_base, HasStackRoom}
+use Rattle.word_code.proofs.Names.{FormsNeed, IsTidy, Runs, Starves, stack_base, stack_start, HasStackRoom, ◌%◌, true}
 use Rattle.array_versions.specs.msp_step.declared.machine.Stop.TheVariants as stop
 use Rattle.code_forms.proofs.Interface as blocks
 
--- some code, how many locals it has, and how many words its stack may take, which begins below those of them that stand in RAM
+-- some code, how many locals it has, how many words its stack may take, and where that begins: below those of them that stand in RAM, and where
+-- the code may be interrupted no higher than there
 pub record Setting : Type 0 where
   pub code : Code
   pub tidy : IsTidy code
   pub locals : ℕ
   pub room : ℕ
-  pub roomy : HasStackRoom (stack_base locals) room
+  pub base : ℕ
+  pub even : base % 2 ≡ 0
+  pub start : code.events ≡ true → base ≤ stack_start
+  pub low : base ≤ stack_base locals
+  pub roomy : HasStackRoom base room
 
 -- straight code comes to where its forms do
 module _ (z : Setting) (ms : List Form) (most : ℕ) (u t : Core) (es : List Effect) (c : ℕ) (P : Core → Type 0) where
-  pub straight : AreStraight ms → Stands z.code u.pc ms → FormsNeed ms u → forms_run ms u ≡ stretch es c (At t) → c ≤ most → P t → Runs z.code es most u P
+  pub straight : AreStraight ms → Stands z.code u.pc ms → FormsNeed z.code.events ms u → forms_run ms u ≡ stretch es c (At t) → c ≤ most → P t → Runs z.code es most u P
   straight st h w e l p = blocks.runs_within z.code z.tidy most (blocks.straight_comes z.code z.tidy ms u t es c P st h w e p) l
 
 -- one form, a jump too
 module _ (z : Setting) (m : Form) (most : ℕ) (u t : Core) (es : List Effect) (c : ℕ) (P : Core → Type 0) where
-  pub hop : z.code u.pc ≡ Some (instruction_of m) → FormNeeds m u → form_step m u ≡ Goes es c t → c ≤ most → P t → Runs z.code es most u P
+  pub hop : z.code.at u.pc ≡ Some (instruction_of m) → FormNeeds z.code.events m u → form_step m u ≡ Goes es c t → c ≤ most → P t → Runs z.code es most u P
   hop = blocks.hop z.code z.tidy m most u t es c P
 
 pub runs_on : (z : Setting) {most more : ℕ} {u : Core} {P Q : Core → Type 0} {es fs : List Effect} → Runs z.code es most u P
@@ -52,7 +57,7 @@ pub nothing_run : (z : Setting) {u : Core} {P : Core → Type 0} → P u → Run
 nothing_run z {u} {P} = blocks.nothing z.code z.tidy u P
 
 -- a form that wants a reading where none is left
-pub starved : (z : Setting) (m : Form) (u : Core) (price : ℕ) → z.code u.pc ≡ Some (instruction_of m) → FormNeeds m u
+pub starved : (z : Setting) (m : Form) (u : Core) (price : ℕ) → z.code.at u.pc ≡ Some (instruction_of m) → FormNeeds z.code.events m u
     → form_step m u ≡ Stops [] price stop.NoReading → Starves z.code [] price u
 starved z m u price h w e = blocks.starve z.code z.tidy m price price u [] h w e (omega arith)
 

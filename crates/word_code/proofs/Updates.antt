@@ -1,5 +1,5 @@
 -- Operations in place: on a word of FRAM, and on a local.
-use Rattle.word_code.proofs.Names.{◌≡◌, ℕ, ◌+◌, ◌<◌, Bool, true, false, nat_lt, if◌then◌else◌, List, [], ◌∷◌, Option, Some, refl, sym, ap, ap₂, ◌∙◌, subst}
+use Rattle.word_code.proofs.Names.{◌≡◌, ℕ, ◌+◌, ◌<◌, Bool, true, false, nat_lt, if◌then◌else◌, List, [], ◌∷◌, ◌++◌, Option, Some, refl, sym, ap, ap₂, ◌∙◌, subst}
 use Rattle.word_code.proofs.Names.{arith, Word, operated, cycles_of, Store, put, Goes, R4, R5, Core, Register, Ram, source_bytes, source_value, source_read}
 use Rattle.word_code.proofs.Names.{ToRegister, ToRam, Move, Calculate, Update, Form, flags_after, instruction_of, form_bytes, Stands, forms_bytes, forms_run}
 use Rattle.word_code.proofs.Names.{Runs, stands_at, end_of, PlainOperation, plain_word, WordState, goes_on, with_stack, stored, assigned, with_local, is_place}
@@ -31,13 +31,14 @@ module _ (z : Setting) where
       let needs = plain_needs o in
       let price = cycles_of (instruction_of m) in
       guarded z (is_place a) end (store_cycles x) u (goes_on (Store a y ∷ []) (stored a y (with_stack vs w))) (λ g.
-      hop z m (store_cycles x) u (after y) (Store a y ∷ []) price _ (ap z.code k.at ∙ h.0)
-      (needs.0, needs.1, k.needs, place_is a g) (ap (λ q. Goes (Store a q ∷ []) price (after q)) is) (store_price x)
+      hop z m (store_cycles x) u (after y) (Store a y ∷ []) price _ (ap z.code.at k.at ∙ h.0)
+      (needs.0, needs.1, k.needs, place_is a g)
+      (ap (λ es. Goes (es ++ Store a made.value ∷ []) price (after made.value)) k.quiet ∙ ap (λ q. Goes (Store a q ∷ []) price (after q)) is) (store_price x)
       (record { at = to; memory = i.memory; fram = ap (λ q. put q a y) k.fram; inputs = i.inputs }))
 
   -- R4 to a local in RAM
   set_from : (n v pc : ℕ) (w : WordState) (t : Core) → nat_lt n 8 ≡ false → n < z.locals
-      → z.code pc ≡ Some (instruction_of (Move (Register R4) (ToRam (local_address n))))
+      → z.code.at pc ≡ Some (instruction_of (Move (Register R4) (ToRam (local_address n))))
       → Has z R4 pc w v t → Runs z.code [] 4 t (StandsFor z (pc + 4) (with_local n v w))
   set_from n v pc w t b lt h k =
       let ms = Move (Register R4) (ToRam (local_address n)) ∷ [] in
@@ -73,8 +74,8 @@ module _ (z : Setting) where
         let t = source_read source u in
         let i = bare z pc popped t k.left in
         let word = in_register t.work t.ram n b ∙ i.memory.vars n y lt q in
-        plain_step z o source (local_register n) (8 + load_cycles x) t _ l r (omega (arith, load_price x)) (ap z.code k.at ∙ h.0)
-        (record { needs = k.needs; still = refl; left = word; right = k.value }) (λ f. record {
+        plain_step z o source (local_register n) (8 + load_cycles x) t _ l r (omega (arith, load_price x)) (ap z.code.at k.at ∙ h.0)
+        (record { needs = k.needs; quiet = k.quiet; still = refl; left = word; right = k.value }) (λ f. record {
           at = omega (arith, k.at);
           memory = set_register z t.sp n made t.ram t.work vs w.locals b i.memory;
           fram = i.fram;

@@ -50,7 +50,7 @@ module _ (z : Setting) where
 
   -- a read at an index below the length, where its code stands
   module _ (over : ℕ) (place : ArrayPlace) (list : ListPlace) (p : ℕ) (h : Stands z.code p (own_code over place list)) where
-    pub at18 : z.code (p + 18) ≡ Some (instruction_of (Move (Indexed R4 place.elements) (ToRegister R4)))
+    pub at18 : z.code.at (p + 18) ≡ Some (instruction_of (Move (Indexed R4 place.elements) (ToRegister R4)))
     at18 = (forms_behind z.code p 6 (own_code over place list) h).0
 
     -- where the version word is the attempt's number, the copy is read, and the jump goes on

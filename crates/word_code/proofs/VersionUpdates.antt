@@ -1,7 +1,7 @@
 -- Elements that are updated in place.
 use Rattle.word_code.proofs.Names.{rests, ◌≡◌, ℕ, ◌+◌, ◌-◌, ◌*◌, ◌%◌, ◌<◌, ◌≤◌, ◌==◌, not, Bool, true, false, nat_lt, nat_le, if◌then◌else◌, List, [], ◌∷◌}
 use Rattle.word_code.proofs.Names.{◌++◌, Some, None, refl, sym, ap, ap₂, ◌∙◌, subst, arith, word_sum, Word, operated, sum16, distance, cycles_of, source_cycles}
-use Rattle.word_code.proofs.Names.{to_register, to_memory, Store, put, Goes, IsPlace, R4, R6, R7, Core, Source, source_bytes, source_value, source_operand}
+use Rattle.word_code.proofs.Names.{to_register, to_memory, Store, put, Goes, IsPlace, R4, R6, R7, Core, Source, source_bytes, source_value, source_read, source_operand}
 use Rattle.word_code.proofs.Names.{Register, Number, Fram, Indexed, ToRegister, ToIndexed, Form, Move, Calculate, Update, Jump, flags_after, instruction_of}
 use Rattle.word_code.proofs.Names.{form_bytes, Stands, forms_bytes, Runs, stands_front, stands_back, forms_bytes-append, PlainOperation, ArrayPlace, ListPlace}
 use Rattle.word_code.proofs.Names.{plain_word, versioned_update, WordState, Behaviour, goes_on, behind_effects, with_two, with_stack, is_place, at_place}
@@ -66,11 +66,11 @@ module _ (z : Setting) (o : PlainOperation) (x : Source) (r : ℕ) (reads : sour
 
   -- what the operation gives of R7 and of the source
   make_part : (pc k v y : ℕ) (w : WordState) (t : Core) → y < 0x10000 → v < 0x10000
-      → (let m = Calculate (plain_instruction o) x R7 in z.code pc ≡ Some (instruction_of m) → Holds z (Fetched w k v y) pc w t
+      → (let m = Calculate (plain_instruction o) x R7 in z.code.at pc ≡ Some (instruction_of m) → Holds z (Fetched w k v y) pc w t
       → Runs z.code [] r t (Holds z (Made k (plain_word o y v)) (pc + form_bytes m) w))
   make_part pc k v y w t ly lv h j =
       let a = j.held.aims in
-      plain_step z o x R7 r t _ ly lv reads (ap z.code j.is.at ∙ h) (is_read false x R7 y v w.fram t j.is.fram j.held.seven a.gives) (λ f. record {
+      plain_step z o x R7 r t _ ly lv reads (ap z.code.at j.is.at ∙ h) (is_read false x R7 y v w.fram t j.is.fram j.held.seven a.gives) (λ f. record {
         is = stands_elsewhere z pc (pc + form_bytes (Calculate (plain_instruction o) x R7)) w t _ j.is (ap (λ p. p + (2 + source_bytes x)) j.is.at)
             refl refl refl refl refl;
         held = record { four = a.four; seven = refl };
@@ -103,7 +103,7 @@ module _ (z : Setting) (o : PlainOperation) (x : Source) (r : ℕ) (reads : sour
       (runs_on z fetched (λ u j. runs_on z (make_part (pc + 4) (2 * i) v (w.fram a) w u (wl a) lv h.1.0 j) kept)))
 
   -- VER's word
-  number_part : (pc k : ℕ) (w : WordState) (t : Core) → IsPlace list.ver → z.code pc ≡ Some (instruction_of (attempt_form list)) → Has z R4 pc w k t
+  number_part : (pc k : ℕ) (w : WordState) (t : Core) → IsPlace list.ver → z.code.at pc ≡ Some (instruction_of (attempt_form list)) → Has z R4 pc w k t
       → Runs z.code [] 3 t (Holds z (HasNumber k (w.fram list.ver)) (pc + 4) w)
   number_part pc k w t fv h j =
       line z (attempt_form list ∷ []) 3 (pc + 4) _ j.is (tt, tt) (h, tt) ((fv, tt), tt) refl refl (omega (arith, j.is.at))
@@ -261,7 +261,7 @@ module _ (z : Setting) (o : PlainOperation) (x : Source) (r : ℕ) (reads : sour
   -- ---- at any index in R4
 
   compared_part : (pc i v : ℕ) (w : WordState) (t : Core) → i < 0x10000 → place.length < 0x10000
-      → z.code pc ≡ Some (instruction_of (Calculate op.Cmp (Number place.length) R4)) → Aims z x pc w i v t
+      → z.code.at pc ≡ Some (instruction_of (Calculate op.Cmp (Number place.length) R4)) → Aims z x pc w i v t
       → Runs z.code [] 2 t (Flagged z (Aiming false x i v w.fram) (IsCarry (nat_le place.length i)) (pc + 4) w)
   compared_part pc i v w t li ln h k =
       let carry = ap (λ q. nat_le 0x10000 (q + (0xFFFF - place.length) + 1)) k.held.four ∙ no_borrow i place.length li ln in
@@ -307,7 +307,7 @@ module _ (z : Setting) (o : PlainOperation) (x : Source) (r : ℕ) (reads : sour
 
   -- a word of FRAM becomes what the operation gives of it and of the source
   place_part : (c pc v : ℕ) (w : WordState) (t : Core) → source_cycles to_memory (source_operand x) ≤ 6 → w.fram c < 0x10000 → v < 0x10000 → IsPlace c
-      → (let m = Update (plain_instruction o) x c in let y = plain_word o (w.fram c) v in z.code pc ≡ Some (instruction_of m) → StandsFor z pc w t
+      → (let m = Update (plain_instruction o) x c in let y = plain_word o (w.fram c) v in z.code.at pc ≡ Some (instruction_of m) → StandsFor z pc w t
       → GivesOn false x v w.fram t.work → Runs z.code (Store c y ∷ []) 6 t (StandsFor z (pc + form_bytes m) (stored c y w)))
   place_part c pc v w t writes l lv fc h i g =
       let m = Update (plain_instruction o) x c in
@@ -319,8 +319,9 @@ module _ (z : Setting) (o : PlainOperation) (x : Source) (r : ℕ) (reads : sour
       ∙ makes o (w.fram c) v t.flags l lv in
       let after : Core → ℕ → Core = λ s q. record s { pc = t.pc + (2 + source_bytes x + 2); flags = flags_after does.flags t.flags; fram = put t.fram c q } in
       let needs = plain_needs o in
-      hop z m 6 t (after t y) (Store c y ∷ []) price _ (ap z.code i.at ∙ h) (needs.0, needs.1, g.needs t, fc)
-      (ap (λ s. Goes (Store c does.value ∷ []) price (after s does.value)) (g.still t) ∙ ap (λ q. Goes (Store c q ∷ []) price (after t q)) is) writes
+      hop z m 6 t (after t y) (Store c y ∷ []) price _ (ap z.code.at i.at ∙ h) (needs.0, needs.1, g.needs z.code.events t, fc)
+      (ap (λ es. Goes (es ++ Store c does.value ∷ []) price (after (source_read x t) does.value)) (g.quiet t)
+      ∙ ap (λ s. Goes (Store c does.value ∷ []) price (after s does.value)) (g.still t) ∙ ap (λ q. Goes (Store c q ∷ []) price (after t q)) is) writes
       (record {
         at = ap (λ p. p + (2 + source_bytes x + 2)) i.at;
         memory = i.memory;

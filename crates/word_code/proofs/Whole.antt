@@ -14,7 +14,8 @@ use Rattle.word_code.proofs.Names.{spent_by_two, step_spent, spent_on, test_spen
 use Rattle.word_code.proofs.Names.{whole_ends_soundly, local_words, words_step, words, Leaves, leaves, Bound, Waiting, number_source, flushed, below_top, kept}
 use Rattle.word_code.proofs.Names.{top_to_four, entry_code, compare_form, holding, failing, size, pass_over, decision, holds_code, compares_code, truth_code}
 use Rattle.word_code.proofs.Names.{number_code, turns_code, waiting_behind, waiting_after, bound_of, step_code, test_code, steps_code, block_code}
-use Rattle.word_code.proofs.Names.{ComesTo, CodeDoesAsProgram, locals_of, stack_base, stack_set, stack_cycles, code_spent}
+use Rattle.word_code.proofs.Names.{ComesTo, CodeDoesAsProgram, locals_of, stack_base, stack_start, stack_set, stack_cycles, code_of, code_spent}
+use Rattle.word_code.proofs.Names.{IsWhole, FitsEvents, IsEntry}
 use Rattle.array_versions.specs.Laws.{IsStateOfWords, EndsInWords, IsSound}
 use Rattle.array_versions.specs.msp_step.msp_isa.declared.instructions.Condition.TheVariants as condition
 use Rattle.array_versions.specs.msp_step.msp_isa.declared.operands.Konst.TheVariants as konst
@@ -27,7 +28,7 @@ use Rattle.word_code.proofs.Results.{unary_part, binary_part, shift_reaches, ele
 use Rattle.word_code.proofs.Operands.{owed, owed_kept, load_owed, Describes, dressed, flush_part, top_to_four_part}
 use Rattle.word_code.proofs.Sides.{Aiming, compare_sides_part, compare_stays, reading_cycles, side_owed}
 use Rattle.word_code.specs.Code.{is_turned, compare_sides, compare_source}
-use Rattle.word_code.proofs.Stretches.{Setting, runs_on, nothing_run}
+use Rattle.word_code.proofs.Stretches.{Setting, runs_on, nothing_run, dearer}
 use Rattle.word_code.proofs.Locals.{program_below, program_least, HasStack, stack_part}
 use Rattle.word_code.proofs.Follows.{StandsFor, Follows, FollowsEnd, OnGoesOn, more_cycles, then_hop, ends_at, guarded, reach_more, reach_way, reaches}
 use Rattle.word_code.proofs.Follows.{then_end, then_follows, reach_guarded}
@@ -150,7 +151,7 @@ module _ (z : Setting) where
       by_form : {l : ℕ} (P : ℕ → Core → Type 0) (most : ℕ) (t : WordState) (u : Core)
           → l + k.reads + 5 + (if k.answer then ways.held.cost t else ways.failed.cost t) ≤ most → Ready bs ways.held.fits t → Ready bs ways.failed.fits t
           → (let mid = pc + forms_bytes front in (Stands z.code pc front → Runs z.code [] l u (P mid))
-          → ((q : Core) → z.code mid ≡ Some (instruction_of k.form) → P mid q
+          → ((q : Core) → z.code.at mid ≡ Some (instruction_of k.form) → P mid q
           → Runs z.code [] k.reads q (Decided z (mid + form_bytes k.form) t k.answer k.met k.opposite))
           → Follows z ways.end most u (if k.answer then ways.held.does t else ways.failed.does t))
       by_form {l} P most t u le on off come asks =
@@ -501,44 +502,86 @@ module _ (z : Setting) where
 pub none_has_no_word : (v w : ℕ) → None ≡ Some v → w ≡ v
 none_has_no_word v w e = cc
 
--- the code does what the program does
+-- a whole program with its place in code, and where its stack begins
+module _ (z : Setting) (p : Program) (whole : IsWhole p) (of_words : OfWords p) (below : LocalsBelow z.locals p) (room : whole.room ≡ z.room) where
+  by_end : (pc most : ℕ) (u : Core) (es : List Effect) (e : End) → FollowsEnd z pc most u es e → IsSound e → ComesTo z.code most u es e
+  by_end pc most u es (GoesOn w) a g = g
+  by_end pc most u es (Jumps to w) a g = a
+  by_end pc most u es Short a g = a
+  by_end pc most u es Strays a g = tt
+  by_end pc most u es Broken a g = g
+
+  -- the machine whose stack is there stands for the state at the start
+  begun : (mid : ℕ) (u t : Core) → HasStack mid z.base u t → StandsFor z mid (started u.fram u.inputs) t
+  begun mid u t k =
+      record {
+        at = k.at;
+        memory = record { depth = omega (arith, k.sp); fits = omega arith; stack = tt; vars = λ n v l q. none_has_no_word v _ q };
+        fram = k.fram;
+        inputs = k.inputs;
+      }
+
+  -- behind what sets its stack the code does what the program does
+  steps_do : (at mid : ℕ) (u : Core) → Stands z.code mid (block_code [] p) → IsEntry z.code.events at u
+      → Runs z.code [] stack_cycles u (HasStack mid z.base u)
+      → let s = started u.fram u.inputs in let b = behaviour p s in ComesTo z.code (code_spent p s) u b.effects b.end
+  steps_do at mid u h entry set =
+      let s = started u.fram u.inputs in
+      let b = behaviour p s in
+      let end = mid + forms_bytes (block_code [] p) in
+      let r : Ready [] (EachWay z.room p (λ q. ⊥)) s = record {
+        place = start;
+        fit = subst (λ n. EachWay n p (λ q. ⊥) start) room whole.ways;
+        matches = start_matches u.fram u.inputs;
+        words_in = record { stack = tt; locals = λ n v q. absurd (let q' = q in (cc)); fram = entry.fram; inputs = entry.inputs };
+        bounded = tt;
+      } in
+      by_end end (code_spent p s) u b.effects b.end
+      (then_end z end (spent p s) b.effects b.end set (λ t k. block_follows z [] p mid s t h
+      (λ hs. steps_follow z [] p (λ q. ⊥) [] mid s t r
+      (record { of_words = of_words; below = below; count = whole.loops_count; spares = tt }) hs (dressed z mid s t (begun mid u t k)))))
+      (whole_ends_soundly p u.fram u.inputs whole)
+
+-- the code does what the program does: with events its stack is there at the entry, else it is set where a local stands in RAM
 pub code_does_as_program : CodeDoesAsProgram
-code_does_as_program code at p u tidy h whole o entry =
-    let locals = locals_of p in
-    let few = program_least whole.locals p whole.low_locals in
-    let room = whole.fits.fits in
-    let z : Setting = record { code = code; tidy = tidy; locals = locals; room = whole.room; roomy = record { fits = omega (arith, room, few) } } in
-    let s = started u.fram u.inputs in
-    let b = behaviour p s in
-    let front = stack_set locals in
-    let mid = at + forms_bytes front in
-    let there : (t : Core) → HasStack mid (stack_base locals) u t → StandsFor z mid s t = λ t k. record {
-      at = k.at;
-      memory = record { depth = omega (arith, k.sp); fits = omega arith; stack = tt; vars = λ n v l q. none_has_no_word v _ q };
-      fram = k.fram;
-      inputs = k.inputs;
-    } in
-    let r : Ready [] (EachWay whole.room p (λ q. ⊥)) s = record {
-      place = start;
-      fit = whole.ways;
-      matches = start_matches u.fram u.inputs;
-      words_in = record { stack = tt; locals = λ n v q. absurd (let q' = q in (cc)); fram = entry.fram; inputs = entry.inputs };
-      bounded = tt;
-    } in
-    let set : Runs code [] stack_cycles u (HasStack mid (stack_base locals) u) =
-    subst (λ n. Runs code [] stack_cycles u (HasStack (n + forms_bytes front) (stack_base locals) u)) entry.pc
-    (stack_part z locals u entry.sp (subst (λ n. Stands code n front) (sym entry.pc) (stands_front code at front (block_code [] p) h))) in
-    let body = stands_back code at front (block_code [] p) h in
-    by_end z (code_spent p s) b.effects b.end
-    (then_end z (mid + forms_bytes (block_code [] p)) (spent p s) b.effects b.end set (λ t k. block_follows z [] p mid s t body
-    (λ hs. steps_follow z [] p (λ q. ⊥) [] mid s t r
-    (record { of_words = o; below = program_below locals p (omega arith); count = whole.loops_count; spares = tt }) hs (dressed z mid s t (there t k)))))
-    (whole_ends_soundly p u.fram u.inputs whole)
+code_does_as_program code at p u tidy h whole fits o entry = by code.events refl h fits entry
   where
-    by_end : (z : Setting) (most : ℕ) (es : List Effect) (e : End)
-        → FollowsEnd z (at + forms_bytes (stack_set (locals_of p)) + forms_bytes (block_code [] p)) most u es e → IsSound e → ComesTo z.code most u es e
-    by_end z most es (GoesOn w) a g = g
-    by_end z most es (Jumps to w) a g = a
-    by_end z most es Short a g = a
-    by_end z most es Strays a g = tt
-    by_end z most es Broken a g = g
+    by : (events : Bool) → code.events ≡ events → Stands code at (code_of events p) → (events ≡ true → FitsEvents p whole) → IsEntry events at u
+        → let s = started u.fram u.inputs in let b = behaviour p s in ComesTo code (code_spent p s) u b.effects b.end
+    by true e h fits entry =
+        let fit = fits refl in
+        let z : Setting = record {
+          code = code;
+          tidy = tidy;
+          locals = whole.locals;
+          room = whole.room;
+          base = stack_start;
+          even = refl;
+          start = λ k. omega arith;
+          low = fit.low;
+          roomy = fit.room;
+        } in
+        steps_do z p whole o whole.low_locals refl at at u h (subst (λ b. IsEntry b at u) (sym e) entry)
+        (dearer z (omega arith) (nothing_run z (record { at = entry.pc; sp = entry.sp; fram = refl; inputs = refl })))
+    by false e h fits entry =
+        let locals = locals_of p in
+        let few = program_least whole.locals p whole.low_locals in
+        let room = whole.fits.fits in
+        let z : Setting = record {
+          code = code;
+          tidy = tidy;
+          locals = locals;
+          room = whole.room;
+          base = stack_base locals;
+          even = omega arith;
+          start = λ k. absurd (cc (k, e));
+          low = omega arith;
+          roomy = record { fits = omega (arith, room, few) };
+        } in
+        let front = stack_set false locals in
+        let mid = at + forms_bytes front in
+        let set : Runs code [] stack_cycles u (HasStack mid (stack_base locals) u) =
+        subst (λ n. Runs code [] stack_cycles u (HasStack (n + forms_bytes front) (stack_base locals) u)) entry.pc
+        (stack_part z locals u e entry.sp (subst (λ n. Stands code n front) (sym entry.pc) (stands_front code at front (block_code [] p) h))) in
+        steps_do z p whole o (program_below locals p (omega arith)) refl at mid u (stands_back code at front (block_code [] p) h)
+        (subst (λ b. IsEntry b at u) (sym e) entry) set

@@ -1,5 +1,5 @@
 -- What the code of a word program does.
-use Rattle.std.specs.Prelude.{◌≡◌, ℕ, suc, ◌*◌, ◌<◌, ◌≤◌, List, length}
+use Rattle.std.specs.Prelude.{◌≡◌, ℕ, suc, ◌*◌, ◌<◌, ◌≤◌, Bool, true, List, length}
 use Rattle.array_versions.specs.fram_board.Effects.{Effect}
 use Rattle.array_versions.specs.machine_effects.World.{IsPrefix}
 use Rattle.array_versions.specs.machine_effects.Inputs.{InputsAreWords}
@@ -11,14 +11,14 @@ use Rattle.code_forms.specs.Laws.{StepsReadFromSp}
 use Rattle.code_forms.specs.Placed.{words_of as instruction_words, instructions, AreInstructions}
 use Rattle.array_versions.specs.Program.{Program}
 use Rattle.array_versions.specs.Behaviour.{WordState, started, End, GoesOn, Jumps, Short, Strays, Broken, behaviour}
-use Rattle.array_versions.specs.Form.{IsWhole, OfWords}
+use Rattle.array_versions.specs.Form.{IsWhole, FitsEvents, OfWords}
 use Rattle.array_versions.specs.Cost.{words_of}
-use Rattle.word_code.specs.Code.{code_of, code_spent}
+use Rattle.word_code.specs.Code.{entry_stack, code_of, code_spent}
 
 -- the machine at the entry of a program's code: the stack is empty, FRAM and the inputs are words
-pub record IsEntry (at : ℕ) (u : Core) : Type 0 where
+pub record IsEntry (events : Bool) (at : ℕ) (u : Core) : Type 0 where
   pub pc : u.pc ≡ at
-  pub sp : u.sp ≡ 0x2400
+  pub sp : u.sp ≡ entry_stack events
   pub fram : (a : ℕ) → u.fram a < 0x10000
   pub inputs : InputsAreWords u.inputs
 
@@ -37,9 +37,11 @@ ComesTo code most u es Strays = Unit {0}
 ComesTo code most u es (GoesOn s) = ⊥
 ComesTo code most u es Broken = ⊥
 
--- code in which the code of a whole program stands does what the program does, within its cycles on the way that it takes
+-- code in which the code of a whole program stands does what the program does, within its cycles on the way that it takes; with events its
+-- stack has room where that of such code begins
 abbrev pub CodeDoesAsProgram : Type 0
-CodeDoesAsProgram = (code : Code) (at : ℕ) (p : Program) (u : Core) → IsTidy code → Stands code at (code_of p) → IsWhole p → OfWords p → IsEntry at u
+CodeDoesAsProgram = (code : Code) (at : ℕ) (p : Program) (u : Core) → IsTidy code → Stands code at (code_of code.events p)
+    → (whole : IsWhole p) → (code.events ≡ true → FitsEvents p whole) → OfWords p → IsEntry code.events at u
     → let s = started u.fram u.inputs in let b = behaviour p s in ComesTo code (code_spent p s) u b.effects b.end
 
 -- a stretch so far: its effects are a prefix of these, its cycles within so many
@@ -68,12 +70,12 @@ StarvingReadsFromSp = (code : Code) (es : List Effect) (most : ℕ) (u : Core) (
 
 -- the code is at most as long as the program's words say
 abbrev pub CodeHasItsBytes : Type 0
-CodeHasItsBytes = (p : Program) → forms_bytes (code_of p) ≤ 2 * words_of p
+CodeHasItsBytes = (events : Bool) (p : Program) → forms_bytes (code_of events p) ≤ 2 * words_of p
 
 -- and encoded it has at most so many words
 abbrev pub CodeHasItsWords : Type 0
-CodeHasItsWords = (p : Program) → length (instruction_words (instructions (code_of p))) ≤ words_of p
+CodeHasItsWords = (events : Bool) (p : Program) → length (instruction_words (instructions (code_of events p))) ≤ words_of p
 
 -- each of its instructions has its words
 abbrev pub CodeIsInstructions : Type 0
-CodeIsInstructions = (p : Program) → AreInstructions (instructions (code_of p))
+CodeIsInstructions = (events : Bool) (p : Program) → AreInstructions (instructions (code_of events p))

@@ -1,5 +1,5 @@
 -- Of which forms the code of tasks is made: it names no word of RAM below the place of its stack, and reads and writes RAM else at SP alone.
-use Rattle.std.specs.Prelude.{◌≡◌, ℕ, ◌≤◌, List, [], ◌∷◌}
+use Rattle.std.specs.Prelude.{◌≡◌, ℕ, ◌≤◌, Bool, List, [], ◌∷◌}
 use Rattle.code_forms.specs.Forms.{Source, Ram, Pointed, PointedNext, Target, ToRam, ToOutnum, ToOutdata, Form, Move, Calculate, Compare, Update, Push}
 use Rattle.code_forms.specs.Forms.{SetStack, BranchIndexed, SkipBy}
 use Rattle.array_versions.specs.Program.{Program}
@@ -60,8 +60,8 @@ IsTaskForm low _ = Unit {0}
 
 -- the code of a program is made of such forms
 abbrev pub CodeIsOfTaskForms : Type 0
-CodeIsOfTaskForms = (p : Program) → EachForm (IsTaskForm (stack_base (locals_of p))) (code_of p)
+CodeIsOfTaskForms = (events : Bool) (p : Program) → EachForm (IsTaskForm (stack_base (locals_of p))) (code_of events p)
 
 -- so no code of a program names a word of RAM below the place of its stack
 abbrev pub CodeNamesRamFrom : Type 0
-CodeNamesRamFrom = (p : Program) → EachForm (NamesRamFrom (stack_base (locals_of p))) (code_of p)
+CodeNamesRamFrom = (events : Bool) (p : Program) → EachForm (NamesRamFrom (stack_base (locals_of p))) (code_of events p)

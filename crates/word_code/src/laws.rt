@@ -6,7 +6,6 @@ ghost use Rattle.word_code.specs.TaskForms.{CodeIsOfTaskForms, CodeNamesRamFrom}
 
 /// The code of a whole program makes the program's effects within the cycles of the way that it takes, and comes to the program's end: behind its
 /// jump, or to an instruction that wants a reading where none is left.
-#[tactic(auto, using(crate::proofs::Whole::code_does_as_program))]
 pub fn code_does_as_its_program()
     ensures { CodeDoesAsProgram }
 {}

@@ -16,7 +16,7 @@ pub returns-in_err-put_file-clause-failure : goal.returns-in_err-put_file-clause
 returns-in_err-put_file-clause-failure g c =
     let built = c.in_ok-built.ensures.built in
     let source = c.in_ok-source.ensures in
-    let product = builds c.images_keep_the_laws.ensures _ _ _ _ _ _ source.text source.accepted source.no_event built
+    let product = builds c.images_keep_the_laws.ensures _ _ _ _ _ _ source.text source.accepted built
     (c.in_ok-built.ensures.told built.map built.mapped) _ refl in
     handed_on _ _ _ c.from_residual-in_err-put_file.ensures (put_fails _ _ _ _ _ _ _ _ refl (product, refl) refl c.in_err-put_file.ensures.failure)
 
@@ -24,7 +24,7 @@ pub returns-clause-whole : goal.returns-clause-whole
 returns-clause-whole g c =
     let built = c.in_ok-built.ensures.built in
     let source = c.in_ok-source.ensures in
-    let product = builds c.images_keep_the_laws.ensures _ _ _ _ _ _ source.text source.accepted source.no_event built
+    let product = builds c.images_keep_the_laws.ensures _ _ _ _ _ _ source.text source.accepted built
     (c.in_ok-built.ensures.told built.map built.mapped) in
     put_whole _ _ _ _ _ _ _ _ refl (λ output bound. (product output bound, refl)) c.as_slice.ensures.value c.in_ok-put_file.ensures.put
     (_, ap (λ a. bound_line a.cycles) c.allow.ensures, c.in_ok-write_bound.ensures.bytes.whole)
@@ -33,7 +33,7 @@ pub returns-in_err-write_bound-clause-failure : goal.returns-in_err-write_bound-
 returns-in_err-write_bound-clause-failure g c =
     let built = c.in_ok-built.ensures.built in
     let source = c.in_ok-source.ensures in
-    let product = builds c.images_keep_the_laws.ensures _ _ _ _ _ _ source.text source.accepted source.no_event built
+    let product = builds c.images_keep_the_laws.ensures _ _ _ _ _ _ source.text source.accepted built
     (c.in_ok-built.ensures.told built.map built.mapped) in
     handed_on _ _ _ c.from_residual-in_err-write_bound.ensures
     (put_breaks _ _ _ _ _ _ _ _ refl (λ output bound. (product output bound, refl)) c.as_slice.ensures.value c.in_ok-put_file.ensures.put

@@ -1,5 +1,5 @@
 use Rattle.link_image.proofs.Names.{◌≡◌, ◌∙◌, ◌+◌, ◌*◌, ◌++◌, ap, sym, subst, length, map, arith, length-map, reset_vector, end_of, instructions, program_of}
-use Rattle.link_image.proofs.Names.{chained, PartsInOrder, task_parts}
+use Rattle.link_image.proofs.Names.{chained, PartsInOrder, task_parts, Bool, List, ℕ, TaskPlace}
 use Rattle.link_image.proofs.code.code_words.Goals as goal
 use Rattle.boot_runtime.specs.Entries.{task_entries}
 use Rattle.boot_runtime.specs.Listing.{boot_forms}
@@ -35,8 +35,10 @@ push_tasks-requires-clause-order c =
     let commit = after_commit l ps c.requires.fits c.boot-start.result.address c.commit.result.address c.push_part.new.words.items
     c.push_part-2.new.words.items c.as_slice-2.result.now
     start (ap (λ r. r.address) c.commit.ensures) (c.as_slice-2.ensures.value ∙ c.in_ok-commit.ensures) boot c.in_ok-push_part-2.ensures in
-    subst (λ ts. PartsInOrder (c.boot-start.result.address + 2 * length c.push_part-2.new.words.items) (task_parts ts ps) reset_vector) (sym c.tasks.ensures)
-    (tasks_behind l ps c.requires.fits c.boot-start.result.address c.push_part-2.new.words.items commit)
+    let end = c.boot-start.result.address + 2 * length c.push_part-2.new.words.items in
+    subst (λ ts. PartsInOrder end (task_parts c.runtime.result.events ts ps) reset_vector) (sym c.tasks.ensures)
+    (subst (λ events. PartsInOrder end (task_parts events l.tasks ps) reset_vector) (sym (ap (λ r. r.events) c.runtime.ensures))
+    (tasks_behind l ps c.requires.fits c.boot-start.result.address c.push_part-2.new.words.items commit))
 
 pub push_tasks-requires-clause-short : goal.push_tasks-requires-clause-short
 push_tasks-requires-clause-short c =
@@ -57,7 +59,9 @@ returns c =
     let commit = after_commit l ps c.requires.fits c.boot-start.result.address c.commit.result.address c.push_part.new.words.items
     c.push_part-2.new.words.items c.as_slice-2.result.now
     start (ap (λ r. r.address) c.commit.ensures) (c.as_slice-2.ensures.value ∙ c.in_ok-commit.ensures) boot c.in_ok-push_part-2.ensures in
+    let behind : Bool → List TaskPlace → List ℕ = λ events ts. c.push_part-2.new.words.items ++ words_in
+    (chained (c.boot-start.result.address + 2 * length c.push_part-2.new.words.items) (task_parts events ts ps)) in
     c.in_ok-push_tasks.ensures
-    ∙ ap (λ ts. c.push_part-2.new.words.items ++ words_in
-    (chained (c.boot-start.result.address + 2 * length c.push_part-2.new.words.items) (task_parts ts ps))) c.tasks.ensures
+    ∙ ap (λ ts. behind c.runtime.result.events ts) c.tasks.ensures
+    ∙ ap (λ events. behind events l.tasks) (ap (λ r. r.events) c.runtime.ensures)
     ∙ commit.rest

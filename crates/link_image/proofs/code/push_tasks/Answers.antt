@@ -6,7 +6,7 @@ use Rattle.link_image.proofs.Written.{words_in, part_words, parts_more, next_ord
 pub push_task-requires-clause-order : goal.push_task-requires-clause-order
 push_task-requires-clause-order c =
     let at = c.args.start + 2 * length c.loop-k.words.items in
-    let order = next_order c.args.tasks.now c.args.programs.now at c.loop-k.k c.index-tasks-k.result c.index-programs-k.result c.loop-k-test.true
+    let order = next_order c.args.events c.args.tasks.now c.args.programs.now at c.loop-k.k c.index-tasks-k.result c.index-programs-k.result c.loop-k-test.true
     c.requires.count c.index-tasks-k.is c.index-programs-k.is c.loop-k.invariant.order in
     (order.0, order_end _ reset_vector _ order.1)
 
@@ -30,10 +30,10 @@ loop-k-preserved c =
     let old = c.loop-k.words.items in
     let new = c.push_task.new.words.items in
     let at = c.args.start + 2 * length old in
-    let part = task_part t (program_of p) in
-    let rest = task_parts (drop (k + 1) ts) (map program_of (drop (k + 1) ps)) in
-    let order = next_order ts ps at k t p c.loop-k-test.true c.requires.count c.index-tasks-k.is c.index-programs-k.is c.loop-k.invariant.order in
-    let more = parts_more ts ps k t p c.loop-k-test.true (omega (arith, c.loop-k-test.true, c.requires.count)) c.index-tasks-k.is c.index-programs-k.is in
+    let part = task_part c.args.events t (program_of p) in
+    let rest = task_parts c.args.events (drop (k + 1) ts) (map program_of (drop (k + 1) ps)) in
+    let order = next_order c.args.events ts ps at k t p c.loop-k-test.true c.requires.count c.index-tasks-k.is c.index-programs-k.is c.loop-k.invariant.order in
+    let more = parts_more c.args.events ts ps k t p c.loop-k-test.true (omega (arith, c.loop-k-test.true, c.requires.count)) c.index-tasks-k.is c.index-programs-k.is in
     let made = part_words c.args.start old new _ part rest c.requires.even order.0.even order.0.from c.in_ok-push_task.ensures
     (ap (λ l. old ++ words_in (chained at l)) (sym more) ∙ c.loop-k.invariant.made) in
     record {

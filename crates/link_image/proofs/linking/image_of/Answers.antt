@@ -1,6 +1,7 @@
 use Rattle.link_image.proofs.Names.{◌≡◌, ◌∙◌, ◌-◌, ◌/◌, ◌==◌, ℕ, List, if◌then◌else◌, ap, sym, subst, length, map, arith, slice_index, reset_vector}
 use Rattle.link_image.proofs.Names.{SharedDeclaration, program_of, words_of, initial_words, MemoryMap, word_place, apart_of, linked, is_within, shared_word}
 use Rattle.link_image.proofs.Names.{code_words, AreWords}
+use Rattle.image_laws.specs.Words.{with_handler}
 use Rattle.task_ast.specs.View as tree
 use Rattle.link_image.proofs.linking.image_of.Goals as goal
 use Rattle.lower.specs.Lowered.{lowered}
@@ -10,9 +11,10 @@ use Rattle.link_image.proofs.Placing.{zeros_are_words}
 -- the word at an address, by the code, the declarations and the entry task
 abbrev word_by : MemoryMap → List ℕ → List SharedDeclaration → ℕ → ℕ → ℕ
 word_by l code ds entry a = if a == reset_vector then l.boot.address
-    else if is_within (record { address = l.boot.address; words = length code }) a then slice_index code ((a - l.boot.address) / 2)
+    else with_handler l.runtime.events a (
+    if is_within (record { address = l.boot.address; words = length code }) a then slice_index code ((a - l.boot.address) / 2)
     else if a == (word_place l CurrentTask) then entry
-    else shared_word l.variables (map (λ d. initial_words d.extent) ds) a
+    else shared_word l.variables (map (λ d. initial_words d.extent) ds) a)
 
 pub put_image-requires-clause-room : goal.put_image-requires-clause-room
 put_image-requires-clause-room c =

@@ -1,7 +1,9 @@
-use Rattle.std.proofs.Common.{◌∙◌, ap, map, subst, sym}
+use Rattle.std.proofs.Common.{◌∙◌, Bool, ap, map, subst, sym}
 use Rattle.std.proofs.lemmas.List.{length-map}
 use Rattle.task_ast.specs.View.{task_of, program_of}
-use Rattle.cost_bound.specs.Allowance.{is_written}
+use Rattle.cost_bound.specs.Allowance.{is_written, use_events}
+use Rattle.memory_map.specs.MemoryMap.{MemoryMap, lone_redo}
+use Rattle.memory_map.specs.View.{map_with}
 use Rattle.privatise.specs.Layouts.{IsLayout}
 use Rattle.privatise.proofs.Sums.{plain_small}
 use Rattle.privatise.proofs.Whole.{AreWritten, even_starts, sizes_fit, room, code_small, code_room, scalars_placed, tasks_moved, laid_out, whole}
@@ -57,7 +59,7 @@ pub new-requires : goal.new-requires
 new-requires c =
     let marks : AreWritten (program_of c.args.source.now) c.written_variables-written.result =
     λ i l. c.written_variables-written.ensures i l ∙ ap (λ ts. is_written (map task_of ts) i) c.as_slice-tasks.ensures.value in
-    laid_out (program_of c.args.source.now) c.args.allow.now c.args.plan.now c.sizes_of.result c.regions_of-regions.result c.written_variables-written.result
+    laid_out _ (program_of c.args.source.now) c.args.allow.now c.args.plan.now c.sizes_of.result c.regions_of-regions.result c.written_variables-written.result
     c.in_ok-variables.variables.items c.in_ok-layouts.layouts.items
     (record {
       few = c.requires.few;
@@ -95,4 +97,7 @@ returns c =
         plans = c.tasks.ensures j;
       }) c.in_ok-layouts.ensures;
     }) in
-    subst (IsLayout (program_of c.args.source.now) c.args.allow.now c.args.plan.now) (sym c.new.ensures) is
+    let events = c.uses_events.ensures ∙ ap (λ ts. use_events (map task_of ts)) c.as_slice-tasks.ensures.value in
+    let made : Bool → MemoryMap = λ used. map_with (record lone_redo { events = used }) c.regions_of-regions.result c.in_ok-variables.variables.items
+    c.in_ok-layouts.layouts.items in
+    subst (IsLayout (program_of c.args.source.now) c.args.allow.now c.args.plan.now) (sym (c.new.ensures ∙ ap made events)) is

@@ -1,0 +1,6 @@
+mod Steady
+mod Shown
+mod Handler
+pub mod Interface
+pub use Rattle.machine_effects.proofs as machine_effects
+pub use Rattle.event_handler.proofs as event_handler

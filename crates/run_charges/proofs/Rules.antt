@@ -1,0 +1,42 @@
+-- The rules of interrupts, kept by a step of code in which the CPU accepts them.
+use Rattle.std.proofs.Common.{◌≡◌, ℕ, refl, sym, ap, ◌∙◌, subst, Bool, true, false, not, if◌then◌else◌, List, [], Option, Some}
+use Rattle.std.proofs.lemmas.Bool.{and_parts}
+use Rattle.msp_isa.specs.declared.instructions.Instr.{Instr}
+use Rattle.msp_step.specs.Step.{is_interruptible}
+use Rattle.fram_board.specs.Effects.{Effect}
+use Rattle.machine_effects.specs.Going.{Goes, Stops}
+use Rattle.machine_effects.specs.Machine.{Code, MachineBoard, MachineOutcome, exec, undisturbed, is_exposed, breaks_rules, astray, step_with, is_prepared}
+use Rattle.machine_effects.specs.Machine.{keeps_stack, in_stack}
+use Rattle.code_forms.proofs.Interface.{code_stays_open}
+use Rattle.program_view.specs.Laws.{KeepsItsStack}
+
+goes_by : (events b : Bool) (i : Option Instr) (s t u : MachineBoard) (es fs : List Effect) (c d : ℕ) → is_exposed events i s t ≡ b
+    → ◌≡◌ {A = MachineOutcome} (if b then Stops [] 0 (astray s) else Goes es c t) (Goes fs d u) → is_exposed events i s u ≡ false
+goes_by events true i s t u es fs c d e h = absurd cc
+goes_by events false i s t u es fs c d e h = let same : t ≡ u = cc in ap (λ v. is_exposed events i s v) (sym same) ∙ e
+
+goes_kept : (events : Bool) (i : Option Instr) (s u : MachineBoard) (o : MachineOutcome) (fs : List Effect) (d : ℕ)
+    → undisturbed events i s o ≡ Goes fs d u → is_exposed events i s u ≡ false
+goes_kept events i s u (Goes es c t) fs d h = goes_by events (is_exposed events i s t) i s t u es fs c d refl h
+goes_kept events i s u (Stops es price e) fs d h = absurd cc
+
+stack_by : (a b k p : Bool) → (if a then not (if b then k else p) else b) ≡ false → a ≡ true → b ≡ true → k ≡ true
+stack_by true true true p h e f = refl
+stack_by true true false p h e f = absurd cc
+stack_by true false k p h e f = absurd cc
+stack_by false b k p h e f = absurd cc
+
+-- a step of code with events, on a machine that is prepared
+pub stack_kept : (code : Code) (i : Instr) (s t : MachineBoard) (es : List Effect) (c : ℕ) → code.events ≡ true → code.at (s.registers 0) ≡ Some i
+    → exec code s ≡ Goes es c t → is_prepared s ≡ true → is_interruptible s.registers ≡ true → KeepsItsStack i s t
+stack_kept code i s t es c on at e prepared was =
+    let kept = goes_kept code.events (code.at (s.registers 0)) s t (step_with (code.at (s.registers 0)) s) es c e in
+    let rules : breaks_rules (Some i) s t ≡ false =
+    subst (λ (q : Option Instr). breaks_rules q s t ≡ false) at (subst (λ b. is_exposed b (code.at (s.registers 0)) s t ≡ false) on kept) in
+    let now = code_stays_open code s t es c on e was in
+    record {
+      accepts = now;
+      in_stack = (and_parts _ (in_stack (s.registers 1)) prepared).1;
+      stack = stack_by (is_interruptible t.registers) (is_interruptible s.registers) (keeps_stack (Some i) (s.registers 1) (t.registers 1)) (is_prepared t)
+          rules now was;
+    }
