@@ -10,7 +10,7 @@ use Rattle.machine_effects.specs.Machine.{MachineBoard, MachineOutcome, MachineS
 use Rattle.machine_effects.proofs.Interface.{after_after, after_nothing}
 use Rattle.code_forms.specs.Forms.{Core, board_of, Form, instruction_of, form_bytes}
 use Rattle.code_forms.specs.Code.{Stands, IsTidy, IsAtForm, OfState, StepsAreForms}
-use Rattle.code_forms.specs.Placed.{placed, instructions}
+use Rattle.code_forms.specs.Placed.{placed, placed_at, instructions}
 use Rattle.code_forms.proofs.Interface.{bytes_are, forms_stand}
 
 -- a board stands at forms in front of each of so many steps
@@ -44,33 +44,33 @@ fewer_forms code n m s l all k j = all k (omega (arith, l, j))
 -- ---- forms that stand somewhere, placed there alone
 
 stands_by : (code : Code) (p : ℕ) (m : Form) (ms : List Form) (a : ℕ) (i : Instr) (b : Bool) → (a == p) ≡ b → Stands code p (m ∷ ms)
-    → (if b then Some (instruction_of m) else placed (p + 2 * length (encoding (instruction_of m))) (instructions ms) a) ≡ Some i
-    → (placed (p + form_bytes m) (instructions ms) a ≡ Some i → code a ≡ Some i) → code a ≡ Some i
-stands_by code p m ms a i true e h q rest = ap code (eqb-true a p e) ∙ h.0 ∙ q
-stands_by code p m ms a i false e h q rest = rest (ap (λ n. placed (p + n) (instructions ms) a) (sym (bytes_are m)) ∙ q)
+    → (if b then Some (instruction_of m) else placed_at (p + 2 * length (encoding (instruction_of m))) (instructions ms) a) ≡ Some i
+    → (placed_at (p + form_bytes m) (instructions ms) a ≡ Some i → code.at a ≡ Some i) → code.at a ≡ Some i
+stands_by code p m ms a i true e h q rest = ap code.at (eqb-true a p e) ∙ h.0 ∙ q
+stands_by code p m ms a i false e h q rest = rest (ap (λ n. placed_at (p + n) (instructions ms) a) (sym (bytes_are m)) ∙ q)
 
 -- an instruction of theirs is one of the code
-pub is_part : (code : Code) (p : ℕ) (ms : List Form) (a : ℕ) (i : Instr) → Stands code p ms → placed p (instructions ms) a ≡ Some i → code a ≡ Some i
+pub is_part : (code : Code) (p : ℕ) (ms : List Form) (a : ℕ) (i : Instr) → Stands code p ms → placed_at p (instructions ms) a ≡ Some i → code.at a ≡ Some i
 is_part code p [] a i h q = absurd (cc q)
 is_part code p (m ∷ ms) a i h q = stands_by code p m ms a i (a == p) refl h q (λ r. is_part code (p + form_bytes m) ms a i h.1 r)
 
-pub tidy_alone : (code : Code) (p : ℕ) (ms : List Form) → IsTidy code → Stands code p ms → IsTidy (placed p (instructions ms))
+pub tidy_alone : (code : Code) (p : ℕ) (ms : List Form) → IsTidy code → Stands code p ms → IsTidy (placed code.events p (instructions ms))
 tidy_alone code p ms tidy h a i q = tidy a i (is_part code p ms a i h q)
 
-pub stands_alone : (p : ℕ) (ms : List Form) → Stands (placed p (instructions ms)) p ms
-stands_alone p ms = forms_stand ms p
+pub stands_alone : (events : Bool) (p : ℕ) (ms : List Form) → Stands (placed events p (instructions ms)) p ms
+stands_alone events p ms = forms_stand events ms p
 
 module _ (code : Code) (p : ℕ) (ms : List Form) (h : Stands code p ms) where
   abbrev alone : Code
-  alone = placed p (instructions ms)
+  alone = placed code.events p (instructions ms)
 
   -- at a form of theirs both step alike
-  same_at : (s : MachineBoard) (u : Core) (m : Form) → s ≡ board_of u → alone u.pc ≡ Some (instruction_of m) → exec code s ≡ exec alone s
+  same_at : (s : MachineBoard) (u : Core) (m : Form) → s ≡ board_of u → alone.at u.pc ≡ Some (instruction_of m) → exec code s ≡ exec alone s
   same_at s u m e q =
       let at : s.registers 0 ≡ u.pc = ap (λ x. x.registers 0) e in
-      let one : alone (s.registers 0) ≡ Some (instruction_of m) = ap alone at ∙ q in
-      let other : code (s.registers 0) ≡ Some (instruction_of m) = is_part code p ms (s.registers 0) (instruction_of m) h one in
-      ap (λ o. undisturbed s (step_with o s)) other ∙ sym (ap (λ o. undisturbed s (step_with o s)) one)
+      let one : alone.at (s.registers 0) ≡ Some (instruction_of m) = ap alone.at at ∙ q in
+      let other : code.at (s.registers 0) ≡ Some (instruction_of m) = is_part code p ms (s.registers 0) (instruction_of m) h one in
+      ap (λ o. undisturbed code.events o s (step_with o s)) other ∙ sym (ap (λ o. undisturbed code.events o s (step_with o s)) one)
 
   same_step : (s : MachineBoard) → IsAtForm alone s → exec code s ≡ exec alone s
   same_step s k = same_at s k.core k.form k.is k.stands

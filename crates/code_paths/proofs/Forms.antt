@@ -10,8 +10,9 @@ use Rattle.instruction_forms.specs.declared.kinds.Modification.TheVariants as ch
 use Rattle.machine_effects.specs.msp_step.Effect.{distance}
 use Rattle.machine_effects.specs.Going.{Goes, Stops}
 use Rattle.code_forms.specs.Forms.{Core, CoreOutcome, Form, Move, Calculate, Compare, Update, Push, Modify, SetStack, Sense, Jump, Skip, Branch, BranchIndexed}
-use Rattle.code_forms.specs.Forms.{SkipBy, WorkRegister, Target, ToRegister, ToFram, ToRam, ToIndexed, ToPointed, ToOutnum, ToOutdata, source_read}
-use Rattle.code_forms.specs.Forms.{target_written, sensed, form_step, instruction_of, form_bytes}
+use Rattle.code_forms.specs.Forms.{SkipBy, EnableInterrupts, WorkRegister, Target, ToRegister, ToFram, ToRam, ToIndexed, ToPointed, ToOutnum, ToOutdata, source_read}
+use Rattle.machine_effects.specs.fram_board.Effects.{Effect}
+use Rattle.code_forms.specs.Forms.{behind_source, source_effects, target_written, sensed, form_step, instruction_of, form_bytes}
 use Rattle.code_forms.specs.Code.{IsStraight, OfNext}
 use Rattle.code_paths.specs.Paths.{form_cycles, goes_forward}
 
@@ -33,9 +34,16 @@ sensed_costs : (ws : List ℕ) (b : WorkRegister) (u : Core) → CostsSo (sensed
 sensed_costs [] b u = refl
 sensed_costs (w ∷ ws) b u = refl
 
+behind_costs : (es : List Effect) (o : CoreOutcome) (cost : ℕ) → CostsSo o cost → CostsSo (behind_source es o) cost
+behind_costs es (Goes [] c u) cost h = h
+behind_costs es (Goes (f ∷ fs) c u) cost h = h
+behind_costs es (Stops fs price e) cost h = h
+
 -- a form costs its cycles, also where it stops
 pub costs_so : (m : Form) (u : Core) → CostsSo (form_step m u) (form_cycles m)
-costs_so (Move x y) u = written_costs y _ _ (record (source_read x u) { pc = u.pc + form_bytes (Move x y) })
+costs_so (Move x y) u =
+    behind_costs (source_effects x u) (target_written y _ _ (record (source_read x u) { pc = u.pc + form_bytes (Move x y) })) _
+    (written_costs y _ _ (record (source_read x u) { pc = u.pc + form_bytes (Move x y) }))
 costs_so (Calculate op x b) u = refl
 costs_so (Compare x a) u = refl
 costs_so (Update op x a) u = refl
@@ -51,6 +59,7 @@ costs_so (Skip n) u = refl
 costs_so (Branch a) u = refl
 costs_so (BranchIndexed b x) u = refl
 costs_so (SkipBy b) u = refl
+costs_so EnableInterrupts u = refl
 
 abbrev pub IsAt : ℕ → Core → Type 0
 IsAt p t = t.pc ≡ p
@@ -68,9 +77,16 @@ sensed_at : (ws : List ℕ) (b : WorkRegister) (u : Core) → OfNext (sensed ws 
 sensed_at [] b u = tt
 sensed_at (w ∷ ws) b u = refl
 
+at_behind : (es : List Effect) (o : CoreOutcome) (p : ℕ) → OfNext o (IsAt p) → OfNext (behind_source es o) (IsAt p)
+at_behind es (Goes [] c u) p h = h
+at_behind es (Goes (f ∷ fs) c u) p h = h
+at_behind es (Stops fs price e) p h = h
+
 -- a straight form leads behind it
 pub goes_behind : (m : Form) (u : Core) → IsStraight m → OfNext (form_step m u) (IsAt (u.pc + form_bytes m))
-goes_behind (Move x y) u h = written_at y _ _ (record (source_read x u) { pc = u.pc + form_bytes (Move x y) })
+goes_behind (Move x y) u h =
+    at_behind (source_effects x u) (target_written y _ _ (record (source_read x u) { pc = u.pc + form_bytes (Move x y) })) _
+    (written_at y _ _ (record (source_read x u) { pc = u.pc + form_bytes (Move x y) }))
 goes_behind (Calculate op x b) u h = refl
 goes_behind (Compare x a) u h = refl
 goes_behind (Push x) u h = refl
@@ -83,6 +99,7 @@ goes_behind (Skip n) u h = elim h [ ]
 goes_behind (Branch a) u h = elim h [ ]
 goes_behind (BranchIndexed b x) u h = elim h [ ]
 goes_behind (SkipBy b) u h = elim h [ ]
+goes_behind EnableInterrupts u h = refl
 
 -- an instruction that writes PC
 abbrev pub writes_pc : Instr → Bool
@@ -118,6 +135,7 @@ straight_leaves_pc (Skip n) h = elim h [ ]
 straight_leaves_pc (Branch a) h = elim h [ ]
 straight_leaves_pc (BranchIndexed b x) h = elim h [ ]
 straight_leaves_pc (SkipBy b) h = elim h [ ]
+straight_leaves_pc EnableInterrupts h = refl
 
 -- the other way round
 pub straight_by_pc : (m : Form) → writes_pc (instruction_of m) ≡ false → IsStraight m
@@ -134,6 +152,7 @@ straight_by_pc (Skip n) e = absurd (cc e)
 straight_by_pc (Branch a) e = absurd (cc e)
 straight_by_pc (BranchIndexed b x) e = absurd (cc e)
 straight_by_pc (SkipBy b) e = absurd (cc e)
+straight_by_pc EnableInterrupts e = tt
 
 -- a form with the instruction of a jump is that jump
 pub jump_by_instruction : (m : Form) (c : Condition) (o : ℕ) → instruction_of m ≡ instr.Jump c o → m ≡ Jump c o
@@ -150,6 +169,7 @@ jump_by_instruction (Skip n) c o e = absurd (cc e)
 jump_by_instruction (Branch a) c o e = absurd (cc e)
 jump_by_instruction (BranchIndexed b x) c o e = absurd (cc e)
 jump_by_instruction (SkipBy b) c o e = absurd (cc e)
+jump_by_instruction EnableInterrupts c o e = absurd (cc e)
 
 -- a jump by fewer than 512 words goes forward
 pub forward_distance : (o : ℕ) → nat_lt o 512 ≡ true → distance o ≡ 2 * o

@@ -16,9 +16,9 @@ use Rattle.machine_effects.specs.fram_board.Effects.{Effect}
 use Rattle.machine_effects.specs.Going.{Goes, Stops, Status, At, Halted, stretch, continued, going, Leads, Stalls}
 use Rattle.machine_effects.specs.Machine.{MachineBoard, MachineOutcome, Code, exec}
 use Rattle.code_forms.specs.Forms.{Core, CoreOutcome, board_of, outcome_of_core, Form, Move, Calculate, Compare, Update, Push, Modify, SetStack, Sense, Jump, Skip}
-use Rattle.code_forms.specs.Forms.{Branch, BranchIndexed, SkipBy, instruction_of, form_bytes, form_step}
+use Rattle.code_forms.specs.Forms.{Branch, BranchIndexed, SkipBy, EnableInterrupts, instruction_of, form_bytes, form_step}
 use Rattle.code_forms.specs.Code.{Stands, forms_bytes, IsStraight, OfNext, IsTidy, IsAtForm, Comes, Runs, Starves}
-use Rattle.code_forms.specs.Placed.{placed, instructions}
+use Rattle.code_forms.specs.Placed.{placed, placed_at, instructions}
 use Rattle.code_forms.proofs.Interface.{bytes_are, does}
 use Rattle.code_paths.specs.Paths.{form_cycles, dearer_way, behind_form, dearest_from, dearest, goes_forward, all_forward, is_forward, forward_most}
 use Rattle.code_paths.specs.Laws.{BeginsCode, RunsKeepToPaths, StarvingKeepsToPaths}
@@ -63,44 +63,44 @@ no_form m = let e = bytes_are m in omega (arith, e, some_word (instruction_of m)
     some_word : (i : Instr) → 0 < length (encoding i)
     some_word i = grind arith
 
-placed_by : (p a : ℕ) (m : Form) (ms : List Form) (b : Bool) → (a == p) ≡ b → a < p → placed (p + form_bytes m) (instructions ms) a ≡ None
-    → (if b then Some (instruction_of m) else placed (p + 2 * length (encoding (instruction_of m))) (instructions ms) a) ≡ None
+placed_by : (p a : ℕ) (m : Form) (ms : List Form) (b : Bool) → (a == p) ≡ b → a < p → placed_at (p + form_bytes m) (instructions ms) a ≡ None
+    → (if b then Some (instruction_of m) else placed_at (p + 2 * length (encoding (instruction_of m))) (instructions ms) a) ≡ None
 placed_by p a m ms true e l rest = let same = eqb-true a p e in absurd (omega (arith, same, l))
-placed_by p a m ms false e l rest = ap (λ n. placed (p + n) (instructions ms) a) (bytes_are m) ∙ rest
+placed_by p a m ms false e l rest = ap (λ n. placed_at (p + n) (instructions ms) a) (bytes_are m) ∙ rest
 
 -- nothing stands in front of it
-nothing_before : (p a : ℕ) (ms : List Form) → a < p → placed p (instructions ms) a ≡ None
+nothing_before : (p a : ℕ) (ms : List Form) → a < p → placed_at p (instructions ms) a ≡ None
 nothing_before p a [] l = refl
 nothing_before p a (m ∷ ms) l = placed_by p a m ms (a == p) refl l (nothing_before (p + form_bytes m) a ms (omega (arith, l)))
 
-module _ (p : ℕ) (all : List Form) (tidy : IsTidy (placed p (instructions all))) where
+module _ (events : Bool) (p : ℕ) (all : List Form) (tidy : IsTidy (placed events p (instructions all))) where
   abbrev alone : Code
-  alone = placed p (instructions all)
+  alone = placed events p (instructions all)
 
   -- from an address on these forms stand, and nothing else
   abbrev Suffix : ℕ → List Form → Type 0
-  Suffix q ms = (a : ℕ) → q ≤ a → alone a ≡ placed q (instructions ms) a
+  Suffix q ms = (a : ℕ) → q ≤ a → alone.at a ≡ placed_at q (instructions ms) a
 
   -- behind the first of them
   suffix_behind : (q : ℕ) (m : Form) (ms : List Form) → Suffix q (m ∷ ms) → Suffix (q + form_bytes m) ms
   suffix_behind q m ms h a l =
       let other : (a == q) ≡ false = ne_eqb a q (λ e. let some = no_form m in omega (arith, l, e, some)) in
       h a (omega (arith, l))
-      ∙ ap (λ b. if b then Some (instruction_of m) else placed (q + 2 * length (encoding (instruction_of m))) (instructions ms) a) other
-      ∙ ap (λ n. placed (q + n) (instructions ms) a) (bytes_are m)
+      ∙ ap (λ b. if b then Some (instruction_of m) else placed_at (q + 2 * length (encoding (instruction_of m))) (instructions ms) a) other
+      ∙ ap (λ n. placed_at (q + n) (instructions ms) a) (bytes_are m)
 
-  suffix_front : (q : ℕ) (m : Form) (ms : List Form) → Suffix q (m ∷ ms) → alone q ≡ Some (instruction_of m)
+  suffix_front : (q : ℕ) (m : Form) (ms : List Form) → Suffix q (m ∷ ms) → alone.at q ≡ Some (instruction_of m)
   suffix_front q m ms h =
       h q (omega arith)
-      ∙ ap (λ b. if b then Some (instruction_of m) else placed (q + 2 * length (encoding (instruction_of m))) (instructions ms) q) (eq-eqb q q refl)
+      ∙ ap (λ b. if b then Some (instruction_of m) else placed_at (q + 2 * length (encoding (instruction_of m))) (instructions ms) q) (eq-eqb q q refl)
 
   -- where nothing stands no step is at a form
-  no_step : (n a : ℕ) (u : Core) (most : ℕ) → alone a ≡ None → u.pc ≡ a → AtForms alone n (board_of u) → steps_cost (exec alone) n (board_of u) ≤ most
+  no_step : (n a : ℕ) (u : Core) (most : ℕ) → alone.at a ≡ None → u.pc ≡ a → AtForms alone n (board_of u) → steps_cost (exec alone) n (board_of u) ≤ most
   no_step zero a u most none at forms = omega arith
   no_step (suc n) a u most none at forms =
       let k = first_form alone n (board_of u) forms in
       let there : u.pc ≡ k.core.pc = ap (λ s. s.registers 0) k.is in
-      let some : alone a ≡ Some (instruction_of k.form) = ap alone (sym at ∙ there) ∙ k.stands in
+      let some : alone.at a ≡ Some (instruction_of k.form) = ap alone.at (sym at ∙ there) ∙ k.stands in
       absurd (cc (none, some))
 
   -- what is known of the code behind a form
@@ -191,6 +191,7 @@ module _ (p : ℕ) (all : List Form) (tidy : IsTidy (placed p (instructions all)
   one_step n (Modify m b) ms q low high far rest forward k u same at e forms = one_straight n (Modify m b) ms q low high far rest k u tt same at e forms
   one_step n (SetStack a) ms q low high far rest forward k u same at e forms = one_straight n (SetStack a) ms q low high far rest k u tt same at e forms
   one_step n (Sense b) ms q low high far rest forward k u same at e forms = one_straight n (Sense b) ms q low high far rest k u tt same at e forms
+  one_step n EnableInterrupts ms q low high far rest forward k u same at e forms = one_straight n EnableInterrupts ms q low high far rest k u tt same at e forms
   one_step n (Skip d) ms q low high far rest forward k u same at e forms = absurd (cc forward)
   one_step n (Branch a) ms q low high far rest forward k u same at e forms = absurd (cc forward)
   one_step n (BranchIndexed b x) ms q low high far rest forward k u same at e forms = absurd (cc forward)
@@ -212,7 +213,7 @@ module _ (p : ℕ) (all : List Form) (tidy : IsTidy (placed p (instructions all)
         let k = first_form alone n (board_of u) forms in
         let there : u.pc ≡ k.core.pc = ap (λ s. s.registers 0) k.is in
         let here : k.core.pc ≡ q = omega (arith, there, at, zero_is) in
-        let stands : alone q ≡ Some (instruction_of k.form) = ap alone (sym here) ∙ k.stands in
+        let stands : alone.at q ≡ Some (instruction_of k.form) = ap alone.at (sym here) ∙ k.stands in
         let same : instruction_of k.form ≡ instruction_of m = same_Some _ _ (sym stands ∙ suffix_front q m ms h) in
         let made : exec alone (board_of k.core) ≡ outcome_of_core (form_step k.form k.core) = does alone tidy k.form k.core k.stands k.needs in
         let both = and_parts (goes_forward m) (all_forward ms) forward in
@@ -238,12 +239,12 @@ module _ (p : ℕ) (all : List Form) (tidy : IsTidy (placed p (instructions all)
         some : 0 < b
         some = grind (arith, nat_tests)
 
-        inside_form : b < form_bytes m → alone (q + b) ≡ None
+        inside_form : b < form_bytes m → alone.at (q + b) ≡ None
         inside_form inside =
             let other : ((q + b) == q) ≡ false = ne_eqb (q + b) q (λ x. omega (arith, x, some)) in
             h (q + b) (omega arith)
-            ∙ ap (λ c. if c then Some (instruction_of m) else placed (q + 2 * length (encoding (instruction_of m))) (instructions ms) (q + b)) other
-            ∙ ap (λ l. placed (q + l) (instructions ms) (q + b)) (bytes_are m)
+            ∙ ap (λ c. if c then Some (instruction_of m) else placed_at (q + 2 * length (encoding (instruction_of m))) (instructions ms) (q + b)) other
+            ∙ ap (λ l. placed_at (q + l) (instructions ms) (q + b)) (bytes_are m)
             ∙ nothing_before (q + form_bytes m) (q + b) ms (omega (arith, inside))
 
   spends : (ms : List Form) → SpendsWithin ms
@@ -254,14 +255,14 @@ module _ (p : ℕ) (all : List Form) (tidy : IsTidy (placed p (instructions all)
 
 module _ (code : Code) (at : ℕ) (ms : List Form) (u : Core) (k : BeginsCode code at ms u) where
   abbrev by_itself : Code
-  by_itself = placed at (instructions ms)
+  by_itself = placed code.events at (instructions ms)
 
   -- from its front on
   from_front : (n : ℕ) → is_forward ms ≡ true → AtForms by_itself n (board_of u) → steps_cost (exec by_itself) n (board_of u) ≤ dearest ms
   from_front n forward forms =
       let both = and_parts (all_forward ms) (nat_lt (forms_bytes ms) 0x8000) forward in
       let short : forms_bytes ms < 0x8000 = ltb-true (forms_bytes ms) 0x8000 both.1 in
-      spends at ms (tidy_alone code at ms k.tidy k.stands) ms n at 0 u (λ a l. refl) both.0 (omega arith) (omega (arith, short))
+      spends code.events at ms (tidy_alone code at ms k.tidy k.stands) ms n at 0 u (λ a l. refl) both.0 (omega arith) (omega (arith, short))
       (k.begins ∙ omega arith) forms
 
   -- within the cycles of its path, or as many as are known

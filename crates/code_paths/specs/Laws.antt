@@ -17,9 +17,9 @@ pub record BeginsCode (code : Code) (at : ℕ) (ms : List Form) (u : Core) : Typ
 -- cycles of its dearest path
 abbrev pub RunsKeepToPaths : Type 0
 RunsKeepToPaths = (code : Code) (at : ℕ) (ms : List Form) (u end : Core) (es : List Effect) (most : ℕ) → BeginsCode code at ms u
-    → Runs (placed at (instructions ms)) es most u (λ t. t ≡ end) → Runs code es (forward_most ms most) u (λ t. t ≡ end)
+    → Runs (placed code.events at (instructions ms)) es most u (λ t. t ≡ end) → Runs code es (forward_most ms most) u (λ t. t ≡ end)
 
 -- and where it is short of a reading alone, it is short there
 abbrev pub StarvingKeepsToPaths : Type 0
 StarvingKeepsToPaths = (code : Code) (at : ℕ) (ms : List Form) (u : Core) (es : List Effect) (most : ℕ) → BeginsCode code at ms u
-    → Starves (placed at (instructions ms)) es most u → Starves code es (forward_most ms most) u
+    → Starves (placed code.events at (instructions ms)) es most u → Starves code es (forward_most ms most) u

@@ -31,7 +31,7 @@ fn goes_forward(form: &Form) -> bool
         Form::Skip(_) | Form::Branch(_) | Form::BranchIndexed(_, _) | Form::SkipBy(_) => false,
         Form::Move(_, _) | Form::Calculate(_, _, _) | Form::Compare(_, _) => true,
         Form::Update(_, _, _) | Form::Push(_) | Form::Modify(_, _) => true,
-        Form::SetStack(_) | Form::Sense(_) => true,
+        Form::SetStack(_) | Form::Sense(_) | Form::EnableInterrupts => true,
     }
 }
 
