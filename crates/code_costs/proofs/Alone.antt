@@ -19,10 +19,10 @@ owed_is (o ∷ os) = let rest = owed_is os in let one = push_is o in omega (arit
 
 module _ (z : Setting) (pc : ℕ) (ms : List Form) (h : Stands z.code pc ms) where
   abbrev pub alone : Setting
-  alone = record z { code = placed pc (instructions ms); tidy = tidy_alone z.code pc ms z.tidy h }
+  alone = record z { code = placed z.code.events pc (instructions ms); tidy = tidy_alone z.code pc ms z.tidy h }
 
   pub stand : Stands alone.code pc ms
-  stand = stands_alone pc ms
+  stand = stands_alone z.code.events pc ms
 
   pub stands_in : (q : ℕ) (w : WordState) (u : Core) → StandsFor z q w u → StandsFor alone q w u
   stands_in q w u i = record {

@@ -12,7 +12,7 @@ pub use Rattle.word_code.proofs.Interface.{near_is, back_distance, stands_low, D
 pub use Rattle.word_code.proofs.Interface.{fork_either, Forked, forked_behind, decision_part, zero_test, holds_part, compares_part, local_number, jump_part}
 pub use Rattle.word_code.proofs.Interface.{raise_part, Bounded, Spared, spared_so, bounded_with, bounded_on, step_bounded, HasStack, stack_part, Ready, ready_on}
 pub use Rattle.word_code.proofs.Interface.{ready_with, ready_popped, turn_ready, Known, known_first, known_second, KnownStep, KnownTest, KnownProgram, one_pushed}
-pub use Rattle.word_code.proofs.Interface.{zero_pushed, step_follows, none_has_no_word, program_below, program_least}
+pub use Rattle.word_code.proofs.Interface.{zero_pushed, step_follows, begun, program_below, program_least}
 pub use Rattle.word_code.specs.array_versions.fram_board.Effects.{Effect}
 pub use Rattle.word_code.specs.code_forms.Forms.{Core, Form, Jump, Skip, Branch, form_bytes, instruction_of, R4}
 pub use Rattle.word_code.specs.code_forms.Code.{Stands, forms_bytes, IsTidy, Runs, Starves}
@@ -28,7 +28,7 @@ pub use Rattle.word_code.specs.array_versions.Behaviour.{WordState, End, GoesOn,
 pub use Rattle.word_code.specs.array_versions.Behaviour.{step_behaviour, behaviour, then_on, tested, with_stack, with_local, with_top, with_two, way_by_top}
 pub use Rattle.word_code.specs.array_versions.Behaviour.{way_by_two, number_pushed, behaves, broken}
 pub use Rattle.word_code.specs.array_versions.Form.{Place, start, assigning, Moves, EachTurn, EachStepWay, EachTestWay, EachWay, StepSpares, TestSpares, Spares}
-pub use Rattle.word_code.specs.array_versions.Form.{IsWhole, OfWords, locals_of}
+pub use Rattle.word_code.specs.array_versions.Form.{IsWhole, FitsEvents, OfWords, LocalsBelow, locals_of}
 pub use Rattle.word_code.specs.array_versions.Cost.{step_cycles, step_spent, unary_cycles, binary_cycles, long_cycles}
 pub use Rattle.word_code.specs.array_versions.Operations.{is_true, compare_words}
 pub use Rattle.word_code.specs.array_versions.Laws.{IsStateOfWords, EndsInWords, IsSound}
@@ -38,7 +38,8 @@ pub use Rattle.word_code.specs.declared.waiting.Waiting.{Waiting}
 pub use Rattle.word_code.specs.Code.{flushed, top_of, below_top, kept, top_to_four, compare_form, is_turned, compare_sides, compare_source, holding, failing}
 pub use Rattle.word_code.specs.Code.{decision, holds_code, compares_code, truth_code, number_code, turn_end, turns_code, jump_back, pass_over, size, bound_of}
 pub use Rattle.word_code.specs.Code.{stack_base, stack_set, waiting_behind, waiting_after, step_code, test_code, steps_code, block_code, code_of}
-pub use Rattle.word_code.specs.Laws.{HasJumped, ComesTo}
+pub use Rattle.word_code.specs.array_versions.machine_effects.address_space.Limits.{stack_start}
+pub use Rattle.word_code.specs.Laws.{IsEntry, HasJumped, ComesTo}
 pub use Rattle.code_paths.specs.Paths.{forward_most}
 pub use Rattle.code_paths.proofs.Interface.{runs_so, starves_so, stands_alone, tidy_alone}
 pub use Rattle.code_costs.specs.Dearest.{any_most, push_most, pushes_most, flush_most, leaf_most, back_cycles, turn_most, turns_most, step_most, test_most, steps_most}

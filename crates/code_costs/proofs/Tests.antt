@@ -33,7 +33,7 @@ module _ (z : Setting) where
       → Forked z when d pc (front ++ (k.form ∷ decision when d k.met k.opposite)) held failed
       → {l : ℕ} (P : ℕ → Core → Type 0) (most : ℕ) (t : WordState) (u : Core) → l + k.reads + 5 ≤ most
       → (let mid = pc + forms_bytes front in (Stands z.code pc front → Runs z.code [] l u (P mid))
-      → ((q : Core) → z.code mid ≡ Some (instruction_of k.form) → P mid q
+      → ((q : Core) → z.code.at mid ≡ Some (instruction_of k.form) → P mid q
       → Runs z.code [] k.reads q (Decided z (mid + form_bytes k.form) t k.answer k.met k.opposite))
       → Runs z.code [] most u (StandsFor z (if k.answer then held else failed) t))
   asked when d front k pc held failed s {l} P most t u le come asks =

@@ -5,7 +5,7 @@ use Rattle.code_costs.proofs.Names.{matches_local, start_matches, step_well, wel
 use Rattle.code_costs.proofs.Names.{nothing_run, so_runs, dearer, assigned_same, StandsFor, OnGoesOn, Reaches, reach_more, then_reach, owed, Describes, dressed}
 use Rattle.code_costs.proofs.Names.{stands_low, pass_part, whole_size, Fork, fork_at, fork_turned, fork_both, fork_either, Forked, forked_behind, jump_part, Bounded}
 use Rattle.code_costs.proofs.Names.{Spared, spared_so, bounded_with, bounded_on, step_bounded, HasStack, stack_part, Ready, ready_on, ready_with, turn_ready, Known}
-use Rattle.code_costs.proofs.Names.{known_first, known_second, KnownStep, KnownTest, KnownProgram, one_pushed, zero_pushed, step_follows, none_has_no_word}
+use Rattle.code_costs.proofs.Names.{known_first, known_second, KnownStep, KnownTest, KnownProgram, one_pushed, zero_pushed, step_follows}
 use Rattle.code_costs.proofs.Names.{program_below, program_least, Effect, Core, Form, Branch, Stands, forms_bytes, IsTidy, Runs, Step, Test, Program, number, truth}
 use Rattle.code_costs.proofs.Names.{choose, repeat, jump, holds, compares, both, either, fails, nothing, step, WordState, End, GoesOn, Jumps, Short, Strays, Broken}
 use Rattle.code_costs.proofs.Names.{Behaviour, started, step_behaviour, behaviour, then_on, tested, with_stack, with_local, way_by_top, way_by_two, number_pushed}
@@ -17,6 +17,7 @@ use Rattle.code_costs.proofs.Names.{turn_most, turns_most, step_most, test_most,
 use Rattle.code_costs.proofs.Names.{unary, binary, long, unary_cycles, binary_cycles, long_cycles, UnaryOperation, Negate, Complement, BinaryOperation, Multiply}
 use Rattle.code_costs.proofs.Names.{Divide, Remainder, Plain, LongOperation, any_most}
 use Rattle.word_code.specs.array_versions.declared.operations.LongOperation.TheVariants as with_longs
+use Rattle.code_costs.proofs.Names.{begun, LocalsBelow, FitsEvents, IsEntry, stack_start}
 use Rattle.code_costs.proofs.Names.{behaves, broken, FollowsEnd, ◌==◌, ◌%◌}
 use Rattle.code_costs.specs.Laws.{CodeKeepsToItsWays}
 use Rattle.code_costs.proofs.Alone.{owed_is, alone, stand, stands_in, stands_out, describes_in, describes_out, runs_there, reaches_there}
@@ -319,50 +320,80 @@ module _ (z : Setting) where
         (words_step first w first_known.of_words r.words_in) (step_bounded bs first w first_known.spares r.bounded))
         (λ t v q j. steps_reach bs more fits mid pc' v t q more_known (stands_back z.code pc a rest h) j next))
 
--- the code keeps to its dearest way
+-- a whole program with its place in code, and where its stack begins
+module _ (z : Setting) (p : Program) (whole : IsWhole p) (of_words : OfWords p) (below : LocalsBelow z.locals p) (room : whole.room ≡ z.room) where
+  by_end : (pc most : ℕ) (u : Core) (es : List Effect) (e : End) → Reaches z 0 (λ v. StandsFor z pc v) most u es e → IsSound e → ComesTo z.code most u es e
+  by_end pc most u es (GoesOn w) a g = g
+  by_end pc most u es (Jumps to w) a g = a
+  by_end pc most u es Short a g = a
+  by_end pc most u es Strays a g = tt
+  by_end pc most u es Broken a g = g
+
+  -- behind what sets its stack the code keeps to its dearest way
+  steps_keep : (at mid front : ℕ) (u : Core) → Stands z.code mid (block_code [] p) → IsEntry z.code.events at u
+      → Runs z.code [] front u (HasStack mid z.base u)
+      → let b = behaviour p (started u.fram u.inputs) in ComesTo z.code (front + block_most [] p 0) u b.effects b.end
+  steps_keep at mid front u h entry set =
+      let s = started u.fram u.inputs in
+      let b = behaviour p s in
+      let end = mid + forms_bytes (block_code [] p) in
+      let r : Ready [] (EachWay z.room p (λ q. ⊥)) s = record {
+        place = start;
+        fit = subst (λ n. EachWay n p (λ q. ⊥) start) room whole.ways;
+        matches = start_matches u.fram u.inputs;
+        words_in = record { stack = tt; locals = λ n v q. absurd (let q' = q in (cc)); fram = entry.fram; inputs = entry.inputs };
+        bounded = tt;
+      } in
+      by_end end (front + block_most [] p 0) u b.effects b.end
+      (then_reach z 0 (λ v. StandsFor z end v) front (block_most [] p 0) u (HasStack mid z.base u) [] b.effects b.end set (λ t k. block_reach z [] p mid 0 s t h
+      (λ hs. steps_reach z [] p (λ q. ⊥) [] mid s t r
+      (record { of_words = of_words; below = below; count = whole.loops_count; spares = tt }) hs (dressed z mid s t (begun z p whole of_words below room mid u t k))
+      (flush_most (waiting_after [] p) + 0))))
+      (whole_ends_soundly p u.fram u.inputs whole)
+
+-- the code keeps to its dearest way: with events its stack is there at the entry, else it is set where a local stands in RAM
 pub code_keeps_to_its_ways : CodeKeepsToItsWays
-code_keeps_to_its_ways code at p u tidy h whole o entry =
-    let locals = locals_of p in
-    let few = program_least whole.locals p whole.low_locals in
-    let room = whole.fits.fits in
-    let z : Setting = record { code = code; tidy = tidy; locals = locals; room = whole.room; roomy = record { fits = omega (arith, room, few) } } in
-    let s = started u.fram u.inputs in
-    let b = behaviour p s in
-    let front = stack_set locals in
-    let mid = at + forms_bytes front in
-    let there : (t : Core) → HasStack mid (stack_base locals) u t → StandsFor z mid s t = λ t k. record {
-      at = k.at;
-      memory = record { depth = omega (arith, k.sp); fits = omega arith; stack = tt; vars = λ n v l q. none_has_no_word v _ q };
-      fram = k.fram;
-      inputs = k.inputs;
-    } in
-    let r : Ready [] (EachWay whole.room p (λ q. ⊥)) s = record {
-      place = start;
-      fit = whole.ways;
-      matches = start_matches u.fram u.inputs;
-      words_in = record { stack = tt; locals = λ n v q. absurd (let q' = q in (cc)); fram = entry.fram; inputs = entry.inputs };
-      bounded = tt;
-    } in
-    let sets : Stands code at front = stands_front code at front (block_code [] p) h in
-    let y = alone z at front sets in
-    let set : Runs code [] (forward_most front 2) u (HasStack mid (stack_base locals) u) =
-    runs_there z at front sets entry.pc
-    (subst (λ n. Runs y.code [] 2 u (HasStack (n + forms_bytes front) (stack_base locals) u)) entry.pc
-    (stack_part y locals u entry.sp (subst (λ n. Stands y.code n front) (sym entry.pc) (stand z at front sets)))) (λ t j. j) in
-    let body = stands_back code at front (block_code [] p) h in
-    by_end z (most_spent p) b.effects b.end
-    (then_reach z 0 (λ v. StandsFor z (mid + forms_bytes (block_code [] p)) v) (forward_most front 2) (block_most [] p 0) u
-    (HasStack mid (stack_base locals) u) [] b.effects b.end set (λ t k. block_reach z [] p mid 0 s t body
-    (λ hs. steps_reach z [] p (λ q. ⊥) [] mid s t r
-    (record { of_words = o; below = program_below locals p (omega arith); count = whole.loops_count; spares = tt }) hs (dressed z mid s t (there t k))
-    (flush_most (waiting_after [] p) + 0))))
-    (whole_ends_soundly p u.fram u.inputs whole)
+code_keeps_to_its_ways code at p u tidy h whole fits o entry = by code.events refl h fits entry
   where
-    by_end : (z : Setting) (most : ℕ) (es : List Effect) (e : End)
-        → Reaches z 0 (λ v. StandsFor z (at + forms_bytes (stack_set (locals_of p)) + forms_bytes (block_code [] p)) v) most u es e → IsSound e
-        → ComesTo z.code most u es e
-    by_end z most es (GoesOn w) a g = g
-    by_end z most es (Jumps to w) a g = a
-    by_end z most es Short a g = a
-    by_end z most es Strays a g = tt
-    by_end z most es Broken a g = g
+    by : (events : Bool) → code.events ≡ events → Stands code at (code_of events p) → (events ≡ true → FitsEvents p whole) → IsEntry events at u
+        → let b = behaviour p (started u.fram u.inputs) in ComesTo code (most_spent events p) u b.effects b.end
+    by true e h fits entry =
+        let fit = fits refl in
+        let z : Setting = record {
+          code = code;
+          tidy = tidy;
+          locals = whole.locals;
+          room = whole.room;
+          base = stack_start;
+          even = refl;
+          start = λ k. omega arith;
+          low = fit.low;
+          roomy = fit.room;
+        } in
+        steps_keep z p whole o whole.low_locals refl at at (forward_most (stack_set true (locals_of p)) 2) u h (subst (λ b. IsEntry b at u) (sym e) entry)
+        (dearer z (omega arith) (nothing_run z (record { at = entry.pc; sp = entry.sp; fram = refl; inputs = refl })))
+    by false e h fits entry =
+        let locals = locals_of p in
+        let few = program_least whole.locals p whole.low_locals in
+        let room = whole.fits.fits in
+        let z : Setting = record {
+          code = code;
+          tidy = tidy;
+          locals = locals;
+          room = whole.room;
+          base = stack_base locals;
+          even = omega arith;
+          start = λ k. absurd (cc (k, e));
+          low = omega arith;
+          roomy = record { fits = omega (arith, room, few) };
+        } in
+        let front = stack_set false locals in
+        let mid = at + forms_bytes front in
+        let sets : Stands code at front = stands_front code at front (block_code [] p) h in
+        let y = alone z at front sets in
+        let set : Runs code [] (forward_most front 2) u (HasStack mid (stack_base locals) u) =
+        runs_there z at front sets entry.pc
+        (subst (λ n. Runs y.code [] 2 u (HasStack (n + forms_bytes front) (stack_base locals) u)) entry.pc
+        (stack_part y locals u e entry.sp (subst (λ n. Stands y.code n front) (sym entry.pc) (stand z at front sets)))) (λ t j. j) in
+        steps_keep z p whole o (program_below locals p (omega arith)) refl at mid (forward_most front 2) u (stands_back code at front (block_code [] p) h)
+        (subst (λ b. IsEntry b at u) (sym e) entry) set

@@ -499,7 +499,7 @@ module _ (z : Setting) where
         (steps_follow bs more next mid pc' v t q more_known
         (stands_back z.code pc a rest h) j))))
 
-pub none_has_no_word : (v w : ℕ) → None ≡ Some v → w ≡ v
+none_has_no_word : (v w : ℕ) → None ≡ Some v → w ≡ v
 none_has_no_word v w e = cc
 
 -- a whole program with its place in code, and where its stack begins
@@ -512,7 +512,7 @@ module _ (z : Setting) (p : Program) (whole : IsWhole p) (of_words : OfWords p) 
   by_end pc most u es Broken a g = g
 
   -- the machine whose stack is there stands for the state at the start
-  begun : (mid : ℕ) (u t : Core) → HasStack mid z.base u t → StandsFor z mid (started u.fram u.inputs) t
+  pub begun : (mid : ℕ) (u t : Core) → HasStack mid z.base u t → StandsFor z mid (started u.fram u.inputs) t
   begun mid u t k =
       record {
         at = k.at;
