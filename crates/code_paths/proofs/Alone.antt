@@ -1,6 +1,6 @@
 -- Code alone, with no other code around it: what it does there, it does in all code that it is a part of.
-use Rattle.std.proofs.Common.{◌≡◌, ℕ, zero, suc, ◌+◌, ◌*◌, ◌<◌, ◌≤◌, ◌==◌, Bool, true, false, if◌then◌else◌, cond, List, [], ◌∷◌, ◌++◌, length, Option, Some, None}
-use Rattle.std.proofs.Common.{refl, sym, ap, ◌∙◌, subst, arith, suc-add, zero-add, append-nil, eqb-true, ne_eqb, eq-eqb}
+use Rattle.std.proofs.Common.{◌≡◌, ℕ, zero, suc, ◌+◌, ◌*◌, ◌<◌, ◌≤◌, ◌==◌, Bool, true, false, if◌then◌else◌, List, [], ◌∷◌, ◌++◌, length, Some}
+use Rattle.std.proofs.Common.{refl, sym, ap, ◌∙◌, subst, arith, suc-add, zero-add, append-nil, eqb-true}
 use Rattle.code_forms.specs.msp_isa.declared.instructions.Instr.{Instr}
 use Rattle.code_forms.specs.msp_isa.Encoding.{encoding}
 use Rattle.machine_effects.specs.msp_step.declared.machine.Stop.{Stop}
@@ -9,7 +9,7 @@ use Rattle.machine_effects.specs.Going.{Goes, Stops, Status, At, Halted, stretch
 use Rattle.machine_effects.specs.Machine.{MachineBoard, MachineOutcome, MachineStretch, Code, exec, step_with, undisturbed}
 use Rattle.machine_effects.proofs.Interface.{after_after, after_nothing}
 use Rattle.code_forms.specs.Forms.{Core, board_of, Form, instruction_of, form_bytes}
-use Rattle.code_forms.specs.Code.{Stands, IsTidy, IsAtForm, OfState, StepsAreForms}
+use Rattle.code_forms.specs.Code.{Stands, IsTidy, IsAtForm, OfState}
 use Rattle.code_forms.specs.Placed.{placed, placed_at, instructions}
 use Rattle.code_forms.proofs.Interface.{bytes_are, forms_stand}
 

@@ -1,5 +1,5 @@
 -- Forms by their instructions: what each costs, and where it leads.
-use Rattle.std.proofs.Common.{◌≡◌, ℕ, ◌+◌, ◌-◌, ◌*◌, ◌/◌, ◌%◌, ◌<◌, ◌==◌, Bool, true, false, not, nat_lt, if◌then◌else◌, List, [], ◌∷◌, refl, sym, ap, ◌∙◌, arith, eq-eqb}
+use Rattle.std.proofs.Common.{◌≡◌, ℕ, ◌+◌, ◌-◌, ◌*◌, ◌/◌, ◌%◌, ◌<◌, Bool, true, false, nat_lt, if◌then◌else◌, List, [], ◌∷◌, refl, ap, ◌∙◌, arith, eq-eqb}
 use Rattle.std.proofs.lemmas.Bool.Decides.{nat_tests}
 use Rattle.code_forms.specs.msp_isa.declared.instructions.Instr.{Instr}
 use Rattle.code_forms.specs.msp_isa.declared.instructions.Instr.TheVariants as instr
@@ -14,7 +14,7 @@ use Rattle.code_forms.specs.Forms.{SkipBy, EnableInterrupts, WorkRegister, Targe
 use Rattle.machine_effects.specs.fram_board.Effects.{Effect}
 use Rattle.code_forms.specs.Forms.{behind_source, source_effects, target_written, sensed, form_step, instruction_of, form_bytes}
 use Rattle.code_forms.specs.Code.{IsStraight, OfNext}
-use Rattle.code_paths.specs.Paths.{form_cycles, goes_forward}
+use Rattle.code_paths.specs.Paths.{form_cycles}
 
 -- what an outcome costs, where it goes on and where it stops
 abbrev pub CostsSo : CoreOutcome → ℕ → Type 0
@@ -61,10 +61,7 @@ costs_so (BranchIndexed b x) u = refl
 costs_so (SkipBy b) u = refl
 costs_so EnableInterrupts u = refl
 
-abbrev pub IsAt : ℕ → Core → Type 0
-IsAt p t = t.pc ≡ p
-
-written_at : (y : Target) (c v : ℕ) (u : Core) → OfNext (target_written y c v u) (IsAt u.pc)
+written_at : (y : Target) (c v : ℕ) (u : Core) → OfNext (target_written y c v u) (λ t. t.pc ≡ u.pc)
 written_at (ToRegister b) c v u = refl
 written_at (ToFram a) c v u = refl
 written_at (ToRam a) c v u = refl
@@ -73,17 +70,17 @@ written_at (ToPointed b) c v u = refl
 written_at ToOutnum c v u = refl
 written_at ToOutdata c v u = refl
 
-sensed_at : (ws : List ℕ) (b : WorkRegister) (u : Core) → OfNext (sensed ws b u) (IsAt (u.pc + 4))
+sensed_at : (ws : List ℕ) (b : WorkRegister) (u : Core) → OfNext (sensed ws b u) (λ t. t.pc ≡ u.pc + 4)
 sensed_at [] b u = tt
 sensed_at (w ∷ ws) b u = refl
 
-at_behind : (es : List Effect) (o : CoreOutcome) (p : ℕ) → OfNext o (IsAt p) → OfNext (behind_source es o) (IsAt p)
+at_behind : (es : List Effect) (o : CoreOutcome) (p : ℕ) → OfNext o (λ t. t.pc ≡ p) → OfNext (behind_source es o) (λ t. t.pc ≡ p)
 at_behind es (Goes [] c u) p h = h
 at_behind es (Goes (f ∷ fs) c u) p h = h
 at_behind es (Stops fs price e) p h = h
 
 -- a straight form leads behind it
-pub goes_behind : (m : Form) (u : Core) → IsStraight m → OfNext (form_step m u) (IsAt (u.pc + form_bytes m))
+pub goes_behind : (m : Form) (u : Core) → IsStraight m → OfNext (form_step m u) (λ t. t.pc ≡ u.pc + form_bytes m)
 goes_behind (Move x y) u h =
     at_behind (source_effects x u) (target_written y _ _ (record (source_read x u) { pc = u.pc + form_bytes (Move x y) })) _
     (written_at y _ _ (record (source_read x u) { pc = u.pc + form_bytes (Move x y) }))

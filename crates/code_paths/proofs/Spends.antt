@@ -1,11 +1,10 @@
 -- Code whose jumps go forward spends no more than its dearest path.
-use Rattle.std.proofs.Common.{◌≡◌, ℕ, zero, suc, ◌+◌, ◌-◌, ◌*◌, ◌%◌, ◌<◌, ◌≤◌, ◌==◌, ◌&&◌, Bool, true, false, nat_lt, if◌then◌else◌, cond, List, [], ◌∷◌, length}
-use Rattle.std.proofs.Common.{Option, Some, None, max, refl, sym, ap, ◌∙◌, subst, arith, eqb-true, ne_eqb, eq-eqb, ⊎_elim, ltb-true}
-use Rattle.std.proofs.lemmas.Bool.{and_parts, cases_lt, cases_eq}
+use Rattle.std.proofs.Common.{◌≡◌, ℕ, zero, suc, ◌+◌, ◌-◌, ◌*◌, ◌<◌, ◌≤◌, ◌==◌, Bool, true, false, nat_lt, if◌then◌else◌, List, [], ◌∷◌, length}
+use Rattle.std.proofs.Common.{Some, None, refl, sym, ap, ◌∙◌, subst, arith, eqb-true, ne_eqb, eq-eqb, ⊎_elim, ltb-true}
+use Rattle.std.proofs.lemmas.Bool.{and_parts, cases_lt}
 use Rattle.std.proofs.lemmas.Bool.Decides.{nat_tests}
 use Rattle.std.proofs.lemmas.Option.{same_Some}
 use Rattle.code_forms.specs.msp_isa.declared.instructions.Instr.{Instr}
-use Rattle.code_forms.specs.msp_isa.declared.instructions.Instr.TheVariants as instr
 use Rattle.code_forms.specs.msp_isa.declared.instructions.Condition.{Condition}
 use Rattle.code_forms.specs.msp_isa.declared.instructions.Condition.TheVariants as condition
 use Rattle.code_forms.specs.msp_isa.Encoding.{encoding}
@@ -13,16 +12,16 @@ use Rattle.machine_effects.specs.msp_step.declared.machine.Stop.{Stop}
 use Rattle.machine_effects.specs.msp_step.declared.machine.Stop.TheVariants as stop
 use Rattle.machine_effects.specs.msp_step.Effect.{is_met, distance, word_sum}
 use Rattle.machine_effects.specs.fram_board.Effects.{Effect}
-use Rattle.machine_effects.specs.Going.{Goes, Stops, Status, At, Halted, stretch, continued, going, Leads, Stalls}
+use Rattle.machine_effects.specs.Going.{Goes, Stops, Halted, stretch, continued, going}
 use Rattle.machine_effects.specs.Machine.{MachineBoard, MachineOutcome, Code, exec}
 use Rattle.code_forms.specs.Forms.{Core, CoreOutcome, board_of, outcome_of_core, Form, Move, Calculate, Compare, Update, Push, Modify, SetStack, Sense, Jump, Skip}
 use Rattle.code_forms.specs.Forms.{Branch, BranchIndexed, SkipBy, EnableInterrupts, instruction_of, form_bytes, form_step}
-use Rattle.code_forms.specs.Code.{Stands, forms_bytes, IsStraight, OfNext, IsTidy, IsAtForm, Comes, Runs, Starves}
+use Rattle.code_forms.specs.Code.{forms_bytes, IsStraight, OfNext, IsTidy, Runs, Starves}
 use Rattle.code_forms.specs.Placed.{placed, placed_at, instructions}
 use Rattle.code_forms.proofs.Interface.{bytes_are, does}
 use Rattle.code_paths.specs.Paths.{form_cycles, dearer_way, behind_form, dearest_from, dearest, goes_forward, all_forward, is_forward, forward_most}
 use Rattle.code_paths.specs.Laws.{BeginsCode, RunsKeepToPaths, StarvingKeepsToPaths}
-use Rattle.code_paths.proofs.Forms.{CostsSo, costs_so, IsAt, goes_behind, writes_pc, straight_leaves_pc, straight_by_pc, jump_by_instruction, forward_distance}
+use Rattle.code_paths.proofs.Forms.{CostsSo, costs_so, goes_behind, writes_pc, straight_leaves_pc, straight_by_pc, jump_by_instruction, forward_distance}
 use Rattle.code_paths.proofs.Alone.{AtForms, forms_behind_step, first_form, tidy_alone, leads_so, stalls_so, forms_there}
 
 -- ---- what steps cost, the price of one that stops among them
@@ -109,7 +108,7 @@ module _ (events : Bool) (p : ℕ) (all : List Form) (tidy : IsTidy (placed even
 
   -- a straight form is made, and then what is behind it
   straight_on : (n : ℕ) (m : Form) (ms : List Form) (next : ℕ) (u : Core) (o : CoreOutcome) → exec alone (board_of u) ≡ outcome_of_core o
-      → CostsSo o (form_cycles m) → OfNext o (IsAt next) → Rest ms next n → AtForms alone (suc n) (board_of u)
+      → CostsSo o (form_cycles m) → OfNext o (λ t. t.pc ≡ next) → Rest ms next n → AtForms alone (suc n) (board_of u)
       → outcome_cost (outcome_of_core o) (steps_cost (exec alone) n) ≤ form_cycles m + dearest_from ms 0
   straight_on n m ms next u (Goes es c t) e cost at rest forms =
       let behind = rest.within 0 t (at ∙ omega arith) (forms_behind_step alone n (board_of u) (board_of t) es c e forms) in
@@ -162,7 +161,7 @@ module _ (events : Bool) (p : ℕ) (all : List Form) (tidy : IsTidy (placed even
         let next : u.pc + form_bytes k ≡ q + form_bytes m = omega (arith, at, bytes) in
         straight_on n m ms (q + form_bytes m) u (form_step k u) e
         (subst (CostsSo (form_step k u)) (same_cycles m k same) (costs_so k u))
-        (subst (λ a. OfNext (form_step k u) (IsAt a)) next (goes_behind k u k_straight)) rest forms
+        (subst (λ a. OfNext (form_step k u) (λ t. t.pc ≡ a)) next (goes_behind k u k_straight)) rest forms
 
   -- a step at the front of these forms
   one_step : (n : ℕ) (m : Form) (ms : List Form) (q : ℕ) → p ≤ q → q + 2 < 0x10000 → q < p + 0x8000 → Rest ms (q + form_bytes m) n
