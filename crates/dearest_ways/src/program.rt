@@ -410,14 +410,14 @@ fn block_ways(
     Ok(behind(ways, end))
 }
 
-/// The cycles that the code of a whole program takes at most, whatever the words are that decide its ways; 2^64 - 1 where they are more.
-pub fn most_spent(alloc: Global, program: &WordProgram) -> Result<u64, AllocError>
+/// The cycles that the code of a whole program, which takes events or not, takes at most, whatever the words are that decide its ways; 2^64 - 1 where they are more.
+pub fn most_spent(alloc: Global, events: bool, program: &WordProgram) -> Result<u64, AllocError>
     requires room { words_of (program_of program.now) ≤ 0x7FFF }
     requires whole { IsWhole (program_of program.now) }
-    ensures { IfOk result (λ n. n ≡ capped (costs.most_spent (program_of program.now))) }
+    ensures { IfOk result (λ n. n ≡ capped (costs.most_spent events (program_of program.now))) }
 {
     let mut set = Vec::new(alloc);
-    emit_stack_set(steps_locals(&program.steps), &mut set)?;
+    emit_stack_set(events, steps_locals(&program.steps), &mut set)?;
     let front = priced(alloc, set.as_slice(), 2)?;
     let ways = behind(front, block_ways(alloc, &[], &program.steps)?);
     Ok(most_of(ways))
