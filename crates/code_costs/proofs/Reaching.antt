@@ -11,9 +11,21 @@ module _ (z : Setting) where
   pub reach_as : (next most : ℕ) (u : Core) (Q R : WordState → Core → Type 0) (es : List Effect) (e : End) → ((w : WordState) (t : Core) → Q w t → R w t)
       → Reaches z next Q most u es e → Reaches z next R most u es e
   reach_as next most u Q R es (GoesOn w) f a =
-      record { spent = a.spent; within = a.within; runs = record { steps = a.runs.steps; cycles = a.runs.cycles; within = a.runs.within; comes = record {
-        end = a.runs.end; leads = a.runs.leads; forms = a.runs.forms; holds = f w a.runs.end a.runs.holds;
-      } } }
+      record {
+        spent = a.spent;
+        within = a.within;
+        runs = record {
+          steps = a.runs.steps;
+          cycles = a.runs.cycles;
+          within = a.runs.within;
+          comes = record {
+            end = a.runs.end;
+            leads = a.runs.leads;
+            forms = a.runs.forms;
+            holds = f w a.runs.end a.runs.holds;
+          };
+        };
+      }
   reach_as next most u Q R es (Jumps to w) f a = a
   reach_as next most u Q R es Short f a = a
   reach_as next most u Q R es _ f a = tt

@@ -104,7 +104,10 @@ fn cost_from(form: &Form, code: &[Form], costs: &[u64]) -> u64
     requires { costs.now ≡ costs_of code.now }
     ensures { result ≡ capped (form_cycles form.now + behind_form form.now (dearest_from code.now)) }
 {
-    plus(cycles(&instruction_of(form)) as u64, behind(form, code, costs))
+    plus(
+        cycles(&instruction_of(form)) as u64,
+        behind(form, code, costs),
+    )
 }
 
 /// The cycles of code at most: those of its dearest path where its jumps all go forward and it has fewer than 0x8000 bytes, and else the cycles that
