@@ -54,7 +54,7 @@ step_taken head kind done offered before after =
     omega (arith, all, rest, reads, changes, none)
 
 -- so many words are known behind a step
-step_known : (head : Option ℕ) (b : BoardValue) (n : NextStep) (done : Stepped) (h : Hand)
+pub step_known : (head : Option ℕ) (b : BoardValue) (n : NextStep) (done : Stepped) (h : Hand)
     → words_known (hand_behind head (moment_of b n done) h) ≡ words_heard done.heard + words_known h
 unfolding hand_behind
 step_known head b n done h =
@@ -63,7 +63,7 @@ step_known head b n done h =
     let taken = step_taken head (kind_of n) done (performed b n).offered b.fram after in
     omega (arith, known, taken)
 
-power_up_known : (head : Option ℕ) (b : BoardValue) (p : PowerState) (h : Hand) → words_known (hand_behind head (power_up_of b p) h) ≡ words_known h
+pub power_up_known : (head : Option ℕ) (b : BoardValue) (p : PowerState) (h : Hand) → words_known (hand_behind head (power_up_of b p) h) ≡ words_known h
 unfolding hand_behind
 power_up_known head b p h = let known = all_words_are_known (PowersUp ∷ []) h in omega (arith, known)
 

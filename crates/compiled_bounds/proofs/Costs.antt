@@ -28,7 +28,7 @@ use Rattle.lower.specs.Sizes.{entry_cycles}
 use Rattle.commit_runtime.specs.Listing.{commit_cycles}
 use Rattle.runtime_code.proofs.Interface.{if_any_most, with_events_most}
 use Rattle.compiled_model.specs.Parts.{task_program}
-use Rattle.compiled_model.specs.Needs.{whole_cycles}
+use Rattle.compiled_model.specs.Needs.{boot_cycles, whole_cycles}
 use Rattle.compiled_bounds.specs.Laws.{TasksKeepToTheBound}
 use Rattle.memory_map.specs.MemoryMap.{MemoryMap, TaskPlace, with_events}
 use Rattle.memory_map.specs.Spots.{places_of, private_words}
@@ -103,6 +103,6 @@ tasks_keep_to_the_bound p allow plans l allowed few layout = record {
       let count = layout.tasks.count in
       let own = element l.tasks t (omega (arith, below, count)) in
       within p allow plans l allowed few layout t fram inputs task.0 own.0 task.1 own.1;
-  commits = λ t below. subst (λ n. 9 + commit_cycles l.runtime.events l.entries l.entries l.emits.words ≤ n) (sym (bound_is_the_sources p l))
+  commits = λ t below. subst (λ n. boot_cycles l + commit_cycles l.runtime.events l.entries l.entries l.emits.words ≤ n) (sym (bound_is_the_sources p l))
       (commit_within_bound p l.runtime.events l.entries l.emits.words (omega (arith, below)) (layout.list ∙ allowed.list) (layout.emits ∙ allowed.emits));
 }

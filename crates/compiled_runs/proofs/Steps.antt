@@ -16,8 +16,9 @@ use Rattle.msp_step.specs.Registers.{Registers}
 use Rattle.msp_step.specs.Access.{Access, Completed, Faulted}
 use Rattle.msp_step.specs.Effect.{Written}
 use Rattle.msp_step.specs.Step.{effect, off_bit}
-use Rattle.machine_effects.specs.Going.{Goes, Stops}
-use Rattle.machine_effects.specs.Inputs.{Look}
+use Rattle.fram_board.specs.Effects.{Effect}
+use Rattle.machine_effects.specs.Going.{Goes, Stops, step_behind}
+use Rattle.machine_effects.specs.Inputs.{Look, first_look, other_looks, look_effects}
 use Rattle.machine_effects.specs.Machine.{Code, MachineBus, MachineBoard, MachineOutcome, machine_bus, machine_opened_seeing, machine_outcome, standing}
 use Rattle.machine_effects.specs.Machine.{step_with, looks_there, machine_executed_seeing, executed_looking}
 use Rattle.machine_effects.specs.Machine.{astray, is_exposed, undisturbed, exec}
@@ -86,9 +87,13 @@ executed_takes : (ring : Option Look) (s : MachineBoard) (i : Instr) → TakesCy
 executed_takes ring s i =
     outcome_takes (s.registers 0) (cycles_of i) (effect machine_bus i s.registers (machine_opened_seeing ring s)) (cycles_some i)
 
+behind_takes : (es : List Effect) (o : MachineOutcome) → TakesCycles o → TakesCycles (step_behind es o)
+behind_takes es (Goes fs c t) h = h
+behind_takes es (Stops fs price e) h = h
+
 looking_takes : (looks : List Look) (s : MachineBoard) (i : Instr) → TakesCycles (executed_looking looks s i)
-looking_takes [] s i = executed_takes None s i
-looking_takes (look ∷ more) s i = executed_takes (Some look) (record s { inputs = record s.inputs { looks = more } }) i
+looking_takes looks s i =
+    behind_takes (look_effects looks) _ (executed_takes (Some (first_look looks)) (record s { inputs = record s.inputs { looks = other_looks looks } }) i)
 
 standing_takes : (i : Option Instr) (s : MachineBoard) → TakesCycles (standing i s)
 standing_takes (Some i) s = either_takes (looks_there i) _ _ (looking_takes s.inputs.looks s i) (executed_takes None s i)

@@ -7,26 +7,12 @@ use Rattle.compiled_states.proofs.Names.{home_region, AreInOrder, AreApart, apar
 use Rattle.compiled_states.proofs.Names.{IsFram, length_of, map_words, map_list, map_buffer, value_type_of, variable_of, variables_of, map_of, IsOfKind}
 use Rattle.compiled_states.proofs.Names.{ArePlacesOf, MapValue, word_count, holds, is_held, place_words, list_words, variable_words, runtime_words, buffers}
 use Rattle.compiled_states.proofs.Names.{is_in_ring, is_shared, is_named, map_ring}
-use Rattle.task_ast.specs.declared.WordType.TheVariants as word
-use Rattle.task_ast.specs.declared.Extent.TheVariants as extent
 use Rattle.layout_facts.specs.Facts.{HasLayout}
-use Rattle.task_ast.specs.declared.WordType.{WordType}
+use Rattle.image_reports.proofs.Interface.{words_are}
 use Rattle.compiled_states.proofs.Full.{IsFull, layout_is_full}
 use Rattle.compiled_states.proofs.Held.{within, bounds_of, none_held, all_held}
 
 -- ---- the variables
-
--- a variable of a map has the words of its place
-pub words_are : (w : WordType) (e : Extent) (place : VariablePlace) → IsOfKind e place
-    → word_count (value_type_of w e) (length_of e) ≡ (home_region place).words
-words_are word.Unsigned (extent.Scalar v) (Scalar home copy width) h = sym (ap scalar_words h)
-words_are word.Int (extent.Scalar v) (Scalar home copy width) h = sym (ap scalar_words h)
-words_are word.Long (extent.Scalar v) (Scalar home copy width) h = sym (ap scalar_words h)
-words_are w (extent.Long n) (Scalar home copy width) h = sym (ap scalar_words h)
-words_are w (extent.Scalar v) (Array elements length copies) h = absurd h
-words_are w (extent.Long n) (Array elements length copies) h = absurd h
-words_are w (extent.Array n) (Scalar home copy width) h = absurd h
-words_are w (extent.Array n) (Array elements length copies) h = sym h
 
 -- a word of a variable lies where the variables are
 shared_between : (text : List ℕ) (ds : List SharedDeclaration) (places : List VariablePlace) (from end a : ℕ) → ArePlacesOf ds places

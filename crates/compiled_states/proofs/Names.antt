@@ -65,7 +65,7 @@ pub use Rattle.image_laws.proofs.Interface.{half, images_are_fresh, laid_out, wo
 pub use Rattle.image_laws.specs.Compiled.{IsCompiled, IsImageOf}
 pub use Rattle.image_laws.specs.Laws.{IsFreshImage, fresh_world}
 pub use Rattle.image_reports.proofs.Interface.{images_belong, images_resume, made}
-pub use Rattle.image_reports.specs.Resumed.{BelongsTo, IsResumedRun, IsToldOnward, is_event_word, known_from}
+pub use Rattle.image_reports.specs.Resumed.{BelongsTo, IsResumedRun, IsToldOnward, known_from}
 -- this crate
 pub use Rattle.compiled_states.specs.Laws.{FreshStatesBelong, ImagesSuitTheirSources, MigratedStatesBelong, StatesAreTold, StatesAreWorlds, StatesGoOn}
 pub use Rattle.compiled_states.specs.Laws.{StatesStay, WorldsAreStates}

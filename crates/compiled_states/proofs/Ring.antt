@@ -2,11 +2,12 @@
 use Rattle.compiled_states.proofs.Names.{◌≡◌, ℕ, ◌+◌, ◌-◌, ◌*◌, ◌%◌, ◌<◌, ◌≤◌, ◌&&◌, nat_le, nat_lt, Bool, true, false, if◌then◌else◌, List, [], ◌∷◌, Option, Some, None, refl, sym, ap}
 use Rattle.compiled_states.proofs.Names.{◌==◌, ap₂, ne_eqb, or_parts, holds}
 use Rattle.compiled_states.proofs.Names.{◌∙◌, subst, arith, inl, inr, IfSome, MemoryMap, MapValue, ImageValue, IsImageOf, IsFreshImage, images_are_fresh}
-use Rattle.compiled_states.proofs.Names.{map_of, map_ring, is_ring, is_event_word, is_in_ring, is_ring_at, is_held, is_pending, runtime_of, word_in, KeepsRing, fram_of, IsFram}
+use Rattle.compiled_states.proofs.Names.{map_of, map_ring, is_ring, is_in_ring, is_ring_at, is_held, is_pending, runtime_of, word_in, KeepsRing, fram_of, IsFram}
 use Rattle.std.proofs.lemmas.Bool.Decides.{nat_tests}
 use Rattle.address_space.specs.Limits.{program_end}
 use Rattle.event_places.specs.Places.{handler_place}
 use Rattle.event_handler.specs.Handler.{HasHandler}
+use Rattle.runtime_effects.specs.Needs.{IsEventWord}
 use Rattle.source_maps.specs.Maps.{event_ring}
 use Rattle.image_map.specs.MapValue.{ring_words}
 use Rattle.image_map.specs.declared.parts.RingPlaces.{RingPlaces}
@@ -60,23 +61,22 @@ pub interrupts_off : (l : MemoryMap) → is_in_ring (map_ring l) 0xFFF0 ≡ fals
 interrupts_off l = off_by l.runtime.events 0xFFF0 refl
 
 -- a word that the ring hasn't counts no events; and if it would be HEAD's or the ring's, the source takes none
-held_low : (a : ℕ) → is_held (ring_parts event_ring) a ≡ false → (nat_le 0xFF18 a && nat_lt a 0xFF20) ≡ false
-held_low a h = grind (arith, nat_tests, h)
+held_low : (a : ℕ) → is_held (ring_parts event_ring) a ≡ false → 0xFF18 ≤ a → a < 0xFF20 → ⊥
+held_low a h from to = grind (arith, nat_tests, h, from, to)
 
 held_ring : (a : ℕ) → is_held (ring_parts event_ring) a ≡ false → is_ring a ≡ true → ⊥
 held_ring a h r = grind (arith, nat_tests, h, r)
 
-event_off_by : (events : Bool) (a : ℕ) → is_in_ring (if events then Some event_ring else None) a ≡ false
-    → (events && (nat_le 0xFF18 a && nat_lt a 0xFF20)) ≡ false
-event_off_by true a h = held_low a h
-event_off_by false a h = refl
+event_off_by : (events : Bool) (a : ℕ) → is_in_ring (if events then Some event_ring else None) a ≡ false → events ≡ true → 0xFF18 ≤ a → a < 0xFF20 → ⊥
+event_off_by true a h on from to = held_low a h from to
+event_off_by false a h on from to = cc on
 
 ring_off_by : (events : Bool) (a : ℕ) → is_in_ring (if events then Some event_ring else None) a ≡ false → is_ring a ≡ true → events ≡ false
 ring_off_by true a h r = absurd (held_ring a h r)
 ring_off_by false a h r = refl
 
-pub event_off : (l : MemoryMap) (a : ℕ) → is_in_ring (map_ring l) a ≡ false → is_event_word l a ≡ false
-event_off l a h = event_off_by l.runtime.events a h
+pub event_off : (l : MemoryMap) (a : ℕ) → is_in_ring (map_ring l) a ≡ false → IsEventWord l a → ⊥
+event_off l a h w = event_off_by l.runtime.events a h w.events w.from w.below
 
 pub ring_off : (l : MemoryMap) (a : ℕ) → is_in_ring (map_ring l) a ≡ false → is_ring a ≡ true → l.runtime.events ≡ false
 ring_off l a h r = ring_off_by l.runtime.events a h r

@@ -7,7 +7,7 @@ use Rattle.compiled_states.proofs.Names.{ArePlacesOf, half, holds, variable_word
 use Rattle.task_ast.specs.declared.Extent.TheVariants as extent
 use Rattle.image_map.specs.declared.parts.Variable.{Variable}
 use Rattle.compiled_states.proofs.Held.{within, past}
-use Rattle.compiled_states.proofs.Named.{words_are}
+use Rattle.image_reports.proofs.Interface.{words_are}
 
 -- no row has a word that no variable has
 pub none_there : (vs : List Variable) (rows : List (List ℕ)) (a : ℕ) → is_shared vs a ≡ false → shared_word vs rows a ≡ None

@@ -58,6 +58,6 @@ pub none_behind : (from end a : ℕ) (vs : List VariablePlace) (rows : List (Lis
 none_behind from end a [] rows order l = refl
 none_behind from end a (v ∷ vs) [] order l = refl
 none_behind from end a (v ∷ vs) (row ∷ rows) order l =
-    let last = in_order_end (end_of (home_region v)) end (map home_region vs) order.1 in
+    let last = in_order_end (end_of (home_region v)) (map home_region vs) end order.1 in
     ap (λ b. cond b (word_of_row (home_region v) row a) (shared_word vs rows a)) (outside_behind (home_region v) a (omega (arith, l, last)))
     ∙ none_behind (end_of (home_region v)) end a vs rows order.1 l

@@ -1,10 +1,10 @@
 -- The world of an image before anything was done.
 use Rattle.image_laws.proofs.Names.{◌≡◌, ◌≢◌, ℕ, ◌+◌, ◌-◌, ◌*◌, ◌/◌, ◌%◌, ◌<◌, ◌≤◌, ◌==◌, ◌&&◌, if◌then◌else◌, cond, ne_eqb, refl, sym, ap, ◌∙◌, subst, arith}
-use Rattle.image_laws.proofs.Names.{true, false, List, length, All, nat_tests, slice_index, Allow, CheckedProgram, State, first_state, initial_rows}
+use Rattle.image_laws.proofs.Names.{true, false, List, length, All, slice_index, Allow, CheckedProgram, State, first_state, initial_rows}
 use Rattle.image_laws.proofs.Names.{IsAcceptedText, ImageValue, place_of, is_fram, IsFram, fram_of, IsSharedWord, HoldsWords, RestsAt, privates_are_few}
 use Rattle.image_laws.proofs.Names.{HasLayout, tasks_match, program_places, is_within, shared_word, state_view, Model, is_redo, code_words, code_region}
 use Rattle.image_laws.proofs.Names.{data_word, IsCompiled, fresh_world, IsFreshImage, ImagesAreFresh, reset_vector, CurrentTask, Gate, Base, MemoryMap}
-use Rattle.image_laws.proofs.Names.{word_place, end_of, IsLaidOut, Bool, ⊎_elim, ◌⊎◌, nat_le, nat_lt, event_vector, program_end, handler_place, head_place, is_ring}
+use Rattle.image_laws.proofs.Names.{word_place, end_of, IsLaidOut, Bool, eq-eqb, leb-true, ltb-true, ⊎_elim, ◌⊎◌, nat_le, nat_lt, event_vector, program_end, handler_place, head_place, is_ring}
 use Rattle.image_laws.proofs.Names.{HasHandler, handler_length, handler_words, handler_region, with_handler}
 use Rattle.std.proofs.lemmas.Bool.{and_parts}
 use Rattle.source_values.specs.Running.{IsRunnable}
@@ -28,6 +28,14 @@ holds_words words all a = zero_unless ((a % 2 == 0) && is_fram a) (slice_index w
 
 pub half : (p k : ℕ) → (p + 2 * k - p) / 2 ≡ k
 half p k = omega arith
+
+same_number : (a : ℕ) → (a == a) ≡ true
+same_number a = eq-eqb a a refl
+
+-- where HEAD and the ring stand
+in_ring : (a : ℕ) → is_ring a ≡ true → (head_place ≤ a) × (a < event_vector)
+in_ring a there =
+    let bounds = and_parts (nat_le head_place a) (nat_lt a event_vector) there in (leb-true head_place a bounds.0, ltb-true a event_vector bounds.1)
 
 -- a word that is neither the vector of interrupts nor in the handler
 beside_handler : (events : Bool) (a w : ℕ) → a ≢ event_vector → is_within handler_region a ≡ false → with_handler events a w ≡ w
@@ -72,7 +80,7 @@ module _ (text : List ℕ) (p : CheckedProgram) (allow : Allow) (image : ImageVa
   code_end = (linked_is_code l (lowered l p) fits).end
 
   -- a word that is code or data, if it isn't the handler's
-  own_word : ℕ → ℕ
+  abbrev own_word : ℕ → ℕ
   own_word a = if is_within (code_region p l) a then slice_index (code_words p l) ((a - l.boot.address) / 2) else data_word p l a
 
   own_at : (a : ℕ) → IsFram a → a < event_vector → is_within handler_region a ≡ false → f a ≡ own_word a
@@ -141,10 +149,8 @@ module _ (text : List ℕ) (p : CheckedProgram) (allow : Allow) (image : ImageVa
   ring : (a : ℕ) → IsFram a → program_end ≤ a → a < handler_place ⊎ is_ring a ≡ true → f a ≡ 0
   ring a is behind there = ⊎_elim {C = f a ≡ 0}
       (λ below. zero_behind a is behind (omega (arith, below)) (outside_before handler_region a below))
-      (λ of_ring. let bounds = and_parts (nat_le head_place a) (nat_lt a event_vector) of_ring in
-      let from : head_place ≤ a = grind (arith, nat_tests, bounds.0) in
-      let below : a < event_vector = grind (arith, nat_tests, bounds.1) in
-      zero_behind a is behind below (outside_behind handler_region a (omega (arith, from)))) there
+      (λ there. let bounds = in_ring a there in let from = bounds.0 in
+      zero_behind a is behind bounds.1 (outside_behind handler_region a (omega (arith, from)))) there
 
   -- the runtime's words are words of FRAM
   words_are : (w : RuntimeWord) → IsFram (word_place l w)
@@ -163,7 +169,7 @@ module _ (text : List ℕ) (p : CheckedProgram) (allow : Allow) (image : ImageVa
   current =
       let apart = apart_of l rules in
       let a = (word_place l CurrentTask) in
-      let same : (a == a) ≡ true = grind (arith, nat_tests) in
+      let same : (a == a) ≡ true = same_number a in
       data_at a (words_are CurrentTask) (omega (arith, apart))
       ∙ ap (λ b. cond b p.entry.task (shared_word l.variables (initial_rows p) a)) same
 

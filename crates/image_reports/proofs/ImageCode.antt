@@ -3,8 +3,8 @@ use Rattle.image_reports.proofs.Names.{◌≡◌, ℕ, zero, suc, ◌+◌, ◌*�
 use Rattle.image_reports.proofs.Names.{List, [], ◌∷◌, length, length-append, Option, Some, None, slice_index, nat_tests, encoding, IsInstruction, place_of}
 use Rattle.image_reports.proofs.Names.{BoardValue, opened, Effect, StepOutcome, Goes, Stops, At, Halted, going, continued, MachineBoard, Code, standing}
 use Rattle.image_reports.proofs.Names.{undisturbed, exec}
-use Rattle.image_reports.proofs.Names.{fram_of, is_fram_address, placed, words_of, Holds, AreInstructions, Marks, History, observe, behind_boot, Program}
-use Rattle.image_reports.proofs.Names.{Charge, Charged}
+use Rattle.image_reports.proofs.Names.{fram_of, is_fram_address, placed_at, words_of, Holds, AreInstructions, Marks, History, observe, behind_boot, Program}
+use Rattle.image_reports.proofs.Names.{Charge, Charged, IsPoweredFrom}
 use Rattle.msp_step.specs.declared.machine.Stop.TheVariants as stop
 use Rattle.msp_isa.specs.declared.instructions.Instr.{Instr}
 use Rattle.msp_step.specs.declared.machine.Stop.{Stop}
@@ -18,7 +18,7 @@ abbrev pub GoesOn : Program → MachineBoard → Type 0
 GoesOn c s = (es : List Effect) (price : ℕ) (e : Stop) → c.step s ≡ Stops es price e → e ≡ stop.NoReading
 
 -- steps that come to a machine which stops then, stop in the next one
-stops_next : {S X : Type 0} (step : S → StepOutcome S X) (n : ℕ) (s t : S) (es : List Effect) (price : ℕ) (e : X)
+pub stops_next : {S X : Type 0} (step : S → StepOutcome S X) (n : ℕ) (s t : S) (es : List Effect) (price : ℕ) (e : X)
     → (going step n s).status ≡ At t → step t ≡ Stops es price e → (going step (suc n) s).status ≡ Halted price e
 stops_next {S} {X} step zero s t es price e h k =
     let same : s ≡ t = cc h in
@@ -32,28 +32,15 @@ stops_next {S} {X} step (suc n) s t es price e h k =
 -- wherever charges lead, a further one stops for want of a reading alone
 abbrev pub StopsAtReadings : Program → Marks → MachineBoard → History → Type 0
 StopsAtReadings c marks s h = (es : List Charge) (t : MachineBoard) (k : History) → Charged c marks s h es t k → (p : MachineBoard) → c.IsPoweredUp p
-    → p.fram ≡ t.fram → p.inputs ≡ t.inputs → (n price : ℕ) (e : Stop) → (going c.step n p).status ≡ Halted price e → e ≡ stop.NoReading
-
--- so the machine goes on where charges lead
-pub goes_on : (c : Program) (marks : Marks) (es : List Charge) (s t : MachineBoard) (h k : History) → StopsAtReadings c marks s h → GoesOn c s
-    → Charged c marks s h es t k → GoesOn c t
-goes_on c marks [] s t h k stops here run = let P : MachineBoard → Type 0 = λ u. GoesOn c u in subst P (sym run.0) here
-goes_on c marks (e ∷ es) s t h k stops here run =
-    let q = run.3.0 in
-    let made = (going c.step e.steps e.powered).effects in
-    goes_on c marks es q t (observe marks made (behind_boot h)) k
-    (λ fs u z more. stops (e ∷ fs) u z (run.0, run.1, run.2, (q, run.3.1, more)))
-    (λ fs price x k2. stops [] s h (refl, refl) e.powered run.0 run.1 run.2 (suc e.steps) price x
-    (stops_next c.step e.steps e.powered q fs price x run.3.1 k2))
-    run.3.2
+    → IsPoweredFrom t p → (n price : ℕ) (e : Stop) → (going c.step n p).status ≡ Halted price e → e ≡ stop.NoReading
 
 -- code that goes on at a machine: CPUOFF is clear, and an instruction stands at PC
 pub record StandsOn (code : Code) (s : MachineBoard) : Type 0 where
   pub instruction : Instr
-  pub there : code (s.registers 0) ≡ Some instruction
+  pub there : code.at (s.registers 0) ≡ Some instruction
   pub on : off_bit s.registers ≡ 0
 
-stands_at : (code : Code) (s : MachineBoard) (q : Option Instr) → code (s.registers 0) ≡ q → off_bit s.registers ≡ 0
+stands_at : (code : Code) (s : MachineBoard) (q : Option Instr) → code.at (s.registers 0) ≡ q → off_bit s.registers ≡ 0
     → ((es : List Effect) (price : ℕ) (e : Stop) → standing q s ≡ Stops es price e → e ≡ stop.NoReading) → StandsOn code s
 stands_at code s None h on goes = absurd (let e = goes _ _ _ refl in cc)
 stands_at code s (Some i) h on goes = record { instruction = i; there = h; on = on }
@@ -64,12 +51,14 @@ stands_on code s goes = by (off_bit s.registers == 1) refl
   where
     by : (b : Bool) → (off_bit s.registers == 1) ≡ b → StandsOn code s
     by true e =
-        absurd (let x = goes [] 0 stop.Off (ap (λ b. undisturbed s (cond b (Stops [] 0 stop.Off) (standing (code (s.registers 0)) s))) e) in cc)
+        absurd (let x = goes [] 0 stop.Off (ap (λ b. undisturbed code.events (code.at (s.registers 0)) s
+        (cond b (Stops [] 0 stop.Off) (standing (code.at (s.registers 0)) s))) e) in cc)
     by false e =
         let on : off_bit s.registers ≡ 0 = grind (arith, nat_tests) in
-        stands_at code s (code (s.registers 0)) refl on
+        stands_at code s (code.at (s.registers 0)) refl on
         (λ es price x k. goes es price x
-        (ap (λ b. undisturbed s (cond b (Stops [] 0 stop.Off) (standing (code (s.registers 0)) s))) e ∙ ap (undisturbed s) k))
+        (ap (λ b. undisturbed code.events (code.at (s.registers 0)) s (cond b (Stops [] 0 stop.Off) (standing (code.at (s.registers 0)) s))) e
+        ∙ ap (undisturbed code.events (code.at (s.registers 0)) s) k))
 
 -- an instruction of a list that stands in FRAM: its words are there, within those of the list
 pub record IsWithin (f : ℕ → ℕ) (p n a : ℕ) (i : Instr) : Type 0 where
@@ -79,13 +68,13 @@ pub record IsWithin (f : ℕ → ℕ) (p n a : ℕ) (i : Instr) : Type 0 where
   pub to : a + 2 * length (encoding i) ≤ p + 2 * n
   pub even : a % 2 ≡ 0
 
-pub placed_within : (f : ℕ → ℕ) (is : List Instr) (p a : ℕ) (i : Instr) → AreInstructions is → p % 2 ≡ 0 → Holds f p (words_of is) → placed p is a ≡ Some i
+pub placed_within : (f : ℕ → ℕ) (is : List Instr) (p a : ℕ) (i : Instr) → AreInstructions is → p % 2 ≡ 0 → Holds f p (words_of is) → placed_at p is a ≡ Some i
     → IsWithin f p (length (words_of is)) a i
 placed_within f [] p a i are e h q = absurd cc
 placed_within f (j ∷ is) p a i are e h q =
     let next = p + 2 * length (encoding j) in
     let long : length (words_of (j ∷ is)) ≡ length (encoding j) + length (words_of is) = length-append (encoding j) (words_of is) in
-    (elim (a == p) as (λ x. (a == p) ≡ x → cond x (Some j) (placed next is a) ≡ Some i → IsWithin f p (length (words_of (j ∷ is))) a i) [
+    (elim (a == p) as (λ x. (a == p) ≡ x → cond x (Some j) (placed_at next is a) ≡ Some i → IsWithin f p (length (words_of (j ∷ is))) a i) [
       | true ↦ λ t k.
           let at : a ≡ p = eqb-true a p t in
           let same : j ≡ i = cc in

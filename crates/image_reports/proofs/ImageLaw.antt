@@ -2,10 +2,10 @@
 use Rattle.image_reports.proofs.Names.{ℕ, refl, subst, arith, List, ImageValue, BoardValue, fresh, Moment, last_board, CheckedProgram, State, first_state}
 use Rattle.image_reports.proofs.Names.{MemoryMap, Model, History, Resting, trace_inputs, traces_are_few, stops_where_short, SoundAtRest, compiled_model}
 use Rattle.image_reports.proofs.Names.{is_redo, false, map_of, word_place, CurrentTask, Allow, IsCompiled, IsAcceptedText, IsTaskWithin, cost_of, state_within}
-use Rattle.image_reports.proofs.Names.{KeepsCapacities, compiled_program, sources_are_ready, fresh_world, laid_out, images_are_fresh, known_behind, KeepsCode}
+use Rattle.image_reports.proofs.Names.{KeepsCapacities, compiled_program, sources_are_ready, [], world_with, laid_out, images_are_fresh, known_behind, KeepsCode}
 use Rattle.image_reports.proofs.Names.{HoldsAt, ImagesKeepTheLaws, ImagesAreTold, ImagesKeepCapacities, HoldsFrom, ImagesBelong}
 use Rattle.board_run.specs.Charges.{charges_of}
-use Rattle.image_reports.proofs.Begins.{at_first, bears, run_of_words}
+use Rattle.image_reports.proofs.Begins.{at_first, bears, fram_is, own_code, rests, run_of_words}
 use Rattle.image_reports.proofs.Capacities.{fresh_capacities}
 use Rattle.image_reports.proofs.CompiledTold.{models_are_of_sources}
 use Rattle.image_reports.proofs.Told.{source, runs_are_told}
@@ -14,18 +14,20 @@ use Rattle.image_reports.proofs.Onward.{Onward, front, unheard, raises, pays}
 -- the fresh image belongs to itself
 pub images_belong : ImagesBelong
 images_belong text p allow image ok c =
-    let P : Model State → Type 0 = λ m. m.Rests (first_state p) (fresh_world image) in
-    let o = (subst P (is_redo p c.layout) (images_are_fresh text p allow image ok c).rests).is_open in
+    let ready = sources_are_ready text p allow c.plans c.layout (laid_out text p allow image ok c) in
+    let new = images_are_fresh text p allow image ok c in
+    let P : Model State → Type 0 = λ m. m.Rests (first_state p) (world_with image.words []) in
+    let o = (subst P (is_redo p c.layout) (rests text p allow image c ready new)).is_open in
     let cur = o.current_task in let task = o.is_task in
     record {
-      code = record { code = λ a even from to. refl; vector = refl };
-      capacities = fresh_capacities text p allow image ok c;
+      code = own_code text p allow image c ready new;
+      capacities = subst (λ f. KeepsCapacities c.layout f) (fram_is text p allow image c ready new) (fresh_capacities text p allow image ok c);
       sound = SoundAtRest (record { words = o.words; current_task = omega (arith, cur, task); gate = o.gate; base = o.base; versions = o.versions });
     }
 
 -- what holds at a board of a run that began with the fresh one
 held_at : (p : CheckedProgram) (l : MemoryMap) (image : ImageValue) (readings : List ℕ) (b : BoardValue) (ms : List Moment) (h : History)
-    → HoldsFrom p l image (fresh_world image) (Resting (first_state p)) readings b ms h → HoldsAt p l image readings b ms h
+    → HoldsFrom p l image (world_with image.words []) (Resting (first_state p)) readings b ms h → HoldsAt p l image readings b ms h
 held_at p l image readings b ms h k =
     let Code : (ℕ → ℕ) → Type 0 = λ f. KeepsCode p l image f in
     let Capacities : (ℕ → ℕ) → Type 0 = λ f. KeepsCapacities l f in
@@ -40,18 +42,21 @@ held_at p l image readings b ms h k =
       code = subst Code k.fram k.belongs.code;
       fetches = k.fetches;
       events = k.events;
+      room = k.room;
     }
 
 -- the first task costs what the fresh world says, whose CUR names it
 first_within : (text : List ℕ) (p : CheckedProgram) (allow : Allow) (image : ImageValue) (ok : IsAcceptedText text p allow)
     → (c : IsCompiled text p allow image)
-    → IsTaskWithin (compiled_model p c.layout) (first_state p) (cost_of p ((fresh_world image).fram (word_place c.layout CurrentTask)))
+    → IsTaskWithin (compiled_model p c.layout) (first_state p) (cost_of p ((world_with image.words []).fram (word_place c.layout CurrentTask)))
 first_within text p allow image ok c =
     let l = c.layout in
     let m = map_of text p l allow in
     let is = models_are_of_sources text p l m (source text p allow image ok c) in
-    let x = fresh_world image in
-    state_within text p m (compiled_model p l) is (first_state p) x (is.rests (first_state p) x (images_are_fresh text p allow image ok c).rests)
+    let x = world_with image.words [] in
+    let ready = sources_are_ready text p allow c.plans l (laid_out text p allow image ok c) in
+    state_within text p m (compiled_model p l) is (first_state p) x
+    (is.rests (first_state p) x (rests text p allow image c ready (images_are_fresh text p allow image ok c)))
 
 pub images_keep_the_laws : ImagesKeepTheLaws
 images_keep_the_laws text p allow image ok c cs starts readings events inputs r go =
@@ -71,7 +76,7 @@ images_keep_the_laws text p allow image ok c cs starts readings events inputs r 
       commits = on.start.ready.model.decided_commits;
       fronts = λ ms rest e. held_at p l image readings (last_board (fresh image.words readings events) ms) ms (known_behind l image ms)
           (front on ms rest e);
-      stops = stops_where_short (compiled_model p l) (compiled_program p l) readings (Resting (first_state p)) (fresh_world image) cs
+      stops = stops_where_short (compiled_model p l) (compiled_program p l) readings (Resting (first_state p)) (world_with image.words []) cs
           (fresh image.words readings events) r on.run (bears on.start);
       unheard = unheard on;
       raises = raises on;

@@ -1,5 +1,9 @@
 mod Names
 pub mod Begins
+mod HandlerWords
+mod InFront
+mod Accounted
+mod Cuts
 pub mod Told
 pub mod Capacities
 pub mod ImageStart

@@ -1,6 +1,6 @@
 -- The names that the proofs here share, from the rooms below and from this one's specs.
 -- std
-pub use Rattle.std.proofs.Common.{All, Bool, List, None, Option, Some, [], ap, append_assoc, arith, cond, drop, eqb-true, false, get_or, if◌then◌else◌, length}
+pub use Rattle.std.proofs.Common.{All, Bool, List, None, Option, Some, [], ap, ap₂, append_assoc, arith, cond, drop, eqb-true, false, get_or, if◌then◌else◌, length}
 pub use Rattle.std.proofs.Common.{length-append, length-take-le, refl, slice_index, subst, suc, sym, take, true, zero, ℕ, ◌%◌, ◌*◌, ◌++◌, ◌+◌, ◌<◌, ◌==◌, ◌^◌}
 pub use Rattle.std.proofs.Common.{◌∙◌, ◌∷◌, ◌≡◌, ◌≢◌, ◌≤◌}
 pub use Rattle.std.proofs.lemmas.Bool.Decides.{nat_tests}
@@ -20,19 +20,21 @@ pub use Rattle.machine_effects.specs.Going.{At, Goes, Halted, StepOutcome, Stops
 pub use Rattle.machine_effects.specs.Machine.{Code, IsFram, MachineBoard, exec, fram_of, standing, undisturbed}
 pub use Rattle.machine_effects.specs.Runs.{last_board}
 pub use Rattle.machine_effects.specs.World.{EachStore, World, fram_after, put, world_after}
-pub use Rattle.code_forms.specs.Placed.{AreInstructions, Holds, placed, words_of}
+pub use Rattle.code_forms.specs.Placed.{AreInstructions, Holds, placed_at, words_of}
 pub use Rattle.runtime_effects.specs.Stages.{cleared, clearing_if, commit_effects, copied_in, counting_effects, is_at_end, opening_effects, start_effects}
 pub use Rattle.crash_rules.proofs.Interface.{changed, never_lost, pending_sends, runs_may_begin, sent_once, stops_short, stores_only, world_fram}
 pub use Rattle.crash_rules.specs.History.{History, behind_boot, first_history, observe}
 pub use Rattle.crash_rules.specs.Laws.{Begins, CommittingPhase, DecidedPhase, IsFirstWithin, IsTaskWithin, Origin, Pending, Phase, Resting, StandsFor}
 pub use Rattle.crash_rules.specs.Laws.{UndecidedPhase}
-pub use Rattle.crash_rules.specs.Model.{Ends, Inputs, IsElsewhere, Marks, Model, ModelLaws, Short, no_inputs}
-pub use Rattle.crash_rules.specs.Runs.{Charge, Charged, Program}
+pub use Rattle.crash_rules.specs.Model.{Ends, Given, IsElsewhere, Marks, Model, ModelLaws, Short, nothing_given}
+pub use Rattle.crash_rules.specs.Runs.{Charge, Charged, IsPoweredFrom, Program}
 pub use Rattle.stands_for.proofs.Interface.{each_weaker, elsewhere_same, unsent_are_few}
 pub use Rattle.stands_for.specs.StandsFor.{HoldsWords, IsAtRest, IsPendingCommit, IsSound, SoundAtRest, SoundPending, VersionsWithin}
-pub use Rattle.run_charges.specs.Charges.{AreInstructionMoments, ArePowerStates, IsPlacedProgram}
+pub use Rattle.program_view.specs.View.{Shows, StandsAs, outside_of, outside_with, steady}
+pub use Rattle.program_view.proofs.Interface.{steady_low, steady_off}
+pub use Rattle.run_charges.specs.Charges.{AreInstructionMoments, ArePowerStates, IsPlacedProgram, program_steps}
 pub use Rattle.run_charges.specs.Laws.{IsRunOfWords}
-pub use Rattle.run_charges.specs.View.{AreMoments, Instructs, IsMomentFrom, PowersUp, outside_of}
+pub use Rattle.run_charges.specs.View.{AreMoments, Instructs, IsMomentFrom, NoneServes, PowersUp, Serves}
 pub use Rattle.board_run.specs.History.{start_of, start_with}
 pub use Rattle.board_run.specs.Report.{report_of}
 pub use Rattle.model_runs.proofs.Interface.{AtFront, at_front, fronts_are_lawful, powers_up, starts_hold, stood, stops_where_short}
@@ -41,8 +43,7 @@ pub use Rattle.model_runs.specs.Runs.{BearsModel, all_amounts}
 pub use Rattle.cost_bound.specs.declared.allowance.Allow.{Allow}
 pub use Rattle.source_values.specs.Running.{IsRunnable}
 pub use Rattle.source_values.specs.Runs.{CheckedProgram, Completion, EndsWell, State, Transition, TransitionComes, attempt_of, body_of, completion_of, exactly}
-pub use Rattle.source_values.specs.Runs.{TaskInputs, first_state, fresh_attempt, state_after, transition_of, without_answers}
-pub use Rattle.source_values.proofs.Interface.{readings_left_over_lem}
+pub use Rattle.source_values.specs.Runs.{TaskInputs, first_state, fresh_attempt, state_after, transition_of}
 pub use Rattle.source_meaning.proofs.Interface.{accepted_texts_run}
 pub use Rattle.source_meaning.specs.Acceptance.{IsAcceptedText}
 pub use Rattle.source_runs.proofs.Interface.{charges_pay, resumed_runs_are_told, runs_are_told, state_within, task_costs, trace_inputs, traces_are_few}
@@ -63,7 +64,7 @@ pub use Rattle.image_laws.specs.Compiled.{IsCompiled}
 pub use Rattle.image_laws.specs.Laws.{HasStates, IsFreshImage, fresh_world}
 -- this crate
 pub use Rattle.image_reports.specs.ImageLaw.{FetchesCode, HoldsAt, ImagesKeepTheLaws, IsRaisedSoon, KeepsCode, RaisesVersion, VersionsBelow, known_behind}
-pub use Rattle.image_reports.specs.ImageLaw.{runtime_marks}
+pub use Rattle.image_reports.specs.ImageLaw.{EventsHold, HasRoom, StepsOn, runtime_marks, world_with}
 pub use Rattle.image_reports.specs.Laws.{ImagesAreMapped, ImagesAreTold, ImagesKeepCapacities}
 pub use Rattle.image_reports.specs.Resumed.{BelongsTo, HoldsFrom, ImagesBelong, ImagesResume, IsResumedRun, IsToldOnward, ToldAtRest, ToldPending, known_from}
 pub use Rattle.image_reports.specs.Resumed.{origin_of, pending_transition}

@@ -1,6 +1,7 @@
 -- At each front of a run of an accepted text's image, from any world that belongs to the image.
-use Rattle.image_reports.proofs.Names.{◌≡◌, ◌≢◌, ℕ, zero, ◌+◌, ◌%◌, ◌<◌, ◌≤◌, refl, sym, ap, ◌∙◌, subst, arith, List, [], ◌∷◌, ◌++◌, length, take, drop}
-use Rattle.image_reports.proofs.Names.{append_assoc, length-take-le, encoding, BoardValue, PowerState, powered, started, filled, BoardCharge, PowerUp, Moment}
+use Rattle.image_reports.proofs.Names.{◌≡◌, ◌≢◌, ℕ, zero, suc, ◌+◌, ◌%◌, ◌<◌, ◌≤◌, true, false, refl, sym, ap, ◌∙◌, subst, arith, List, [], ◌∷◌, ◌++◌, length}
+use Rattle.image_reports.proofs.Names.{Some, append_assoc, encoding, MachineBoard, placed_at, IsPoweredFrom, Shows, StandsAs, outside_with, steady_low, NoneServes}
+use Rattle.image_reports.proofs.Names.{Serves, program_steps, world_with, EventsHold, HasRoom, StepsOn, BoardValue, PowerState, powered, started, filled, BoardCharge, PowerUp, Moment}
 use Rattle.image_reports.proofs.Names.{RunOutcome, World, fram_after, going, continued, fram_of, last_board, words_of, CheckedProgram, State, IsAcceptedText}
 use Rattle.image_reports.proofs.Names.{map_of, Gate, Version, MemoryMap, word_place, IsElsewhere, Model, ModelLaws, History, first_history, Program}
 use Rattle.image_reports.proofs.Names.{Origin, Phase, UndecidedPhase, DecidedPhase, CommittingPhase, Begins, world_fram, never_lost}
@@ -11,9 +12,16 @@ use Rattle.image_reports.proofs.Names.{fronts_are_lawful, HoldsWords, IsSound, S
 use Rattle.image_reports.proofs.Names.{redo_model, compiled_model, start_under, is_redo, under_map, KeepsCapacities, KeepsVersions}
 use Rattle.image_reports.proofs.Names.{phase_keeps_versions, capacities_are_kept, source_code, placed_code, compiled_program, code_is_placed}
 use Rattle.image_reports.proofs.Names.{power_ups_raise_version, scripts_store_below, at_first, EachChargePays, runtime_marks, VersionsBelow, KeepsCode}
-use Rattle.image_reports.proofs.Names.{FetchesCode, IsRaisedSoon, RaisesVersion, BelongsTo, known_from, HoldsFrom}
-use Rattle.std.proofs.lemmas.List.{take-append-drop}
+use Rattle.image_reports.proofs.Names.{IsRaisedSoon, RaisesVersion, BelongsTo, known_from, HoldsFrom}
+use Rattle.std.proofs.lemmas.Bool.{and_parts}
+use Rattle.event_places.specs.Places.{answer_place, is_ring}
+use Rattle.std.specs.Prelude.{if◌then◌else◌, None}
+use Rattle.stands_for.specs.Program.{answer_word}
+use Rattle.msp_isa.specs.declared.instructions.Instr.{Instr}
 use Rattle.msp_step.specs.Registers.{registers_of}
+use Rattle.msp_step.specs.Step.{is_interruptible, off_bit}
+use Rattle.fram_board.specs.Events.{is_full}
+use Rattle.fram_board.specs.Board.{is_accepting, IsNextInstruction}
 use Rattle.fram_board.specs.Saved.{TakesNextBehind}
 use Rattle.fram_board.specs.Steps.{IsPowerState}
 use Rattle.fram_board.proofs.Interface.{fill_is_a_power_state}
@@ -22,22 +30,36 @@ use Rattle.runtime_effects.specs.Needs.{IsEventWord}
 use Rattle.compiled_model.specs.Needs.{StoresBelow}
 use Rattle.boot_runtime.specs.Entries.{task_entries}
 use Rattle.boot_runtime.specs.Listing.{privates_in}
-use Rattle.run_charges.specs.Laws.{IsPlainRun}
-use Rattle.run_charges.proofs.Interface.{follows_keeps, are_behind, front_moments, run_front, PlacedProgram, is_powered, leads, reached_on, none_due}
-use Rattle.run_charges.proofs.Interface.{Counts, moments_count}
-use Rattle.board_run.specs.Events.{NeverReads}
+use Rattle.machine_effects.specs.Machine.{is_prepared}
+use Rattle.memory_map.specs.MemoryMap.{with_events}
+use Rattle.event_handler.specs.Handler.{Stage}
+use Rattle.event_handler.specs.Boundaries.{IsInterrupted, IsInHandler}
+use Rattle.event_handler.proofs.Interface.{handler_goes_on}
+use Rattle.program_view.specs.View.{AtCode}
+use Rattle.program_view.specs.View as view
+use Rattle.program_view.proofs.Interface.{stands_fram}
+use Rattle.run_charges.specs.Laws.{IsProgramRun}
+use Rattle.run_charges.specs.View.{BeginWithPower, looks_in}
+use Rattle.run_charges.proofs.Interface.{follows_keeps, are_behind, front_moments, run_front, PlacedProgram, Machine, nothing_seen, is_powered, is_powered_from}
+use Rattle.run_charges.proofs.Interface.{sees, reach, leads, reached_on, powered_there, Counts, moments_count}
+use Rattle.board_run.specs.Events.{NeverReads, hand_after, head_of, no_hand}
 use Rattle.model_runs.specs.EventLaws.{StartsWith}
-use Rattle.model_runs.proofs.Interface.{moments_wait, never_reads, runs_plainly}
+use Rattle.model_runs.proofs.Interface.{moments_wait, never_reads, runs_so, runs_alone}
 use Rattle.memory_map.specs.declared.runtime.Logging.{Logging}
 use Rattle.memory_map.specs.declared.runtime.Role.{Role}
 use Rattle.compiled_model.specs.Parts.{start_of as start_due}
-use Rattle.image_reports.proofs.Begins.{Beginning, first_world, first_board, begins, bears}
+use Rattle.image_reports.specs.ImageLaw.{InCode, AtAcceptance, InHandler}
+use Rattle.image_reports.proofs.Begins.{holds_as, Beginning, first_world, first_board, begins, bears}
+use Rattle.image_reports.proofs.HandlerWords.{stage_holds}
+use Rattle.image_reports.proofs.Accounted.{moments_account}
+use Rattle.image_reports.proofs.Cuts.{CutAtPower, Uncut, Cut, cut_at_power, no_power, last-append, none_serves, OwnPart, own_part, ring_stays}
+use Rattle.image_reports.proofs.Cuts.{encoding_has_words, prepared_bounds, handler_is_closed}
 use Rattle.image_reports.proofs.Capacities.{attempts_fit}
 use Rattle.image_reports.proofs.CompiledTold.{models_are_of_sources}
 use Rattle.image_reports.proofs.Told.{source}
 use Rattle.image_reports.proofs.ImageStart.{versions_below}
 use Rattle.image_reports.proofs.Untouched.{NeverThere, untouched}
-use Rattle.image_reports.proofs.ImageCode.{GoesOn, StopsAtReadings, goes_on, StandsOn, stands_on, placed_within, same_words, words_fetched}
+use Rattle.image_reports.proofs.ImageCode.{GoesOn, StopsAtReadings, StandsOn, stands_on, stops_next, IsWithin, placed_within, same_words, words_fetched}
 
 -- a word that isn't 65535 is below it
 below_end : (n : ℕ) → n < 0x10000 → n ≢ 0xFFFF → n < 0xFFFF
@@ -73,7 +95,7 @@ phase_sound p l laws readings origin s h phase =
 pub record Onward : Type 0 where
   pub start : Beginning
   pub accepted : IsAcceptedText start.text start.program start.allow
-  pub belongs : BelongsTo start.program start.compiled.layout start.image (record { fram = fram_of start.fram; accepted = start.before })
+  pub belongs : BelongsTo start.program start.compiled.layout start.image (world_with start.fram start.before)
   pub charges : List BoardCharge
   pub outcome : RunOutcome
   pub run : IsRunOfWords charges (started start.fram start.number start.readings start.events) outcome
@@ -106,31 +128,35 @@ module _ (onward : Onward) where
   abbrev first : History
   first = first_history (runtime_marks l) x
 
-  -- no interrupt is accepted, and nothing is read of EVENT
-  plain : IsPlainRun cs b r
-  plain = runs_plainly model program readings origin x b bearing cs r run
+  -- it is one of the program and its handler
+  own : IsProgramRun cs b r
+  own = runs_so model program readings origin x b bearing cs r run
 
-  pub unheard : NeverReads r
-  unheard = never_reads model program readings origin x b bearing cs r run refl
+  -- where the source takes no events the handler never runs, and nothing is read of EVENT
+  no_answer : l.runtime.events ≡ false → answer_word l ≡ None
+  no_answer off = ap (λ e. if e then Some answer_place else None) off
+
+  alone : l.runtime.events ≡ false → NoneServes r.moments
+  alone off = runs_alone model program readings origin x b bearing (no_answer off) cs r run
+
+  pub unheard : l.runtime.events ≡ false → NeverReads r
+  unheard off = never_reads model program readings origin x b bearing (no_answer off) cs r run refl
 
   -- a charge stops for want of a reading alone, wherever charges lead
   stops_at_readings : StopsAtReadings program (runtime_marks l) (outside_of b) first
-  stops_at_readings es t k charged q up fram left n price e halted =
-      let behind = powers_up model program readings origin x b bearing es t k charged q up fram left in
+  stops_at_readings es t k charged q up from n price e halted =
+      let behind = powers_up model program readings origin x b bearing es t k charged q up from in
       (stops_short model program ready.model bearing.program readings origin q behind n price e halted).0
 
-  -- the source takes no events
-  no_event_word : (a : ℕ) → IsEventWord l a → ⊥
-  no_event_word a counter = let on = counter.events in let off = ap (λ r. r.events) c.is_layout.runtime in cc (on, off)
-
-  -- no step stores on the code or behind it
-  never_there : (a : ℕ) → l.boot.address ≤ a → NeverThere a program bearing.program.changes (runtime_marks l) (outside_of b) first
-  never_there a from es t k charged q up fram left n =
+  -- no step stores on the code or behind it, but on the words that count events
+  never_there : (a : ℕ) → l.boot.address ≤ a → (IsEventWord l a → ⊥) → NeverThere a program bearing.program.changes (runtime_marks l) (outside_of b) first
+  never_there a from no_counter es t k charged q up there n =
       let P : ℕ → ℕ → Type 0 = StoresBelow l l.boot.address in
       let scripts = scripts_store_below p l ready.code.apart ready.stores in
-      each_weaker P (IsElsewhere a) (λ d w h e. ⊎_elim {C = ⊥} (λ low. omega (arith, low, from, e)) (no_event_word d) h) _
+      each_weaker P (IsElsewhere a)
+      (λ d w h e. ⊎_elim {C = ⊥} (λ low. omega (arith, low, from, e)) (λ counter. no_counter (subst (IsEventWord l) e counter)) h) _
       (stores_only model program P ready.model bearing.program scripts readings origin q
-      (powers_up model program readings origin x b bearing es t k charged q up fram left) n)
+      (powers_up model program readings origin x b bearing es t k charged q up there) n)
 
   abbrev on : PlacedProgram
   on = stood model program readings origin x b bearing
@@ -139,16 +165,177 @@ module _ (onward : Onward) where
   IsReached = AtFront model program readings origin x b bearing
 
   reached : (ms rest : List Moment) → r.moments ≡ ms ++ rest → IsReached (last_board b ms) (known_from l x ms)
-  reached ms rest e = at_front model program readings origin x b bearing ms (run_front cs b r ms rest plain e)
+  reached ms rest e = at_front model program readings origin x b bearing ms (run_front cs b r ms rest own e)
 
-  -- the board is one that a power-up left
+  -- how a board stands to the program's machine, which goes on there
+  record Standing (t : BoardValue) : Type 0 where
+    pub u : MachineBoard
+    pub stands : StandsAs t u
+    pub quiet : l.runtime.events ≡ false → is_interruptible u.registers ≡ false
+    pub prepared : l.runtime.events ≡ true → is_interruptible u.registers ≡ true → is_prepared u ≡ true
+    pub goes : GoesOn program u
+
+  -- the first board is one that a power-up left
   begins_on : GoesOn program (outside_of b)
   begins_on es price e stops =
       let at = reached [] r.moments refl in
       let zero_fill = fill_is_a_power_state 0 (omega arith) in
-      let up = is_powered on b (first_history (runtime_marks l) x) at.ready (filled 0) zero_fill in
-      stops_at_readings [] (outside_of b) (first_history (runtime_marks l) x) (refl, refl) (outside_of b) up refl refl 1 price e
+      let up = is_powered on b (first_history (runtime_marks l) x) at.ready (filled 0) zero_fill [] nothing_seen in
+      let from : IsPoweredFrom (outside_of b) (outside_of b) = record { fram = refl; readings = refl; looks = nothing_seen } in
+      stops_at_readings [] (outside_of b) (first_history (runtime_marks l) x) (refl, refl) (outside_of b) up from 1 price e
       (ap (λ o. (continued o (going program.step zero)).status) stops)
+
+  standing_first : Standing b
+  standing_first = record {
+    u = outside_of b;
+    stands = AtCode (record { registers = refl; fram = refl; ram = λ a even low. refl; readings = refl; outnum = refl });
+    quiet = λ off. refl;
+    prepared = λ events accepts. absurd (cc accepts);
+    goes = begins_on;
+  }
+
+  -- behind the steps of a charge
+  module _ (t : BoardValue) (h : History) (at : IsReached t h) (power : PowerState) (powers : IsPowerState power) (steps : List Moment)
+      (are : AreInstructionMoments steps) (moments : AreMoments (powered t power) steps) where
+    abbrev machine : Machine on (last_board (powered t power) steps) []
+    machine = (reach on t h at.ready power powers steps are moments).end
+
+    goes_there : GoesOn program machine.u
+    goes_there es price e stops =
+        let looks = looks_in steps in
+        let see = sees on t h at.ready power powers steps are moments in
+        let begun = outside_with looks (powered t power) in
+        let made = leads on t h at.ready power powers steps are moments in
+        stops_at_readings at.charges at.end h at.charged begun (is_powered on t h at.ready power powers looks see)
+        (powered_there on b first t h at begun (is_powered_from on t h at.ready power powers looks see)) (suc (program_steps steps)) price e
+        (stops_next program.step (program_steps steps) begun machine.u es price e made stops)
+
+    standing_in : Standing (last_board (powered t power) steps)
+    standing_in =
+        record { u = machine.u; stands = machine.stands; quiet = machine.quiet; prepared = machine.prepared; goes = goes_there }
+
+  standing_behind : (t : BoardValue) (h : History) → IsReached t h → (boot : Moment) → boot.action ≡ PowerUp → IsMomentFrom t boot
+      → (steps : List Moment) → AreInstructionMoments steps → AreMoments boot.after steps → Standing (last_board boot.after steps)
+  standing_behind t h at boot up (Instructs i done current answer same is) steps are moments =
+      absurd (let other = sym up ∙ ap (λ y. y.action) is in cc (other))
+  standing_behind t h at boot up (Serves n done next answer served is) steps are moments =
+      absurd (let other = sym up ∙ ap (λ y. y.action) is in cc (other))
+  standing_behind t h at boot up (PowersUp power powers is) steps are moments =
+      let P : Moment → Type 0 = λ y. AreMoments y.after steps → Standing (last_board y.after steps) in
+      subst P (sym is) (standing_in t h at power powers steps are) moments
+
+  -- before the first power-up
+  none_yet : (ns : List Moment) → BeginWithPower ns → AreInstructionMoments ns → Standing (last_board b ns)
+  none_yet [] by_power are = standing_first
+  none_yet (m ∷ ns) by_power are = absurd (no_power m.action by_power are.0)
+
+  standing_cut : (ms rest : List Moment) → r.moments ≡ ms ++ rest → CutAtPower ms → Standing (last_board b ms)
+  standing_cut ms rest e (Uncut instructions) = none_yet ms (run_front cs b r ms rest own e).begins instructions
+  standing_cut ms rest e (Cut before boot steps is up are) =
+      let behind : r.moments ≡ before ++ (boot ∷ (steps ++ rest)) = e ∙ ap (λ q. q ++ rest) is ∙ append_assoc before (boot ∷ steps) rest in
+      let moments = are_behind b before (boot ∷ steps) (subst (AreMoments b) is (front_moments b r ms rest own.moments e)) in
+      let t = last_board b before in
+      let h = known_from l x before in
+      let at = reached_on on b first t boot.before h moments.0 (reached before (boot ∷ (steps ++ rest)) behind) in
+      subst (λ q. Standing (last_board b q)) (sym is)
+      (subst Standing (sym (last-append b before (boot ∷ steps))) (standing_behind boot.before h at boot up moments.1 steps are moments.2))
+
+  standing : (ms rest : List Moment) → r.moments ≡ ms ++ rest → Standing (last_board b ms)
+  standing ms rest e = standing_cut ms rest e (cut_at_power ms)
+
+  -- a board in front of whose next step the program's machine stands as it shows
+  module _ (t : BoardValue) (h : History) (at : IsReached t h) (st : Standing t) where
+    -- the machine stands at the code
+    stands : StandsOn (placed_code p l) st.u
+    stands = stands_on (placed_code p l) st.u st.goes
+
+    -- where the board shows it, its instruction is the board's
+    module _ (shows : Shows t st.u) where
+      abbrev pc : ℕ
+      pc = registers_of t.cpu 0
+
+      abbrev i : Instr
+      i = stands.instruction
+
+      there : placed_at l.boot.address (source_code p l) pc ≡ Some i
+      there = subst (λ g. placed_at l.boot.address (source_code p l) (g 0) ≡ Some i) shows.registers stands.there
+
+      here : IsWithin (outside_of t).fram l.boot.address (length (words_of (source_code p l))) pc i
+      here =
+          let placed = code_is_placed p l new.fits in
+          placed_within (outside_of t).fram (source_code p l) l.boot.address pc i placed.instructions placed.even at.ready.holds there
+
+      next_is : IsNextInstruction t i
+      next_is =
+          let placed = code_is_placed p l new.fits in
+          let low = placed.low in
+          let high = placed.high in
+          let from = here.from in
+          let to = here.to in
+          record {
+            on = subst (λ g. off_bit g ≡ 0) shows.registers stands.on;
+            is = here.is;
+            fetched = words_fetched t pc (encoding i) here.even (omega (arith, low, from)) (omega (arith, high, to))
+                (holds_as (fram_of t.fram) (outside_of t).fram (encoding i) pc here.even
+                (λ a even begin end. sym (steady_low (fram_of t.fram) a (omega (arith, high, to, end)))) here.holds);
+          }
+
+      code_next : is_accepting t ≡ false → StepsOn p l image t
+      code_next none =
+          let placed = code_is_placed p l new.fits in
+          let image_has = placed_within (fram_of image.words) (source_code p l) l.boot.address pc i placed.instructions placed.even new.code there in
+          InCode (record { instruction = i; next = (none, next_is); from = here.from; to = here.to; same = image_has.holds })
+
+      -- an acceptance is due only where the source takes events
+      takes_events : is_interruptible (registers_of t.cpu) ≡ true → (events : Bool) → l.runtime.events ≡ events → l.runtime.events ≡ true
+      takes_events accepts true on = on
+      takes_events accepts false off =
+          let quiet : is_interruptible (registers_of t.cpu) ≡ false = subst (λ g. is_interruptible g ≡ false) shows.registers (st.quiet off) in
+          absurd (cc (accepts, quiet))
+
+      by_code : (accepts : Bool) → is_accepting t ≡ accepts → StepsOn p l image t
+      by_code false none = code_next none
+      by_code true due =
+          let accepts = (and_parts (is_full t.line.port) (is_interruptible (registers_of t.cpu)) due).1 in
+          let to = here.to in
+          let some = encoding_has_words i in
+          AtAcceptance (record { events = takes_events accepts l.runtime.events refl; next = due; from = here.from; to = omega (arith, to, some) })
+
+      room_at_code : l.runtime.events ≡ true → HasRoom t
+      room_at_code events accepts =
+          let prepared = st.prepared events (subst (λ g. is_interruptible g ≡ true) (sym shows.registers) accepts) in
+          subst (λ g. (0x1C20 ≤ g 1) × (g 1 ≤ 0x2400)) shows.registers (prepared_bounds st.u prepared)
+
+    -- in the handler
+    in_handler : (from : BoardValue) (stage : Stage) → IsInterrupted from → IsInHandler from stage t → (events : Bool) → l.runtime.events ≡ events
+        → Shows from st.u → StepsOn p l image t
+    in_handler from stage interrupted inside true events shows =
+        let step = handler_goes_on from t stage interrupted inside in
+        InHandler (record {
+          events = events;
+          at = stage;
+          next = (step.none, step.next);
+          there = inside.pc;
+          same = stage_holds (fram_of image.words) (new.handler events) stage;
+        })
+    in_handler from stage interrupted inside false off shows =
+        let accepts = (and_parts (is_full from.line.port) (is_interruptible (registers_of from.cpu)) interrupted.accepting).1 in
+        let quiet : is_interruptible (registers_of from.cpu) ≡ false = subst (λ g. is_interruptible g ≡ false) shows.registers (st.quiet off) in
+        absurd (cc (accepts, quiet))
+
+    next_by : StandsAs t st.u → StepsOn p l image t
+    next_by (AtCode shows) = by_code shows (is_accepting t) refl
+    next_by (view.InHandler from stage shows interrupted inside) = in_handler from stage interrupted inside l.runtime.events refl shows
+
+    fetches : StepsOn p l image t
+    fetches = next_by st.stands
+
+    room_by : l.runtime.events ≡ true → StandsAs t st.u → HasRoom t
+    room_by events (AtCode shows) = room_at_code shows events
+    room_by events (view.InHandler from stage shows interrupted inside) = λ accepts. absurd (handler_is_closed from t stage inside accepts)
+
+    room : l.runtime.events ≡ true → HasRoom t
+    room events = room_by events st.stands
 
   -- at each front
   keeps_versions : (ms rest : List Moment) → r.moments ≡ ms ++ rest → KeepsVersions p l (known_from l x ms).world.fram
@@ -160,7 +347,7 @@ module _ (onward : Onward) where
   began : (ms rest : List Moment) → r.moments ≡ ms ++ rest → KeepsVersions p l (known_from l x ms).start.fram
   began ms rest e =
       starts_hold (λ w. KeepsVersions p l w.fram) (runtime_marks l) b (first_history (runtime_marks l) x) ms run.whole run.words
-      (front_moments b r ms rest plain.moments e) (keeps_versions [] r.moments refl)
+      (front_moments b r ms rest own.moments e) (keeps_versions [] r.moments refl)
       (λ ns more d. keeps_versions ns (more ++ rest) (e ∙ ap (λ q. q ++ rest) d ∙ append_assoc ns more rest))
 
   module _ (ms rest : List Moment) (e : r.moments ≡ ms ++ rest) where
@@ -173,54 +360,34 @@ module _ (onward : Onward) where
     at : IsReached t h
     at = reached ms rest e
 
-    stands : StandsOn (placed_code p l) (outside_of t)
-    stands = stands_on (placed_code p l) (outside_of t)
-        (goes_on program (runtime_marks l) at.charges (outside_of b) (outside_of t)
-        (first_history (runtime_marks l) x) h stops_at_readings begins_on at.charged)
-
-    fetches : FetchesCode p l image t
-    fetches =
-        let placed = code_is_placed p l new.fits in
-        let low = placed.low in
-        let high = placed.high in
-        let pc = registers_of t.cpu 0 in
-        let i = stands.instruction in
-        let is = source_code p l in
-        let here = placed_within (outside_of t).fram is l.boot.address pc i placed.instructions placed.even at.ready.holds stands.there in
-        let there = placed_within (fram_of image.words) is l.boot.address pc i placed.instructions placed.even new.code stands.there in
-        let from = here.from in
-        let to = here.to in
-        record {
-          instruction = i;
-          next = (
-            none_due on b first (reached [] r.moments refl).ready refl ms (run_front cs b r ms rest plain e),
-            record {
-              on = stands.on;
-              is = here.is;
-              fetched = words_fetched t pc (encoding i) here.even (omega (arith, low, from)) (omega (arith, high, to)) here.holds;
-            },
-          );
-          from = from;
-          to = to;
-          same = there.holds;
-        }
-
     keeps_code : KeepsCode p l image (outside_of t).fram
     keeps_code = record {
       code = λ a even from to. same_words (outside_of t).fram (fram_of image.words) (words_of (source_code p l)) l.boot.address a at.ready.holds new.code
           (code_is_placed p l new.fits).even even from to;
       vector = at.ready.vector ∙ belongs.code.vector;
+      handler = at.ready.handler;
     }
+
+    -- each event that arose is accounted for
+    events_hold : EventsHold l t (hand_after (head_of image.map) ms no_hand)
+    events_hold =
+        let moments = front_moments b r ms rest own.moments e in
+        let counted = (moments_account (head_of image.map) b ms no_hand moments (record { unheard = refl; counted = refl })).counted in
+        record {
+          counted = omega (arith, counted);
+          none = λ off. moments_wait b ms refl moments (none_serves ms rest (subst NoneServes e (alone off)));
+        }
 
     keeps_capacities : KeepsCapacities l (outside_of t).fram
     keeps_capacities =
         capacities_are_kept program p l ready.code.apart (attempts_fit text p allow image ok c) readings origin x cs b r run bearing belongs.capacities
         ms rest e
 
-    kept : (a : ℕ) → l.boot.address ≤ a → (outside_of t).fram a ≡ x.fram a
-    kept a from =
-        untouched a program bearing.program.changes (runtime_marks l) at.charges (outside_of b) (outside_of t) (first_history (runtime_marks l) x) h
-        (never_there a from) at.charged
+    kept : (a : ℕ) → l.boot.address ≤ a → (IsEventWord l a → ⊥) → (outside_of t).fram a ≡ x.fram a
+    kept a from no_counter =
+        ap (λ f. f a) (sym at.fram)
+        ∙ untouched a program bearing.program.changes (runtime_marks l) at.charges (outside_of b) at.end (first_history (runtime_marks l) x) h
+        (never_there a from no_counter) at.charged
 
     pub front : HoldsFrom p l image x origin readings t ms h
     front =
@@ -230,7 +397,7 @@ module _ (onward : Onward) where
         let first : Counts b (first_history (runtime_marks l) x) before =
         record { whole = run.whole; words = run.words; accepted = refl; count = starts_with.accepted; taken = refl } in
         let counts = moments_count (runtime_marks l) b (first_history (runtime_marks l) x) before ms first
-        (front_moments b r ms rest plain.moments e) in
+        (front_moments b r ms rest own.moments e) in
         let Code : (ℕ → ℕ) → Type 0 = λ f. KeepsCode p l image f in
         let Capacities : (ℕ → ℕ) → Type 0 = λ f. KeepsCapacities l f in
         record {
@@ -246,7 +413,7 @@ module _ (onward : Onward) where
           accepted = sent_once model ready.model readings origin h lawful.stands;
           sent = λ to is none.
               let P : Origin State → Type 0 = λ o. Begins model readings o x (outside_of b) in
-              pending_sends model program ready.model bearing.program readings to (outside_of t) h
+              pending_sends model program ready.model bearing.program readings to at.end h
               (record { world = x; start = outside_of b; begins = subst P is (begins beginning); charges = at.charges; leads = at.charged }) none;
           versions = λ made.
               let P : (ℕ → ℕ) → Type 0 = λ f. VersionsBelow l f in
@@ -262,21 +429,31 @@ module _ (onward : Onward) where
             sound = phase_sound p l ready.model readings origin lawful.stands.state h lawful.stands.phase;
           };
           kept = kept;
-          fetches = fetches;
-          events = moments_wait b ms refl (front_moments b r ms rest plain.moments e);
+          fetches = fetches t h at (standing ms rest e);
+          events = events_hold;
+          room = room t h at (standing ms rest e);
         }
 
-  -- VER is raised by the fifth instruction of a charge
+  -- VER is raised by the fifth instruction of a charge, the seventh where the source takes events
+  abbrev soon : ℕ
+  soon = with_events l.runtime.events 2 + 5
+
   module _ (t : BoardValue) (h : History) (at : IsReached t h) (power : PowerState) (powers : IsPowerState power) where
     abbrev start : BoardValue
     start = powered t power
 
-    raised_by_five : (first : List Moment) → AreMoments start first → AreInstructionMoments first → length first ≡ 5
+    raised_soon : (steps : List Moment) → AreMoments start steps → AreInstructionMoments steps → program_steps steps ≡ soon
         → (outside_of start).fram (word_place l Gate) ≡ 0 → (outside_of start).fram (word_place l Version) < 0xFFFF
-        → (outside_of (last_board start first)).fram (word_place l Version) ≡ (outside_of start).fram (word_place l Version) + 1
-    raised_by_five first are is five gate low =
-        power_ups_raise_version p l ready.code (outside_of start) (is_powered on t h at.ready power powers) gate low (outside_of (last_board start first))
-        (ap (λ n. (going program.step n (outside_of start)).status) (sym five) ∙ leads on t h at.ready power powers first is are)
+        → (outside_of (last_board start steps)).fram (word_place l Version) ≡ (outside_of start).fram (word_place l Version) + 1
+    raised_soon steps own_steps is many gate low =
+        let looks = looks_in steps in
+        let see = sees on t h at.ready power powers steps is own_steps in
+        let begun = outside_with looks start in
+        let made = leads on t h at.ready power powers steps is own_steps in
+        let last = (reach on t h at.ready power powers steps is own_steps).end in
+        ap (λ f. f (word_place l Version)) (sym (stands_fram (last_board start steps) last.u last.stands))
+        ∙ power_ups_raise_version p l ready.code begun (is_powered on t h at.ready power powers looks see) gate low last.u
+        (ap (λ n. (going program.step n begun).status) (sym many) ∙ made)
 
   -- what a charge that begins so owes
   abbrev RaisesFrom : List Moment → Moment → Type 0
@@ -289,32 +466,39 @@ module _ (onward : Onward) where
     pub at : IsReached t history
     pub fram_words : HoldsWords (outside_of t).fram
 
-  raises_from : (t : BoardValue) → BeginsCharge t → (steps first more : List Moment) → steps ≡ first ++ more → length first ≡ 5
-      → AreInstructionMoments first → (boot : Moment) → boot.action ≡ PowerUp → IsMomentFrom t boot → AreMoments boot.after first
+  few_steps : (events : Bool) → with_events events 2 + 5 ≤ 40
+  few_steps true = omega arith
+  few_steps false = omega arith
+
+  raises_from : (t : BoardValue) → BeginsCharge t → (steps begun more : List Moment) → steps ≡ begun ++ more → program_steps begun ≡ soon
+      → AreInstructionMoments begun → (boot : Moment) → boot.action ≡ PowerUp → IsMomentFrom t boot → AreMoments boot.after begun
       → RaisesFrom steps boot
-  raises_from t from steps first more cut five are boot up (Instructs i done current answer same is) moments =
+  raises_from t from steps begun more cut many are boot up (Instructs i done current answer same is) moments =
       absurd (let other = sym up ∙ ap (λ y. y.action) is in cc (other))
-  raises_from t from steps first more cut five are boot up (PowersUp power powers is) moments =
-      let P : Moment → Type 0 = λ y. AreMoments y.after first → RaisesFrom steps y in
+  raises_from t from steps begun more cut many are boot up (Serves n done next answer served is) moments =
+      absurd (let other = sym up ∙ ap (λ y. y.action) is in cc (other))
+  raises_from t from steps begun more cut many are boot up (PowersUp power powers is) moments =
+      let P : Moment → Type 0 = λ y. AreMoments y.after begun → RaisesFrom steps y in
+      let few = few_steps l.runtime.events in
       subst P (sym is)
-      (λ own gate end. record {
-        first = first;
+      (λ own_steps gate end. record {
+        first = begun;
         rest = more;
         are = cut;
-        soon = omega (arith, five);
-        raised = raised_by_five t from.history from.at power powers first own are five gate (below_end _ (from.fram_words (word_place l Version)) end);
+        soon = omega (arith, many, few);
+        raised = raised_soon t from.history from.at power powers begun own_steps are many gate (below_end _ (from.fram_words (word_place l Version)) end);
       }) moments
 
   pub raises : RaisesVersion l r.moments
   raises ms steps rest boot e up are many =
-      let first = take 5 steps in
-      let more = drop 5 steps in
-      let cut : steps ≡ first ++ more = sym (take-append-drop 5 steps) in
-      let behind : r.moments ≡ ms ++ (boot ∷ (first ++ (more ++ rest))) =
-      e ∙ ap (λ q. ms ++ (boot ∷ (q ++ rest))) cut ∙ ap (λ q. ms ++ (boot ∷ q)) (append_assoc first more rest) in
-      let front : r.moments ≡ (ms ++ (boot ∷ first)) ++ (more ++ rest) = behind ∙ sym (append_assoc ms (boot ∷ first) (more ++ rest)) in
-      let moments = are_behind b ms (boot ∷ first) (front_moments b r (ms ++ (boot ∷ first)) (more ++ rest) plain.moments front) in
-      let five : length first ≡ 5 = length-take-le 5 steps (omega (arith, many)) in
+      let few = few_steps l.runtime.events in
+      let part = own_part soon steps (omega (arith, many, few)) in
+      let begun = part.first in
+      let more = part.rest in
+      let behind : r.moments ≡ ms ++ (boot ∷ (begun ++ (more ++ rest))) =
+      e ∙ ap (λ q. ms ++ (boot ∷ (q ++ rest))) part.are ∙ ap (λ q. ms ++ (boot ∷ q)) (append_assoc begun more rest) in
+      let front : r.moments ≡ (ms ++ (boot ∷ begun)) ++ (more ++ rest) = behind ∙ sym (append_assoc ms (boot ∷ begun) (more ++ rest)) in
+      let moments = are_behind b ms (boot ∷ begun) (front_moments b r (ms ++ (boot ∷ begun)) (more ++ rest) own.moments front) in
       let h = known_from l x ms in
       let t = last_board b ms in
       let tail = boot ∷ (steps ++ rest) in
@@ -323,7 +507,14 @@ module _ (onward : Onward) where
       let same : (outside_of boot.before).fram ≡ h.world.fram = ap (λ s. s.fram) (follows_keeps t boot.before moments.0).outside ∙ known in
       let from : BeginsCharge boot.before =
       record { history = h; at = at; fram_words = subst HoldsWords (sym same) (keeps_versions ms tail e).words } in
-      raises_from boot.before from steps first more cut five (front_are first more (subst AreInstructionMoments cut are)) boot up moments.1 moments.2
+      raises_from boot.before from steps begun more part.are part.many (front_are begun more (subst AreInstructionMoments part.are are)) boot up moments.1
+      moments.2
+
+  -- where the source takes no events no step stores where HEAD and the ring would be
+  pub ringless : l.runtime.events ≡ false → (ms rest : List Moment) → r.moments ≡ ms ++ rest → (a : ℕ) → is_ring a ≡ true
+      → fram_of (last_board b ms).fram a ≡ fram_of b.fram a
+  ringless off ms rest e a of =
+      ring_stays b ms (front_moments b r ms rest own.moments e) (none_serves ms rest (subst NoneServes e (alone off))) a of
 
   -- each charge that is spent pays for its transitions, where the first one costs no more than its world says
   pub pays : (pending : Bool) → IsFirstWithin model origin (task_costs (map_of text p l allow) (cost_of p) pending x).first

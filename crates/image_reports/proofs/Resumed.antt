@@ -1,7 +1,7 @@
 -- Each run of a state that belongs to the image of an accepted text keeps the laws.
 use Rattle.image_reports.proofs.Names.{◌≡◌, ◌<◌, ◌%◌, ◌^◌, ◌==◌, if◌then◌else◌, ℕ, refl, sym, ap, ◌∙◌, subst, arith, Option, Some, List, ◌++◌, length, drop}
 use Rattle.image_reports.proofs.Names.{MapValue, ImageValue, BoardValue, started, BoardCharge, RunOutcome, start_with, start_of, report_of, World}
-use Rattle.image_reports.proofs.Names.{world_after, fram_of, Allow, CheckedProgram, State, IsAcceptedText, map_of, resumed_runs_are_told, Gate, MemoryMap}
+use Rattle.image_reports.proofs.Names.{world_after, world_with, Allow, CheckedProgram, State, IsAcceptedText, map_of, resumed_runs_are_told, Gate, MemoryMap}
 use Rattle.image_reports.proofs.Names.{word_place, commit_effects, Model, first_history, Origin, Resting, Pending, StandsFor, runs_may_begin, IsRunOfWords}
 use Rattle.image_reports.proofs.Names.{BearsModel, all_amounts, stops_where_short, IsSound, SoundAtRest, SoundPending, IsAtRest, IsPendingCommit}
 use Rattle.image_reports.proofs.Names.{unsent_are_few, program_places, compiled_model, compiled_program, IsReadyToRun, sources_are_ready, IsCompiled, HasStates}
@@ -17,12 +17,12 @@ use Rattle.compiled_model.specs.View.{state_in, state_left}
 use Rattle.image_reports.proofs.CompiledTold.{models_are_of_sources}
 use Rattle.image_reports.proofs.Told.{source}
 use Rattle.image_reports.proofs.Begins.{bears, run_of_words}
-use Rattle.image_reports.proofs.Onward.{Onward, starts_with, front, unheard, raises, pays}
+use Rattle.image_reports.proofs.Onward.{Onward, starts_with, front, unheard, ringless, raises, pays}
 
 -- the world of a saved state that belongs to an image
 module _ (text : List ℕ) (p : CheckedProgram) (allow : Allow) (image : ImageValue) (ok : IsAcceptedText text p allow) (c : IsCompiled text p allow image)
     (fram : List ℕ) (number : ℕ) (before : List ℕ) (counted : length before % 0x10000 ≡ number)
-    (belongs : BelongsTo p c.layout image (record { fram = fram_of fram; accepted = before })) where
+    (belongs : BelongsTo p c.layout image (world_with fram before)) where
   abbrev l : MemoryMap
   l = c.layout
 
@@ -33,7 +33,7 @@ module _ (text : List ℕ) (p : CheckedProgram) (allow : Allow) (image : ImageVa
   m = map_of text p l allow
 
   abbrev x : World
-  x = record { fram = fram_of fram; accepted = before }
+  x = world_with fram before
 
   abbrev origin : Origin State
   origin = origin_of l x
@@ -147,6 +147,7 @@ module _ (text : List ℕ) (p : CheckedProgram) (allow : Allow) (image : ImageVa
       fronts = front on;
       stops = stops_where_short model (compiled_program p l) readings origin x cs b r run bearing;
       unheard = unheard on;
+      ringless = ringless on;
       raises = raises on;
       progress = pays on (x.fram (word_place l Gate) == 1) (first_within (x.fram (word_place l Gate) == 1));
       told = onward;

@@ -1,9 +1,9 @@
 -- The tasks of a compiled source's model are the source's.
 use Rattle.image_reports.proofs.Names.{◌≡◌, ℕ, ◌<◌, refl, sym, ap, subst, List, [], ◌++◌, length, Option, Some, get_or, CheckedProgram, State, Transition}
-use Rattle.image_reports.proofs.Names.{None, TaskInputs, without_answers, readings_left_over_lem}
+use Rattle.image_reports.proofs.Names.{None, TaskInputs}
 use Rattle.image_reports.proofs.Names.{Completion, TransitionComes, EndsWell, body_of, fresh_attempt, attempt_of, completion_of, exactly, transition_of}
-use Rattle.image_reports.proofs.Names.{state_after, IsRunnable, Inputs, no_inputs, Ends, Short, outcome_of, whole_task}
-use Rattle.machine_effects.specs.Inputs.{Look}
+use Rattle.image_reports.proofs.Names.{state_after, IsRunnable, Given, nothing_given, Ends, Short, outcome_of, whole_task}
+use Rattle.source_runs.specs.Sources.{inputs_of}
 use Rattle.std.proofs.lemmas.List.Elements.{All-get_or}
 use Rattle.std.proofs.lemmas.Option.{slice_get-get_or}
 use Rattle.std.specs.Prelude.{slice_get}
@@ -17,41 +17,36 @@ use Rattle.source_values.specs.Statements.{Outcome, goes_on, to_task, short, run
 abbrev pub IsTransitionTo : State → State → Option Transition → Type 0
 IsTransitionTo s u o = (t : Transition) × (o ≡ Some t) × (u ≡ state_after s t)
 
-completed : (looks : List Look) (s u : State) (c : Completion) → c.answers ≡ [] → outcome_of looks s (Some c) ≡ Ends u no_inputs
-    → IsTransitionTo s u (exactly s c)
-completed looks s u c none e =
+completed : (s u : State) (c : Completion) → outcome_of s (Some c) ≡ Ends u nothing_given → IsTransitionTo s u (exactly s c)
+completed s u c e =
     let next : State = record { shared = c.shared; task = c.next; emitted = s.emitted ++ c.emitted } in
     let a : next ≡ u = cc e in
-    let rest : ◌≡◌ {A = Inputs} (record { readings = c.left; looks = looks }) no_inputs = cc e in
-    let b : c.left ≡ [] = ap (λ i. i.readings) rest in
+    let rest : ◌≡◌ {A = Given} (record { readings = c.left; answers = c.answers }) nothing_given = cc e in
+    let left : c.left ≡ [] = ap (λ g. g.readings) rest in
+    let none : c.answers ≡ [] = ap (λ g. g.answers) rest in
     let t : Transition = record { from = s.task; next = c.next; before = s.shared; after = c.shared; emitted = c.emitted } in
-    let P : List ℕ → Type 0 = λ left. exactly s (record c { left = left }) ≡ Some t in
+    let P : List ℕ → Type 0 = λ readings. exactly s (record c { left = readings }) ≡ Some t in
     let Q : List ℕ → Type 0 = λ answers. exactly s (record c { left = []; answers = answers }) ≡ Some t in
-    (t, subst P (sym b) (subst Q (sym none) refl), sym a)
+    (t, subst P (sym left) (subst Q (sym none) refl), sym a)
 
-transits_by : (looks : List Look) (s u : State) (o : Option Completion) → ((c : Completion) → o ≡ Some c → c.answers ≡ [])
-    → outcome_of looks s o ≡ Ends u no_inputs → IsTransitionTo s u (o >>? exactly s)
-transits_by looks s u None none e = absurd (cc e)
-transits_by looks s u (Some c) none e = completed looks s u c (none c refl) e
+transits_by : (s u : State) (o : Option Completion) → outcome_of s o ≡ Ends u nothing_given → IsTransitionTo s u (o >>? exactly s)
+transits_by s u None e = absurd (cc e)
+transits_by s u (Some c) e = completed s u c e
 
--- a task that comes to a state with no readings left makes a transition to it
-pub transits : (p : CheckedProgram) (s u : State) (inputs : Inputs) → whole_task p s inputs ≡ Ends u no_inputs
-    → IsTransitionTo s u (transition_of p s (without_answers inputs.readings))
-transits p s u inputs e =
-    let given : TaskInputs = without_answers inputs.readings in
-    transits_by inputs.looks s u (completion_of (attempt_of p s.task s.shared given))
-    (λ c is. (readings_left_over_lem p s.task s.shared given c is).3 refl) e
+-- a task that comes to a state with nothing left of what it was given makes a transition to it
+pub transits : (p : CheckedProgram) (s u : State) (given : Given) → whole_task p s given ≡ Ends u nothing_given
+    → IsTransitionTo s u (transition_of p s (inputs_of given))
+transits p s u given e = transits_by s u (completion_of (attempt_of p s.task s.shared (inputs_of given))) e
 
-short_by : (looks : List Look) (s : State) (tasks : ℕ) (o : Outcome) → EndsWell tasks o → outcome_of looks s (completion_of o) ≡ Short → o ≡ short
-short_by looks s tasks (goes_on m) w e = absurd w
-short_by looks s tasks (to_task t m) w e = absurd (cc e)
-short_by looks s tasks short w e = refl
+short_by : (s : State) (tasks : ℕ) (o : Outcome) → EndsWell tasks o → outcome_of s (completion_of o) ≡ Short → o ≡ short
+short_by s tasks (goes_on m) w e = absurd w
+short_by s tasks (to_task t m) w e = absurd (cc e)
+short_by s tasks short w e = refl
 
 -- an attempt of one of the tasks ends well
-comes : (p : CheckedProgram) → IsRunnable p → (s : State) (readings : List ℕ) → s.task < length p.tasks
-    → EndsWell (length p.tasks) (attempt_of p s.task s.shared (without_answers readings))
-comes p ok s readings below =
-    let given : TaskInputs = without_answers readings in
+comes : (p : CheckedProgram) → IsRunnable p → (s : State) (given : TaskInputs) → s.task < length p.tasks
+    → EndsWell (length p.tasks) (attempt_of p s.task s.shared given)
+comes p ok s given below =
     let d : Task VariableName TaskName = get_or p.tasks s.task (empty_task p.entry) in
     let own : Task VariableName TaskName = get_or p.tasks s.task d in
     let at : slice_get p.tasks s.task ≡ Some own = slice_get-get_or p.tasks s.task d below in
@@ -63,7 +58,7 @@ comes p ok s readings below =
     empty_task n = record { name = n.span; body = end }
 
 -- where a task is short its attempt is
-pub is_short : (p : CheckedProgram) → IsRunnable p → (s : State) (inputs : Inputs) → s.task < length p.tasks → whole_task p s inputs ≡ Short
-    → attempt_of p s.task s.shared (without_answers inputs.readings) ≡ short
-is_short p ok s inputs below e =
-    short_by inputs.looks s (length p.tasks) (attempt_of p s.task s.shared (without_answers inputs.readings)) (comes p ok s inputs.readings below) e
+pub is_short : (p : CheckedProgram) → IsRunnable p → (s : State) (given : Given) → s.task < length p.tasks → whole_task p s given ≡ Short
+    → attempt_of p s.task s.shared (inputs_of given) ≡ short
+is_short p ok s given below e =
+    short_by s (length p.tasks) (attempt_of p s.task s.shared (inputs_of given)) (comes p ok s (inputs_of given) below) e

@@ -1,7 +1,7 @@
 -- The headline.
-use Rattle.image_reports.proofs.Names.{◌<◌, ◌^◌, ℕ, sym, refl, subst, Option, List, Allow, MapValue, ImageValue, BoardValue, fresh, BoardCharge}
+use Rattle.image_reports.proofs.Names.{◌<◌, ◌^◌, ℕ, sym, refl, ap, subst, Option, List, Allow, MapValue, ImageValue, BoardValue, fresh, BoardCharge}
 use Rattle.image_reports.proofs.Names.{RunOutcome, start_with, start_of, report_of, CheckedProgram, IsRunnable, IsAcceptedText, accepted_texts_run}
-use Rattle.image_reports.proofs.Names.{IsRunOfWords, all_amounts, compiled_program, IsToldBySource, map_of, IsCompiled, fresh_world, laid_out, images_are_fresh}
+use Rattle.image_reports.proofs.Names.{IsRunOfWords, all_amounts, compiled_program, IsToldBySource, map_of, IsCompiled, [], world_with, laid_out, images_are_fresh}
 use Rattle.image_reports.proofs.Names.{maps_find_states, sources_are_ready, ImagesAreMapped}
 use Rattle.energy_trace.specs.TraceValue.{Event}
 use Rattle.source_runs.specs.Traces.{AreInputs}
@@ -10,6 +10,7 @@ use Rattle.source_maps.proofs.Interface.{names_are_names, maps_are_of_sources}
 use Rattle.source_maps.specs.Laws.{IsSourceMap}
 use Rattle.image_reports.proofs.CompiledTold.{compiled_runs_are_told}
 use Rattle.image_reports.proofs.Begins.{begins_with_source}
+use Rattle.image_reports.proofs.InFront.{map_is_in_front}
 
 module _ (text : List ℕ) (p : CheckedProgram) (allow : Allow) (image : ImageValue) (ok : IsAcceptedText text p allow) (c : IsCompiled text p allow image) where
   runs : IsRunnable p
@@ -35,6 +36,9 @@ module _ (text : List ℕ) (p : CheckedProgram) (allow : Allow) (image : ImageVa
     of_source = made.of_source;
     bound = ok.allowed.cycles;
     words = refl;
+    ring = refl;
+    runtime = ap (λ r. r.events) c.is_layout.runtime;
+    front = map_is_in_front text p c.layout allow c.is_layout.rules made.places;
     rests = maps_find_states text p allow image ok c;
   }
 
@@ -44,7 +48,7 @@ module _ (text : List ℕ) (p : CheckedProgram) (allow : Allow) (image : ImageVa
       → IsToldBySource text p (map_of text p c.layout allow) cs (fresh image.words readings events) r (report_of (start_of image) events r)
   runs_are_told cs readings events inputs r run few =
       let l = c.layout in
-      let x = fresh_world image in
+      let x = world_with image.words [] in
       let b : BoardValue = fresh image.words readings events in
       let ready = sources_are_ready text p allow c.plans l (laid_out text p allow image ok c) in
       let new = images_are_fresh text p allow image ok c in

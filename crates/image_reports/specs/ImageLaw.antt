@@ -2,9 +2,8 @@
 -- effects since the last boot or done, what the board stands for, the words accepted, the counts, the code that is fetched, what became of
 -- the events, how it ends, and its report. Where the source takes events a handler runs between any two instructions of the code: it is the
 -- image's, and what holds of the code is said of what happens outside it.
-use Rattle.std.specs.Prelude.{◌≡◌, ◌≢◌, ℕ, ◌+◌, ◌*◌, ◌^◌, ◌%◌, ◌<◌, ◌≤◌, true, false, if◌then◌else◌, List, [], ◌∷◌, ◌++◌, length, Option, Some, None}
+use Rattle.std.specs.Prelude.{◌≡◌, ◌≢◌, ℕ, ◌+◌, ◌*◌, ◌^◌, ◌%◌, ◌<◌, ◌≤◌, true, false, List, [], ◌∷◌, ◌++◌, length}
 use Rattle.address_space.specs.Limits.{stack_floor, stack_top}
-use Rattle.event_places.specs.Places.{answer_place, handler_place}
 use Rattle.msp_isa.specs.declared.instructions.Instr.{Instr}
 use Rattle.msp_isa.specs.Encoding.{encoding}
 use Rattle.msp_step.specs.Registers.{registers_of}
@@ -16,17 +15,14 @@ use Rattle.image_text.specs.ImageValue.{ImageValue}
 use Rattle.fram_board.specs.declared.board.NextStep.TheVariants as next_step
 use Rattle.fram_board.specs.Events.{words_in}
 use Rattle.fram_board.specs.Board.{BoardValue, fresh, IsNextStep}
-use Rattle.fram_board.specs.declared.board.Stepped.{Stepped}
-use Rattle.fram_board.specs.Run.{BoardCharge, PowerUp, Execute, Returning, Moment, Stopped, RunOutcome, Run, accepted_words, word_list}
-use Rattle.image_map.specs.MapValue.{MapValue}
+use Rattle.fram_board.specs.Run.{BoardCharge, PowerUp, Moment, Stopped, RunOutcome, Run, accepted_words, word_list}
 use Rattle.board_run.specs.History.{start_of}
-use Rattle.board_run.specs.Events.{Hand, NeverReads, hand_behind, hand_after, head_of, no_hand}
+use Rattle.board_run.specs.Events.{Hand, NeverReads, hand_after, head_of, no_hand}
 use Rattle.board_run.specs.Report.{report_of}
 use Rattle.machine_effects.specs.World.{World}
 use Rattle.machine_effects.specs.Machine.{fram_of}
 use Rattle.machine_effects.specs.Runs.{last_board}
 use Rattle.event_handler.specs.Handler.{Stage, HasHandler, instruction_at, place_at}
-use Rattle.event_handler.specs.Boundaries.{is_ring_full}
 use Rattle.code_forms.specs.Placed.{Holds}
 use Rattle.cost_bound.specs.declared.allowance.Allow.{Allow}
 use Rattle.source_values.specs.Runs.{CheckedProgram, State, first_state}
@@ -43,6 +39,7 @@ use Rattle.program_view.specs.View.{steady, outside_of}
 use Rattle.run_charges.specs.Charges.{ArePowerStates, AreInstructionMoments, observed, program_steps}
 use Rattle.memory_map.specs.Laws.{AreApart}
 use Rattle.compiled_model.specs.Parts.{compiled_model, start_of as start_due}
+use Rattle.stands_for.specs.Program.{answer_word}
 use Rattle.compiled_bounds.specs.Laws.{KeepsCapacities}
 use Rattle.model_runs.specs.Runs.{IsShort, all_amounts}
 use Rattle.image_laws.specs.Words.{code_words}
@@ -51,7 +48,7 @@ use Rattle.image_laws.specs.Laws.{fresh_world}
 
 -- the words by which what happens in a run is told: GATE, and ANS where the source takes events
 abbrev pub runtime_marks : MemoryMap → Marks
-runtime_marks l = record { gate = word_place l Gate; answer = if l.runtime.events then Some answer_place else None }
+runtime_marks l = record { gate = word_place l Gate; answer = answer_word l }
 
 -- the world of words of FRAM whose receiver accepted these before: HEAD and the ring are no part of it, which the handler alone writes
 abbrev pub world_with : List ℕ → List ℕ → World
@@ -112,11 +109,10 @@ pub data StepsOn (p : CheckedProgram) (l : MemoryMap) (image : ImageValue) (b : 
   AtAcceptance : Accepts p l b → StepsOn p l image b
   InHandler : FetchesHandler l image b → StepsOn p l image b
 
--- what became of the events at a board with this behind it in hand: each that arose was accepted, was lost, waits in EVENT, or is in hand, which
--- it is nowhere but in the handler. Where the source takes no events each waits, or was lost at the port
+-- what became of the events at a board with this behind it in hand: each that arose was accepted, was lost, waits in EVENT, or is in hand. Where the
+-- source takes no events each waits, or was lost at the port
 pub record EventsHold (l : MemoryMap) (b : BoardValue) (hand : Hand) : Type 0 where
   pub counted : b.line.arisen ≡ length hand.accepted + (b.line.missed + hand.lost) + (words_in b.line.port + length (word_list hand.word))
-  pub in_hand : (w : ℕ) → hand.word ≡ Some w → handler_place ≤ registers_of b.cpu 0
   pub none : l.runtime.events ≡ false → b.line.arisen ≡ b.line.missed + words_in b.line.port
 
 -- SP is within the stack wherever the handler may begin
@@ -167,22 +163,6 @@ RaisesVersion l moments = (ms steps rest : List Moment) (boot : Moment) → mome
     → AreInstructionMoments steps → 40 ≤ program_steps steps → (outside_of boot.after).fram (word_place l Gate) ≡ 0
     → (outside_of boot.after).fram (word_place l Version) ≢ 0xFFFF → IsRaisedSoon l boot.after steps
 
--- the CPU accepts interrupts at every boundary outside the handler behind the first four of a charge's own instructions
-abbrev pub StaysOpen : List Moment → Type 0
-StaysOpen moments = (ms steps rest : List Moment) (boot : Moment) → moments ≡ ms ++ (boot ∷ (steps ++ rest)) → boot.action ≡ PowerUp
-    → AreInstructionMoments steps → 4 ≤ program_steps steps
-    → let b = last_board boot.after steps in registers_of b.cpu 0 < handler_place → is_interruptible (registers_of b.cpu) ≡ true
-
--- An event in hand is lost only at a power-up, or at the return of a handler that found the ring full: HEAD - TAIL is 64, modulo 65536
-pub data LosesAt (m : Moment) : Type 0 where
-  ByPowerUp : m.action ≡ PowerUp → LosesAt m
-  AtFullRing : (offered : Option ℕ) (done : Stepped) → m.action ≡ Execute Returning done offered → is_ring_full m.before ≡ true → LosesAt m
-
-abbrev pub LosesInHand : MapValue → List Moment → Type 0
-LosesInHand map moments = (ms rest : List Moment) (m : Moment) → moments ≡ ms ++ (m ∷ rest)
-    → let before = hand_after (head_of (Some map)) ms no_hand in
-    (hand_behind (head_of (Some map)) m before).lost ≢ before.lost → LosesAt m
-
 -- What holds of a run of an image under charges, on readings and events.
 pub record IsLawfulRun (text : List ℕ) (p : CheckedProgram) (allow : Allow) (l : MemoryMap) (image : ImageValue) (cs : List BoardCharge) (readings : List ℕ)
     (events : List Event) (r : RunOutcome) : Type 0 where
@@ -201,10 +181,6 @@ pub record IsLawfulRun (text : List ℕ) (p : CheckedProgram) (allow : Allow) (l
       → (e ≡ stop.NoReading) × IsShort (compiled_model p l) readings (Resting (first_state p)) (known_behind l image r.moments)
   -- where the source takes no events nothing is read of EVENT, by the step that stopped it neither
   pub unheard : l.runtime.events ≡ false → NeverReads r
-  -- where it does, the handler may begin between any two of a charge's instructions but the first
-  pub opens : l.runtime.events ≡ true → StaysOpen r.moments
-  -- and an event that it has in hand is lost where power fails, or the ring is full
-  pub loses : LosesInHand (map_of text p l allow) r.moments
   -- in a charge that begins with GATE 0 and VER not 65535, VER is raised within the first 40 instructions, if the charge has them
   pub raises : RaisesVersion l r.moments
   -- a charge that is spent has n transitions, if it has n bounds and 100 for each event that arose in it; and it is less than those and the costs of

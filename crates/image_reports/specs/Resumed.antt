@@ -1,7 +1,7 @@
 -- What holds of each run of an accepted source's image that goes on from a saved state, on the board itself, beside what holds from its
 -- fresh board.
-use Rattle.std.specs.Prelude.{◌≡◌, ℕ, ◌^◌, ◌%◌, ◌<◌, ◌≤◌, ◌==◌, ◌&&◌, nat_le, nat_lt, Bool, true, false, if◌then◌else◌, List, [], ◌++◌, length, All}
-use Rattle.event_places.specs.Places.{tail_place, handler_place, is_ring}
+use Rattle.std.specs.Prelude.{◌≡◌, ℕ, ◌^◌, ◌%◌, ◌<◌, ◌≤◌, ◌==◌, true, false, if◌then◌else◌, List, [], ◌++◌, length, All}
+use Rattle.event_places.specs.Places.{is_ring}
 use Rattle.machine_effects.specs.Machine.{fram_of}
 use Rattle.msp_step.specs.declared.machine.Stop.{Stop}
 use Rattle.msp_step.specs.declared.machine.Stop.TheVariants as stop
@@ -27,6 +27,7 @@ use Rattle.source_runs.specs.Resumed.{IsToldFrom, IsToldBehind}
 use Rattle.source_maps.specs.Maps.{map_of}
 use Rattle.memory_map.specs.declared.words.RuntimeWord.TheVariants.{CurrentTask, Gate}
 use Rattle.memory_map.specs.MemoryMap.{MemoryMap, word_place}
+use Rattle.runtime_effects.specs.Needs.{IsEventWord}
 use Rattle.runtime_effects.specs.Stages.{commit_effects}
 use Rattle.crash_rules.specs.Model.{IsBetween}
 use Rattle.crash_rules.specs.History.{History, first_history}
@@ -41,7 +42,7 @@ use Rattle.compiled_bounds.specs.Laws.{KeepsCapacities}
 use Rattle.model_runs.specs.Events.{words_between}
 use Rattle.model_runs.specs.Runs.{IsShort, all_amounts}
 use Rattle.image_laws.specs.Compiled.{IsCompiled}
-use Rattle.image_reports.specs.ImageLaw.{runtime_marks, world_with, VersionsBelow, KeepsCode, StepsOn, EventsHold, HasRoom, RaisesVersion, StaysOpen, LosesInHand}
+use Rattle.image_reports.specs.ImageLaw.{runtime_marks, world_with, VersionsBelow, KeepsCode, StepsOn, EventsHold, HasRoom, RaisesVersion}
 
 -- a world from which a run of an image may go on: the code, the vectors and the handler are the image's, the runtime's counts keep to their
 -- capacities, and it is sound
@@ -78,10 +79,6 @@ pub data IsToldOnward (text : List ℕ) (p : CheckedProgram) (m : MapValue) (l :
 abbrev pub known_from : MemoryMap → World → List Moment → History
 known_from l x ms = observed (runtime_marks l) ms (first_history (runtime_marks l) x)
 
--- whether an address is one of the words that count events, where the source takes events
-abbrev pub is_event_word : MemoryMap → ℕ → Bool
-is_event_word l a = l.runtime.events && (nat_le tail_place a && nat_lt a handler_place)
-
 -- What holds at each boundary between two steps of a run that goes on so: `b` is the board behind these moments, and `h` what is
 -- known of the run so far. All is as from a fresh board (`HoldsAt`), and a run may go on from this board too. While the commit that was
 -- pending at the start isn't done, the words accepted since are some of those that the state has beyond the start's which it leaves
@@ -101,7 +98,7 @@ pub record HoldsFrom (p : CheckedProgram) (l : MemoryMap) (image : ImageValue) (
   pub versions : h.effects ≡ start_due l h.start.fram → VersionsBelow l (outside_of b).fram
   pub belongs : BelongsTo p l image h.world
   -- no store fell on the code, nor on a word behind it, but for the words that count events
-  pub kept : (a : ℕ) → l.boot.address ≤ a → is_event_word l a ≡ false → (outside_of b).fram a ≡ x.fram a
+  pub kept : (a : ℕ) → l.boot.address ≤ a → (IsEventWord l a → ⊥) → (outside_of b).fram a ≡ x.fram a
   pub fetches : StepsOn p l image b
   pub events : EventsHold l b (hand_after (head_of image.map) ms no_hand)
   pub room : l.runtime.events ≡ true → HasRoom b
@@ -121,10 +118,6 @@ pub record IsResumedRun (text : List ℕ) (p : CheckedProgram) (allow : Allow) (
   -- and nothing stores where HEAD and the ring would be
   pub ringless : l.runtime.events ≡ false → (ms rest : List Moment) → r.moments ≡ ms ++ rest → (a : ℕ) → is_ring a ≡ true
       → fram_of (last_board b ms).fram a ≡ fram_of b.fram a
-  -- where it does, the handler may begin between any two of a charge's instructions but the first
-  pub opens : l.runtime.events ≡ true → StaysOpen r.moments
-  -- and an event that it has in hand is lost where power fails, or the ring is full
-  pub loses : LosesInHand (map_of text p l allow) r.moments
   -- in a charge that begins with GATE 0 and VER not 65535, VER is raised within the first 40 instructions, if the charge has them
   pub raises : RaisesVersion l r.moments
   -- a charge that is spent has n transitions, if it has n bounds and 100 for each event that arose in it; and it is less than those and the costs of

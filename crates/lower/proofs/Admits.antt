@@ -1,7 +1,7 @@
 -- A source stands `next_event()` in no task, or takes events: so each of its tasks is admitted.
 use Rattle.lower.proofs.Names.{◌≡◌, ℕ, zero, suc, ◌+◌, ◌⊎◌, ⊎_elim, inl, inr, Bool, true, false, List, [], ◌∷◌, Some, None, refl, sym, ap, ◌∙◌, subst, arith}
 use Rattle.lower.proofs.Names.{CheckedExpression, CheckedStatement, CheckedChoice, CheckedBlock, CheckedTask, expression_price, statement_price}
-use Rattle.lower.proofs.Names.{conditions_price, blocks_price, block_price, AdmitsExpression, AdmitsStatement, AdmitsChoice, AdmitsBlock, nat_lt}
+use Rattle.lower.proofs.Names.{conditions_price, blocks_price, block_price, AdmitsExpression, AdmitsStatement, AdmitsChoice, AdmitsBlock, nat_lt, lt-ltb, cases_lt, ◌≤◌, ◌<◌}
 use Rattle.std.specs.Prelude.{slice_get, ◌||◌}
 use Rattle.cost_bound.specs.Table.{events_column}
 use Rattle.cost_bound.specs.Allowance.{use_events}
@@ -42,9 +42,11 @@ module _ (events : Bool) where
     admits_choice : (c : CheckedChoice) → IsFree (conditions_price events_column c + blocks_price events_column c) → AdmitsChoice events c
     admits_choice t.nothing h = tt
     admits_choice (t.otherwise block) h = admits_block block (part _ _ (λ e. omega (arith, e)) h)
-    admits_choice (t.test e block more) h =
-        (admits_expression e (part _ _ (λ e. omega (arith, e)) h),
-        (admits_block block (part _ _ (λ e. omega (arith, e)) h), admits_choice more (part _ _ (λ e. omega (arith, e)) h)))
+    admits_choice (t.test e block more) h = (
+      admits_expression e (part _ _ (λ e. omega (arith, e)) h),
+      admits_block block (part _ _ (λ e. omega (arith, e)) h),
+      admits_choice more (part _ _ (λ e. omega (arith, e)) h),
+    )
 
     admits_block : (b : CheckedBlock) → IsFree (block_price events_column b) → AdmitsBlock events b
     admits_block t.end h = tt
@@ -57,8 +59,8 @@ either_used true b e = refl
 either_used false b e = e
 
 task_used : (n : ℕ) (b : Bool) → ((nat_lt 0 n || b) ≡ true) ⊎ (n ≡ 0)
-task_used zero b = inr refl
-task_used (suc n) b = inl refl
+task_used n b = ⊎_elim {C = ((nat_lt 0 n || b) ≡ true) ⊎ (n ≡ 0)}
+    (λ some. inl (ap (λ c. c || b) (lt-ltb 0 n some))) (λ none. inr (omega (arith, none))) (cases_lt 0 n)
 
 -- `next_event()` stands in some task, or not in this one
 used : (tasks : List CheckedTask) (k : ℕ) (task : CheckedTask) → slice_get tasks k ≡ Some task

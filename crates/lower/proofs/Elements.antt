@@ -148,9 +148,11 @@ module _ (z : Scene) (n i v elements len : ℕ) (c : ArrayCopies) (at : IsArrayA
       let now = again_stored p z.room x v f z.apart is marked in
       let Q : ℕ → Type 0 = λ a. put f a v (word_place p.map Version) ≡ put f a v (version_address p x) in
       let same = subst Q (copy_is p x elements len c at) (now.number ∙ sym now.mark) ∙ ap (put f (2 * i + c.copies) v) (version_is p x elements len c at) in
-      let P : ℕ → Type 0 = λ a. Does z f most w.stack (going_on (Store a v ∷ []) (record w { fram = put f a v })) (λ answers. goes_on (answered_by answers after)) in
+      let P : ℕ → Type 0 = λ a. Does z f most w.stack (going_on (Store a v ∷ []) (record w { fram = put f a v }))
+      (λ answers. goes_on (answered_by answers after)) in
+      let t : WordState = record w { fram = put f (copy_address p x) v } in
       subst Result (sym (stores_again place (list_place p) i v w l (here_copy l) here_number (here_version l) same))
-      (subst P (copy_is p x elements len c at) (settles z f most w.stack (Store (copy_address p x) v ∷ []) (record w { fram = put f (copy_address p x) v }) after (record {
+      (subst P (copy_is p x elements len c at) (settles z f most w.stack (Store (copy_address p x) v ∷ []) t after (record {
         stores = (at_copy x is refl, tt);
         untold = copy_untold [] is;
         stack_kept = refl;

@@ -92,7 +92,8 @@ pub use Rattle.array_versions.specs.Laws.{EndsByEffects}
 pub use Rattle.array_versions.specs.Operations.{all_bits, binary_word, compare_words, is_true, plain_long, plain_word, shift_word, shifted_word, stacked}
 pub use Rattle.array_versions.specs.Operations.{unary_word}
 pub use Rattle.array_versions.specs.Program.{Program, Step, Test, behind, binary, choose, compares, emit_word, fails, holds as holds_test, joined, jump, keep}
-pub use Rattle.array_versions.specs.Program.{freeze_events, list_entry, load, local, long, move_word, next_event, nothing, number, repeat, sense, shift, step, store_number, truth}
+pub use Rattle.array_versions.specs.Program.{freeze_events, list_entry, load, local, long, move_word, next_event, nothing, number, repeat}
+pub use Rattle.array_versions.specs.Program.{sense, shift, step, store_number, truth}
 pub use Rattle.array_versions.specs.Program.{unary, versioned_update, versioned_write}
 pub use Rattle.array_versions.specs.View.{step_of, steps_of}
 pub use Rattle.array_versions.specs.declared.operations.BinaryOperation.{BinaryOperation}

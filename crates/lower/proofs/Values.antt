@@ -403,21 +403,27 @@ module _ (k : Keeping) where
       by : (b : Bool) (v : ℕ) → LeavesWord k w.stack (if b then none_answered u else word_answered v u) (by_answers m next_answer)
       by true v others = (
         ((on, inl refl), tt),
-        (record {
-          stack = refl;
-          kept = k.answered (answered_by [] m) w.fram (put w.fram answer_place 0) w.locals w.inputs left kept
-              (λ a low. put_other w.fram answer_place 0 a (λ e. omega (arith, e, low)));
-        }, refl),
+        (
+          record {
+            stack = refl;
+            kept = k.answered (answered_by [] m) w.fram (put w.fram answer_place 0) w.locals w.inputs left kept
+                (λ a low. put_other w.fram answer_place 0 a (λ e. omega (arith, e, low)));
+          },
+          refl,
+        ),
       )
       by false v others =
           let f = put w.fram answer_place v in
           let n = (f count_place + 1) % 65536 in (
             ((on, inl refl), ((on, inr refl), tt)),
-            (record {
-              stack = refl;
-              kept = k.answered (answered_by [] m) w.fram (put f count_place n) w.locals w.inputs left kept
-                  (λ a low. put_other f count_place n a (λ e. omega (arith, e, low)) ∙ put_other w.fram answer_place v a (λ e. omega (arith, e, low)));
-            }, refl),
+            (
+              record {
+                stack = refl;
+                kept = k.answered (answered_by [] m) w.fram (put f count_place n) w.locals w.inputs left kept
+                    (λ a low. put_other f count_place n a (λ e. omega (arith, e, low)) ∙ put_other w.fram answer_place v a (λ e. omega (arith, e, low)));
+              },
+              refl,
+            ),
           )
 
   -- ---- elements
@@ -469,7 +475,8 @@ module _ (k : Keeping) where
         here s a is e = subst (λ a. is_place a ≡ true) e (spot_place k.p k.room s k.apart k.even is)
 
         by : (copies : Option ArrayCopies) → IsArrayAt k.p v elements length copies
-            → LeavesWord k below (behaviour (one (element_read k.p (Some (Array elements length copies)))) (with_stack (i ∷ below) w)) (by_answers m (gives word))
+            → LeavesWord k below (behaviour (one (element_read k.p (Some (Array elements length copies)))) (with_stack (i ∷ below) w))
+            (by_answers m (gives word))
         by None at =
             let e = 2 * i + elements in
             index_read i length word (at_place e (pushes (w.fram e)))
@@ -501,7 +508,8 @@ module _ (k : Keeping) where
         → LeavesWord k below (behaviour (one (element_step k.p x)) (with_stack (i ∷ below) w))
         (by_answers m (gives (word_at m.variables x i)))
     element_agrees (Shared v) i is =
-        subst (λ o. LeavesWord k below (behaviour (one (element_read k.p o)) (with_stack (i ∷ below) w)) (by_answers m (gives (word_at m.variables (Shared v) i))))
+        subst
+        (λ o. LeavesWord k below (behaviour (one (element_read k.p o)) (with_stack (i ∷ below) w)) (by_answers m (gives (word_at m.variables (Shared v) i))))
         (sym is.3.place) (array_read v is.0 is.1 i is.2 is.3)
     element_agrees (Local n) i is = absurd is
 

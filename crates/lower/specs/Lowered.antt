@@ -26,7 +26,8 @@ use Rattle.array_versions.specs.declared.operations.BinaryOperation.TheVariants.
 use Rattle.array_versions.specs.declared.operations.Comparison.TheVariants.{CommonBit}
 use Rattle.array_versions.specs.declared.operations.LongOperation.TheVariants as with_longs
 use Rattle.array_versions.specs.Program.{Step, Test, Program, number, load, keep, update, local, set_local, update_local, unary, binary, shift, element, long}
-use Rattle.array_versions.specs.Program.{emit_word, list_entry, sense, next_event, freeze_events, truth, choose, repeat, versioned_read, versioned_write, versioned_update, store_number}
+use Rattle.array_versions.specs.Program.{emit_word, list_entry, sense, next_event, freeze_events, truth, choose, repeat, versioned_read, versioned_write}
+use Rattle.array_versions.specs.Program.{versioned_update, store_number}
 use Rattle.array_versions.specs.Program.{move_word, jump, holds, compares, both, either, fails, nothing, step, joined, behind}
 use Rattle.memory_map.specs.declared.words.RuntimeWord.TheVariants.{NextTask, Gate, ListLength, EmitCount, Base, SentBase}
 use Rattle.memory_map.specs.declared.place.VariablePlace.{VariablePlace}

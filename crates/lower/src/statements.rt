@@ -309,10 +309,7 @@ fn loop_local(variable: Variable) -> u16
 
 // Where the program takes events, TAIL as the transition leaves it.
 #[tactic(auto, using(array_versions::proofs::Interface::joined_nothing))]
-fn freeze_events(
-    places: &TaskPlaces<'_>,
-    program: &mut WordProgram,
-) -> Result<(), AllocError>
+fn freeze_events(places: &TaskPlaces<'_>, program: &mut WordProgram) -> Result<(), AllocError>
     ensures { OnOk result (program_of program.new ≡ joined (program_of program.old) (freezing (places_in places.now))) }
 {
     if places.layout.runtime().events {

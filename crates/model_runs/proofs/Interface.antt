@@ -1,7 +1,7 @@
 -- What the proofs of other crates cite.
 
 -- Fronts of a run whose code is a program of a model.
-pub use Rattle.model_runs.proofs.Fronts.{stood, runs_plainly, AtFront, at_front, powers_up, fronts_are_lawful}
+pub use Rattle.model_runs.proofs.Fronts.{stood, runs_so, runs_alone, AtFront, at_front, powers_up, fronts_are_lawful}
 -- The world at the last boot or done is the world of a front.
 pub use Rattle.model_runs.proofs.Starts.{starts_hold}
 -- A run that stops stops where the source is short.

@@ -15,12 +15,13 @@ use Rattle.crash_rules.specs.Runs.{Program, Charge}
 use Rattle.crash_rules.specs.Laws.{Origin, Resting, Pending, HasRun, AreConsecutive, FollowFirst}
 use Rattle.crash_rules.proofs.Interface.{spans_follow, pending_spans_follow}
 use Rattle.run_charges.specs.View.{outside_of, outside_effects, AreMoments}
-use Rattle.run_charges.specs.Charges.{AreInstructionMoments, behind_action, behind_moment, observed}
+use Rattle.run_charges.specs.Charges.{AreInstructionMoments, behind_action, behind_moment, observed, program_steps}
 use Rattle.run_charges.specs.Laws.{IsRunOfWords}
-use Rattle.run_charges.proofs.Interface.{first_start, charge_instructs, front_moments, begun, charged_once}
+use Rattle.run_charges.proofs.Interface.{first_start, charge_instructs, front_moments, end, charged_once}
+use Rattle.run_charges.proofs.Interface.{first as first_of}
 use Rattle.model_runs.specs.Runs.{BearsModel, history_behind, AreInOrder, AreInOrderPast}
 use Rattle.model_runs.specs.Laws.{SpansAreInOrder, SpansPastAreInOrder}
-use Rattle.model_runs.proofs.Fronts.{stood, ready_at_first, runs_plainly, has_run}
+use Rattle.model_runs.proofs.Fronts.{stood, ready_at_first, runs_so, has_run}
 
 -- each done's span goes forwards
 abbrev GoForwards : List Done → Type 0
@@ -98,12 +99,12 @@ module _ {St : Type 0} (m : Model St) (c : Program) (readings : List ℕ) (origi
   charge_in_order ms are moments =
       let on = stood m c readings origin x b bears in
       let ready = ready_at_first m c readings origin x b bears run.whole run.words in
-      let p = begun on b first ready d.start ok in
+      let p = first_of on b first ready d.start ok ms are moments in
+      let t = end on b first ready d.start ok ms are moments in
       let k = observed m.marks ms (behind_boot first) in
-      let e : Charge = record { powered = p; steps = length ms } in
-      law (outside_of (last_board (powered b d.start) ms)) k
-      (has_run m c readings origin x b bears (e ∷ []) (outside_of (last_board (powered b d.start) ms)) k
-      (charged_once on b first ready d.start ok ms are moments)) refl e refl
+      let e : Charge = record { powered = p; steps = program_steps ms } in
+      law t k
+      (has_run m c readings origin x b bears (e ∷ []) t k (charged_once on b first ready d.start ok ms are moments)) refl e refl
       (moments_forwards m.marks ms (behind_boot first) (first_forwards m.marks x)).dones
 
   -- the same of a charge that is this one, on this board
@@ -140,7 +141,7 @@ module _ {St : Type 0} (m : Model St) (c : Program) (readings : List ℕ) (origi
 -- the spans of a run are in order
 pub spans_are_in_order : {St : Type 0} (m : Model St) (c : Program) → SpansAreInOrder m c
 spans_are_in_order m c readings s x d b r run bears here =
-    let plain = runs_plainly m c readings (Resting s) x b bears (d ∷ []) r run in
+    let plain = runs_so m c readings (Resting s) x b bears (d ∷ []) r run in
     run_in_order m c readings (Resting s) x d b r run bears (λ h. AreInOrder 0 h.since h.completed)
     (λ t k go began e one f. in_order 0 k.since k.completed
     (spans_follow m c bears.model bears.program readings s t k go (subst (m.Undecided s) (sym began) here) e one) f)
@@ -149,7 +150,7 @@ spans_are_in_order m c readings s x d b r run bears here =
 -- so are those behind a commit that was pending at the start
 pub spans_past_are_in_order : {St : Type 0} (m : Model St) (c : Program) → SpansPastAreInOrder m c
 spans_past_are_in_order m c readings to x d b r run bears =
-    let plain = runs_plainly m c readings (Pending to) x b bears (d ∷ []) r run in
+    let plain = runs_so m c readings (Pending to) x b bears (d ∷ []) r run in
     run_in_order m c readings (Pending to) x d b r run bears (λ h. AreInOrderPast h.since h.completed)
     (λ t k go began e one f. in_order_past k.since k.completed (pending_spans_follow m c bears.model bears.program readings to t k go e one) f)
     (d ∷ []) b r run.run plain.moments refl refl

@@ -33,7 +33,6 @@ moment_waits b m h (Instructs i done c a own e) none =
     let P : Moment → Type 0 = λ y. AreWaiting y.after.line in
     let Q : EventLine → Type 0 = λ q. AreWaiting (line_behind_step q) in
     subst P (sym e) (subst Q (sym own.line) (due_wait b.line.coming _ h))
-
 moment_waits b m h (Serves n done next a served e) none =
     let no : true ≡ false = sym served.handlers ∙ ap is_handlers (sym e) ∙ none in absurd cc
 

@@ -8,7 +8,7 @@ use Rattle.crash_rules.specs.Model.{Model, ModelLaws, Marks, Inputs, Short}
 use Rattle.crash_rules.specs.History.{Done, History, first_history, given_since}
 use Rattle.crash_rules.specs.Runs.{Program, ProgramLaws}
 use Rattle.crash_rules.specs.Laws.{Origin, Begins, IsSettled, Reaches, TaskCosts, IsSpentOn}
-use Rattle.run_charges.specs.View.{outside_of}
+use Rattle.run_charges.specs.View.{outside_with, outside_of, looks_in}
 use Rattle.run_charges.specs.Charges.{observed}
 use Rattle.run_charges.specs.Laws.{StandsIn}
 
@@ -51,7 +51,8 @@ pub data Progresses (marks : Marks) (bound : ℕ) (costs : TaskCosts) (delay : I
   AllSpent : (b : BoardValue) (h : History) → Progresses marks bound costs delay [] b h (run_outcome [] Charges b)
   SpentOne : (c : BoardCharge) (cs : List BoardCharge) (b : BoardValue) (h : History) (ms : List Moment) (end : BoardValue) (rest : RunOutcome)
       → ChargeRun c.measure c.amount (powered b c.start) (run_outcome ms Charges end)
-      → PaysFor bound costs (delay (outside_of (powered b c.start)).inputs) c (arisen_between b end) h (observed marks (power_up_of b c.start ∷ ms) h)
+      → PaysFor bound costs (delay (outside_with (looks_in ms) (powered b c.start)).inputs) c (arisen_between b end) h
+      (observed marks (power_up_of b c.start ∷ ms) h)
       → Progresses marks bound costs delay cs end (observed marks (power_up_of b c.start ∷ ms) h) rest
       → Progresses marks bound costs delay (c ∷ cs) b h (after_moments (power_up_of b c.start ∷ ms) rest)
   StoppedIn : (c : BoardCharge) (cs : List BoardCharge) (b : BoardValue) (h : History) (ms : List Moment) (stop : Stop) (end : BoardValue)

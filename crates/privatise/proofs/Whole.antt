@@ -325,8 +325,8 @@ pub record IsPlaced (p : CheckedProgram) (allow : Allow) (plans : List TaskPlanV
   pub variables : ArePlaced p.shared written (record { home = r.homes.address; copy = r.copies.address; version = r.versions.address }) places
   pub tasks : ArePlacedTasks p.shared places p.tasks plans r.code.address layouts
 
-pub laid_out : (runtime : Runtime) (p : CheckedProgram) (allow : Allow) (plans : List TaskPlanValue) (s : Sizes) (r : Regions) (written : List Bool) (places : List VariablePlace)
-    (layouts : List TaskPlace) → IsPlaced p allow plans s r written places layouts → IsLaidOut (map_with runtime r places layouts)
+pub laid_out : (runtime : Runtime) (p : CheckedProgram) (allow : Allow) (plans : List TaskPlanValue) (s : Sizes) (r : Regions) (written : List Bool)
+    (places : List VariablePlace) (layouts : List TaskPlace) → IsPlaced p allow plans s r written places layouts → IsLaidOut (map_with runtime r places layouts)
 laid_out runtime p allow plans s r written places layouts made = record {
   chain = chain runtime allow s r places layouts g (sizes_fit p allow s made.allowed k);
   list = g.list_words ∙ ap (λ n. list_entry_room * n) (sym g.entries);

@@ -1,5 +1,5 @@
 -- From an acceptance to its return the handler leaves the program's machine as it is.
-use Rattle.std.proofs.Common.{◌≡◌, ◌≤◌, if◌then◌else◌, not, nat_le, arith, ℕ, refl, sym, ◌∙◌, ap, ap₂, subst, Bool, true, false, List, [], ◌++◌, length}
+use Rattle.std.proofs.Common.{◌≡◌, ◌+◌, ◌&&◌, ◌≤◌, if◌then◌else◌, not, nat_le, arith, ℕ, refl, sym, ◌∙◌, ap, ap₂, subst, Bool, true, false, List, [], ◌++◌, length}
 use Rattle.std.proofs.Common.{Option, Some, None, Result, Ok, Err, drop, leb-true}
 use Rattle.std.proofs.lemmas.Bool.{and_parts}
 use Rattle.event_places.specs.Places.{handler_place}
@@ -14,8 +14,8 @@ use Rattle.fram_board.specs.declared.board.NextStep.TheVariants as next_step
 use Rattle.fram_board.specs.declared.board.Stepped.{Stepped}
 use Rattle.fram_board.specs.Bus.{BusState, board_bus, is_word}
 use Rattle.fram_board.specs.Effects.{Effect, store_at, stores_of, sends_of, takes_of, effects_of}
-use Rattle.fram_board.specs.Events.{is_full}
-use Rattle.fram_board.specs.Board.{BoardValue, opened, answer_of, executed, acceptance_on, acceptance, performed, accepted_word, receiver_after, at_boundary}
+use Rattle.fram_board.specs.Events.{is_full, words_in, words_heard}
+use Rattle.fram_board.specs.Board.{BoardValue, opened, answer_of, executed, acceptance_on, acceptance, performed, accepted_word, receiver_after, at_boundary, is_accepting}
 use Rattle.fram_board.specs.Run.{kind_of, moment_of, word_list}
 use Rattle.fram_board.proofs.Interface.{counted}
 use Rattle.machine_effects.specs.World.{EachStore}
@@ -25,9 +25,9 @@ use Rattle.machine_effects.specs.View.{IsWhole, IsOfWords}
 use Rattle.event_handler.specs.Handler.{Stage, SaveR4, SaveR5, TakeEvent, LoadHead, SubtractTail, CompareRoom, LeaveIfFull, LoadHeadAgain, CutToSlots}
 use Rattle.event_handler.specs.Handler.{DoubleIndex, StoreWord, RaiseHead, RestoreR5, RestoreR4, Return, instruction_at, place_at}
 use Rattle.event_handler.specs.Boundaries.{IsInterrupted, IsInHandler, HasReturned, IsBehind, IsOutsideAs, KeepsTheRest, next_stage, effects_at, cycles_left}
-use Rattle.event_handler.specs.Boundaries.{instructions_left, left_behind, stack_of}
+use Rattle.event_handler.specs.Boundaries.{instructions_left, left_behind, stack_of, heard_at, is_ring_full}
 use Rattle.event_handler.proofs.Interface.{handler_begins, handler_goes_on, handler_keeps_the_rest, handler_takes_its_cycles}
-use Rattle.program_view.specs.View.{steady, shown_from, outside_of, Shows, StandsAs, AtCode, InHandler, cycles_due, steps_due, is_handlers_step, IsServed}
+use Rattle.program_view.specs.View.{steady, shown_from, outside_of, Shows, StandsAs, AtCode, InHandler, cycles_due, steps_due, waiting_at, waiting, is_handlers_step, IsServed}
 use Rattle.program_view.specs.Laws.{Begins, AcceptancesBegin, GoesOn, HandlersGoOn}
 use Rattle.program_view.proofs.Steady.{same_steady}
 
@@ -138,6 +138,41 @@ told_stores P b i done answer each =
     (each_store-back P (takes_of b x) (stores_of x.answer x.board ++ sends_of b.outnum x.offered) each) in
     subst (λ a. EachStore P (stores_of a x.board)) answer told
 
+-- the third instruction takes the event, and no other
+either_waits : (full : Bool) → waiting_at (if full then RestoreR5 else LoadHeadAgain) ≡ 0
+either_waits true = refl
+either_waits false = refl
+
+waits_there : (from : BoardValue) (at : Stage) → is_full from.line.port ≡ true
+    → words_heard (heard_at from at) + left_behind waiting_at (next_stage from at) ≡ waiting_at at
+waits_there from SaveR4 full = refl
+waits_there from SaveR5 full = refl
+waits_there from TakeEvent full = one_waits from.line.port full
+  where
+    one_waits : (port : Option ℕ) → is_full port ≡ true → words_in port + 0 ≡ 1
+    one_waits (Some w) e = refl
+    one_waits None e = absurd cc
+waits_there from LoadHead full = refl
+waits_there from SubtractTail full = refl
+waits_there from CompareRoom full = refl
+waits_there from LeaveIfFull full = let none = either_waits (is_ring_full from) in omega (arith, none)
+waits_there from LoadHeadAgain full = refl
+waits_there from CutToSlots full = refl
+waits_there from DoubleIndex full = refl
+waits_there from StoreWord full = refl
+waits_there from RaiseHead full = refl
+waits_there from RestoreR5 full = refl
+waits_there from RestoreR4 full = refl
+waits_there from Return full = refl
+
+waits_by : (from : BoardValue) (at : Stage) → IsInterrupted from → (done : Stepped) → done.heard ≡ heard_at from at → {b : BoardValue} {u : MachineBoard}
+    (stands : StandsAs b u) → waiting stands ≡ left_behind waiting_at (next_stage from at) → words_heard done.heard + waiting stands ≡ waiting_at at
+waits_by from at interrupted done e stands w =
+    let full = (and_parts (is_full from.line.port) (is_interruptible (registers_of from.cpu)) interrupted.accepting).0 in
+    let told = ap words_heard e in
+    let there = waits_there from at full in
+    omega (arith, told, there, w)
+
 module _ (from : BoardValue) (u : MachineBoard) (shows : Shows from u) (interrupted : IsInterrupted from) where
   -- the CPU accepts interrupts
   open_there : is_interruptible u.registers ≡ true
@@ -164,15 +199,17 @@ module _ (from : BoardValue) (u : MachineBoard) (shows : Shows from u) (interrup
     stands : StandsAs b u
     cycles : cycles_due stands ≡ left_behind cycles_left o
     steps : steps_due stands ≡ left_behind instructions_left o
+    waits : waiting stands ≡ left_behind waiting_at o
     outside : IsOutsideAs from b
 
   stands_behind : (o : Option Stage) (b : BoardValue) → IsBehind from o b → Stands o b
   stands_behind None b h =
-      record { stands = AtCode (shows_again b h); cycles = refl; steps = refl; outside = (handler_keeps_the_rest from interrupted).returned b h }
+      record { stands = AtCode (shows_again b h); cycles = refl; steps = refl; waits = refl; outside = (handler_keeps_the_rest from interrupted).returned b h }
   stands_behind (Some at) b h = record {
     stands = InHandler from at shows interrupted h;
     cycles = refl;
     steps = refl;
+    waits = refl;
     outside = (handler_keeps_the_rest from interrupted).within at b h;
   }
 
@@ -214,6 +251,7 @@ module _ (from : BoardValue) (u : MachineBoard) (shows : Shows from u) (interrup
         stands = InHandler from SaveR4 shows interrupted first.behind;
         due = refl;
         steps = refl;
+        waits = refl;
       }
 
   goes_on : (b : BoardValue) (at : Stage) → IsInHandler from at b → GoesOn b u at
@@ -238,6 +276,8 @@ module _ (from : BoardValue) (u : MachineBoard) (shows : Shows from u) (interrup
             (kind_is i b ∙ ap (λ (p : ℕ). nat_le handler_place p) inside.pc ∙ place_high at)
             (told_stores (λ a w. handler_place ≤ a) b i step.done step.made (subst P (sym step.effects) (stage_stores from at))) here (next_stage from at) step.behind;
         stands = behind.stands;
+        silent = inside.heard;
+        waits = waits_by from at interrupted step.done step.heard behind.stands behind.waits;
         cycles = omega (arith, cost, c, d);
         steps = omega (arith, n, m);
       }
@@ -265,3 +305,42 @@ handler_is_high from at b inside =
     let l = leb-true handler_place (place_at at) (place_high at) in
     let e = inside.pc in
     omega (arith, l, e)
+
+full_word : (p q : Option ℕ) → is_full p ≡ true → q ≡ p → 1 ≤ words_in q
+full_word (Some w) q e same = subst (λ (o : Option ℕ). 1 ≤ words_in o) (sym same) (omega arith)
+full_word None q e same = absurd cc
+
+accepting_word : (full interruptible : Bool) (port : Option ℕ) → is_full port ≡ full → 0 + (if full && interruptible then 1 else 0) ≤ words_in port
+accepting_word true true (Some w) e = omega arith
+accepting_word true true None e = absurd cc
+accepting_word true false port e = omega arith
+accepting_word false i port e = omega arith
+
+-- an event that waits in EVENT yet is a word there
+waits_at : (from : BoardValue) (at : Stage) (b : BoardValue) → is_full from.line.port ≡ true → IsInHandler from at b → waiting_at at ≤ words_in b.line.port
+waits_at from SaveR4 b full inside = full_word from.line.port b.line.port full inside.knows
+waits_at from SaveR5 b full inside = full_word from.line.port b.line.port full inside.knows
+waits_at from TakeEvent b full inside = full_word from.line.port b.line.port full inside.knows
+waits_at from LoadHead b full inside = omega arith
+waits_at from SubtractTail b full inside = omega arith
+waits_at from CompareRoom b full inside = omega arith
+waits_at from LeaveIfFull b full inside = omega arith
+waits_at from LoadHeadAgain b full inside = omega arith
+waits_at from CutToSlots b full inside = omega arith
+waits_at from DoubleIndex b full inside = omega arith
+waits_at from StoreWord b full inside = omega arith
+waits_at from RaiseHead b full inside = omega arith
+waits_at from RestoreR5 b full inside = omega arith
+waits_at from RestoreR4 b full inside = omega arith
+waits_at from Return b full inside = omega arith
+
+-- and where an acceptance is due the handler doesn't run
+pub waits_or_accepts : (b : BoardValue) (u : MachineBoard) (stands : StandsAs b u)
+    → waiting stands + (if is_accepting b then 1 else 0) ≤ words_in b.line.port
+waits_or_accepts b u (AtCode shows) = accepting_word (is_full b.line.port) (is_interruptible (registers_of b.cpu)) b.line.port refl
+waits_or_accepts b u (InHandler from at shows interrupted inside) =
+    let none = (goes_on from u shows interrupted b at inside).none in
+    let full = (and_parts (is_full from.line.port) (is_interruptible (registers_of from.cpu)) interrupted.accepting).0 in
+    let here = waits_at from at b full inside in
+    let late : ◌≡◌ {A = ℕ} (if is_accepting b then 1 else 0) 0 = ap (λ (c : Bool). if c then 1 else 0) none in
+    omega (arith, late, here)

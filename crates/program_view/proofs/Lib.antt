@@ -1,5 +1,6 @@
 mod Steady
 mod Shown
+mod Ports
 mod Handler
 pub mod Interface
 pub use Rattle.machine_effects.proofs as machine_effects

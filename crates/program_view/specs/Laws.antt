@@ -8,6 +8,8 @@ use Rattle.msp_step.specs.Registers.{registers_of}
 use Rattle.msp_step.specs.Step.{is_interruptible}
 use Rattle.fram_board.specs.declared.board.NextStep.TheVariants as next_step
 use Rattle.fram_board.specs.declared.board.Stepped.{Stepped}
+use Rattle.fram_board.specs.declared.events.Heard.TheVariants.{Nothing}
+use Rattle.fram_board.specs.Events.{words_heard}
 use Rattle.fram_board.specs.Board.{BoardValue, executed, acceptance, at_boundary, is_accepting, IsNextInstruction}
 use Rattle.fram_board.specs.Effects.{effects_of}
 use Rattle.fram_board.specs.Run.{moment_of}
@@ -17,7 +19,7 @@ use Rattle.machine_effects.specs.Machine.{MachineBoard, code_executed, keeps_sta
 use Rattle.machine_effects.specs.View.{looks_at, IsWhole, IsBusFault}
 use Rattle.event_handler.specs.Handler.{Stage, instruction_at}
 use Rattle.event_handler.specs.Boundaries.{IsInterrupted, IsInHandler, cycles_left, instructions_left}
-use Rattle.program_view.specs.View.{Shows, StandsAs, IsPrograms, IsServed, cycles_due, steps_due}
+use Rattle.program_view.specs.View.{Shows, StandsAs, IsPrograms, IsServed, cycles_due, steps_due, waiting_at, waiting}
 
 -- how SP moves in a step with this instruction where the CPU accepts interrupts, and goes on to do so
 pub record KeepsItsStack (i : Instr) (u next : MachineBoard) : Type 0 where
@@ -59,6 +61,7 @@ pub record Begins (b : BoardValue) (u : MachineBoard) : Type 0 where
   pub stands : StandsAs (at_boundary (acceptance b).board) u
   pub due : cycles_due stands ≡ 42
   pub steps : steps_due stands ≡ 15
+  pub waits : waiting stands ≡ 1
 
 abbrev pub AcceptancesBegin : Type 0
 AcceptancesBegin = (b : BoardValue) (u : MachineBoard) → Shows b u → IsInterrupted b → Begins b u
@@ -71,6 +74,8 @@ pub record GoesOn (b : BoardValue) (u : MachineBoard) (at : Stage) : Type 0 wher
   pub made : (executed b (instruction_at at)).answer ≡ Ok done
   pub served : IsServed b (moment_of b (next_step.Instruction (instruction_at at)) done)
   pub stands : StandsAs (at_boundary (executed b (instruction_at at)).board) u
+  pub silent : b.line.heard ≡ Nothing
+  pub waits : words_heard done.heard + waiting stands ≡ waiting_at at
   pub cycles : done.cycles + cycles_due stands ≤ cycles_left at
   pub steps : 1 + steps_due stands ≤ instructions_left at
 

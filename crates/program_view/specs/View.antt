@@ -14,7 +14,7 @@ use Rattle.machine_effects.specs.World.{fram_after, EachStore}
 use Rattle.machine_effects.specs.Inputs.{Look, look_effects}
 use Rattle.machine_effects.specs.Machine.{MachineBoard, fram_of, ram_of, code_executed}
 use Rattle.machine_effects.specs.View.{machine_with, looks_at, machine_outcome_with, IsWhole, IsOfWords}
-use Rattle.event_handler.specs.Handler.{Stage}
+use Rattle.event_handler.specs.Handler.{Stage, SaveR4, SaveR5, TakeEvent}
 use Rattle.event_handler.specs.Boundaries.{IsInterrupted, IsInHandler, KeepsTheRest, cycles_left, instructions_left}
 
 -- FRAM without HEAD and the ring, which a handler writes
@@ -55,6 +55,17 @@ cycles_due (InHandler from at shows interrupted stands) = cycles_left at
 abbrev pub steps_due : {b : BoardValue} {u : MachineBoard} → StandsAs b u → ℕ
 steps_due (AtCode shows) = 0
 steps_due (InHandler from at shows interrupted stands) = instructions_left at
+
+-- whether the event for which the handler runs waits in EVENT yet: it is taken by the third instruction
+abbrev pub waiting_at : Stage → ℕ
+waiting_at SaveR4 = 1
+waiting_at SaveR5 = 1
+waiting_at TakeEvent = 1
+waiting_at _ = 0
+
+abbrev pub waiting : {b : BoardValue} {u : MachineBoard} → StandsAs b u → ℕ
+waiting (AtCode shows) = 0
+waiting (InHandler from at shows interrupted stands) = waiting_at at
 
 -- an instruction of a board is the program's: it stands in front of the handler, and does as the machine's, which serves fewer addresses and
 -- sees of the ring what the board holds there; it changes FRAM by its effects, and nothing of HEAD and the ring; and it leaves the events as

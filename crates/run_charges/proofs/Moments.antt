@@ -32,9 +32,8 @@ use Rattle.machine_effects.specs.Going.{Goes, Stops, step_behind}
 use Rattle.machine_effects.specs.Machine.{MachineBus, MachineBoard, MachineOutcome, word_address, machine_bus, machine_opened_seeing, machine_outcome}
 use Rattle.machine_effects.specs.Machine.{machine_executed_seeing, machine_executed, looks_there, executed_looking, code_executed}
 use Rattle.machine_effects.specs.View.{machine_of, machine_with, looks_at, seen_at_pc, IsWhole, IsOfWords, outcome_of_answer}
-use Rattle.machine_effects.specs.Laws.{ChangesByEffects}
 use Rattle.machine_effects.specs.Runs.{action_effects, last_board}
-use Rattle.machine_effects.proofs.Interface.{takes, written_effects, LoggedBy, effect_logged, code_changes, seen_by_words}
+use Rattle.machine_effects.proofs.Interface.{takes, written_effects, LoggedBy, effect_logged, seen_by_words}
 use Rattle.machine_effects.proofs.Interface.{step_leaves_it_whole, words_stay_words, boundary_whole, boundary_words, told_effects, step_accepts_by_sends}
 use Rattle.machine_effects.proofs.Interface.{power_up_keeps_words}
 use Rattle.crash_rules.specs.Model.{Marks}

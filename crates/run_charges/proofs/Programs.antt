@@ -55,7 +55,7 @@ last-append b [] ns = refl
 last-append b (m ∷ ms) ns = last-append m.after ms ns
 
 -- and behind those of charges
-last_behind : (b : BoardValue) (fs : List ChargeFront) → last_board b (moments_of fs) ≡ board_behind_all b fs
+pub last_behind : (b : BoardValue) (fs : List ChargeFront) → last_board b (moments_of fs) ≡ board_behind_all b fs
 last_behind b [] = refl
 last_behind b (f ∷ fs) = last-append (board_powered f) f.instructions (moments_of fs) ∙ last_behind (board_behind f) fs
 
@@ -99,6 +99,9 @@ charged_join c marks [] fs s q t h j k run more =
 charged_join c marks (e ∷ es) fs s q t h j k run more =
     let behind = observe marks (going c.step e.steps e.powered).effects (behind_boot h) in
     (run.0, run.1, (run.2.0, run.2.1, charged_join c marks es fs run.2.0 q t behind j k run.2.2 more))
+
+pub no_other : false ≡ true → ⊥
+no_other e = absurd cc
 
 steady_small : (c : Bool) (n : ℕ) → n < 0x10000 → (if c then 0 else n) < 0x10000
 steady_small true n l = omega arith
@@ -160,7 +163,7 @@ module _ (on : PlacedProgram) where
         stands = AtCode (record { registers = refl; fram = refl; ram = λ a l even. refl; readings = refl; outnum = refl });
         quiet = λ off. refl;
         handler = ready.handler;
-        prepared = λ events accepts. absurd (cc accepts);
+        prepared = λ events accepts. absurd (no_other accepts);
         holds = ready.holds;
         leaves = λ n. (leaves_code n).code;
       }
@@ -190,9 +193,11 @@ module _ (on : PlacedProgram) where
       abbrev pub first : MachineBoard
       first = begun (looks_in ms) sees
 
-      pub reach : Reach on (powered b start) ms [] (first_machine (looks_in ms) sees (looks_in ms ++ []) (sym (append-nil (looks_in ms))))
-      reach = instructions_reach on (powered b start) ms up.0 up.1 moments are []
-          (first_machine (looks_in ms) sees (looks_in ms ++ []) (sym (append-nil (looks_in ms))))
+      abbrev pub starts : Machine on (powered b start) (looks_in ms ++ [])
+      starts = first_machine (looks_in ms) sees (looks_in ms ++ []) (sym (append-nil (looks_in ms)))
+
+      pub reach : Reach on (powered b start) ms [] starts
+      reach = instructions_reach on (powered b start) ms up.0 up.1 moments are [] starts
 
       -- they lead to a machine as which the board stands
       abbrev pub end : MachineBoard

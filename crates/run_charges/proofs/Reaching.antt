@@ -2,25 +2,26 @@
 use Rattle.std.proofs.Common.{◌≡◌, ◌+◌, ◌*◌, ◌≤◌, ◌<◌, ℕ, suc, refl, sym, ap, ◌∙◌, subst, arith, Bool, true, false, if◌then◌else◌, List, [], ◌∷◌, ◌++◌}
 use Rattle.std.proofs.Common.{append_assoc, Ok}
 use Rattle.event_places.specs.Places.{handler_place}
-use Rattle.std.proofs.lemmas.Bool.{leb-true}
 use Rattle.msp_isa.specs.declared.instructions.Instr.{Instr}
 use Rattle.msp_step.specs.Registers.{registers_of}
 use Rattle.fram_board.specs.declared.board.NextStep.TheVariants as next_step
 use Rattle.fram_board.specs.declared.board.Stepped.{Stepped}
-use Rattle.fram_board.specs.Board.{BoardValue, executed, IsNextInstruction}
+use Rattle.fram_board.specs.Board.{BoardValue, executed, performed, IsNextInstruction}
+use Rattle.fram_board.specs.declared.events.Heard.TheVariants as heard
+use Rattle.fram_board.specs.Events.{words_in}
 use Rattle.fram_board.specs.Effects.{Effect}
 use Rattle.fram_board.specs.Run.{Action, PowerUp, Execute, Moment, moment_of}
-use Rattle.machine_effects.specs.Going.{At, Status, Stretch, stretch, after_effects, going}
+use Rattle.machine_effects.specs.Going.{At, stretch, after_effects, going}
 use Rattle.machine_effects.specs.Inputs.{Look, SeeWords}
 use Rattle.machine_effects.specs.Machine.{MachineBoard, MachineOutcome, MachineStretch, fram_of}
 use Rattle.machine_effects.specs.View.{IsWhole, IsOfWords}
 use Rattle.machine_effects.specs.World.{fram_after}
 use Rattle.machine_effects.specs.Runs.{action_cycles, last_board}
-use Rattle.machine_effects.proofs.Interface.{machine_is_of_words, fram_after-append}
-use Rattle.program_view.specs.View.{StandsAs, AtCode, InHandler, cycles_due, steps_due}
-use Rattle.program_view.proofs.Interface.{handlers_go_on, handler_is_high}
+use Rattle.machine_effects.proofs.Interface.{machine_is_of_words, fram_after-append, boundary_heard, powered_heard}
+use Rattle.program_view.specs.View.{StandsAs, AtCode, InHandler, cycles_due, steps_due, waiting}
+use Rattle.program_view.proofs.Interface.{handler_is_high}
 use Rattle.run_charges.specs.View.{outside_of, is_handlers, looks_by, outside_looks, looks_in, outside_effects, all_outside_effects, IsMomentFrom, PowersUp, Instructs, Serves, AreMoments}
-use Rattle.run_charges.specs.Charges.{IsInstruction, AreInstructionMoments, program_steps, program_cycles, handler_steps, handler_cycles, accepts_in, acceptances}
+use Rattle.run_charges.specs.Charges.{IsInstruction, AreInstructionMoments, program_steps, program_cycles, handler_steps, handler_cycles, acceptances}
 use Rattle.run_charges.proofs.Moments.{whole_behind, served_effects, front_sees, IsPowerOrStep, IsPower, IsStepped, moment_is}
 use Rattle.run_charges.proofs.Running.{PlacedProgram, Machine, relooked, Leads, Turn, looks_of, program_turn, turn_leads, leads_on}
 
@@ -54,6 +55,14 @@ before_is : (b : BoardValue) (m : Moment) → IsMomentFrom b m → m.before ≡ 
 before_is b m (PowersUp p ok e) = ap (λ (y : Moment). y.before) e
 before_is b m (Instructs i done c a own e) = ap (λ (y : Moment). y.before) e
 before_is b m (Serves n done next a served e) = ap (λ (y : Moment). y.before) e
+
+-- nothing was read of EVENT behind a moment
+silent_behind : (b : BoardValue) (m : Moment) → IsMomentFrom b m → m.after.line.heard ≡ heard.Nothing
+silent_behind b m (PowersUp p ok e) = subst (λ (y : Moment). y.after.line.heard ≡ heard.Nothing) (sym e) (powered_heard b p)
+silent_behind b m (Instructs i done c a own e) =
+    subst (λ (y : Moment). y.after.line.heard ≡ heard.Nothing) (sym e) (boundary_heard (executed b i).board)
+silent_behind b m (Serves n done next a served e) =
+    subst (λ (y : Moment). y.after.line.heard ≡ heard.Nothing) (sym e) (boundary_heard (performed b n).board)
 
 -- so do moments
 pub looks_see : (b : BoardValue) (ms : List Moment) → IsWhole b → IsOfWords b → AreMoments b ms → (more : List Look) → SeeWords more
@@ -91,10 +100,10 @@ module _ (on : PlacedProgram) where
   module _ (b : BoardValue) (whole : IsWhole b) (words : IsOfWords b) (more : List Look) (i : Instr) (done : Stepped) (current : IsNextInstruction b i)
       (answer : (executed b i).answer ≡ Ok done) (below : registers_of b.cpu 0 < handler_place) where
     instruction_turn : (x : Machine on b (looks_of b (next_step.Instruction i) ++ more))
-        → Turn on b more x.u (cycles_due x.stands) (steps_due x.stands) (next_step.Instruction i)
+        → Turn on b more x.u (cycles_due x.stands) (steps_due x.stands) (waiting x.stands) (next_step.Instruction i)
     instruction_turn x = by x.stands
       where
-        by : (st : StandsAs b x.u) → Turn on b more x.u (cycles_due st) (steps_due st) (next_step.Instruction i)
+        by : (st : StandsAs b x.u) → Turn on b more x.u (cycles_due st) (steps_due st) (waiting st) (next_step.Instruction i)
         by (AtCode shows) = program_turn on b whole words more i x shows current
         by (InHandler from at shows interrupted inside) =
             let high = handler_is_high from at b inside in absurd (omega (arith, below, high))
@@ -119,6 +128,8 @@ module _ (on : PlacedProgram) where
     pub run : going step (program_steps ms) x.u ≡ stretch (all_outside_effects ms) (program_cycles ms) (At end.u)
     pub cycles : handler_cycles ms + cycles_due end.stands ≤ 48 * acceptances ms + cycles_due x.stands
     pub steps : handler_steps ms + steps_due end.stands ≤ 16 * acceptances ms + steps_due x.stands
+    pub arise : b.line.heard ≡ heard.Nothing → b.line.arisen + (waiting x.stands + words_in (last_board b ms).line.port + acceptances ms)
+        ≤ (last_board b ms).line.arisen + (waiting end.stands + words_in b.line.port)
     pub whole : IsWhole (last_board b ms)
     pub words : IsOfWords (last_board b ms)
 
@@ -128,9 +139,9 @@ module _ (on : PlacedProgram) where
       relooked on b ((outside_looks m ++ looks_in ms) ++ more) (outside_looks m ++ (looks_in ms ++ more)) (append_assoc (outside_looks m) (looks_in ms) more) x
 
   more_reach : (b : BoardValue) (m : Moment) (ms : List Moment) (more : List Look) (x : Machine on b ((outside_looks m ++ looks_in ms) ++ more))
-      → (one : Leads on b m (looks_in ms ++ more) (joined_looks b m ms more x))
+      → m.after.line.heard ≡ heard.Nothing → (one : Leads on b m (looks_in ms ++ more) (joined_looks b m ms more x))
       → Reach m.after ms more one.next → Reach b (m ∷ ms) more x
-  more_reach b m ms more x one rest =
+  more_reach b m ms more x silent one rest =
       let h = is_handlers m in
       let c = action_cycles m.action in
       let k = program_steps ms in
@@ -148,6 +159,7 @@ module _ (on : PlacedProgram) where
             ∙ joined h es (all_outside_effects ms) c (program_cycles ms) rest.end.u (served_effects m);
         cycles = omega (arith, cycles_all, c1, c2);
         steps = omega (arith, steps_all, s1, s2);
+        arise = λ quiet. let a1 = one.arise quiet in let a2 = rest.arise silent in omega (arith, a1, a2);
         whole = rest.whole;
         words = rest.words;
       }
@@ -155,7 +167,7 @@ module _ (on : PlacedProgram) where
   pub instructions_reach : (b : BoardValue) (ms : List Moment) → IsWhole b → IsOfWords b → AreMoments b ms → AreInstructionMoments ms → (more : List Look)
       → (x : Machine on b (looks_in ms ++ more)) → Reach b ms more x
   instructions_reach b [] whole words are is more x =
-      record { end = x; run = refl; cycles = omega arith; steps = omega arith; whole = whole; words = words }
+      record { end = x; run = refl; cycles = omega arith; steps = omega arith; arise = λ quiet. omega arith; whole = whole; words = words }
   instructions_reach b (m ∷ ms) whole words are is more x =
       let c = m.before in
       let whole_there = subst IsWhole (sym are.0.same) whole in
@@ -165,5 +177,5 @@ module _ (on : PlacedProgram) where
       let here : P c = λ x.
       let one = one_leads c whole_there words_there m are.1 is.0 (looks_in ms ++ more)
       (joined_looks c m ms more x) in
-      more_reach c m ms more x one (instructions_reach m.after ms behind.0 behind.1 are.2 is.1 more one.next) in
+      more_reach c m ms more x (silent_behind c m are.1) one (instructions_reach m.after ms behind.0 behind.1 are.2 is.1 more one.next) in
       subst P are.0.same here x

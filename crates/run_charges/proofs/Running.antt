@@ -1,13 +1,13 @@
 -- A board on which a program runs that stands in FRAM, and its handler beside it: its instructions are the program's steps, and the handler's
 -- are none of them.
 use Rattle.std.proofs.Common.{◌≡◌, ◌==◌, ◌+◌, ◌*◌, ◌-◌, ◌≤◌, ◌<◌, ⊎_elim, ℕ, suc, refl, sym, ap, ◌∙◌, subst, arith, Bool, true, false, if◌then◌else◌, nat_le, List, []}
-use Rattle.std.proofs.Common.{◌∷◌, ◌++◌, append_assoc, length, Option, Some, None, Ok, Err, leb-true, eqb-true}
+use Rattle.std.proofs.Common.{◌∷◌, ◌++◌, length, Option, Some, None, Ok, Err, leb-true}
 use Rattle.std.proofs.lemmas.Bool.{and_parts}
 use Rattle.std.proofs.lemmas.Bool.Decides.{nat_tests}
 use Rattle.address_space.specs.Limits.{event_vector, stack_floor, stack_start}
 use Rattle.event_places.specs.Places.{handler_place, is_ring}
 use Rattle.msp_isa.specs.declared.instructions.Instr.{Instr}
-use Rattle.msp_isa.specs.Encoding.{encoding}
+use Rattle.msp_isa.specs.declared.instructions.Instr.TheVariants as instr
 use Rattle.msp_cycles.specs.Cycles.{cycles_of}
 use Rattle.msp_step.specs.declared.machine.Stop.{Stop}
 use Rattle.msp_step.specs.declared.machine.Stop.TheVariants as stop
@@ -18,38 +18,38 @@ use Rattle.fram_board.specs.declared.board.NextStep.{NextStep}
 use Rattle.fram_board.specs.declared.board.NextStep.TheVariants as next_step
 use Rattle.fram_board.specs.declared.board.Stepped.{Stepped}
 use Rattle.fram_board.specs.Bus.{board_bus}
-use Rattle.fram_board.specs.Events.{is_full}
+use Rattle.fram_board.specs.declared.events.Heard.TheVariants as heard
+use Rattle.fram_board.specs.Events.{is_full, words_in, words_heard}
 use Rattle.fram_board.specs.Board.{BoardValue, opened, executed, performed, at_boundary, is_accepting, IsNextInstruction, IsStoppedBy, IsNextStep, HasNoStep}
-use Rattle.fram_board.specs.Board.{step_cycles}
 use Rattle.fram_board.specs.Effects.{Effect, effects_of}
 use Rattle.fram_board.specs.Run.{Measure, price, kind_of, Moment, moment_of, RunOutcome, ChargeRun, Spent, TooDear, Refused, Executed}
 use Rattle.fram_board.specs.Run as run
 use Rattle.machine_effects.specs.World.{fram_after, EachStore}
-use Rattle.machine_effects.specs.Going.{Goes, Stops, At, Halted, stretch, after_effects, continued, going}
+use Rattle.machine_effects.specs.Going.{Goes, Stops, At, stretch, after_effects, continued, going}
 use Rattle.machine_effects.specs.Inputs.{Look, SeeWords, look_effects}
 use Rattle.machine_effects.specs.Machine.{Code, MachineBoard, MachineOutcome, MachineStretch, IsStepBy, NoInstruction, Executes, code_executed, standing, step_with, undisturbed, exec, fram_of}
 use Rattle.machine_effects.specs.Machine.{machine_bus, machine_opened, word_in, is_prepared, in_stack}
 use Rattle.machine_effects.specs.View.{machine_with, IsWhole, IsOfWords, looks_at, seen_at_pc, IsBusFault}
 use Rattle.machine_effects.specs.Laws.{KeepsTheHandler, ChangesByEffects}
-use Rattle.machine_effects.specs.Runs.{action_cycles, last_board}
+use Rattle.machine_effects.specs.Runs.{action_cycles}
 use Rattle.machine_effects.proofs.Interface.{each_store-front, each_store-back, machine_is_of_words, seen_by_words, current_on, stopped_to_machine, code_keeps_the_handler}
-use Rattle.machine_effects.proofs.Interface.{code_changes_by_effects}
-use Rattle.event_handler.specs.Handler.{Stage, HasHandler, handler_length, instruction_at, place_at}
+use Rattle.machine_effects.proofs.Interface.{code_changes_by_effects, told_heard}
+use Rattle.event_handler.specs.Handler.{Stage, HasHandler, handler_length, instruction_at}
 use Rattle.event_handler.specs.Boundaries.{IsInterrupted, IsInHandler, cycles_left, instructions_left}
-use Rattle.program_view.specs.View.{steady, Shows, StandsAs, AtCode, InHandler, cycles_due, steps_due, is_handlers_step}
+use Rattle.program_view.specs.View.{steady, Shows, StandsAs, AtCode, InHandler, cycles_due, steps_due, waiting_at, waiting, is_handlers_step}
 use Rattle.program_view.specs.Laws.{KeepsItsStack, KeepsRules, DoesAlike, Begins, GoesOn}
-use Rattle.program_view.proofs.Interface.{steady_low, steady_off, instructions_are_the_programs, acceptances_begin, handlers_go_on}
-use Rattle.code_forms.specs.Placed.{placed, placed_at, words_of, Holds, LeavesCode, IsOutside}
+use Rattle.program_view.proofs.Interface.{steady_low, steady_off, instructions_are_the_programs, acceptances_begin, handlers_go_on, step_arises}
+use Rattle.code_forms.specs.Placed.{placed, words_of, Holds, LeavesCode, IsOutside}
 use Rattle.code_forms.specs.Laws.{IsNoHole}
 use Rattle.code_forms.proofs.Interface.{placed_next, placed_within, holds_stores, code_in_fram_steps, code_goes_undisturbed, code_stays_prepared}
 use Rattle.crash_rules.specs.Model.{Marks}
 use Rattle.crash_rules.specs.Runs.{Program}
-use Rattle.run_charges.specs.View.{is_handlers, outside_looks, looks_in, outside_effects, all_outside_effects, Follows, IsServed, IsMomentFrom, PowersUp}
+use Rattle.run_charges.specs.View.{is_handlers, outside_looks, outside_effects, IsServed, IsMomentFrom}
 use Rattle.run_charges.specs.View.{Instructs, Serves, AreMoments}
-use Rattle.run_charges.specs.Charges.{IsInstruction, AreInstructionMoments, IsPlacedProgram, program_steps, program_cycles, handler_steps, handler_cycles}
-use Rattle.run_charges.specs.Charges.{accepts_in, acceptances}
+use Rattle.run_charges.specs.Charges.{IsPlacedProgram}
+use Rattle.run_charges.specs.Charges.{accepts_in}
 use Rattle.run_charges.proofs.View.{no_gap}
-use Rattle.run_charges.proofs.Moments.{told_alike, step_is_programs, front_sees, nothing_seen, whole_behind, served_effects, served_looks}
+use Rattle.run_charges.proofs.Moments.{told_alike, step_is_programs, front_sees, nothing_seen, whole_behind, served_looks}
 use Rattle.run_charges.proofs.Rules.{stack_kept}
 
 -- a program in FRAM, with the marks of its runs: whether it takes events, where it stands, and the entry in the reset vector
@@ -259,13 +259,14 @@ module _ (on : PlacedProgram) where
       stops_too = is_off e refl no_step
 
   -- whose the next step is, of a machine of which so many cycles and steps are the handler's yet
-  pub data Turn (b : BoardValue) (more : List Look) (u : MachineBoard) (due left : ℕ) : NextStep → Type 0 where
-    IsAcceptance : Begins b u → Turn b more u due left next_step.Acceptance
-    IsHandlers : (at : Stage) → due ≡ cycles_left at → left ≡ instructions_left at → GoesOn b u at
-        → Turn b more u due left (next_step.Instruction (instruction_at at))
-    IsProgram : (i : Instr) → IsNextInstruction b i → Shows b u → IsCode b u i → DoesAlike b u i more → Turn b more u due left (next_step.Instruction i)
+  pub data Turn (b : BoardValue) (more : List Look) (u : MachineBoard) (due left waits : ℕ) : NextStep → Type 0 where
+    IsAcceptance : waits ≡ 0 → Begins b u → Turn b more u due left waits next_step.Acceptance
+    IsHandlers : (at : Stage) → due ≡ cycles_left at → left ≡ instructions_left at → waits ≡ waiting_at at → GoesOn b u at
+        → Turn b more u due left waits (next_step.Instruction (instruction_at at))
+    IsProgram : waits ≡ 0 → (i : Instr) → IsNextInstruction b i → Shows b u → IsCode b u i → DoesAlike b u i more
+        → Turn b more u due left waits (next_step.Instruction i)
 
-  sees_of : (b : BoardValue) → IsOfWords b → (n : NextStep) (more : List Look) → SeeWords more → SeeWords (looks_of b n ++ more)
+  pub sees_of : (b : BoardValue) → IsOfWords b → (n : NextStep) (more : List Look) → SeeWords more → SeeWords (looks_of b n ++ more)
   sees_of b words n more see =
       sees_if (is_handlers_step (kind_of n) b) (seen_at_pc b) more (front_sees _ (fram_of b.fram) more (machine_is_of_words b words).fram see) see
 
@@ -273,14 +274,14 @@ module _ (on : PlacedProgram) where
   module _ (b : BoardValue) (whole : IsWhole b) (words : IsOfWords b) (more : List Look) where
     -- where the program stands
     pub program_turn : (i : Instr) → (x : Machine b (looks_of b (next_step.Instruction i) ++ more)) → (shows : Shows b x.u) → IsNextInstruction b i
-        → Turn b more x.u 0 0 (next_step.Instruction i)
+        → Turn b more x.u 0 0 0 (next_step.Instruction i)
     program_turn i x shows current =
         let c = is_code b x.u shows x.holds (x.leaves 1) whole i current in
         let handlers = step_is_programs i b c.below in
         let seen : looks_of b (next_step.Instruction i) ≡ looks_at b i =
         ap (λ (d : Bool). if d then [] else seen_at_pc b) handlers ∙ seen_by_words b i whole current in
         let alike = instructions_are_the_programs b x.u i more whole shows current (x.looks ∙ ap (λ l. l ++ more) seen) in
-        IsProgram i current shows c
+        IsProgram refl i current shows c
         (⊎_elim {C = DoesAlike b x.u i more} (λ f. absurd (no_fault x.u (code_executed x.u i) (x.leaves 1) (sym c.step_is) f)) (λ d. d) alike)
 
     -- where the CPU accepts an interrupt: a program without events never lets it
@@ -307,27 +308,28 @@ module _ (on : PlacedProgram) where
             }
         by false e = let no : true ≡ false = sym accepts ∙ x.quiet e in absurd cc
 
-    accepting_turn : (x : Machine b more) → Shows b x.u → is_accepting b ≡ true → (due left : ℕ) → Turn b more x.u due left next_step.Acceptance
-    accepting_turn x shows accepting due left = IsAcceptance (acceptances_begin b x.u shows (interrupted x shows accepting))
+    accepting_turn : (x : Machine b more) → Shows b x.u → is_accepting b ≡ true → (due left : ℕ) → Turn b more x.u due left 0 next_step.Acceptance
+    accepting_turn x shows accepting due left = IsAcceptance refl (acceptances_begin b x.u shows (interrupted x shows accepting))
 
     -- in the handler
     handlers_turn : (u : MachineBoard) (from : BoardValue) (at : Stage) → Shows from u → IsInterrupted from → IsInHandler from at b → (i : Instr)
-        → IsNextInstruction b i → Turn b more u (cycles_left at) (instructions_left at) (next_step.Instruction i)
+        → IsNextInstruction b i → Turn b more u (cycles_left at) (instructions_left at) (waiting_at at) (next_step.Instruction i)
     handlers_turn u from at shows interrupted inside i current =
         let step = handlers_go_on b u from at shows interrupted inside in
         let same : i ≡ instruction_at at = same_current board_bus (registers_of b.cpu) (opened b) i (instruction_at at) current step.next in
-        subst (λ (j : Instr). Turn b more u (cycles_left at) (instructions_left at) (next_step.Instruction j)) (sym same) (IsHandlers at refl refl step)
+        subst (λ (j : Instr). Turn b more u (cycles_left at) (instructions_left at) (waiting_at at) (next_step.Instruction j)) (sym same)
+        (IsHandlers at refl refl refl step)
 
     never_accepts : (u : MachineBoard) (from : BoardValue) (at : Stage) → Shows from u → IsInterrupted from → IsInHandler from at b → is_accepting b ≡ true → ⊥
     never_accepts u from at shows interrupted inside e =
         let no : true ≡ false = sym e ∙ (handlers_go_on b u from at shows interrupted inside).none in absurd cc
 
     -- whose the next step is
-    pub turn : (n : NextStep) → IsNextStep b n → (x : Machine b (looks_of b n ++ more)) → Turn b more x.u (cycles_due x.stands) (steps_due x.stands) n
+    pub turn : (n : NextStep) → IsNextStep b n → (x : Machine b (looks_of b n ++ more)) → Turn b more x.u (cycles_due x.stands) (steps_due x.stands) (waiting x.stands) n
     turn n next x = by n next x x.stands
       where
         by : (n : NextStep) → IsNextStep b n → (x : Machine b (looks_of b n ++ more)) → (st : StandsAs b x.u)
-            → Turn b more x.u (cycles_due st) (steps_due st) n
+            → Turn b more x.u (cycles_due st) (steps_due st) (waiting st) n
         by next_step.Acceptance next x (AtCode shows) = accepting_turn x shows next 0 0
         by (next_step.Instruction i) next x (AtCode shows) = program_turn i x shows next.1
         by next_step.Acceptance next x (InHandler from at shows interrupted inside) = absurd (never_accepts x.u from at shows interrupted inside next)
@@ -376,6 +378,13 @@ module _ (on : PlacedProgram) where
           leaves = λ n. leaves_behind u next es c n goes (leaves (suc n));
         }
 
+  -- an instruction is no acceptance
+  accepts_none : (i : Instr) (b : BoardValue) (done : Stepped) → accepts_in (moment_of b (next_step.Instruction i) done).action ≡ 0
+  accepts_none (instr.Two op w x d) b done = refl
+  accepts_none (instr.One o) b done = refl
+  accepts_none (instr.Jump c o) b done = refl
+  accepts_none instr.Reti b done = refl
+
   -- what a step that is made, as this moment, leaves of the machine: behind its look it does what the moment tells, and the handler takes of
   -- the cycles and steps that it has
   pub record Leads (b : BoardValue) (m : Moment) (more : List Look) (x : Machine b (outside_looks m ++ more)) : Type 0 where
@@ -384,6 +393,8 @@ module _ (on : PlacedProgram) where
         ≡ (if is_handlers m then going step n next.u else after_effects (outside_effects m) (action_cycles m.action) (going step n next.u))
     pub cycles : (if is_handlers m then action_cycles m.action else 0) + cycles_due next.stands ≤ 48 * accepts_in m.action + cycles_due x.stands
     pub steps : (if is_handlers m then 1 else 0) + steps_due next.stands ≤ 16 * accepts_in m.action + steps_due x.stands
+    pub arise : b.line.heard ≡ heard.Nothing → b.line.arisen + (waiting x.stands + words_in m.after.line.port + accepts_in m.action)
+        ≤ m.after.line.arisen + (waiting next.stands + words_in b.line.port)
 
   -- a step of the handler's leaves it as it is
   module _ (b : BoardValue) (m : Moment) (more : List Look) (x : Machine b (outside_looks m ++ more)) (handlers : is_handlers m ≡ true)
@@ -401,8 +412,10 @@ module _ (on : PlacedProgram) where
     }
 
     handler_leads : action_cycles m.action + cycles_due stands ≤ 48 * accepts_in m.action + cycles_due x.stands
-        → 1 + steps_due stands ≤ 16 * accepts_in m.action + steps_due x.stands → Leads b m more x
-    handler_leads cycles steps = record {
+        → 1 + steps_due stands ≤ 16 * accepts_in m.action + steps_due x.stands
+        → (b.line.heard ≡ heard.Nothing → b.line.arisen + (waiting x.stands + words_in m.after.line.port + accepts_in m.action)
+        ≤ m.after.line.arisen + (waiting stands + words_in b.line.port)) → Leads b m more x
+    handler_leads cycles steps arise = record {
       next = same_machine;
       runs = λ n.
           ap (λ (c : Bool). going step (if c then n else suc n) x.u) handlers
@@ -410,6 +423,7 @@ module _ (on : PlacedProgram) where
       cycles = subst (λ (c : Bool). (if c then action_cycles m.action else 0) + cycles_due stands ≤ 48 * accepts_in m.action + cycles_due x.stands)
           (sym handlers) cycles;
       steps = subst (λ (c : Bool). (if c then 1 else 0) + steps_due stands ≤ 16 * accepts_in m.action + steps_due x.stands) (sym handlers) steps;
+      arise = arise;
     }
 
   -- a step of the program's is the machine's
@@ -418,8 +432,8 @@ module _ (on : PlacedProgram) where
     abbrev m : Moment
     m = moment_of b (next_step.Instruction i) done
 
-    program_leads : (x : Machine b (outside_looks m ++ more)) → IsCode b x.u i → DoesAlike b x.u i more → Leads b m more x
-    program_leads x c alike =
+    program_leads : (x : Machine b (outside_looks m ++ more)) → waiting x.stands ≡ 0 → IsCode b x.u i → DoesAlike b x.u i more → Leads b m more x
+    program_leads x free c alike =
         let made = alike.made done answer in
         let fs : List Effect = look_effects (looks_at b i) ++ effects_of b (executed b i) in
         let handlers : is_handlers m ≡ false = step_is_programs i b c.below in
@@ -436,26 +450,39 @@ module _ (on : PlacedProgram) where
               ∙ ap (λ (d : Bool). if d then r n else after_effects (outside_effects m) done.cycles (r n)) (sym handlers);
           cycles = subst (λ (d : Bool). (if d then done.cycles else 0) + 0 ≤ 48 * accepts_in m.action + cycles_due x.stands) (sym handlers) (omega arith);
           steps = subst (λ (d : Bool). (if d then 1 else 0) + 0 ≤ 16 * accepts_in m.action + steps_due x.stands) (sym handlers) (omega arith);
+          arise = λ silent.
+              let grown = step_arises b (next_step.Instruction i) silent in
+              let here = free in
+              let none = accepts_none i b done in
+              omega (arith, grown, here, none);
         }
 
   -- any step that is made
   module _ (b : BoardValue) (whole : IsWhole b) (words : IsOfWords b) (more : List Look) where
     pub turn_leads : (n : NextStep) (done : Stepped) → (performed b n).answer ≡ Ok done → (x : Machine b (looks_of b n ++ more))
-        → Turn b more x.u (cycles_due x.stands) (steps_due x.stands) n → Leads b (moment_of b n done) more x
-    turn_leads _ done answer x (IsAcceptance begins) =
+        → Turn b more x.u (cycles_due x.stands) (steps_due x.stands) (waiting x.stands) n → Leads b (moment_of b n done) more x
+    turn_leads _ done answer x (IsAcceptance free begins) =
         let same : begins.done ≡ done = cc (sym begins.made ∙ answer) in
         let cycles : done.cycles ≡ 6 = ap (λ (d : Stepped). d.cycles) (sym same) ∙ begins.cycles in
         let due = begins.due in
         let left = begins.steps in
+        let waits = begins.waits in
         handler_leads b (moment_of b next_step.Acceptance done) more x refl begins.stands (omega (arith, cycles, due)) (omega (arith, left))
-    turn_leads _ done answer x (IsHandlers at due left goes_on) =
+        (λ silent. let grown = step_arises b next_step.Acceptance silent in omega (arith, grown, free, waits))
+    turn_leads _ done answer x (IsHandlers at due left waits goes_on) =
+        let i : Instr = instruction_at at in
         let same : goes_on.done ≡ done = cc (sym goes_on.made ∙ answer) in
         let cycles : done.cycles ≡ goes_on.done.cycles = ap (λ (d : Stepped). d.cycles) (sym same) in
         let cost = goes_on.cycles in
         let count = goes_on.steps in
-        handler_leads b (moment_of b (next_step.Instruction (instruction_at at)) done) more x goes_on.served.handlers goes_on.stands
+        let taken = goes_on.waits in
+        let told : words_heard goes_on.done.heard ≡ words_heard (executed b i).board.line.heard =
+        ap words_heard (told_heard b (next_step.Instruction i) goes_on.done goes_on.made) in
+        let none = accepts_none i b done in
+        handler_leads b (moment_of b (next_step.Instruction i) done) more x goes_on.served.handlers goes_on.stands
         (omega (arith, cycles, cost, due)) (omega (arith, count, left))
-    turn_leads _ done answer x (IsProgram i current shows c alike) = program_leads b whole i done more current answer x c alike
+        (λ silent. let grown = step_arises b (next_step.Instruction i) silent in omega (arith, grown, waits, taken, told, none))
+    turn_leads _ done answer x (IsProgram free i current shows c alike) = program_leads b whole i done more current answer x free c alike
 
     pub leads_on : (n : NextStep) (done : Stepped) → IsNextStep b n → (performed b n).answer ≡ Ok done → (x : Machine b (looks_of b n ++ more))
         → Leads b (moment_of b n done) more x
@@ -481,10 +508,10 @@ module _ (on : PlacedProgram) where
       pub stops : step x.u ≡ Stops (look_effects (looks_at b i) ++ effects_of b (executed b i)) (cycles_of i) e
 
     turn_refused : (n : NextStep) (e : Stop) → (performed b n).answer ≡ Err e → (x : Machine b (looks_of b n ++ more))
-        → Turn b more x.u (cycles_due x.stands) (steps_due x.stands) n → IsRefused n x e
-    turn_refused _ e answer x (IsAcceptance begins) = absurd (cc (begins.made, answer))
-    turn_refused _ e answer x (IsHandlers at due left goes_on) = absurd (cc (goes_on.made, answer))
-    turn_refused _ e answer x (IsProgram i current shows c alike) = record {
+        → Turn b more x.u (cycles_due x.stands) (steps_due x.stands) (waiting x.stands) n → IsRefused n x e
+    turn_refused _ e answer x (IsAcceptance free begins) = absurd (cc (begins.made, answer))
+    turn_refused _ e answer x (IsHandlers at due left waits goes_on) = absurd (cc (goes_on.made, answer))
+    turn_refused _ e answer x (IsProgram free i current shows c alike) = record {
       i = i;
       is = refl;
       answer = answer;
@@ -504,13 +531,13 @@ module _ (on : PlacedProgram) where
         let same : other ≡ done = cc (sym made ∙ answer) in subst (λ (d : Stepped). IsServed b (moment_of b n d)) same served
 
     turn_moment : (n : NextStep) (done : Stepped) → IsNextStep b n → (performed b n).answer ≡ Ok done → (x : Machine b (looks_of b n ++ []))
-        → Turn b [] x.u (cycles_due x.stands) (steps_due x.stands) n → IsMomentFrom b (moment_of b n done)
-    turn_moment _ done next answer x (IsAcceptance begins) =
+        → Turn b [] x.u (cycles_due x.stands) (steps_due x.stands) (waiting x.stands) n → IsMomentFrom b (moment_of b n done)
+    turn_moment _ done next answer x (IsAcceptance free begins) =
         Serves next_step.Acceptance done next answer (same_served next_step.Acceptance done begins.done begins.made answer begins.served) refl
-    turn_moment _ done next answer x (IsHandlers at due left goes_on) =
+    turn_moment _ done next answer x (IsHandlers at due left waits goes_on) =
         let n = next_step.Instruction (instruction_at at) in
         Serves n done next answer (same_served n done goes_on.done goes_on.made answer goes_on.served) refl
-    turn_moment _ done next answer x (IsProgram i current shows c alike) =
+    turn_moment _ done next answer x (IsProgram free i current shows c alike) =
         let made = alike.made done answer in
         let goes : step x.u ≡ Goes (look_effects (looks_at b i) ++ effects_of b (executed b i)) done.cycles made.next = sym c.step_is ∙ made.goes in
         let rules = program_rules x.u made.next _ done.cycles goes i c.at x.quiet x.prepared in

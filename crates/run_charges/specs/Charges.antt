@@ -1,12 +1,12 @@
 -- The charges of a board's run as charges of the machine.
-use Rattle.std.specs.Prelude.{◌≡◌, ℕ, suc, ◌+◌, ◌*◌, ◌%◌, ◌<◌, ◌≤◌, Bool, true, if◌then◌else◌, List, [], ◌∷◌, ◌++◌, length, All}
+use Rattle.std.specs.Prelude.{◌≡◌, ℕ, suc, ◌+◌, ◌*◌, ◌%◌, ◌≤◌, Bool, true, if◌then◌else◌, List, [], ◌∷◌, ◌++◌, length, All}
 use Rattle.address_space.specs.Limits.{fram_first, reset_vector, event_vector}
 use Rattle.event_places.specs.Places.{handler_place}
 use Rattle.msp_isa.specs.declared.instructions.Instr.{Instr}
-use Rattle.fram_board.specs.Board.{BoardValue, PowerState, powered}
+use Rattle.fram_board.specs.Board.{BoardValue, PowerState, powered, is_accepting}
 use Rattle.fram_board.specs.Steps.{IsPowerState}
 use Rattle.fram_board.specs.Effects.{Effect}
-use Rattle.fram_board.specs.Run.{StepKind, Accepting, Returning, Plain, Action, PowerUp, Execute, Moment, BoardCharge, power_up_of}
+use Rattle.fram_board.specs.Run.{Accepting, Returning, Plain, Action, PowerUp, Execute, Moment, BoardCharge, power_up_of}
 use Rattle.machine_effects.specs.World.{EachStore}
 use Rattle.machine_effects.specs.Going.{going}
 use Rattle.machine_effects.specs.Machine.{MachineBoard, MachineStretch, exec, machine_powered}
@@ -110,6 +110,10 @@ accepts_in (Execute Plain done offered) = 0
 abbrev pub acceptances : List Moment → ℕ
 acceptances [] = 0
 acceptances (m ∷ ms) = accepts_in m.action + acceptances ms
+
+-- how many events steps of a charge have to do with: their acceptances, and one more where one is due on the board behind them
+abbrev pub events_met : List Moment → BoardValue → ℕ
+events_met ms behind = acceptances ms + (if is_accepting behind then 1 else 0)
 
 -- charges as the crash theorem has them: the machine that a power-up left, with the looks that the charge takes, and how many steps the program
 -- made in it

@@ -1,5 +1,5 @@
 -- Laws that join a board's run, the machine, and the charges of the crash theorem.
-use Rattle.std.specs.Prelude.{◌≡◌, ℕ, ◌*◌, ◌≤◌, Bool, true, false, List, ◌++◌, length}
+use Rattle.std.specs.Prelude.{◌≡◌, ℕ, ◌*◌, ◌≤◌, Bool, true, false, List, ◌++◌, None, length}
 use Rattle.msp_isa.specs.declared.instructions.Instr.{Instr}
 use Rattle.fram_board.specs.Board.{BoardValue}
 use Rattle.fram_board.specs.Run.{BoardCharge, Moment, RunOutcome, Run}
@@ -55,6 +55,7 @@ pub record StandsIn (c : Program) (marks : Marks) (b : BoardValue) (h : History)
   pub instructions : List Instr
   pub placed : IsPlacedProgram c events place instructions ((outside_of b).fram 0xFFFE)
   pub holds : Holds (outside_of b).fram place (words_of instructions)
+  pub marked : marks.answer ≡ None → events ≡ false  -- where no word of FRAM is ANS it takes none
   pub handler : events ≡ true → HasHandler (outside_of b).fram
   pub leaves : AlwaysLeaves c place (length (words_of instructions)) marks (outside_of b) h
 

@@ -15,7 +15,7 @@ use Rattle.fram_board.specs.Run.{Action, PowerUp, Execute, Moment, moment_of, po
 use Rattle.machine_effects.specs.Inputs.{Look, look_effects}
 use Rattle.machine_effects.specs.View.{seen_at_pc, IsWhole, IsOfWords}
 use Rattle.machine_effects.specs.Runs.{action_effects}
-pub use Rattle.program_view.specs.View.{steady, outside_with, outside_of, is_handlers, IsPrograms, IsServed}
+pub use Rattle.program_view.specs.View.{steady, outside_with, outside_of, is_handlers, stored_by, IsPrograms, IsServed}
 
 -- no moment is the handler's
 abbrev pub NoneServes : List Moment → Type 0

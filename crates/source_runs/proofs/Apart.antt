@@ -11,6 +11,7 @@ use Rattle.crash_rules.specs.History.{observe_one, observe, first_history}
 use Rattle.run_charges.specs.View.{outside_effects}
 use Rattle.run_charges.specs.Charges.{behind_action, behind_moment, observed}
 use Rattle.source_report.specs.Apart.{AreApart}
+use Rattle.source_runs.specs.Tells.{spans_in}
 use Rattle.source_runs.specs.Transitions.{committed_by}
 
 -- spans in order and apart, from a position on and up to another
@@ -30,7 +31,7 @@ onward : (from : ℕ) (ds : List Done) (to : ℕ) → UpTo from ds to → from �
 onward from [] to h = h
 onward from (d ∷ ds) to h = let a = h.0 in let b = h.1 in let c = onward d.span_to ds to h.2 in omega (arith, a, b, c)
 
-apart : (from : ℕ) (ds : List Done) (to end : ℕ) → UpTo from ds to → to ≤ end → AreApart from end (committed_by ds)
+apart : (from : ℕ) (ds : List Done) (to end : ℕ) → UpTo from ds to → to ≤ end → AreApart from end (spans_in (committed_by ds))
 apart from [] to end h l = tt
 apart from (d ∷ ds) to end h l = let inside = onward d.span_to ds to h.2 in (h.0, h.1, omega (arith, inside, l), apart d.span_to ds to end h.2 l)
 
@@ -75,13 +76,14 @@ is_none before now e f = grind (arith, nat_tests, e)
 stayed_one : (before now : ℕ) → is_decide before now ≡ false → now ≡ 1 → before ≡ 1
 stayed_one before now e f = grind (arith, nat_tests, e)
 
-event_ordered : (marks : Marks) (before now : ℕ) (h : History) → now ≡ h.world.fram marks.gate → IsBehind before h → Ordered marks (behind_gate before now h)
+event_ordered : (marks : Marks) (before now : ℕ) (h : History) → now ≡ h.world.fram marks.gate → IsBehind before h
+    → Ordered marks (behind_gate marks before now h)
 event_ordered marks before now h is b = by_done (is_done before now) refl
   where
     done : Done
-    done = record { span_from = h.span_from; span_to = h.span_to; world = h.world }
+    done = record { span_from = h.span_from; span_to = h.span_to; answers = h.answers; world = h.world }
 
-    by_decide : (q : Bool) → is_decide before now ≡ q → Ordered marks (cond q (behind_decide h) h)
+    by_decide : (q : Bool) → is_decide before now ≡ q → Ordered marks (cond q (behind_decide marks h) h)
     by_decide true e = record {
       dones = b.dones;
       since = b.since;
@@ -89,11 +91,11 @@ event_ordered marks before now h is b = by_done (is_done before now) refl
     }
     by_decide false e = record { dones = b.dones; since = b.since; pending = λ one. b.pending (stayed_one before now e (omega (arith, is, one))) }
 
-    by_done : (p : Bool) → is_done before now ≡ p → Ordered marks (cond p (behind_done h) (cond (is_decide before now) (behind_decide h) h))
+    by_done : (p : Bool) → is_done before now ≡ p → Ordered marks (cond p (behind_done h) (cond (is_decide before now) (behind_decide marks h) h))
     by_done true e =
         let p = b.pending (was_one before now e) in
         record {
-          dones = one_more 0 h.completed (record { span_from = h.span_from; span_to = h.span_to; world = h.world }) h.taken p.behind p.onward p.taken;
+          dones = one_more 0 h.completed (record { span_from = h.span_from; span_to = h.span_to; answers = h.answers; world = h.world }) h.taken p.behind p.onward p.taken;
           since = omega arith;
           pending = λ one. absurd (is_none before now e (omega (arith, is, one)));
         }
@@ -124,7 +126,7 @@ moments_ordered marks (m ∷ ms) h o =
 
 -- the spans of a run's dones, of which the last ended with the last done
 pub spans_are_apart : (marks : Marks) (x : World) (ms : List Moment) (end : ℕ) → (observed marks ms (first_history marks x)).since ≤ end
-    → AreApart 0 end (committed_by (observed marks ms (first_history marks x)).completed)
+    → AreApart 0 end (spans_in (committed_by (observed marks ms (first_history marks x)).completed))
 spans_are_apart marks x ms end inside =
     let k = observed marks ms (first_history marks x) in
     apart 0 k.completed k.since end (moments_ordered marks ms (first_history marks x) (first_ordered marks x)).dones inside

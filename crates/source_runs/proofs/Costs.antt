@@ -1,27 +1,25 @@
 -- What the transitions of a run cost, read off its moments, is what its dones do that are read off its effects.
 use Rattle.std.proofs.Common.{◌≡◌, ℕ, ◌+◌, ◌<◌, refl, sym, ap, ap₂, ◌∙◌, subst, arith, Bool, true, false, cond, if◌then◌else◌, ne_eqb, List, [], ◌∷◌, ◌++◌}
-use Rattle.std.proofs.Common.{length, append_assoc, append-nil, Ok}
+use Rattle.std.proofs.Common.{length, append_assoc, append-nil, Option}
 use Rattle.std.proofs.lemmas.List.{append_cancel_left}
 use Rattle.std.specs.Prelude.{◌&&◌, ◌==◌}
 use Rattle.alp_io.specs.Count.{risen}
-use Rattle.msp_isa.specs.declared.instructions.Instr.{Instr}
 use Rattle.image_map.specs.MapValue.{MapValue}
 use Rattle.image_map.specs.Kept.{IsMap}
-use Rattle.fram_board.specs.declared.board.NextStep.TheVariants as next_step
 use Rattle.fram_board.specs.declared.board.Stepped.{Stepped}
-use Rattle.fram_board.specs.Board.{BoardValue, executed, at_boundary, IsNextInstruction}
-use Rattle.fram_board.specs.Run.{Moment, moment_of}
+use Rattle.fram_board.specs.Board.{BoardValue}
+use Rattle.fram_board.specs.Run.{StepKind, Moment}
 use Rattle.board_run.specs.History.{noted, is_done, word_in}
 use Rattle.board_run.specs.History as board
 use Rattle.machine_effects.specs.World.{World}
-use Rattle.machine_effects.specs.View.{IsMachines}
 use Rattle.crash_rules.specs.Model.{Marks}
 use Rattle.crash_rules.specs.History.{Done, History, is_decide, behind_decide, behind_done, behind_gate}
 use Rattle.crash_rules.specs.Laws.{TaskCosts, next_cost, costs_of, IsSpentOn}
 use Rattle.crash_rules.proofs.Interface.{with_effects}
-use Rattle.run_charges.specs.View.{outside_effects, IsMomentFrom, PowersUp, Instructs, AreMoments}
+use Rattle.run_charges.specs.View.{outside_effects, IsMomentFrom, AreMoments}
+use Rattle.run_charges.proofs.Interface.{stepped, Steps, IsPowerOrStep, IsPower, IsStepped, moment_is}
 use Rattle.run_charges.specs.Charges.{behind_moment, observed}
-use Rattle.model_runs.specs.Events.{marks_of, counted, last_world, SaysTheSame}
+use Rattle.model_runs.specs.Events.{marks_of, IsInFront, counted, last_world, SaysTheSame}
 use Rattle.model_runs.proofs.Interface.{Together, together_on, observed_so, moment_leads}
 use Rattle.source_runs.specs.Tells.{cost_due, costs_by, costs_in}
 
@@ -49,7 +47,7 @@ next_behind : (behind : World → ℕ) (first : ℕ) (ds es : List Done) → nex
 next_behind behind first [] es = refl
 next_behind behind first (d ∷ ds) es = next_behind behind (behind d.world) ds es
 
-module _ (m : MapValue) (x : World) (ok : IsMap m) (cost : ℕ → ℕ) (pending : Bool) where
+module _ (m : MapValue) (x : World) (ok : IsMap m) (front : IsInFront m) (cost : ℕ → ℕ) (pending : Bool) where
   abbrev gate : ℕ
   gate = m.words.gate
 
@@ -101,14 +99,14 @@ module _ (m : MapValue) (x : World) (ok : IsMap m) (cost : ℕ → ℕ) (pending
     pub costs : Costs now completed more
 
   event_adds : (before after now : ℕ) (k : History)
-      → Adds k.completed (behind_gate before after k).completed now (if is_done before after then now else 0)
+      → Adds k.completed (behind_gate marks before after k).completed now (if is_done before after then now else 0)
   event_adds before after now k =
-      elim (is_done before after) as (λ p. Adds k.completed (cond p (behind_done k) (cond (is_decide before after) (behind_decide k) k)).completed now
+      elim (is_done before after) as (λ p. Adds k.completed (cond p (behind_done k) (cond (is_decide before after) (behind_decide marks k) k)).completed now
       (if p then now else 0)) [
         | true ↦
-            let d : Done = record { span_from = k.span_from; span_to = k.span_to; world = k.world } in
+            let d : Done = record { span_from = k.span_from; span_to = k.span_to; answers = k.answers; world = k.world } in
             record { more = d ∷ []; grown = refl; costs = one_costs now d }
-        | false ↦ elim (is_decide before after) as (λ q. Adds k.completed (cond q (behind_decide k) k).completed now 0) [
+        | false ↦ elim (is_decide before after) as (λ q. Adds k.completed (cond q (behind_decide marks k) k).completed now 0) [
           | true ↦ record { more = []; grown = sym (append-nil k.completed); costs = none_cost now }
           | false ↦ record { more = []; grown = sym (append-nil k.completed); costs = none_cost now }
         ]
@@ -118,28 +116,31 @@ module _ (m : MapValue) (x : World) (ok : IsMap m) (cost : ℕ → ℕ) (pending
   abbrev MomentAdds : board.History → History → Moment → Type 0
   MomentAdds h k o = Adds k.completed (behind_moment marks o k).completed (next_cost behind first k.completed) (costs_by due m h o.action o.after)
 
-  instruction_adds : (b : BoardValue) (h : board.History) (k : History) → Together m x b h k → (i : Instr) (done : Stepped) → IsNextInstruction b i
-      → (executed b i).answer ≡ Ok done → IsMachines b i → MomentAdds h k (moment_of b (next_step.Instruction i) done)
-  instruction_adds b h k t i done current answer own =
-      let o = moment_of b (next_step.Instruction i) done in
-      let after = at_boundary (executed b i).board in
+  step_adds : (b : BoardValue) (h : board.History) (k : History) → Together m x b h k → (kind : StepKind) (done : Stepped) (offered : Option ℕ)
+      (after : BoardValue) → Steps b (stepped b kind done offered after) → MomentAdds h k (stepped b kind done offered after)
+  step_adds b h k t kind done offered after step =
+      let o = stepped b kind done offered after in
       let moved = with_effects (outside_effects o) k in
       let was : ℕ = k.world.fram gate in
       let now : ℕ = word_in after.fram gate in
       let c = next_cost behind first k.completed in
-      let seen : (behind_moment marks o k).completed ≡ (behind_gate was now moved).completed = ap (λ y. y.completed)
-      (observed_so m x ok b h k t i done current answer own) in
+      let seen : (behind_moment marks o k).completed ≡ (behind_gate marks was now moved).completed = ap (λ y. y.completed)
+      (observed_so m x ok front b h k t kind done offered after step) in
       let paid : (if is_done was now then c else 0) ≡ (if is_done h.gate now then due h else 0) =
       ap₂ (λ g n. if is_done g now then n else 0) (sym t.same.gate) (sym (due_is h k t.same)) in
       let P : List Done → Type 0 = λ ds. Adds k.completed ds c (costs_by due m h o.action o.after) in
-      subst P (sym seen) (subst (Adds k.completed (behind_gate was now moved).completed c) paid (event_adds was now c moved))
+      subst P (sym seen) (subst (Adds k.completed (behind_gate marks was now moved).completed c) paid (event_adds was now c moved))
 
-  moment_adds : (b : BoardValue) (h : board.History) (k : History) → Together m x b h k → (o : Moment) → IsMomentFrom b o → MomentAdds h k o
-  moment_adds b h k t o (PowersUp p start e) =
+  adds_by : (b : BoardValue) (h : board.History) (k : History) → Together m x b h k → (o : Moment) → IsPowerOrStep b o → MomentAdds h k o
+  adds_by b h k t o (IsPower p start e) =
       let P : Moment → Type 0 = λ y. MomentAdds h k y in
       subst P (sym e) (record { more = []; grown = sym (append-nil k.completed); costs = none_cost (next_cost behind first k.completed) })
-  moment_adds b h k t o (Instructs i done c a own e) =
-      let P : Moment → Type 0 = λ y. MomentAdds h k y in subst P (sym e) (instruction_adds b h k t i done c a own)
+  adds_by b h k t o (IsStepped s) =
+      let P : Moment → Type 0 = λ y. Steps b y → MomentAdds h k y in
+      subst P (sym s.is) (λ step. step_adds b h k t s.kind s.done s.offered s.after step) s
+
+  moment_adds : (b : BoardValue) (h : board.History) (k : History) → Together m x b h k → (o : Moment) → IsMomentFrom b o → MomentAdds h k o
+  moment_adds b h k t o from = adds_by b h k t o (moment_is b o t.whole t.words from)
 
   -- all moments: the dones that they add cost what is read off them
   record AllAdd (before after : List Done) (all : ℕ) : Type 0 where
@@ -166,14 +167,14 @@ module _ (m : MapValue) (x : World) (ok : IsMap m) (cost : ℕ → ℕ) (pending
   moments_add b h k (o ∷ ms) t are =
       let j = behind_moment marks o k in
       let here = together_on m x b o.before h k are.0 t in
-      let one = moment_leads m x ok o.before h k here o are.1 in
+      let one = moment_leads m x ok front o.before h k here o are.1 in
       add_more k.completed j.completed (observed marks ms j).completed (costs_by due m h o.action o.after) (costs_in due m (noted h o) ms)
       (moment_adds o.before h k here o are.1) (moments_add o.after (noted h o) j ms one.together are.2)
 
-  -- so an amount that was spent is less
-  pub less_than_read : (amount : ℕ) (b : BoardValue) (h : board.History) (k : History) (ms : List Moment) → Together m x b h k → AreMoments b ms
-      → IsSpentOn (task_costs m cost pending x) 0 amount k.completed (observed marks ms k).completed → amount < costs_in due m h ms
-  less_than_read amount b h k ms t are spent =
+  -- so an amount that was spent is less, beside what else it was spent on
+  pub less_than_read : (amount beside : ℕ) (b : BoardValue) (h : board.History) (k : History) (ms : List Moment) → Together m x b h k → AreMoments b ms
+      → IsSpentOn (task_costs m cost pending x) beside amount k.completed (observed marks ms k).completed → amount < costs_in due m h ms + beside
+  less_than_read amount beside b h k ms t are spent =
       let all = moments_add b h k ms t are in
       let same : all.more ≡ spent.dones = append_cancel_left k.completed all.more spent.dones (sym all.grown ∙ spent.completed) in
       let costs : costs_of behind (next_cost behind first k.completed) spent.dones ≡ costs_in due m h ms =

@@ -2,6 +2,7 @@ mod Apart
 mod Received
 mod Transitions
 mod Costs
+mod Answers
 mod Spans
 mod Told
 mod Traces

@@ -25,6 +25,7 @@ use Rattle.model_runs.specs.Events.{counted, words_between, word_lines, change_l
 use Rattle.model_runs.proofs.Interface.{few_words_have_lines}
 use Rattle.source_runs.specs.Naming.{length_of, AreVariablesOf, IsMapOf}
 use Rattle.source_runs.specs.Transitions.{words_at, rows_in, HasWordsOf, StandsForTransition, StandForTransitions, committed_by}
+use Rattle.source_runs.specs.Tells.{spans_in}
 use Rattle.source_runs.specs.EventLaws.{DonesAreTransitions}
 
 -- counts
@@ -139,7 +140,7 @@ module _ (text : List ℕ) (program : CheckedProgram) (m : MapValue) (of_source 
         (ap₂ (λ p q. p ++ q) (ap word_lines words_same ∙ few_words_have_lines t.emitted h.few) changes_same)
 
   dones_same : (k : ℕ) (x : World) (s : State) (ds : List Done) (ts : List Transition) → HasWordsOf m x s → StandForTransitions m s ds ts
-      → k + length ds < 2 ^ 64 → dones_lines m (counted k) x ds ≡ source_report text program (k + 1) (committed_by ds) ts
+      → k + length ds < 2 ^ 64 → dones_lines m (counted k) x ds ≡ source_report text program (k + 1) (spans_in (committed_by ds)) ts
   unfolding source_report
   dones_same k x s [] [] here h few = refl
   dones_same k x s [] (t ∷ ts) here h few = absurd h
@@ -149,7 +150,7 @@ module _ (text : List ℕ) (program : CheckedProgram) (m : MapValue) (of_source 
       let next : suc k + 1 ≡ k + 1 + 1 = omega arith in
       ap₂ (λ p q. p ++ q) (one_same k x s d t here h.0 this)
       (dones_same (suc k) d.world (state_after s t) ds ts h.0.behind h.1 (omega arith)
-      ∙ ap (λ n. source_report text program n (committed_by ds) ts) next)
+      ∙ ap (λ n. source_report text program n (spans_in (committed_by ds)) ts) next)
 
 pub dones_are_transitions : DonesAreTransitions
 dones_are_transitions text program m of_source k x s ds ts here h few = dones_same text program m of_source k x s ds ts here h few

@@ -23,10 +23,10 @@ use Rattle.machine_effects.specs.World.{World}
 use Rattle.machine_effects.specs.Runs.{last_board}
 use Rattle.crash_rules.specs.History.{Done, first_history}
 use Rattle.run_charges.specs.Charges.{observed}
-use Rattle.run_charges.specs.Laws.{IsPlainRun}
-use Rattle.run_charges.specs.View.{IsMomentFrom, PowersUp, Instructs, AreMoments}
+use Rattle.run_charges.specs.Laws.{IsProgramRun}
+use Rattle.run_charges.specs.View.{IsMomentFrom, PowersUp, Instructs, Serves, AreMoments}
 use Rattle.run_charges.proofs.Interface.{follows_keeps, charge_last, Counts, moments_count}
-use Rattle.model_runs.specs.Events.{marks_of, last_world}
+use Rattle.model_runs.specs.Events.{marks_of, IsInFront, last_world}
 use Rattle.model_runs.specs.EventLaws.{StartsWith}
 use Rattle.model_runs.proofs.Interface.{Together, moments_lead, first_histories_are_the_same}
 use Rattle.board_run.specs.History.{start_with}
@@ -97,6 +97,11 @@ moment_counted b m (Instructs i done c a own e) =
     let P : Moment → Type 0 = λ y. y.after.receiver.accepted ≡ b.receiver.accepted + length (accepted_by y.action) in
     let o = execution board_bus i (registers_of b.cpu) (opened b) in
     subst P (sym e) (told_counted b o.bus o.answer done a)
+moment_counted b m (Serves n done next a served e) =
+    let P : Moment → Type 0 = λ y. y.after.receiver.accepted ≡ b.receiver.accepted + length (accepted_by y.action) in
+    let same = ap (λ (r : Receiver). r.accepted) served.rest.receiver in
+    let none = ap length served.accepts_none in
+    subst P (sym e) (omega (arith, same, none))
 
 words_counted : (b : BoardValue) (ms : List Moment) → AreMoments b ms
     → (last_board b ms).receiver.accepted ≡ b.receiver.accepted + length (accepted_words ms)
@@ -110,15 +115,15 @@ words_counted b (m ∷ ms) all =
 
 -- so it accepted what the transitions emitted
 pub words_are_received : (m : MapValue) (x : World) (cs : List BoardCharge) (b : BoardValue) (r : RunOutcome) (s : State) (ts : List Transition)
-    → IsMap m → StartsWith b x → IsPlainRun cs b r → HasWordsOf m x s
+    → IsMap m → IsInFront m → StartsWith b x → IsProgramRun cs b r → HasWordsOf m x s
     → StandForTransitions m s (observed (marks_of m) r.moments (first_history (marks_of m) x)).completed ts → words_in ts ≤ r.board.receiver.accepted
-words_are_received m x cs b r s ts ok starts run here stand =
-    let begun = first_histories_are_the_same b m x ok starts in
+words_are_received m x cs b r s ts ok front starts run here stand =
+    let begun = first_histories_are_the_same b m x ok front starts in
     let k = first_history (marks_of m) x in
     let all_words = run.of_words in
     let t : Together m x b (start_with b.fram (Some m)) k =
     record { whole = all_words.whole; words = all_words.words; same = begun.0; tells = begun.1 } in
-    let end = (moments_lead m x ok b (start_with b.fram (Some m)) k r.moments t run.moments).together in
+    let end = (moments_lead m x ok front b (start_with b.fram (Some m)) k r.moments t run.moments).together in
     let done = (observed (marks_of m) r.moments k).completed in
     let words = words_at_last m x s done ts here stand in
     let all = ap length end.same.alike.words_are in

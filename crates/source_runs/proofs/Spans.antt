@@ -1,98 +1,187 @@
--- The spans of the transitions of a run, read off its moments, are those of the dones that are read off its effects; and so each of its
--- charges pays for its transitions.
+-- The attempts that a run committed, read off its moments, are those of the dones that are read off its effects; and so each of its charges
+-- pays for its transitions.
 use Rattle.std.proofs.Common.{◌≡◌, ℕ, ◌+◌, refl, sym, ap, ap₂, ◌∙◌, subst, arith, Bool, true, false, cond, if◌then◌else◌, List, [], ◌∷◌, ◌++◌}
-use Rattle.std.proofs.Common.{length, append_assoc, append-nil, length-append, Ok}
+use Rattle.std.proofs.Common.{length, append_assoc, append-nil, length-append, Option, Some, None, IfSome, ◌<◌, ◌*◌}
 use Rattle.std.proofs.lemmas.List.{length-map, map-append}
-use Rattle.msp_isa.specs.declared.instructions.Instr.{Instr}
-use Rattle.image_map.specs.MapValue.{MapValue}
+use Rattle.image_map.specs.declared.parts.RingPlaces.{RingPlaces}
+use Rattle.image_map.specs.MapValue.{MapValue, IsRing}
 use Rattle.image_map.specs.Kept.{IsMap}
-use Rattle.fram_board.specs.declared.board.NextStep.TheVariants as next_step
 use Rattle.fram_board.specs.declared.board.Stepped.{Stepped}
-use Rattle.fram_board.specs.Board.{BoardValue, powered, executed, at_boundary, IsNextInstruction}
-use Rattle.fram_board.specs.Run.{Moment, moment_of, power_up_of, Charges, RunOutcome, run_outcome, BoardCharge}
+use Rattle.fram_board.specs.Board.{BoardValue, powered}
+use Rattle.fram_board.specs.Effects.{Effect}
+use Rattle.fram_board.specs.Run.{StepKind, Action, PowerUp, Execute, Moment, power_up_of, Charges, RunOutcome, run_outcome, BoardCharge}
 use Rattle.board_run.specs.History.{noted, is_done, word_in}
 use Rattle.board_run.specs.History as board
 use Rattle.board_run.specs.Report.{after_all}
+use Rattle.machine_effects.specs.event_places.Places.{handler_place}
 use Rattle.machine_effects.specs.World.{World}
-use Rattle.machine_effects.specs.View.{IsMachines}
 use Rattle.machine_effects.specs.Runs.{last_board}
-use Rattle.crash_rules.specs.Model.{Marks}
-use Rattle.crash_rules.specs.History.{History, is_decide, behind_decide, behind_done, behind_gate, first_history}
+use Rattle.crash_rules.specs.Model.{Marks, answers_at, answers_in}
+use Rattle.crash_rules.specs.History.{Done, History, is_decide, behind_decide, behind_done, behind_gate, first_history}
 use Rattle.crash_rules.specs.Laws.{TaskCosts}
 use Rattle.crash_rules.proofs.Interface.{with_effects}
-use Rattle.run_charges.specs.View.{outside_effects, IsMomentFrom, PowersUp, Instructs, AreMoments}
+use Rattle.run_charges.specs.View.{outside_effects, IsMomentFrom, AreMoments}
 use Rattle.run_charges.specs.Charges.{behind_moment, observed}
-use Rattle.run_charges.specs.Laws.{IsPlainRun}
-use Rattle.run_charges.proofs.Interface.{charge_last, front_moments, are_behind}
-use Rattle.model_runs.specs.Events.{marks_of}
+use Rattle.run_charges.specs.Laws.{IsProgramRun}
+use Rattle.run_charges.proofs.Interface.{charge_last, front_moments, are_behind, stepped, Steps, IsPowerOrStep, IsPower, IsStepped, moment_is}
+use Rattle.model_runs.specs.Events.{marks_of, IsInFront}
 use Rattle.model_runs.specs.EventLaws.{StartsWith}
 use Rattle.model_runs.proofs.Interface.{Together, together_on, observed_so, moment_leads, moments_lead, first_histories_are_the_same}
-use Rattle.source_report.specs.SourceReport.{Committed}
 use Rattle.source_runs.specs.Transitions.{committed_by}
 use Rattle.model_runs.specs.Runs as model
-use Rattle.model_runs.specs.Runs.{no_delay, Progresses}
-use Rattle.source_runs.specs.Tells.{spans_by, spans_of, at_first, cost_due, PaysFor, EachChargePays, AllSpent, SpentOne, StoppedIn}
+use Rattle.model_runs.specs.Runs.{no_delay, arisen_between, Progresses}
+use Rattle.source_runs.specs.Tells.{Answers, no_answers, answer_by, answers_gated, answers_behind, answers_after, CommittedAttempt, attempts_by, attempts_of}
+use Rattle.source_runs.specs.Tells.{at_first, cost_due, PaysFor, EachChargePays, AllSpent, SpentOne, StoppedIn}
+use Rattle.source_runs.proofs.Answers.{IsAnswer, answers-append, answers_said}
 use Rattle.source_runs.proofs.Costs.{task_costs, less_than_read}
 
--- a span, or none
-abbrev span_if : Bool → ℕ → ℕ → List Committed
-span_if b from to = if b then record { from = from; to = to } ∷ [] else []
+-- an attempt, or none
+abbrev attempt_if : Bool → ℕ → ℕ → List ℕ → List CommittedAttempt
+attempt_if b from to answers = if b then record { span = record { from = from; to = to }; answers = answers } ∷ [] else []
 
--- an event adds the span of the last decide where it is a done
-event_adds : (before now : ℕ) (k : History)
-    → committed_by (behind_gate before now k).completed ≡ committed_by k.completed ++ span_if (is_done before now) k.span_from k.span_to
-event_adds before now k =
-    elim (is_done before now) as (λ p. committed_by (cond p (behind_done k) (cond (is_decide before now) (behind_decide k) k)).completed
-    ≡ committed_by k.completed ++ span_if p k.span_from k.span_to) [
-      | true ↦ map-append (λ d. record { from = d.span_from; to = d.span_to }) k.completed
-          (record { span_from = k.span_from; span_to = k.span_to; world = k.world } ∷ [])
-      | false ↦ elim (is_decide before now) as (λ q. committed_by (cond q (behind_decide k) k).completed ≡ committed_by k.completed ++ []) [
+abbrev committed_one : Done → CommittedAttempt
+committed_one d = record { span = record { from = d.span_from; to = d.span_to }; answers = d.answers }
+
+-- an event adds the attempt of the last decide where it is a done
+event_adds : (marks : Marks) (before now : ℕ) (k : History) → committed_by (behind_gate marks before now k).completed
+    ≡ committed_by k.completed ++ attempt_if (is_done before now) k.span_from k.span_to k.answers
+event_adds marks before now k =
+    elim (is_done before now) as (λ p. committed_by (cond p (behind_done k) (cond (is_decide before now) (behind_decide marks k) k)).completed
+    ≡ committed_by k.completed ++ attempt_if p k.span_from k.span_to k.answers) [
+      | true ↦ map-append committed_one k.completed
+          (record { span_from = k.span_from; span_to = k.span_to; answers = k.answers; world = k.world } ∷ [])
+      | false ↦ elim (is_decide before now) as (λ q. committed_by (cond q (behind_decide marks k) k).completed ≡ committed_by k.completed ++ []) [
         | true ↦ sym (append-nil (committed_by k.completed))
         | false ↦ sym (append-nil (committed_by k.completed))
       ]
     ]
 
-module _ (m : MapValue) (x : World) (ok : IsMap m) where
+-- the answers that are read off moments are those that the history by effects knows
+record IsSaid (marks : Marks) (a : Answers) (k : History) : Type 0 where
+  since : a.since ≡ answers_in marks k.effects
+  decided : a.decided ≡ k.answers
+
+none_in : (answer : Option ℕ) → answers_at answer [] ≡ []
+none_in None = refl
+none_in (Some a) = refl
+
+-- behind a change of GATE
+gated_said : (marks : Marks) (before now : ℕ) (since : List ℕ) (a : Answers) (k : History) → since ≡ answers_in marks k.effects → a.decided ≡ k.answers
+    → IsSaid marks (answers_gated before now since a) (behind_gate marks before now k)
+gated_said marks before now since a k e f =
+    elim (is_done before now) as (λ p. IsSaid marks
+    (if p then record a { since = [] } else record { since = since; decided = if is_decide before now then since else a.decided })
+    (cond p (behind_done k) (cond (is_decide before now) (behind_decide marks k) k))) [
+      | true ↦ record { since = sym (none_in marks.answer); decided = f }
+      | false ↦ elim (is_decide before now) as (λ q. IsSaid marks (record { since = since; decided = if q then since else a.decided })
+          (cond q (behind_decide marks k) k)) [ true ↦ record { since = e; decided = e } | false ↦ record { since = e; decided = f } ]
+    ]
+
+-- the answers that a history knows
+abbrev said_by : Marks → History → Answers
+said_by marks k = record { since = answers_in marks k.effects; decided = k.answers }
+
+-- how many attempts are completed doesn't depend on what is known of answers
+one_count : (m : MapValue) (h : board.History) (a c : Answers) (action : Action) (after : BoardValue)
+    → length (attempts_by m h a action after) ≡ length (attempts_by m h c action after)
+one_count m h a c PowerUp after = refl
+one_count m h a c (Execute kind done offered) after = by_done (is_done h.gate (word_in after.fram m.words.gate))
+  where
+    by_done : (d : Bool) → length (attempt_if d h.span_from h.span_to a.decided) ≡ length (attempt_if d h.span_from h.span_to c.decided)
+    by_done true = refl
+    by_done false = refl
+
+same_count : (m : MapValue) (h : board.History) (a c : Answers) (ms : List Moment) → length (attempts_of m h a ms) ≡ length (attempts_of m h c ms)
+same_count m h a c [] = refl
+same_count m h a c (o ∷ ms) =
+    let one = one_count m h a c o.action o.after in
+    let more = same_count m (noted h o) (answers_behind m h o.action o.after a) (answers_behind m h o.action o.after c) ms in
+    let left = length-append (attempts_by m h a o.action o.after) (attempts_of m (noted h o) (answers_behind m h o.action o.after a) ms) in
+    let right = length-append (attempts_by m h c o.action o.after) (attempts_of m (noted h o) (answers_behind m h o.action o.after c) ms) in
+    omega (arith, one, more, left, right)
+
+-- where ANS is, by the map
+answer_there : (ring : Option RingPlaces) → IfSome ring IsRing → IfSome ring (λ r. r.answer < handler_place) → IfSome ring IsAnswer
+answer_there None ok front = tt
+answer_there (Some r) ok front = record { there = ok.answer; front = front }
+
+module _ (m : MapValue) (x : World) (ok : IsMap m) (front : IsInFront m) where
   abbrev gate : ℕ
   gate = m.words.gate
 
   abbrev marks : Marks
   marks = marks_of m
 
-  -- the history by effects behind a moment adds the spans of the moment
-  abbrev Adds : board.History → History → Moment → Type 0
-  Adds h k o = committed_by (behind_moment marks o k).completed ≡ committed_by k.completed ++ spans_by m h o.action o.after
+  abbrev Said : Answers → History → Type 0
+  Said a k = IsSaid marks a k
 
-  instruction_adds : (b : BoardValue) (h : board.History) (k : History) → Together m x b h k → (i : Instr) (done : Stepped) → IsNextInstruction b i
-      → (executed b i).answer ≡ Ok done → IsMachines b i → Adds h k (moment_of b (next_step.Instruction i) done)
-  instruction_adds b h k t i done current answer own =
-      let after = at_boundary (executed b i).board in
-      let moved = with_effects (outside_effects (moment_of b (next_step.Instruction i) done)) k in
+  -- the history by effects behind a moment adds the attempts of the moment, and knows its answers
+  record Adds (h : board.History) (a : Answers) (k : History) (o : Moment) : Type 0 where
+    attempts : committed_by (behind_moment marks o k).completed ≡ committed_by k.completed ++ attempts_by m h a o.action o.after
+    said : Said (answers_behind m h o.action o.after a) (behind_moment marks o k)
+
+  step_adds : (b : BoardValue) (h : board.History) (a : Answers) (k : History) → Together m x b h k → Said a k → (kind : StepKind) (done : Stepped)
+      (offered : Option ℕ) (after : BoardValue) → IsMomentFrom b (stepped b kind done offered after) → Steps b (stepped b kind done offered after)
+      → Adds h a k (stepped b kind done offered after)
+  step_adds b h a k t said kind done offered after from step =
+      let o = stepped b kind done offered after in
+      let es : List Effect = outside_effects o in
+      let moved = with_effects es k in
       let before : ℕ = k.world.fram gate in
       let now : ℕ = word_in after.fram gate in
-      let a = t.same.alike in
-      ap (λ y. committed_by y.completed) (observed_so m x ok b h k t i done current answer own)
-      ∙ event_adds before now moved
-      ∙ ap₂ (λ p q. committed_by k.completed ++ span_if (is_done before now) p q) (sym a.span_from) (sym a.span_to)
-      ∙ ap (λ g. committed_by k.completed ++ span_if (is_done g now) h.span_from h.span_to) (sym t.same.gate)
+      let same = t.same.alike in
+      let seen = observed_so m x ok front b h k t kind done offered after step in
+      let answer = answers_said m.ring (answer_there m.ring ok.ring front.answer) b kind done offered after from in
+      let since : a.since ++ answer_by m.ring done.wrote after.fram ≡ answers_in marks moved.effects =
+      ap₂ (λ p q. p ++ q) said.since (sym answer) ∙ sym (answers-append marks k.effects es) in
+      let Q : History → Type 0 = λ y. Said (answers_behind m h o.action after a) y in
+      let R : ℕ → Type 0 = λ g. Said (answers_gated g now (a.since ++ answer_by m.ring done.wrote after.fram) a) (behind_gate marks before now moved) in
+      record {
+        attempts = ap (λ y. committed_by y.completed) seen
+            ∙ event_adds marks before now moved
+            ∙ ap₂ (λ p q. committed_by k.completed ++ attempt_if (is_done before now) p q k.answers) (sym same.span_from) (sym same.span_to)
+            ∙ ap₂ (λ g l. committed_by k.completed ++ attempt_if (is_done g now) h.span_from h.span_to l) (sym t.same.gate) (sym said.decided);
+        said = subst Q (sym seen) (subst R (sym t.same.gate)
+            (gated_said marks before now (a.since ++ answer_by m.ring done.wrote after.fram) a moved since said.decided));
+      }
 
-  moment_adds : (b : BoardValue) (h : board.History) (k : History) → Together m x b h k → (o : Moment) → IsMomentFrom b o → Adds h k o
-  moment_adds b h k t o (PowersUp p start e) =
-      let P : Moment → Type 0 = λ y. Adds h k y in subst P (sym e) (sym (append-nil (committed_by k.completed)))
-  moment_adds b h k t o (Instructs i done c a own e) =
-      let P : Moment → Type 0 = λ y. Adds h k y in subst P (sym e) (instruction_adds b h k t i done c a own)
+  adds_by : (b : BoardValue) (h : board.History) (a : Answers) (k : History) → Together m x b h k → Said a k → (o : Moment) → IsMomentFrom b o
+      → IsPowerOrStep b o → Adds h a k o
+  adds_by b h a k t said o from (IsPower p start e) =
+      let P : Moment → Type 0 = λ y. Adds h a k y in
+      subst P (sym e) (record {
+        attempts = sym (append-nil (committed_by k.completed));
+        said = record { since = sym (none_in marks.answer); decided = said.decided };
+      })
+  adds_by b h a k t said o from (IsStepped s) =
+      let P : Moment → Type 0 = λ y. IsMomentFrom b y → Steps b y → Adds h a k y in
+      subst P (sym s.is) (λ from step. step_adds b h a k t said s.kind s.done s.offered s.after from step) from s
+
+  moment_adds : (b : BoardValue) (h : board.History) (a : Answers) (k : History) → Together m x b h k → Said a k → (o : Moment) → IsMomentFrom b o
+      → Adds h a k o
+  moment_adds b h a k t said o from = adds_by b h a k t said o from (moment_is b o t.whole t.words from)
 
   -- and behind all of them
-  moments_add : (b : BoardValue) (h : board.History) (k : History) (ms : List Moment) → Together m x b h k → AreMoments b ms
-      → committed_by (observed marks ms k).completed ≡ committed_by k.completed ++ spans_of m h ms
-  moments_add b h k [] t are = sym (append-nil (committed_by k.completed))
-  moments_add b h k (o ∷ ms) t are =
+  record AllAdd (h : board.History) (a : Answers) (k : History) (ms : List Moment) : Type 0 where
+    attempts : committed_by (observed marks ms k).completed ≡ committed_by k.completed ++ attempts_of m h a ms
+    said : Said (answers_after m h a ms) (observed marks ms k)
+
+  moments_add : (b : BoardValue) (h : board.History) (a : Answers) (k : History) (ms : List Moment) → Together m x b h k → Said a k → AreMoments b ms
+      → AllAdd h a k ms
+  moments_add b h a k [] t said are = record { attempts = sym (append-nil (committed_by k.completed)); said = said }
+  moments_add b h a k (o ∷ ms) t said are =
       let j = behind_moment marks o k in
+      let next = answers_behind m h o.action o.after a in
       let here = together_on m x b o.before h k are.0 t in
-      let one = moment_leads m x ok o.before h k here o are.1 in
-      moments_add o.after (noted h o) j ms one.together are.2
-      ∙ ap (λ l. l ++ spans_of m (noted h o) ms) (moment_adds o.before h k here o are.1)
-      ∙ append_assoc (committed_by k.completed) (spans_by m h o.action o.after) (spans_of m (noted h o) ms)
+      let one = moment_leads m x ok front o.before h k here o are.1 in
+      let added = moment_adds o.before h a k here said o are.1 in
+      let rest = moments_add o.after (noted h o) next j ms one.together added.said are.2 in
+      record {
+        attempts = rest.attempts
+            ∙ ap (λ l. l ++ attempts_of m (noted h o) next ms) added.attempts
+            ∙ append_assoc (committed_by k.completed) (attempts_by m h a o.action o.after) (attempts_of m (noted h o) next ms);
+        said = rest.said;
+      }
 
   -- where each task costs so much, and a commit that was pending at the start the bound
   module _ (cost : ℕ → ℕ) (pending : Bool) where
@@ -104,21 +193,22 @@ module _ (m : MapValue) (x : World) (ok : IsMap m) where
 
     -- a charge that pays for dones pays for the transitions that are read off its moments
     pays_so : (c : BoardCharge) (b : BoardValue) (h : board.History) (k : History) (ms : List Moment) → Together m x b h k → AreMoments b ms
-        → model.PaysFor m.bound costs 0 c k (observed marks ms k) → PaysFor m due c h ms
-    pays_so c b h k ms t are pays =
+        → (arisen : ℕ) → model.PaysFor m.bound costs 0 c arisen k (observed marks ms k) → PaysFor m due c arisen h ms
+    pays_so c b h k ms t are arisen pays =
         record {
           bounds = λ is n enough.
               let more = pays.bounds is n (omega (arith, enough)) in
               let j = observed marks ms k in
-              let spans = spans_of m h ms in
-              let all : length (committed_by j.completed) ≡ length (committed_by k.completed) + length spans =
-              ap length (moments_add b h k ms t are) ∙ length-append (committed_by k.completed) spans in
-              let now : length (committed_by j.completed) ≡ length j.completed =
-              length-map j.completed (λ d. record { from = d.span_from; to = d.span_to }) in
-              let old : length (committed_by k.completed) ≡ length k.completed =
-              length-map k.completed (λ d. record { from = d.span_from; to = d.span_to }) in
-              omega (arith, more, all, now, old);
-          tasks = less_than_read m x ok cost pending c.amount b h k ms t are pays.tasks;
+              let known = said_by marks k in
+              let attempts = attempts_of m h known ms in
+              let all : length (committed_by j.completed) ≡ length (committed_by k.completed) + length attempts =
+              ap length (moments_add b h known k ms t (record { since = refl; decided = refl }) are).attempts
+              ∙ length-append (committed_by k.completed) attempts in
+              let now : length (committed_by j.completed) ≡ length j.completed = length-map j.completed committed_one in
+              let old : length (committed_by k.completed) ≡ length k.completed = length-map k.completed committed_one in
+              let same = same_count m h known no_answers ms in
+              omega (arith, more, all, now, old, same);
+          tasks = let less = less_than_read m x ok front cost pending c.amount (0 + 100 * arisen) b h k ms t are pays.tasks in omega (arith, less);
         }
 
     charges_pay : (cs : List BoardCharge) (b : BoardValue) (k : History) (r : RunOutcome) (h : board.History) → Together m x b h k
@@ -130,35 +220,39 @@ module _ (m : MapValue) (x : World) (ok : IsMap m) where
         let there : last_board (powered b c.start) ms ≡ end = charge_last c.measure c.amount (powered b c.start) (run_outcome ms Charges end) one refl in
         let P : BoardValue → Type 0 = λ y. Together m x y (after_all h own) (observed marks own k) in
         let Q : BoardValue → Type 0 = λ y. AreMoments y rest.moments in
-        let next = subst P there (moments_lead m x ok b h k own t are).together in
+        let next = subst P there (moments_lead m x ok front b h k own t are).together in
         let behind = subst Q there (are_behind b own rest.moments all) in
         SpentOne c ds b h ms end rest one
-        (pays_so c b h k own t are pays)
+        (pays_so c b h k own t are (arisen_between b end) pays)
         (charges_pay ds end (observed marks own k) rest (after_all h own) next behind more)
     charges_pay cs b k r h t all (model.StoppedIn c ds _ _ ms stop end one) = StoppedIn c ds b h ms stop end one
 
--- of a run from its beginning on: the spans, the readings taken at the last boot or done, and what its charges pay for
+-- of a run from its beginning on: the attempts, the readings taken at the last boot or done, the answers since, and what its charges pay for
 pub record IsReadOff (m : MapValue) (cs : List BoardCharge) (b : BoardValue) (r : RunOutcome) (k : History) : Type 0 where
-  pub spans : committed_by k.completed ≡ spans_of m (at_first m b) r.moments
+  pub attempts : committed_by k.completed ≡ attempts_of m (at_first m b) no_answers r.moments
   pub since : k.since ≡ (after_all (at_first m b) r.moments).since
+  pub answers : answers_in (marks_of m) k.effects ≡ (answers_after m (at_first m b) no_answers r.moments).since
   pub pays : (x : World) (cost : ℕ → ℕ) (pending : Bool)
       → Progresses (marks_of m) m.bound (task_costs m cost pending x) no_delay cs b (first_history (marks_of m) x) r → StartsWith b x
       → EachChargePays m (cost_due m cost pending) cs b (at_first m b) r
 
 -- the events that are read off moments are those of the effects
-pub read_off : (m : MapValue) (x : World) (cs : List BoardCharge) (b : BoardValue) (r : RunOutcome) → IsMap m → StartsWith b x → IsPlainRun cs b r
-    → IsReadOff m cs b r (observed (marks_of m) r.moments (first_history (marks_of m) x))
-read_off m x cs b r ok starts run =
+pub read_off : (m : MapValue) (x : World) (cs : List BoardCharge) (b : BoardValue) (r : RunOutcome) → IsMap m → IsInFront m → StartsWith b x
+    → IsProgramRun cs b r → IsReadOff m cs b r (observed (marks_of m) r.moments (first_history (marks_of m) x))
+read_off m x cs b r ok front starts run =
     let k = first_history (marks_of m) x in
     let t = together x starts in
+    let first : IsSaid (marks_of m) no_answers k = record { since = sym (none_in (marks_of m).answer); decided = refl } in
+    let all = moments_add m x ok front b (at_first m b) no_answers k r.moments t first run.moments in
     record {
-      spans = moments_add m x ok b (at_first m b) k r.moments t run.moments;
-      since = sym (moments_lead m x ok b (at_first m b) k r.moments t run.moments).together.same.alike.since;
+      attempts = all.attempts;
+      since = sym (moments_lead m x ok front b (at_first m b) k r.moments t run.moments).together.same.alike.since;
+      answers = sym all.said.since;
       pays = λ y cost pending progress begins.
-          charges_pay m y ok cost pending cs b (first_history (marks_of m) y) r (at_first m b) (together y begins) run.moments progress;
+          charges_pay m y ok front cost pending cs b (first_history (marks_of m) y) r (at_first m b) (together y begins) run.moments progress;
     }
   where
     together : (y : World) → StartsWith b y → Together m y b (at_first m b) (first_history (marks_of m) y)
     together y begins =
-        let begun = first_histories_are_the_same b m y ok begins in
+        let begun = first_histories_are_the_same b m y ok front begins in
         record { whole = run.of_words.whole; words = run.of_words.words; same = begun.0; tells = begun.1 }

@@ -1,6 +1,6 @@
 -- The report of a run is the source's, on the committed readings of its dones.
 use Rattle.std.proofs.Common.{◌≡◌, ℕ, ◌+◌, ◌-◌, ◌<◌, ◌≤◌, ◌^◌, Bool, true, refl, sym, ap, ap₂, ◌∙◌, subst, arith, List, [], ◌∷◌, ◌++◌, length, drop, append-nil}
-use Rattle.std.proofs.Common.{length-append, Some}
+use Rattle.std.proofs.Common.{length-append, false, Some, None}
 use Rattle.std.proofs.lemmas.List.{length-map, map-append}
 use Rattle.alp_io.specs.declared.report.Reason.{Reason}
 use Rattle.alp_io.specs.declared.report.Reason.TheVariants as reason
@@ -12,29 +12,32 @@ use Rattle.fram_board.specs.Board.{BoardValue}
 use Rattle.fram_board.specs.Run.{End, Charges, Stopped, BoardCharge, RunOutcome}
 use Rattle.board_run.specs.History.{start_with}
 use Rattle.board_run.specs.History as board
-use Rattle.board_run.specs.Events.{none_accepted}
+use Rattle.board_run.specs.Events.{event_counts, none_accepted}
+use Rattle.board_run.proofs.Interface.{silent_runs_accept_nothing}
 use Rattle.board_run.specs.Report.{events_lines, report_of, last_line}
 use Rattle.source_values.specs.Statements.{Outcome, short}
-use Rattle.source_values.specs.Runs.{CheckedProgram, State, Transition, first_state, state_after, state_behind, without_answers, attempt_of}
+use Rattle.cost_bound.specs.Allowance.{uses_events}
+use Rattle.source_values.specs.Runs.{CheckedProgram, State, Transition, TaskInputs, first_state, state_after, state_behind, attempt_of}
 use Rattle.source_report.specs.Apart.{AreApart}
 use Rattle.source_report.specs.SourceReport.{IsConsecutive, position_after, source_report}
 use Rattle.machine_effects.specs.World.{World}
-use Rattle.crash_rules.specs.Model.{Model, Marks, Inputs, bound}
-use Rattle.crash_rules.specs.History.{Done, History, first_history, inputs_from}
+use Rattle.crash_rules.specs.Model.{Model, Marks, Inputs, answers_in, bound}
+use Rattle.crash_rules.specs.History.{Done, History, first_history, given_since}
 use Rattle.crash_rules.specs.Runs.{Program}
 use Rattle.crash_rules.specs.Laws.{Origin, Resting, Pending, IsSettled, Reaches, IsLawful, SourceRun, IsTaskWithin, IsFirstWithin, CoversTasks}
 use Rattle.run_charges.specs.Charges.{observed}
-use Rattle.run_charges.specs.Laws.{IsRunOfWords, IsPlainRun}
-use Rattle.model_runs.specs.Events.{marks_of, counted, dones_lines}
+use Rattle.run_charges.specs.Laws.{IsRunOfWords, IsProgramRun}
+use Rattle.model_runs.specs.Events.{answer_in, marks_of, counted, dones_lines}
 use Rattle.model_runs.specs.EventLaws.{StartsWith}
 use Rattle.model_runs.proofs.Interface.{report_is_of_dones, fronts_are_lawful, stops_where_short, makes_progress, dones_are_few, takes_what_is_there}
-use Rattle.model_runs.proofs.Interface.{runs_plainly, never_reads, spans_are_in_order, spans_past_are_in_order}
+use Rattle.model_runs.proofs.Interface.{runs_so, never_reads, spans_are_in_order, spans_past_are_in_order}
 use Rattle.source_runs.specs.Transitions.{HasWordsOf, StandForTransitions, committed_by}
 use Rattle.source_runs.proofs.Lines.{dones_are_transitions, counted_below}
 use Rattle.model_runs.specs.Runs.{BearsModel, history_behind, IsShort, Progresses, all_amounts, AreInOrder, AreInOrderPast}
-use Rattle.source_runs.specs.Tells.{cost_of, cost_due, EachChargePays, IsEndOf, IsUninterrupted, at_first}
+use Rattle.source_runs.specs.Tells.{CommittedAttempt, spans_in, no_answers, answers_after, given_next, cost_of, cost_due, EachChargePays, IsEndOf}
+use Rattle.source_runs.specs.Tells.{IsUninterrupted, at_first}
 use Rattle.source_runs.specs.Resumed.{unread, is_pending, IsToldFrom, IsToldUndone, IsToldBehind, CommitUndone, CommitDone, HasTransition}
-use Rattle.source_runs.specs.Sources.{IsOfSource, events_of}
+use Rattle.source_runs.specs.Sources.{IsOfSource, inputs_of, events_of}
 use Rattle.source_runs.specs.Laws.{RunsAreTold, ResumedRunsAreTold}
 use Rattle.source_runs.proofs.Apart.{spans_are_apart}
 use Rattle.source_runs.proofs.Received.{words_are_received, run_hears}
@@ -44,7 +47,7 @@ use Rattle.source_runs.proofs.Costs.{task_costs}
 
 -- spans of dones as a source's report has them
 consecutive : (from to end : ℕ) (ds : List Done) → AreInOrder from to ds → to ≤ end
-    → IsConsecutive from end (committed_by ds) × (position_after from (committed_by ds) ≡ to)
+    → IsConsecutive from end (spans_in (committed_by ds)) × (position_after from (spans_in (committed_by ds)) ≡ to)
 consecutive from to end [] h l = (omega (arith, h, l), h)
 consecutive from to end (d ∷ ds) h l = let k = consecutive d.span_to to end ds h.2 l in ((h.0, h.1, k.0), k.1)
 
@@ -79,7 +82,7 @@ charges_pay text program m model c x cs b r is origin bears starts run pending f
     let Q : ℕ → Type 0 = λ n. Progresses (marks_of m) n costs model.delay cs b (first_history (marks_of m) x) r in
     let R : (Inputs → ℕ) → Type 0 = λ d. Progresses (marks_of m) m.bound costs d cs b (first_history (marks_of m) x) r in
     let made = makes_progress model c b.readings origin x cs b r run bears costs covers in
-    (read_off m x cs b r is.is_map starts (runs_plainly model c b.readings origin x b bears cs r run)).pays x (cost_of program) pending
+    (read_off m x cs b r is.is_map is.front starts (runs_so model c b.readings origin x b bears cs r run)).pays x (cost_of program) pending
     (subst R is.delay (subst Q is.bound (subst P is.marks made))) starts
 
 module _ (text : List ℕ) (program : CheckedProgram) (m : MapValue) (model : Model State) (c : Program) (x : World) (cs : List BoardCharge) (b : BoardValue)
@@ -96,15 +99,15 @@ module _ (text : List ℕ) (program : CheckedProgram) (m : MapValue) (model : Mo
   lawful = subst (IsLawful model b.readings origin) same
       (fronts_are_lawful model c b.readings origin x cs b r run bears r.moments [] (sym (append-nil r.moments))).0
 
-  -- no interrupt is accepted
-  plain : IsPlainRun cs b r
-  plain = runs_plainly model c b.readings origin x b bears cs r run
+  -- each moment is the program's, or the handler's
+  plain : IsProgramRun cs b r
+  plain = runs_so model c b.readings origin x b bears cs r run
 
   few_dones : length h.completed < 2 ^ 64
   few_dones = let l = dones_are_few cs b r plain (marks_of m) (first_history (marks_of m) x) in omega (arith, l, few)
 
   off : IsReadOff m cs b r h
-  off = read_off m x cs b r is.is_map starts plain
+  off = read_off m x cs b r is.is_map is.front starts plain
 
   progress : (pending : Bool) → IsFirstWithin model origin (task_costs m (cost_of program) pending x).first
       → EachChargePays m (cost_due m (cost_of program) pending) cs b (at_first m b) r
@@ -125,14 +128,28 @@ module _ (text : List ℕ) (program : CheckedProgram) (m : MapValue) (model : Mo
   abbrev last : board.History
   last = record (start_with b.fram (Some m)) { completed = counted (length h.completed) }
 
-  -- the line of events, of which none is accepted, if any were to come
+  -- the line of events, if any were to come
   abbrev events : List ℕ
-  events = events_lines b.line.coming (none_accepted r.board)
+  events = events_lines b.line.coming (event_counts (Some m) r)
+
+  -- a source that takes none accepts none
+  silent : uses_events program ≡ false → event_counts (Some m) r ≡ none_accepted r.board
+  silent none =
+      let no_answer : model.marks.answer ≡ None = ap (λ (g : Marks). g.answer) is.marks ∙ ap answer_in (is.ring none) in
+      silent_runs_accept_nothing (Some m) r (never_reads model c b.readings origin x b bears no_answer cs r run starts.heard)
+
+  -- what the next attempt is given, by the model and by the moments
+  given_left : inputs_of (given_since model.marks b.readings h) ≡ given_next m b r
+  given_left =
+      let since = off.since in
+      let answers : answers_in model.marks h.effects ≡ (answers_after m (at_first m b) no_answers r.moments).since =
+      ap (λ (g : Marks). answers_in g h.effects) is.marks ∙ off.answers in
+      λ i. record { readings = drop (since i) b.readings; answers = answers i }
 
   report_is : report_of (start_with b.fram (Some m)) b.line.coming r
       ≡ bound_line m.bound ++ (dones_lines m 0 x h.completed ++ (events ++ last_line last r.ending r.board))
   report_is =
-      report_is_of_dones cs b r plain (never_reads model c b.readings origin x b bears cs r run starts.heard) m x is.is_map starts last refl
+      report_is_of_dones cs b r plain m x is.is_map is.front starts last refl
 
   -- The world has a state's words; the first dones stand for some transitions from it; and from there on the source runs
   module _ (s0 s : State) (here : HasWordsOf m x s0) (done : List Done) (first : List Transition) (stand : StandForTransitions m s0 done first)
@@ -164,14 +181,14 @@ module _ (text : List ℕ) (program : CheckedProgram) (m : MapValue) (model : Mo
         counted_below (length h.completed) (2 ^ 64 - 1) refl (omega (arith, few_dones)) ∙ omega (arith, a, n, k, both)
 
     -- the end
-    abbrev next : List ℕ → State → Outcome
-    next left s = attempt_of program s.task s.shared (without_answers left)
+    abbrev next : TaskInputs → State → Outcome
+    next given s = attempt_of program s.task s.shared given
 
     -- how it ended, by its end
     record EndsSo (end : End) : Type 0 where
       pub why : Reason
       pub line : last_line last end r.board ≡ end_line why (length first + length (committed_by ds)) r.board.receiver.accepted r.board.receiver.repeats
-      pub ending : IsEndOf end (next (drop h.since b.readings) (state_behind s all.transitions)) why
+      pub ending : IsEndOf end (next (given_next m b r) (state_behind s all.transitions)) why
 
     counts : (why : Reason) → end_line why (counted (length h.completed)) r.board.receiver.accepted r.board.receiver.repeats
         ≡ end_line why (length first + length (committed_by ds)) r.board.receiver.accepted r.board.receiver.repeats
@@ -185,10 +202,12 @@ module _ (text : List ℕ) (program : CheckedProgram) (m : MapValue) (model : Mo
         let same_list : other.transitions ≡ all.transitions = cc one in
         other.end ∙ ap (state_behind s) same_list
 
-    short_next : IsShort model b.readings origin h → next (drop h.since b.readings) (state_behind s all.transitions) ≡ short
+    short_next : IsShort model b.readings origin h → next (given_next m b r) (state_behind s all.transitions) ≡ short
     short_next q =
-        ap (next (drop h.since b.readings)) (sym (same_end q.state (onward q.state q.reached)))
-        ∙ is.is_short q.state (inputs_from b.readings h.since) q.is_task q.short
+        let given = given_since model.marks b.readings h in
+        ap (λ g. next g (state_behind s all.transitions)) (sym given_left)
+        ∙ ap (next (inputs_of given)) (sym (same_end q.state (onward q.state q.reached)))
+        ∙ is.is_short q.state given q.is_task q.short
 
     by_end : (end : End) → r.ending ≡ end → EndsSo end
     by_end Charges e = record { why = reason.Charges; line = counts reason.Charges; ending = refl }
@@ -201,32 +220,32 @@ module _ (text : List ℕ) (program : CheckedProgram) (m : MapValue) (model : Mo
     ends_so = by_end r.ending refl
 
     lines : report_of (start_with b.fram (Some m)) b.line.coming r
-        ≡ bound_line m.bound ++ (source_report text program 1 (unread first ++ committed_by ds) (first ++ all.transitions)
+        ≡ bound_line m.bound ++ (source_report text program 1 (spans_in (unread first ++ committed_by ds)) (first ++ all.transitions)
         ++ (events ++ end_line ends_so.why (length first + length (committed_by ds)) r.board.receiver.accepted r.board.receiver.repeats))
     lines =
-        let shown : dones_lines m 0 x h.completed ≡ source_report text program 1 (committed_by h.completed) (first ++ all.transitions) =
+        let shown : dones_lines m 0 x h.completed ≡ source_report text program 1 (spans_in (committed_by h.completed)) (first ++ all.transitions) =
         dones_are_transitions text program m is.of_source 0 x s0 h.completed (first ++ all.transitions) here stand_all (omega (arith, few_dones)) in
         report_is
         ∙ ap₂ (λ p q. bound_line m.bound ++ (p ++ (events ++ q)))
-        (shown ∙ ap (λ l. source_report text program 1 l (first ++ all.transitions)) spans_are) ends_so.line
+        (shown ∙ ap (λ l. source_report text program 1 (spans_in l) (first ++ all.transitions)) spans_are) ends_so.line
 
     pub told_from : IsToldFrom text program m first s cs b r (report_of (start_with b.fram (Some m)) b.line.coming r)
     told_from =
         let es = ends_so in
-        let end = state_behind s all.transitions in
-        let Ends : ℕ → Type 0 = λ n. IsEndOf r.ending (attempt_of program end.task end.shared (without_answers (drop n b.readings))) es.why in
-        let Alone : ℕ → Type 0 = λ n. length cs ≡ 1 → IsUninterrupted b.readings n (committed_by ds) in
+        let Alone : ℕ → Type 0 = λ n. length cs ≡ 1 → IsUninterrupted b.readings n (spans_in (committed_by ds)) in
+        let Apart : List CommittedAttempt → Type 0 = λ l. AreApart 0 (length b.readings) (spans_in l) in
         record {
-          spans = committed_by ds;
+          attempts = committed_by ds;
           transitions = all.transitions;
           why = es.why;
-          spans_are = sym spans_are ∙ off.spans;
+          attempts_are = sym spans_are ∙ off.attempts;
           source = all.source;
           lines = lines;
-          ending = subst Ends off.since es.ending;
+          silent = silent;
+          ending = es.ending;
           progress = progress (is_pending first) dear;
-          apart = subst (AreApart 0 (length b.readings)) spans_are (spans_are_apart (marks_of m) x r.moments (length b.readings) in_readings);
-          words = words_are_received m x cs b r s0 (first ++ all.transitions) is.is_map starts plain here stand_all;
+          apart = subst Apart spans_are (spans_are_apart (marks_of m) x r.moments (length b.readings) in_readings);
+          words = words_are_received m x cs b r s0 (first ++ all.transitions) is.is_map is.front starts plain here stand_all;
           heard = heard;
           uninterrupted = subst Alone off.since (λ one. let k = consecutive 0 h.since (length b.readings) ds (alone one) in_readings in
               record { consecutive = k.0; at_last = k.1 });
@@ -269,10 +288,11 @@ module _ (text : List ℕ) (program : CheckedProgram) (m : MapValue) (model : Mo
         → IsToldUndone program m cs b r (report_of (start_with b.fram (Some m)) b.line.coming r)
     told_undone to bears none =
         record {
-          spans_are = ap committed_by (sym none) ∙ (off text program m model c x cs b r is (Pending to) bears starts run few).spans;
+          attempts_are = ap committed_by (sym none) ∙ (off text program m model c x cs b r is (Pending to) bears starts run few).attempts;
           lines = report_is text program m model c x cs b r is (Pending to) bears starts run few
-              ∙ ap₂ (λ ds q. bound_line m.bound ++ (dones_lines m 0 x ds ++ (events_lines b.line.coming (none_accepted r.board) ++ q))) none
+              ∙ ap₂ (λ ds q. bound_line m.bound ++ (dones_lines m 0 x ds ++ (events_lines b.line.coming (event_counts (Some m) r) ++ q))) none
               (last_is r.ending (by_charges r.ending refl));
+          silent = silent text program m model c x cs b r is (Pending to) bears starts run few;
           ending = by_charges r.ending refl;
           progress = progress text program m model c x cs b r is (Pending to) bears starts run few true (bound_within to);
           heard = heard text program m model c x cs b r is (Pending to) bears starts run few;
@@ -298,7 +318,9 @@ module _ (text : List ℕ) (program : CheckedProgram) (m : MapValue) (model : Mo
         let reached = subst (λ l. Reaches model b.readings (Pending to) l law.stands.state) e law.stands.reached in
         let behind : HasWordsOf m d.world (state_after s t) = subst (HasWordsOf m d.world) (sym has.leaves) (is.rests to d.world reached.1) in
         let stand : StandForTransitions m s (d ∷ []) (t ∷ []) = (record { from = has.from; before = has.before; few = has.few; behind = behind }, tt) in
-        let unread_span : committed_by (d ∷ []) ≡ unread (t ∷ []) = ap₂ (λ p q. record { from = p; to = q } ∷ []) reached.0.0 reached.0.1 in
+        let none = reached.0 in
+        let unread_span : committed_by (d ∷ []) ≡ unread (t ∷ []) =
+        λ i. record { span = record { from = none.0 i; to = none.1 i }; answers = none.2 i } ∷ [] in
         told_from text program m model c x cs b r is (Pending to) bears starts run few s to has.words (d ∷ []) (t ∷ []) stand (sym has.leaves)
         unread_span ds e (λ z q. (subst (λ l. Reaches model b.readings (Pending to) l z) e q).2)
         (λ one. subst (λ l. AreInOrderPast (events_of m x r).since l) e (one_charge_past to bears cs run one)) (bound_within to)
@@ -323,15 +345,16 @@ resumed_runs_are_told model c text program m x cs b r is starts run few = record
 pub runs_are_told : (model : Model State) (c : Program) → RunsAreTold model c
 runs_are_told model c text program m x cs b r is begins run few =
     let t = told_resting text program m model c x b r is cs begins.starts run few (first_state program) begins.bears begins.undecided begins.words in
-    let count : 0 + length t.spans ≡ length t.spans = omega arith in
+    let count : 0 + length t.attempts ≡ length t.attempts = omega arith in
     record {
-      spans = t.spans;
+      attempts = t.attempts;
       transitions = t.transitions;
       why = t.why;
-      spans_are = t.spans_are;
+      attempts_are = t.attempts_are;
       source = t.source;
-      lines = t.lines ∙ ap (λ n. bound_line m.bound ++ (source_report text program 1 t.spans t.transitions
-          ++ (events_lines b.line.coming (none_accepted r.board) ++ end_line t.why n r.board.receiver.accepted r.board.receiver.repeats))) count;
+      lines = t.lines ∙ ap (λ n. bound_line m.bound ++ (source_report text program 1 (spans_in t.attempts) t.transitions
+          ++ (events_lines b.line.coming (event_counts (Some m) r) ++ end_line t.why n r.board.receiver.accepted r.board.receiver.repeats))) count;
+      silent = t.silent;
       ending = t.ending;
       progress = t.progress;
       apart = t.apart;

@@ -10,15 +10,15 @@ use Rattle.image_map.specs.MapValue.{MapValue}
 use Rattle.source_values.specs.Values.{◌>>?◌}
 use Rattle.source_values.specs.Statements.{Outcome, goes_on, to_task, short, block_emits}
 use Rattle.source_values.specs.Runs.{CheckedProgram, State, Transition, Completion, EmitsFit, body_of, task_body, fresh_attempt, attempt_of}
-use Rattle.source_values.specs.Runs.{TaskInputs, without_answers, completion_of}
+use Rattle.source_values.specs.Runs.{TaskInputs, completion_of}
 use Rattle.source_values.specs.Runs.{exactly, transition_of, source_run, state_after, state_behind}
 use Rattle.source_values.proofs.Interface.{EmitsUpTo, block_up_to}
-use Rattle.source_report.specs.SourceReport.{given_of}
 use Rattle.crash_rules.specs.Model.{Model}
-use Rattle.crash_rules.specs.History.{Done, done_readings, done_inputs}
+use Rattle.crash_rules.specs.History.{Done, done_given}
 use Rattle.crash_rules.specs.Laws.{SourceRun}
+use Rattle.source_runs.specs.Tells.{given_to}
 use Rattle.source_runs.specs.Transitions.{StandForTransitions, committed_by}
-use Rattle.source_runs.specs.Sources.{IsOfSource}
+use Rattle.source_runs.specs.Sources.{IsOfSource, inputs_of}
 
 -- what holds of a transition by the task that makes it
 pub record IsMadeBy (s : State) (t : Transition) : Type 0 where
@@ -62,7 +62,7 @@ module _ (text : List ℕ) (program : CheckedProgram) (m : MapValue) (model : Mo
   -- dones of a run from a state to a state, as transitions
   pub record Tells (readings : List ℕ) (s : State) (ds : List Done) (u : State) : Type 0 where
     pub transitions : List Transition
-    pub source : source_run program s (map (given_of readings) (committed_by ds)) ≡ Some transitions
+    pub source : source_run program s (map (given_to readings) (committed_by ds)) ≡ Some transitions
     pub stand : StandForTransitions m s ds transitions
     pub end : u ≡ state_behind s transitions
 
@@ -70,15 +70,15 @@ module _ (text : List ℕ) (program : CheckedProgram) (m : MapValue) (model : Mo
   tells readings s u [] run = record { transitions = []; source = refl; stand = tt; end = run }
   tells readings s u (d ∷ ds) run =
       let next = run.0 in
-      let k = is.transits s next (done_inputs readings d) run.1 in
+      let k = is.transits s next (done_given readings d) run.1 in
       let t = k.0 in
       let P : State → Type 0 = λ y. SourceRun model readings y ds u in
       let Q : State → Type 0 = λ y. model.Rests y d.world in
       let more = tells readings (state_after s t) u ds (subst P k.2 run.3) in
-      let by = made program is.emits_fit s (without_answers (done_readings readings d)) t k.1 in
+      let by = made program is.emits_fit s (inputs_of (done_given readings d)) t k.1 in
       record {
         transitions = t ∷ more.transitions;
-        source = ap (λ p. p >>? λ y. source_run program (state_after s y) (map (given_of readings) (committed_by ds)) >>? λ ys. Some (y ∷ ys)) k.1
+        source = ap (λ p. p >>? λ y. source_run program (state_after s y) (map (given_to readings) (committed_by ds)) >>? λ ys. Some (y ∷ ys)) k.1
             ∙ ap (λ q. q >>? λ ys. Some (t ∷ ys)) more.source;
         stand = (
           record { from = by.from; before = by.before; few = by.few; behind = is.rests (state_after s t) d.world (subst Q k.2 run.2) },

@@ -13,7 +13,7 @@ use Rattle.crash_rules.specs.History.{History, first_history}
 use Rattle.crash_rules.specs.Runs.{Program}
 use Rattle.crash_rules.specs.Laws.{Resting}
 use Rattle.run_charges.specs.Charges.{observed}
-use Rattle.model_runs.specs.Events.{marks_of}
+use Rattle.model_runs.specs.Events.{marks_of, IsInFront}
 use Rattle.model_runs.specs.EventLaws.{StartsWith}
 use Rattle.source_runs.specs.Naming.{IsMapOf}
 use Rattle.source_runs.specs.Tells.{cost_of}
@@ -27,6 +27,7 @@ inputs_of given = record { readings = given.readings; answers = given.answers }
 -- a model whose tasks are a source's, with their costs, and whose commits nothing delays, and where GATE and the words of each state are as a map says
 pub record IsOfSource (text : List ℕ) (program : CheckedProgram) (m : MapValue) (model : Model State) : Type 0 where
   pub is_map : IsMap m
+  pub front : IsInFront m
   pub of_source : IsMapOf text program m
   pub ring : uses_events program ≡ false → m.ring ≡ None
   pub emits_fit : All EmitsFit program.tasks

@@ -103,10 +103,6 @@ abbrev pub costs_in : (History → ℕ) → MapValue → History → List Moment
 costs_in due m h [] = due h
 costs_in due m h (x ∷ xs) = costs_by due m h x.action x.after + costs_in due m (noted h x) xs
 
--- how many events arose from one board of a run to another
-abbrev pub arisen_between : BoardValue → BoardValue → ℕ
-arisen_between b c = c.line.arisen - b.line.arisen
-
 -- What a charge that was spent completed, in which so many events arose. Each event may take 100 of what it has. One of cycles has a transition at
 -- least for each bound that it has beside these. And each, of cycles or of instructions, is less than these and what its transitions cost together
 -- with the one that was to come then: so one that holds the costs of the next n tasks, whatever the charge before left, has n transitions
@@ -119,7 +115,7 @@ pub data EachChargePays (m : MapValue) (due : History → ℕ) : List BoardCharg
   AllSpent : (b : BoardValue) (h : History) → EachChargePays m due [] b h (run_outcome [] Charges b)
   SpentOne : (c : BoardCharge) (cs : List BoardCharge) (b : BoardValue) (h : History) (ms : List Moment) (end : BoardValue) (rest : RunOutcome)
       → ChargeRun c.measure c.amount (powered b c.start) (run_outcome ms Charges end)
-      → PaysFor m due c (arisen_between b end) h (power_up_of b c.start ∷ ms)
+      → PaysFor m due c (end.line.arisen - b.line.arisen) h (power_up_of b c.start ∷ ms)
       → EachChargePays m due cs end (after_all h (power_up_of b c.start ∷ ms)) rest
       → EachChargePays m due (c ∷ cs) b h (after_moments (power_up_of b c.start ∷ ms) rest)
   StoppedIn : (c : BoardCharge) (cs : List BoardCharge) (b : BoardValue) (h : History) (ms : List Moment) (stop : Stop) (end : BoardValue)

@@ -3,10 +3,12 @@ use Rattle.task_attempts.proofs.Names.{◌≡◌, ℕ, ◌≤◌, List, [], ◌�
 use Rattle.task_attempts.proofs.Names.{get_or_from_slice_get, Effect, Store, readings_taken, EachStore, InputsAreWords}
 use Rattle.task_attempts.proofs.Names.{looks_taken, looks_taken-append, answer_place, answers_in, given_by, nothing_given}
 use Rattle.task_attempts.proofs.Names.{readings_taken-append, each_store-append, emits_of, Attempt, Outcome, to_task, short, run_block, block_emits, State}
-use Rattle.task_attempts.proofs.Names.{Completion, completion_of, attempt_of, fresh_attempt, EndsWell, answered_by, answers_told, StoresBelow, false, ⊎_elim, inr, TransitionComes, readings_left_over_lem}
+use Rattle.task_attempts.proofs.Names.{Completion, completion_of, attempt_of, fresh_attempt, EndsWell, TransitionComes, readings_left_over_lem}
+use Rattle.task_attempts.proofs.Names.{answered_by, answers_told, StoresBelow, false, ⊎_elim, inr}
 use Rattle.task_attempts.proofs.Names.{WordState, End}
 use Rattle.task_attempts.proofs.Names.{GoesOn, Jumps, Broken, behaviour, started, behaves_by_effects, whole_ends_soundly, StoresWords, stores_words, Ends}
-use Rattle.task_attempts.proofs.Names.{program_effects, IsElsewhere, Model, AttemptContract, Comes, Lacks, Decides, RunsShort, TakesAndStores, EndsAs, BlocksAgree}
+use Rattle.task_attempts.proofs.Names.{program_effects, IsElsewhere, Model, AttemptContract, Comes, Lacks, Decides, RunsShort, TakesAndStores, EndsAs}
+use Rattle.task_attempts.proofs.Names.{BlocksAgree}
 use Rattle.task_attempts.proofs.Names.{lowered_block, task_program, outcome_of, whole_task, has_jumped, effects_of, program_parts, redo_model, LeavesFor}
 use Rattle.task_attempts.proofs.Names.{inl, IsBelowCode, Gate, word_place}
 use Rattle.array_versions.specs.Program.{Program}
@@ -65,15 +67,15 @@ module _ (run : Started) where
     safe_short : TakesAndStores (Safe run) es
     safe_short = stores_as (StoresOf run) (Safe run) (task_safe run) es h.agrees h.of_words
 
-    answers_are : answers_in model.marks es ≡ answers_told es
-    answers_are = answers_seen l es (off_answer es safe_short)
+    answers_so_far : answers_in model.marks es ≡ answers_told es
+    answers_so_far = answers_seen l es (off_answer es safe_short)
 
     runs_short : RunsShort model s inputs x (program_effects es false)
     runs_short = record {
       is = refl;
       elsewhere = off_gate es safe_short;
       undecided = quiet_through sites view s ver es x (quiet_of run es safe_short h.of_words) (quiet_start run);
-      short = ap (λ answers. whole_task p s (record { readings = inputs.readings; answers = answers })) answers_are ∙ ap (outcome_of s) h.source;
+      short = ap (λ answers. whole_task p s (record { readings = inputs.readings; answers = answers })) answers_so_far ∙ ap (outcome_of s) h.source;
     }
 
   -- ---- a transition

@@ -461,7 +461,8 @@ module _ (run : Started) where
         let most = few_emits in
         let fits = emits_fit run in
         let apart = given.apart in
-        z_there (l.emits.address + 2 * n) (high_stays (l.emits.address + 2 * n) (omega arith) (omega (arith, h, most, fits, apart))) ∙ ap left.there.fram same ∙ left.stands.emitted.emits n h
+        z_there (l.emits.address + 2 * n) (high_stays (l.emits.address + 2 * n) (omega arith) (omega (arith, h, most, fits, apart)))
+        ∙ ap left.there.fram same ∙ left.stands.emitted.emits n h
 
     sends_and_closes : SendsAndCloses sites view s next m.emitted 0 z
     sends_and_closes =

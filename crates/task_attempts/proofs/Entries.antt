@@ -200,7 +200,8 @@ module _ (transition : Closing) where
       ∙ ap (λ l. entries_from n list f ++ l) (runs_pairs p.privates)
 
   -- each entry has a word, where each had one
-  pub closed_entries : n + length (runs_of p.privates) ≤ room.list → ((j : ℕ) → j < n → 0 < f (p.map.list.address + 6 * j + 4)) → (j : ℕ) → j < closed (word_place p.map ListLength)
+  pub closed_entries : n + length (runs_of p.privates) ≤ room.list
+      → ((j : ℕ) → j < n → 0 < f (p.map.list.address + 6 * j + 4)) → (j : ℕ) → j < closed (word_place p.map ListLength)
       → 0 < closed (p.map.list.address + 6 * j + 4)
   closed_entries few before j h =
       let list = p.map.list.address in

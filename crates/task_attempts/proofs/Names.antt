@@ -62,7 +62,8 @@ pub use Rattle.checked_trees.specs.WellFormed.{IsArrayName, IsLocal, IsOfType, W
 pub use Rattle.array_versions.proofs.Interface.{StoresWords, behaves_by_effects, stores_words, whole_ends_soundly}
 pub use Rattle.array_versions.specs.Behaviour.{Broken, End, GoesOn, Jumps, WordState, behaviour, event_index, started}
 pub use Rattle.lower.proofs.Interface.{SeenFrom, after_entry, array_read, array_seen, blocks_agree, entered_pairs, few_entries, pairs_of_runs, program_at}
-pub use Rattle.lower.proofs.Interface.{row_length, runs_are_few, tasks_are_admitted, runs_have_words, runs_pairs, scalar_seen, seen_from, takes_append, word_other, word_same}
+pub use Rattle.lower.proofs.Interface.{row_length, runs_are_few, runs_have_words, runs_pairs, scalar_seen, seen_from, takes_append, tasks_are_admitted}
+pub use Rattle.lower.proofs.Interface.{word_other, word_same}
 pub use Rattle.lower.specs.Agreement.{AsDeclared, BlocksAgree, Bounds, EndsAs, HasCopies, IsTaskStore, Left, StandsFor, TakesAndStores, at_copy, at_emit_count}
 pub use Rattle.lower.specs.Agreement.{at_list_length, at_variable, at_version, element_pair, entry_effects, in_buffer, in_list, own_word, place_length}
 pub use Rattle.lower.specs.Agreement.{answered_by, answers_told, at_answer, freeze_effects, transition_effects}

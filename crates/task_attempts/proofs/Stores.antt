@@ -175,7 +175,6 @@ module _ (run : Started) where
       (λ q. omega (arith, is, q)) (λ q. absurd (omega (arith, is, q))) (λ q. h)
   task_safe a w (in_buffer j h is) small =
       let apart = given.apart in let fits = emits_fit in safe_buffer a w small (omega (arith, apart, is)) (omega (arith, apart, is, h, fits))
-
   task_safe a w (at_answer k) small =
       ⊎_elim {C = Safe a w}
       (λ e. safe_event a w small (record { events = k.0; from = omega (arith, e); below = omega (arith, e) }))

@@ -1,5 +1,6 @@
 -- The fold over lowered programs: a fact that holds of steps, and of what is put together of what has it, holds of expressions and statements.
-use Rattle.std.proofs.Common.{◌≡◌, ℕ, suc, ◌+◌, ◌/◌, ◌%◌, ◌<◌, ◌≤◌, ◌||◌, Bool, false, List, [], ◌∷◌, Option, Some, None, arith, slice_get}
+use Rattle.std.proofs.Common.{◌≡◌, ℕ, suc, ◌+◌, ◌/◌, ◌%◌, ◌<◌, ◌≤◌, ◌||◌, Bool, true, false, List, [], ◌∷◌, Option, Some, None, arith, slice_get}
+use Rattle.std.proofs.Common.{if◌then◌else◌}
 use Rattle.std.proofs.lemmas.Bool.{or_parts}
 use Rattle.std.specs.List.{AllByRecursion}
 use Rattle.alp_words.specs.Words.{IsWord}
@@ -33,7 +34,7 @@ use Rattle.array_versions.specs.declared.operations.LongOperation.TheVariants as
 use Rattle.array_versions.specs.declared.program.ArrayPlace.{ArrayPlace}
 use Rattle.array_versions.specs.declared.program.ListPlace.{ListPlace}
 use Rattle.array_versions.specs.Program.{Step, Test, Program, number, load, keep, local, set_local, update_local, unary, binary, shift, long, element}
-use Rattle.array_versions.specs.Program.{update, emit_word, list_entry, versioned_read, sense, truth, choose, repeat, store_number, move_word, jump}
+use Rattle.array_versions.specs.Program.{update, emit_word, list_entry, versioned_read, sense, next_event, freeze_events, truth, choose, repeat, store_number, move_word, jump}
 use Rattle.array_versions.specs.Program.{holds, compares, both, either, fails, nothing, step, joined}
 use Rattle.array_versions.specs.Form.{ArrayOfWords, ListOfWords, StepOfWords}
 use Rattle.memory_map.specs.MemoryMap.{word_place}
@@ -55,7 +56,8 @@ use Rattle.lower.specs.Lowered.{stored_array, element_read, element_step, store_
 use Rattle.lower.specs.Lowered.{word_program, value_test, widening, long_words, long_program, name_lowering, unary_lowering, long_zero, operand_lowering}
 use Rattle.lower.specs.Lowered.{binary_lowering, answer, long_binary_lowering, sides_lowering, shift_lowering, sides_test, widened_type, lowering}
 use Rattle.lower.specs.Lowered.{lowered_expression, lowered_long, lowered_test, setting, updating, of_words, sides_set, assignment, scalar_assignment}
-use Rattle.lower.specs.Lowered.{index_and_value, element_updating, element_sides_set, element_assignment, loop_local, entries, lowered_transition}
+use Rattle.lower.specs.Lowered.{index_and_value, element_updating, element_sides_set, element_assignment, loop_local, entries, freezing}
+use Rattle.lower.specs.Lowered.{lowered_transition}
 use Rattle.lower.specs.Lowered.{lowered_statement, lowered_choice, lowered_block}
 use Rattle.lower.proofs.Interface.{RunOfWords, runs_of_words}
 use Rattle.checked_trees.specs.WellFormed.{IsWordName, IsLocal, stack_words, enough, HasRoom, WellFormedExpression, WellFormedStatement}
@@ -69,6 +71,7 @@ pub data Leaf : ℕ → ℕ → Step → Type 0 where
   a_number : {d : ℕ} (w : ℕ) → Leaf d (suc d) (number w)
   a_load : {d : ℕ} (a : ℕ) → Leaf d (suc d) (load a)
   a_reading : {d : ℕ} → Leaf d (suc d) sense
+  an_event : {d : ℕ} → Leaf d (suc d) next_event
   a_unary : {d : ℕ} (op : UnaryOperation) → Leaf (suc d) (suc d) (unary op)
   a_shift : {d : ℕ} (op : ShiftOperation) (k : ℕ) → Leaf (suc d) (suc d) (shift op k)
   an_element : {d : ℕ} (base length : ℕ) → Leaf (suc d) (suc d) (element base length)
@@ -353,7 +356,7 @@ module _ {ℓ} {room : ℕ} (F : Fact {ℓ} room) where
         (F.chain d (suc d) (suc d) (lowered_expression p index) (one (element_step p x.variable)) (lowering_has d index is.1 few r).word
         (element_has d x.variable (omega (arith, two))))
     lowering_has d t.next_event is few r =
-        let two = two_fit room d t.next_event few in word_built d _ two (single d (suc d) (number 0) (a_number 0) (omega arith) (omega (arith, two)))
+        let two = two_fit room d t.next_event few in word_built d _ two (single d (suc d) next_event an_event tt (omega (arith, two)))
     lowering_has d t.sense is few r = let two = two_fit room d t.sense few in word_built d _ two (single d (suc d) sense a_reading tt (omega (arith, two)))
     lowering_has d (t.unary op e) is few r =
         let own : stack_words e + d ≤ room = omega (arith, few) in
@@ -385,6 +388,7 @@ pub data Stores (p : Places) : Step → Type 0 where
   an_entry : (r : Run) → Stores p (list_entry (word_place p.map ListLength) p.map.list.address r.home r.copy r.words)
   the_task : (task : ℕ) → Stores p (store_number (word_place p.map NextTask) (task % 65536))
   the_sent_base : Stores p (move_word (word_place p.map Base) (word_place p.map SentBase))
+  the_sent_tail : Stores p freeze_events
   the_gate : Stores p (store_number (word_place p.map Gate) 1)
   to_the_commit : Stores p (jump p.map.commit.address)
 
@@ -562,6 +566,10 @@ module _ (p : Places) (G : EachStep p) (words : PlacesOfWords p) (shared : List 
       G.chain (one entry) (entries (word_place p.map ListLength) p.map.list.address more)
       (G.alone entry (G.stores entry (an_entry r) (words.words ListLength, words.list, h.0.home, h.0.copy, h.0.words))) (entries_have more h.1)
 
+  frozen_has : (events : Bool) → G.of_program (if events then one freeze_events else nothing)
+  frozen_has true = G.alone freeze_events (G.stores freeze_events the_sent_tail tt)
+  frozen_has false = G.empty
+
   transition_has : (task : ℕ) → G.of_program (lowered_transition p task)
   transition_has task =
       let next = store_number (word_place p.map NextTask) (task % 65536) in
@@ -569,11 +577,13 @@ module _ (p : Places) (G : EachStep p) (words : PlacesOfWords p) (shared : List 
       let gate = store_number (word_place p.map Gate) 1 in
       let leaves = jump p.map.commit.address in
       let runs = entries (word_place p.map ListLength) p.map.list.address (runs_of p.privates) in
-      let closes = step sent (step gate (one leaves)) in
+      let last = step gate (one leaves) in
+      let closes = step sent (joined (freezing p) last) in
       G.chain (one next) (joined runs closes) (G.alone next (G.stores next (the_task task) (words.words NextTask, omega arith)))
       (G.chain runs closes (entries_have (runs_of p.privates) (runs_of_words p.privates words.privates))
-      (G.chain (one sent) (step gate (one leaves)) (G.alone sent (G.stores sent the_sent_base (words.words Base, words.words SentBase)))
-      (then_step (one gate) leaves (G.alone gate (G.stores gate the_gate (words.words Gate, omega arith))) (G.stores leaves to_the_commit words.commit))))
+      (G.chain (one sent) (joined (freezing p) last) (G.alone sent (G.stores sent the_sent_base (words.words Base, words.words SentBase)))
+      (G.chain (freezing p) last (frozen_has p.map.runtime.events)
+      (then_step (one gate) leaves (G.alone gate (G.stores gate the_gate (words.words Gate, omega arith))) (G.stores leaves to_the_commit words.commit)))))
 
   -- no local that the fact wants spared is assigned
   abbrev LeavesAlone : (Variable → Bool) → Type 0

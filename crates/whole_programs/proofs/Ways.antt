@@ -31,11 +31,12 @@ use Rattle.lower.specs.Lowered.{lowering, lowered_expression, widened_type, lowe
 use Rattle.lower.specs.Lowered.{scalar_assignment}
 use Rattle.lower.specs.Lowered.{update_step, setting, long_setting, updating, of_words, sides_set}
 use Rattle.lower.specs.Lowered.{update_element_step, index_and_value, element_updating, element_sides_set, element_assignment}
-use Rattle.lower.specs.Lowered.{loop_local, entries, lowered_transition, lowered_statement, lowered_choice, lowered_block}
+use Rattle.array_versions.specs.Program.{freeze_events}
+use Rattle.lower.specs.Lowered.{freezing, loop_local, entries, lowered_transition, lowered_statement, lowered_choice, lowered_block}
 use Rattle.checked_trees.specs.WellFormed.{enough, IsWordName, IsArrayName, WellFormedExpression, WellFormedStatement, WellFormedChoice, WellFormedBlock}
 use Rattle.lower.proofs.Interface.{small_modulo, is_update}
 use Rattle.whole_programs.proofs.Placed.{PlacesOfWords}
-use Rattle.whole_programs.proofs.Built.{Leaf, a_number, a_load, a_reading, a_unary, a_shift, an_element, a_version, a_binary, a_widening, a_join, a_low_word}
+use Rattle.whole_programs.proofs.Built.{Leaf, a_number, a_load, a_reading, an_event, a_unary, a_shift, an_element, a_version, a_binary, a_widening, a_join, a_low_word}
 use Rattle.whole_programs.proofs.Built.{a_complement, a_left_shift, a_right_shift, a_calculation, is_below, is_above, ReadOf, Reads, two_fit, Fact}
 use Rattle.whole_programs.proofs.Built.{FitsAbove, right_fits, lowering_has, long_has}
 use Rattle.checked_trees.proofs.Interface.{names_read, is_path, some_turns, some_block, written, forgotten, behind, behind_both, behind_names}
@@ -84,6 +85,7 @@ module _ (room : ℕ) (a : ℕ → Bool) where
   leaf_way d e s (a_number w) numbers few next h = moves room 0 1 d e a next (omega arith) (omega arith) few h
   leaf_way d e s (a_load to) numbers few next h = moves room 0 1 d e a next (omega arith) (omega arith) few h
   leaf_way d e s a_reading numbers few next h = moves room 0 1 d e a next (omega arith) (omega arith) few h
+  leaf_way d e s an_event numbers few next h = moves room 0 1 d e a next (omega arith) (omega arith) few h
   leaf_way d e s (a_unary op) numbers few next h = moves room 1 1 d e a next (omega arith) (omega arith) few h
   leaf_way d e s (a_shift op k) numbers few next h = moves room 1 1 d e a next (omega arith) (omega arith) few h
   leaf_way d e s (an_element base length) numbers few next h = moves room 1 1 d e a next (omega arith) (omega arith) few h
@@ -342,12 +344,17 @@ module _ (p : Places) (words : PlacesOfWords p) (shared : List SharedDeclaration
   entries_way count list [] next o h = h
   entries_way count list (s ∷ more) next o h = entries_way count list more next o h
 
+  frozen_way : (events : Bool) (next : Place → Type 0) (o : Place) → next o → EachWay enough (if events then one freeze_events else nothing) next o
+  frozen_way true next o h = h
+  frozen_way false next o h = h
+
   transition_way : (task : ℕ) (next : Place → Type 0) (o : Place) → EachWay enough (lowered_transition p task) next o
   transition_way task next o =
-      let close : Program = step (move_word (word_place p.map Base) (word_place p.map SentBase))
-      (step (store_number (word_place p.map Gate) 1) (one (jump p.map.commit.address))) in
+      let gated : Program = step (store_number (word_place p.map Gate) 1) (one (jump p.map.commit.address)) in
+      let close : Program = step (move_word (word_place p.map Base) (word_place p.map SentBase)) (joined (freezing p) gated) in
       joined_way enough (entries (word_place p.map ListLength) p.map.list.address (runs_of p.privates)) close next o
-      (entries_way (word_place p.map ListLength) p.map.list.address (runs_of p.privates) (EachWay enough close next) o even)
+      (entries_way (word_place p.map ListLength) p.map.list.address (runs_of p.privates) (EachWay enough close next) o
+      (joined_way enough (freezing p) gated next o (frozen_way p.map.runtime.events (EachWay enough gated next) o even)))
 
   -- an index and a value, and a step behind both
   index_and_value_way : (a : ℕ → Bool) (index e : CheckedExpression) (s : Step) (next : Place → Type 0) → Ready shared a 0 index → Ready shared a 1 e
