@@ -1,6 +1,6 @@
 -- Code by itself, in a setting of its own: what it comes to there, it comes to where it stands, within the cycles of its dearest path.
 use Rattle.code_costs.proofs.Names.{◌≡◌, ℕ, ◌+◌, ◌≤◌, List, [], ◌∷◌, refl, arith, Effect, Core, Form, Stands, Runs, placed, instructions, WordState}
-use Rattle.code_costs.proofs.Names.{End, GoesOn, Jumps, Short, Strays, Broken, Waiting, Setting, so_runs, dearer, dearer_stall, Memory, StandsFor, Pays, Reaches}
+use Rattle.code_costs.proofs.Names.{End, GoesOn, Jumps, Short, Waiting, Setting, so_runs, dearer, dearer_stall, StandsFor, Reaches}
 use Rattle.code_costs.proofs.Names.{owed_by, owed, Describes, forward_most, runs_so, starves_so, stands_alone, tidy_alone}
 use Rattle.code_costs.proofs.Names.{push_most, pushes_most}
 use Rattle.word_code.specs.declared.waiting.Waiting.TheVariants as waiting

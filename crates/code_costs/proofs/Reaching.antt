@@ -1,8 +1,8 @@
 -- Stretches of code one behind the other, by what follows them.
-use Rattle.code_costs.proofs.Names.{◌≡◌, ℕ, ◌+◌, ◌≤◌, List, [], ◌++◌, refl, sym, subst, arith, append-nil, forms_bytes-append, Effect, Core, Form, Stands, forms_bytes}
-use Rattle.code_costs.proofs.Names.{Runs, Starves, WordState, End, GoesOn, Jumps, Short, Strays, Broken, Behaviour, behind_effects, on_end, Waiting, Setting, runs_on}
-use Rattle.code_costs.proofs.Names.{stands_front, stands_back, StandsFor, OnGoesOn, Pays, Reaches, reach_more, then_reach, Describes, dressed, flush_part, HasJumped}
-use Rattle.code_costs.proofs.Names.{flushed, owed, flush_most, forward_most, pushes_most}
+use Rattle.code_costs.proofs.Names.{◌≡◌, ℕ, ◌+◌, List, [], ◌++◌, sym, subst, arith, append-nil, forms_bytes-append, Effect, Core, Form, Stands, forms_bytes}
+use Rattle.code_costs.proofs.Names.{Runs, Starves, WordState, End, GoesOn, Jumps, Short, Behaviour, behind_effects, on_end, Waiting, Setting, runs_on}
+use Rattle.code_costs.proofs.Names.{stands_front, stands_back, StandsFor, OnGoesOn, Reaches, reach_more, then_reach, Describes, dressed, flush_part, HasJumped}
+use Rattle.code_costs.proofs.Names.{flushed, owed, flush_most}
 use Rattle.code_costs.proofs.Alone.{owed_is, alone, stand, stands_out, describes_in, runs_there}
 use Rattle.code_costs.proofs.Names.{dearer}
 

@@ -1,5 +1,5 @@
 -- Tests: up to where they go on, and what follows there.
-use Rattle.code_costs.proofs.Names.{◌≡◌, ℕ, ◌+◌, ◌-◌, ◌<◌, ◌≤◌, max, Bool, true, false, not, if◌then◌else◌, List, [], ◌∷◌, ◌++◌, length, Some, refl, ap, subst, arith}
+use Rattle.code_costs.proofs.Names.{◌≡◌, ℕ, ◌+◌, ◌-◌, ◌<◌, ◌≤◌, max, Bool, true, false, if◌then◌else◌, List, [], ◌∷◌, ◌++◌, length, Some, ap, subst, arith}
 use Rattle.code_costs.proofs.Names.{Core, Form, R4, form_bytes, form_small, instruction_of, Stands, forms_bytes, Runs, WordState, Behaviour, with_stack, with_top}
 use Rattle.code_costs.proofs.Names.{with_two, Place, Moves, Comparison, is_true, compare_words, Bound, Waiting, Setting, runs_on, dearer, AreWords, StandsFor, Reaches}
 use Rattle.code_costs.proofs.Names.{reach_more, then_reach, Has, Holds, owed, owed_kept, load_owed, Describes, top_to_four_part, Aiming, compare_sides_part}

@@ -1,18 +1,18 @@
 -- The code of a word program keeps to its dearest way.
-use Rattle.code_costs.proofs.Names.{◌≡◌, ℕ, zero, suc, ◌+◌, ◌-◌, ◌*◌, ◌<◌, ◌≤◌, ◌≢◌, max, not, nat_lt, Bool, true, false, if◌then◌else◌, List, [], ◌∷◌, ◌++◌, length}
-use Rattle.code_costs.proofs.Names.{Option, Some, None, refl, sym, ap, subst, arith, append-nil, stands_front, stands_back, forms_bytes-append, Matches, GoesWell}
-use Rattle.code_costs.proofs.Names.{matches_local, start_matches, step_well, well, whole_ends_soundly, local_words, words_step, words, Leaves, leaves, Setting, runs_on}
-use Rattle.code_costs.proofs.Names.{nothing_run, so_runs, dearer, assigned_same, StandsFor, OnGoesOn, Reaches, reach_more, then_reach, owed, Describes, dressed}
-use Rattle.code_costs.proofs.Names.{stands_low, pass_part, whole_size, Fork, fork_at, fork_turned, fork_both, fork_either, Forked, forked_behind, jump_part, Bounded}
-use Rattle.code_costs.proofs.Names.{Spared, spared_so, bounded_with, bounded_on, step_bounded, HasStack, stack_part, Ready, ready_on, ready_with, turn_ready, Known}
+use Rattle.code_costs.proofs.Names.{◌≡◌, ℕ, ◌+◌, ◌-◌, ◌*◌, ◌<◌, ◌≤◌, ◌≢◌, max, not, nat_lt, Bool, true, false, if◌then◌else◌, List, [], ◌∷◌, ◌++◌}
+use Rattle.code_costs.proofs.Names.{Some, refl, sym, subst, arith, stands_front, stands_back, forms_bytes-append}
+use Rattle.code_costs.proofs.Names.{matches_local, start_matches, step_well, well, whole_ends_soundly, local_words, words_step, words, leaves, Setting}
+use Rattle.code_costs.proofs.Names.{nothing_run, dearer, assigned_same, StandsFor, OnGoesOn, Reaches, then_reach, owed, Describes, dressed}
+use Rattle.code_costs.proofs.Names.{stands_low, pass_part, whole_size, Fork, fork_at, fork_turned, fork_both, fork_either, Forked, forked_behind, jump_part}
+use Rattle.code_costs.proofs.Names.{spared_so, bounded_with, bounded_on, step_bounded, HasStack, stack_part, Ready, ready_on, ready_with, turn_ready}
 use Rattle.code_costs.proofs.Names.{known_first, known_second, KnownStep, KnownTest, KnownProgram, one_pushed, zero_pushed, step_follows}
-use Rattle.code_costs.proofs.Names.{program_below, program_least, Effect, Core, Form, Branch, Stands, forms_bytes, IsTidy, Runs, Step, Test, Program, number, truth}
+use Rattle.code_costs.proofs.Names.{program_below, program_least, Effect, Core, Form, Branch, Stands, forms_bytes, Runs, Step, Test, Program, number, truth}
 use Rattle.code_costs.proofs.Names.{choose, repeat, jump, holds, compares, both, either, fails, nothing, step, WordState, End, GoesOn, Jumps, Short, Strays, Broken}
-use Rattle.code_costs.proofs.Names.{Behaviour, started, step_behaviour, behaviour, then_on, tested, with_stack, with_local, way_by_top, way_by_two, number_pushed}
+use Rattle.code_costs.proofs.Names.{Behaviour, started, step_behaviour, behaviour, then_on, tested, with_local, way_by_top, way_by_two, number_pushed}
 use Rattle.code_costs.proofs.Names.{Place, start, assigning, Moves, EachTurn, EachStepWay, EachTestWay, EachWay, StepSpares, TestSpares, Spares, IsWhole, OfWords}
-use Rattle.code_costs.proofs.Names.{locals_of, step_cycles, step_spent, IsStateOfWords, EndsInWords, IsSound, Bound, Waiting, flushed, holds_code, compares_code}
+use Rattle.code_costs.proofs.Names.{locals_of, step_spent, IsSound, Bound, Waiting, flushed, holds_code, compares_code}
 use Rattle.code_costs.proofs.Names.{truth_code, number_code, turn_end, turns_code, pass_over, size, bound_of, stack_base, stack_set, waiting_behind, waiting_after}
-use Rattle.code_costs.proofs.Names.{step_code, test_code, steps_code, block_code, code_of, HasJumped, ComesTo, forward_most, pushes_most, flush_most, leaf_most}
+use Rattle.code_costs.proofs.Names.{step_code, test_code, steps_code, block_code, code_of, ComesTo, forward_most, pushes_most, flush_most, leaf_most}
 use Rattle.code_costs.proofs.Names.{turn_most, turns_most, step_most, test_most, steps_most, block_most, most_spent}
 use Rattle.code_costs.proofs.Names.{unary, binary, long, unary_cycles, binary_cycles, long_cycles, UnaryOperation, Negate, Complement, BinaryOperation, Multiply}
 use Rattle.code_costs.proofs.Names.{Divide, Remainder, Plain, LongOperation, any_most}
@@ -21,8 +21,8 @@ use Rattle.code_costs.proofs.Names.{begun, LocalsBelow, FitsEvents, IsEntry, sta
 use Rattle.code_costs.proofs.Names.{behaves, broken, FollowsEnd, ◌==◌, ◌%◌}
 use Rattle.code_costs.specs.Laws.{CodeKeepsToItsWays}
 use Rattle.code_costs.proofs.Alone.{owed_is, alone, stand, stands_in, stands_out, describes_in, describes_out, runs_there, reaches_there}
-use Rattle.code_costs.proofs.Reaching.{reach_as, then_more, on_way, flushes, behind_flushed}
-use Rattle.code_costs.proofs.Tests.{Way, Ways, Continues, by_top, by_two}
+use Rattle.code_costs.proofs.Reaching.{then_more, on_way, flushes, behind_flushed}
+use Rattle.code_costs.proofs.Tests.{Way, Ways, by_top, by_two}
 use Rattle.code_costs.proofs.Turns.{loop_reach}
 
 -- what operations cost, whatever their code is

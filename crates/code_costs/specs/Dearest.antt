@@ -1,13 +1,12 @@
 -- What the code of a word program costs at most, whatever the words are that decide its ways: its dearest way. What follows costs so much; behind a jump
 -- nothing does.
-use Rattle.std.specs.Prelude.{ℕ, zero, suc, ◌+◌, ◌-◌, max, Bool, true, false, not, nat_le, nat_lt, if◌then◌else◌, List, [], ◌∷◌, ◌++◌}
+use Rattle.std.specs.Prelude.{ℕ, zero, suc, ◌+◌, ◌-◌, max, Bool, true, false, not, nat_le, if◌then◌else◌, List, [], ◌∷◌, ◌++◌}
 use Rattle.word_code.specs.declared.bounds.Bound.{Bound}
 use Rattle.word_code.specs.declared.waiting.Waiting.{Waiting}
 use Rattle.word_code.specs.declared.waiting.Waiting.TheVariants as waiting
 use Rattle.word_code.specs.array_versions.Program.{Step, Test, Program, binary, truth, choose, repeat, jump, holds, compares, both, either, fails, nothing, step}
 use Rattle.word_code.specs.array_versions.Form.{locals_of}
 use Rattle.word_code.specs.array_versions.declared.operations.BinaryOperation.TheVariants.{Multiply}
-use Rattle.word_code.specs.code_forms.Forms.{Branch}
 use Rattle.word_code.specs.Code.{flushed, holds_code, compares_code, number_code, turn_end, pass_over, size, bound_of, stack_set, waiting_behind, waiting_after}
 use Rattle.word_code.specs.Code.{step_code, test_code, block_code}
 use Rattle.code_paths.specs.Paths.{forward_most}
