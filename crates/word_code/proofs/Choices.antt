@@ -57,7 +57,7 @@ module _ (z : Setting) where
 
   -- the jump alone
   module _ (w : WordState) (t : Core) where
-    decision_part : (when b : Bool) (pc d held failed : ℕ) (met opposite : Condition) → Forked when d pc (decision when d met opposite) held failed
+    pub decision_part : (when b : Bool) (pc d held failed : ℕ) (met opposite : Condition) → Forked when d pc (decision when d met opposite) held failed
         → pc < 0x10000 → Decided z pc w b met opposite t → Runs z.code [] 5 t (StandsFor z (if b then held else failed) w)
     decision_part true true pc d held failed met opposite k l i =
         let low = stands_low z pc (jump_over met opposite d) k.stands l in
