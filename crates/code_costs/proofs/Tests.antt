@@ -1,9 +1,12 @@
 -- Tests: up to where they go on, and what follows there.
 use Rattle.code_costs.proofs.Names.{◌≡◌, ℕ, ◌+◌, ◌-◌, ◌<◌, ◌≤◌, max, Bool, true, false, if◌then◌else◌, List, [], ◌∷◌, ◌++◌, length, Some, ap, subst, arith}
-use Rattle.code_costs.proofs.Names.{Core, Form, R4, form_bytes, form_small, instruction_of, Stands, forms_bytes, Runs, WordState, Behaviour, with_stack, with_top}
-use Rattle.code_costs.proofs.Names.{with_two, Place, Moves, Comparison, is_true, compare_words, Bound, Waiting, Setting, runs_on, dearer, AreWords, StandsFor, Reaches}
+use Rattle.code_costs.proofs.Names.{Core, Form, R4, form_bytes, form_small, instruction_of, Stands, forms_bytes, Runs, WordState, Behaviour, with_stack}
+use Rattle.code_costs.proofs.Names.{with_top}
+use Rattle.code_costs.proofs.Names.{with_two, Place, Moves, Comparison, is_true, compare_words, Bound, Waiting, Setting, runs_on, dearer, AreWords}
+use Rattle.code_costs.proofs.Names.{StandsFor, Reaches}
 use Rattle.code_costs.proofs.Names.{reach_more, then_reach, Has, Holds, owed, owed_kept, load_owed, Describes, top_to_four_part, Aiming, compare_sides_part}
-use Rattle.code_costs.proofs.Names.{compare_stays, reading_cycles, side_owed, gathered, Decided, Fork, Forked, forked_behind, decision_part, zero_test, holds_part}
+use Rattle.code_costs.proofs.Names.{compare_stays, reading_cycles, side_owed, gathered, Decided, Fork, Forked, forked_behind, decision_part, zero_test}
+use Rattle.code_costs.proofs.Names.{holds_part}
 use Rattle.code_costs.proofs.Names.{compares_part, Ready, ready_popped, top_of, below_top, kept, top_to_four, flushed, compare_form, is_turned, compare_sides}
 use Rattle.code_costs.proofs.Names.{compare_source, holding, failing, decision, holds_code, compares_code, forward_most, pushes_most, stands_front}
 use Rattle.word_code.specs.msp_isa.declared.instructions.Condition.{Condition}

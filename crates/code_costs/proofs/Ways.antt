@@ -7,14 +7,18 @@ use Rattle.code_costs.proofs.Names.{stands_low, pass_part, whole_size, Fork, for
 use Rattle.code_costs.proofs.Names.{spared_so, bounded_with, bounded_on, step_bounded, HasStack, stack_part, Ready, ready_on, ready_with, turn_ready}
 use Rattle.code_costs.proofs.Names.{known_first, known_second, KnownStep, KnownTest, KnownProgram, one_pushed, zero_pushed, step_follows}
 use Rattle.code_costs.proofs.Names.{program_below, program_least, Effect, Core, Form, Branch, Stands, forms_bytes, Runs, Step, Test, Program, number, truth}
-use Rattle.code_costs.proofs.Names.{choose, repeat, jump, holds, compares, both, either, fails, nothing, step, WordState, End, GoesOn, Jumps, Short, Strays, Broken}
+use Rattle.code_costs.proofs.Names.{choose, repeat, jump, holds, compares, both, either, fails, nothing, step, WordState, End, GoesOn, Jumps, Short}
+use Rattle.code_costs.proofs.Names.{Strays, Broken}
 use Rattle.code_costs.proofs.Names.{Behaviour, started, step_behaviour, behaviour, then_on, tested, with_local, way_by_top, way_by_two, number_pushed}
-use Rattle.code_costs.proofs.Names.{Place, start, assigning, Moves, EachTurn, EachStepWay, EachTestWay, EachWay, StepSpares, TestSpares, Spares, IsWhole, OfWords}
+use Rattle.code_costs.proofs.Names.{Place, start, assigning, Moves, EachTurn, EachStepWay, EachTestWay, EachWay, StepSpares, TestSpares, Spares, IsWhole}
+use Rattle.code_costs.proofs.Names.{OfWords}
 use Rattle.code_costs.proofs.Names.{locals_of, step_spent, IsSound, Bound, Waiting, flushed, holds_code, compares_code}
-use Rattle.code_costs.proofs.Names.{truth_code, number_code, turn_end, turns_code, pass_over, size, bound_of, stack_base, stack_set, waiting_behind, waiting_after}
+use Rattle.code_costs.proofs.Names.{truth_code, number_code, turn_end, turns_code, pass_over, size, bound_of, stack_base, stack_set, waiting_behind}
+use Rattle.code_costs.proofs.Names.{waiting_after}
 use Rattle.code_costs.proofs.Names.{step_code, test_code, steps_code, block_code, code_of, ComesTo, forward_most, pushes_most, flush_most, leaf_most}
 use Rattle.code_costs.proofs.Names.{turn_most, turns_most, step_most, test_most, steps_most, block_most, most_spent}
-use Rattle.code_costs.proofs.Names.{unary, binary, long, unary_cycles, binary_cycles, long_cycles, UnaryOperation, Negate, Complement, BinaryOperation, Multiply}
+use Rattle.code_costs.proofs.Names.{unary, binary, long, unary_cycles, binary_cycles, long_cycles, UnaryOperation, Negate, Complement, BinaryOperation}
+use Rattle.code_costs.proofs.Names.{Multiply}
 use Rattle.code_costs.proofs.Names.{Divide, Remainder, Plain, LongOperation, any_most}
 use Rattle.word_code.specs.array_versions.declared.operations.LongOperation.TheVariants as with_longs
 use Rattle.code_costs.proofs.Names.{begun, LocalsBelow, FitsEvents, IsEntry, stack_start}

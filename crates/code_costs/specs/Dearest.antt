@@ -4,7 +4,8 @@ use Rattle.std.specs.Prelude.{ℕ, zero, suc, ◌+◌, ◌-◌, max, Bool, true,
 use Rattle.word_code.specs.declared.bounds.Bound.{Bound}
 use Rattle.word_code.specs.declared.waiting.Waiting.{Waiting}
 use Rattle.word_code.specs.declared.waiting.Waiting.TheVariants as waiting
-use Rattle.word_code.specs.array_versions.Program.{Step, Test, Program, binary, truth, choose, repeat, jump, holds, compares, both, either, fails, nothing, step}
+use Rattle.word_code.specs.array_versions.Program.{Step, Test, Program, binary, truth, choose, repeat, jump, holds, compares, both, either, fails, nothing}
+use Rattle.word_code.specs.array_versions.Program.{step}
 use Rattle.word_code.specs.array_versions.Form.{locals_of}
 use Rattle.word_code.specs.array_versions.declared.operations.BinaryOperation.TheVariants.{Multiply}
 use Rattle.word_code.specs.Code.{flushed, holds_code, compares_code, number_code, turn_end, pass_over, size, bound_of, stack_set, waiting_behind, waiting_after}

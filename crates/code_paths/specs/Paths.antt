@@ -3,7 +3,8 @@ use Rattle.std.specs.Prelude.{ℕ, ◌+◌, ◌-◌, ◌*◌, ◌^◌, ◌==◌,
 use Rattle.msp_cycles.specs.Cycles.{cycles_of}
 use Rattle.msp_isa.specs.declared.instructions.Condition.{Condition}
 use Rattle.msp_isa.specs.declared.instructions.Condition.TheVariants.{Always}
-use Rattle.code_forms.specs.Forms.{Form, Move, Calculate, Compare, Update, Push, Modify, SetStack, Sense, Jump, Skip, Branch, BranchIndexed, SkipBy, EnableInterrupts}
+use Rattle.code_forms.specs.Forms.{Form, Move, Calculate, Compare, Update, Push, Modify, SetStack, Sense, Jump, Skip, Branch, BranchIndexed, SkipBy}
+use Rattle.code_forms.specs.Forms.{EnableInterrupts}
 use Rattle.code_forms.specs.Forms.{instruction_of, form_bytes}
 use Rattle.code_forms.specs.Code.{forms_bytes}
 

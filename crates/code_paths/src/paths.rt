@@ -2,7 +2,8 @@
 
 ghost use Rattle.std.specs.Prelude.{◌≡◌, ◌+◌, ◌*◌, IfOk, max};
 ghost use Rattle.code_forms.specs.Code.{forms_bytes};
-ghost use Rattle.code_paths.specs.Paths.{all_forward, behind_form, capped, costs_of, dearer_way, dearest_from, form_cycles, forward_most, goes_forward, is_forward};
+ghost use Rattle.code_paths.specs.Paths.{all_forward, behind_form, capped, costs_of, dearer_way, dearest_from, form_cycles, forward_most, goes_forward};
+ghost use Rattle.code_paths.specs.Paths.{is_forward};
 
 use code_forms::{Condition, Form, form_words, instruction_of};
 use msp_cycles::cycles;

@@ -1,5 +1,6 @@
 -- Fronts of a run from their last power-up on, and what steps leave alone.
-use Rattle.image_reports.proofs.Names.{◌≡◌, ◌<◌, ◌≤◌, ℕ, zero, suc, Bool, true, false, refl, sym, ap, ◌∙◌, subst, arith, nat_tests, eqb-true, List, [], ◌∷◌, ◌++◌, length}
+use Rattle.image_reports.proofs.Names.{◌≡◌, ◌<◌, ◌≤◌, ℕ, zero, suc, Bool, true, false, refl, sym, ap, ◌∙◌, subst, arith, nat_tests, eqb-true, List, []}
+use Rattle.image_reports.proofs.Names.{◌∷◌, ◌++◌, length}
 use Rattle.image_reports.proofs.Names.{Some, encoding, BoardValue, Moment, PowerUp, MachineBoard, fram_of, last_board, AreMoments, Instructs, IsMomentFrom}
 use Rattle.image_reports.proofs.Names.{NoneServes, PowersUp, Serves, AreInstructionMoments, program_steps}
 use Rattle.std.specs.Prelude.{if◌then◌else◌, ◌==◌, nat_le, Result, Ok}

@@ -2,7 +2,8 @@
 use Rattle.image_reports.proofs.Names.{ℕ, subst, arith, List, ImageValue, BoardValue, fresh, Moment, last_board, CheckedProgram, State, first_state}
 use Rattle.image_reports.proofs.Names.{MemoryMap, Model, History, Resting, trace_inputs, traces_are_few, stops_where_short, SoundAtRest, compiled_model}
 use Rattle.image_reports.proofs.Names.{is_redo, false, map_of, word_place, CurrentTask, Allow, IsCompiled, IsAcceptedText, IsTaskWithin, cost_of, state_within}
-use Rattle.image_reports.proofs.Names.{KeepsCapacities, compiled_program, sources_are_ready, [], world_with, laid_out, images_are_fresh, known_behind, KeepsCode}
+use Rattle.image_reports.proofs.Names.{KeepsCapacities, compiled_program, sources_are_ready, [], world_with, laid_out, images_are_fresh, known_behind}
+use Rattle.image_reports.proofs.Names.{KeepsCode}
 use Rattle.image_reports.proofs.Names.{HoldsAt, ImagesKeepTheLaws, ImagesAreTold, ImagesKeepCapacities, HoldsFrom, ImagesBelong}
 use Rattle.board_run.specs.Charges.{charges_of}
 use Rattle.image_reports.proofs.Begins.{at_first, bears, fram_is, own_code, rests, run_of_words}

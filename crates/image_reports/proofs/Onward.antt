@@ -1,7 +1,9 @@
 -- At each front of a run of an accepted text's image, from any world that belongs to the image.
 use Rattle.image_reports.proofs.Names.{◌≡◌, ◌≢◌, ℕ, zero, suc, ◌+◌, ◌%◌, ◌<◌, ◌≤◌, true, false, refl, sym, ap, ◌∙◌, subst, arith, List, [], ◌∷◌, ◌++◌, length}
-use Rattle.image_reports.proofs.Names.{Some, append_assoc, encoding, MachineBoard, placed_at, IsPoweredFrom, Shows, StandsAs, outside_with, steady_low, NoneServes}
-use Rattle.image_reports.proofs.Names.{Serves, program_steps, world_with, EventsHold, HasRoom, StepsOn, BoardValue, PowerState, powered, started, filled, BoardCharge, PowerUp, Moment}
+use Rattle.image_reports.proofs.Names.{Some, append_assoc, encoding, MachineBoard, placed_at, IsPoweredFrom, Shows, StandsAs, outside_with, steady_low}
+use Rattle.image_reports.proofs.Names.{NoneServes}
+use Rattle.image_reports.proofs.Names.{Serves, program_steps, world_with, EventsHold, HasRoom, StepsOn, BoardValue, PowerState, powered, started, filled}
+use Rattle.image_reports.proofs.Names.{BoardCharge, PowerUp, Moment}
 use Rattle.image_reports.proofs.Names.{RunOutcome, World, fram_after, going, continued, fram_of, last_board, words_of, CheckedProgram, State, IsAcceptedText}
 use Rattle.image_reports.proofs.Names.{map_of, Gate, Version, MemoryMap, word_place, IsElsewhere, Model, ModelLaws, History, first_history, Program}
 use Rattle.image_reports.proofs.Names.{Origin, Phase, UndecidedPhase, DecidedPhase, CommittingPhase, Begins, world_fram, never_lost}

@@ -1,6 +1,8 @@
 -- A compiled source that takes events enables interrupts by the second instruction of a charge, and leaves them enabled.
-use Rattle.image_reports.proofs.Names.{◌≡◌, ◌+◌, ◌<◌, ◌≤◌, ℕ, zero, suc, Bool, true, false, refl, sym, ap, ◌∙◌, subst, arith, List, [], ◌∷◌, ◌++◌, CheckedProgram}
-use Rattle.image_reports.proofs.Names.{MemoryMap, MachineBoard, Code, StepOutcome, Goes, Stops, At, continued, going, exec, compiled_program, placed_code, source_code}
+use Rattle.image_reports.proofs.Names.{◌≡◌, ◌+◌, ◌<◌, ◌≤◌, ℕ, zero, suc, Bool, true, false, refl, sym, ap, ◌∙◌, subst, arith, List, [], ◌∷◌, ◌++◌}
+use Rattle.image_reports.proofs.Names.{CheckedProgram}
+use Rattle.image_reports.proofs.Names.{MemoryMap, MachineBoard, Code, StepOutcome, Goes, Stops, At, continued, going, exec, compiled_program, placed_code}
+use Rattle.image_reports.proofs.Names.{source_code}
 use Rattle.std.specs.Prelude.{◌-◌, ◌/◌}
 use Rattle.address_space.specs.Limits.{stack_start}
 use Rattle.msp_step.specs.Registers.{Registers}
