@@ -17,7 +17,8 @@ use Rattle.code_forms.specs.Forms.{WorkRegister, Core, CoreOutcome, board_of, ou
 use Rattle.code_forms.specs.Forms.{PointedNext, Indexed, Popped, Head, Slot, source_read, SourceNeeds, HasPushRoom, IsPrepared}
 use Rattle.code_forms.specs.Forms.{Target, ToRegister, ToFram, ToRam, ToIndexed, ToPointed, ToOutnum, ToOutdata, target_written}
 use Rattle.code_forms.specs.Forms.{Form, Move, Calculate, Compare, Update, Push, Modify, SetStack, EnableInterrupts, Sense, Jump, Skip, Branch, BranchIndexed}
-use Rattle.code_forms.specs.Forms.{SkipBy, instruction_of, source_value, source_bytes, target_bytes, source_effects, behind_source, sensed, form_step, FormNeeds}
+use Rattle.code_forms.specs.Forms.{SkipBy, instruction_of, source_value, source_bytes, target_bytes, source_effects, behind_source, sensed, form_step}
+use Rattle.code_forms.specs.Forms.{FormNeeds}
 use Rattle.machine_effects.specs.msp_cycles.Cycles.{cycles_of}
 use Rattle.code_forms.specs.Code.{OfNext}
 use Rattle.code_forms.specs.Laws.{CodeGoesUndisturbed, CodeStaysPrepared, CodeStaysOpen}

@@ -2,7 +2,8 @@
 use Rattle.compiled_states.proofs.Names.{◌≡◌, inl, inr, ℕ, zero, suc, ◌+◌, ◌*◌, ◌%◌, ◌<◌, ◌≤◌, true, List, [], ◌∷◌, ◌++◌, length, refl, sym, ap, ◌∙◌, subst}
 use Rattle.compiled_states.proofs.Names.{⊎_elim, arith, length-append, nat_le, list_all, leb-true, le-leb, eqb-true, eq-eqb, and_parts, and_from, end_of}
 use Rattle.compiled_states.proofs.Names.{even_of, CopyPair, run_pairs, entries_from, ProgramPlaces, IsSharedWord, IsCopyWord, IsAmong, program_places, MapValue}
-use Rattle.compiled_states.proofs.Names.{IsFramWord, IsFram, fram_of, steady, Entry, lies_in, copies_words, is_shared, word_in, words_from, entries_of, are_shared}
+use Rattle.compiled_states.proofs.Names.{IsFramWord, IsFram, fram_of, steady, Entry, lies_in, copies_words, is_shared, word_in, words_from, entries_of}
+use Rattle.compiled_states.proofs.Names.{are_shared}
 use Rattle.compiled_states.proofs.Names.{is_even, is_entry, words_of, first_entry, among_either, among_front, among_back}
 use Rattle.std.proofs.lemmas.List.Sums.{sum_by-cons}
 use Rattle.runtime_effects.proofs.Interface.{run_length}

@@ -47,7 +47,8 @@ pub use Rattle.war_analysis.specs.PlanValue.{TaskPlanValue}
 pub use Rattle.privatise.specs.Layouts.{IsLayout, IsTaskLayout}
 pub use Rattle.source_values.specs.Runs.{first_state, initial_words}
 pub use Rattle.source_runs.specs.Naming.{length_of}
-pub use Rattle.source_maps.specs.Maps.{map_buffer, map_list, map_of, map_ring, map_words, shared_name, task_value_of, tasks_of, value_type_of, variable_of, variables_of}
+pub use Rattle.source_maps.specs.Maps.{map_buffer, map_list, map_of, map_ring, map_words, shared_name, task_value_of, tasks_of, value_type_of, variable_of}
+pub use Rattle.source_maps.specs.Maps.{variables_of}
 pub use Rattle.source_maps.specs.Placing.{ArePlacesOf, IsOfKind}
 pub use Rattle.fram_state.proofs.Interface.{edition_of_state, first_entry, row_length}
 pub use Rattle.fram_state.specs.Migrated.{EditionValue, IsMigrated, IsPendingAt, IsStateOf, edition_with, row_of, rows_of, shared_word}

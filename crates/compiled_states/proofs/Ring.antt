@@ -1,8 +1,10 @@
 -- Where the ring of an image is, and that it keeps its rule before anything was done.
-use Rattle.compiled_states.proofs.Names.{◌≡◌, ℕ, ◌+◌, ◌-◌, ◌*◌, ◌%◌, ◌<◌, ◌≤◌, ◌&&◌, nat_le, nat_lt, Bool, true, false, if◌then◌else◌, List, [], ◌∷◌, Option, Some, None, refl, sym, ap}
+use Rattle.compiled_states.proofs.Names.{◌≡◌, ℕ, ◌+◌, ◌-◌, ◌*◌, ◌%◌, ◌<◌, ◌≤◌, ◌&&◌, nat_le, nat_lt, Bool, true, false, if◌then◌else◌, List, [], ◌∷◌}
+use Rattle.compiled_states.proofs.Names.{Option, Some, None, refl, sym, ap}
 use Rattle.compiled_states.proofs.Names.{◌==◌, ap₂, ne_eqb, or_parts, holds}
 use Rattle.compiled_states.proofs.Names.{◌∙◌, subst, arith, inl, inr, IfSome, MemoryMap, MapValue, ImageValue, IsImageOf, IsFreshImage, images_are_fresh}
-use Rattle.compiled_states.proofs.Names.{map_of, map_ring, is_ring, is_in_ring, is_ring_at, is_held, is_pending, runtime_of, word_in, KeepsRing, fram_of, IsFram}
+use Rattle.compiled_states.proofs.Names.{map_of, map_ring, is_ring, is_in_ring, is_ring_at, is_held, is_pending, runtime_of, word_in, KeepsRing, fram_of}
+use Rattle.compiled_states.proofs.Names.{IsFram}
 use Rattle.std.proofs.lemmas.Bool.Decides.{nat_tests}
 use Rattle.address_space.specs.Limits.{program_end}
 use Rattle.event_places.specs.Places.{handler_place}

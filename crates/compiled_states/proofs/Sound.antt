@@ -2,7 +2,8 @@
 use Rattle.compiled_states.proofs.Names.{place_words, list_words, copies_words, word_in, words_from, runtime_of, entries_of, is_entry, words_of, are_entries}
 use Rattle.compiled_states.proofs.Names.{is_pending, is_base, are_at_most, are_versions, is_list, is_ring_at, fits_fram, Entry, parts_in_fram, words_stand}
 use Rattle.compiled_states.proofs.Names.{MapValue}
-use Rattle.compiled_states.proofs.Names.{fram_of, steady, World, program_places, PartsInFram, word_place, end_of, CurrentTask, NextTask, Gate, ListLength, EmitCount}
+use Rattle.compiled_states.proofs.Names.{fram_of, steady, World, program_places, PartsInFram, word_place, end_of, CurrentTask, NextTask, Gate, ListLength}
+use Rattle.compiled_states.proofs.Names.{EmitCount}
 use Rattle.compiled_states.proofs.Names.{Base, SentBase, Version, RuntimeWord, CopyPair, listed, ProgramPlaces, IsSharedWord, IsCopyWord, IsAmong, IsAtRest}
 use Rattle.compiled_states.proofs.Names.{IsPendingCommit, IsSound, SoundAtRest, SoundPending, VersionsWithin, ap, length, refl, sym, ◌∙◌, subst, arith, All}
 use Rattle.compiled_states.proofs.Names.{◌≡◌, ◌⊎◌, inl, inr, ℕ, zero, suc, ◌+◌, ◌-◌, ◌*◌, ◌%◌, ◌<◌, ◌≤◌, ◌==◌, ◌&&◌, ◌||◌, if◌then◌else◌, Bool, true, false}

@@ -1,6 +1,7 @@
 -- States that belong to the image of an accepted source are its worlds, and go on as it says.
 use Rattle.compiled_states.proofs.Names.{◌≡◌, ◌⊎◌, inl, inr, ℕ, ◌%◌, ◌<◌, ◌≤◌, false, List, [], ◌++◌, length, Option, Some, refl, sym, ap, ◌∙◌, subst, arith}
-use Rattle.compiled_states.proofs.Names.{◌+◌, ◌*◌, Bool, true, apart_of, is_ring, steady_low, steady_off, append-nil, replicate, length-map, length-replicate, cases_lt, State, is_named, MemoryMap, MapValue, ImageValue}
+use Rattle.compiled_states.proofs.Names.{◌+◌, ◌*◌, Bool, true, apart_of, is_ring, steady_low, steady_off, append-nil, replicate, length-map}
+use Rattle.compiled_states.proofs.Names.{length-replicate, cases_lt, State, is_named, MemoryMap, MapValue, ImageValue}
 use Rattle.compiled_states.proofs.Names.{BoardValue, BoardCharge, Moment, RunOutcome, Run, saved, World, IsFram, fram_of, last_board}
 use Rattle.compiled_states.proofs.Names.{Allow, CheckedProgram, map_of, IsCompiled, IsImageOf, IsFreshImage, laid_out, images_are_fresh}
 use Rattle.compiled_states.proofs.Names.{BelongsTo, known_from, IsToldOnward, IsResumedRun, made, images_belong, images_resume, world_of}

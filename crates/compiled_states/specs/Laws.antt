@@ -20,7 +20,8 @@ use Rattle.source_values.specs.Runs.{CheckedProgram}
 use Rattle.source_meaning.specs.Acceptance.{IsAcceptedText}
 use Rattle.image_laws.specs.Compiled.{IsCompiled, IsImageOf}
 use Rattle.image_reports.specs.Resumed.{BelongsTo, IsResumedRun}
-use Rattle.compiled_states.specs.Worlds.{world_of, MayHaveAccepted, HasFramWords, HasCodeWords, KeepsRing, BelongsAt, board_of, IsToldByItsSource, LeavesItsStates}
+use Rattle.compiled_states.specs.Worlds.{world_of, MayHaveAccepted, HasFramWords, HasCodeWords, KeepsRing, BelongsAt, board_of, IsToldByItsSource}
+use Rattle.compiled_states.specs.Worlds.{LeavesItsStates}
 
 -- what holds of each image of an accepted source
 abbrev OfImages : ((text : List ℕ) (p : CheckedProgram) (allow : Allow) (image : ImageValue) → IsCompiled text p allow image → Type 0) → Type 0

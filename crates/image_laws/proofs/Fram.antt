@@ -1,6 +1,7 @@
 -- The words of an image by their addresses.
 use Rattle.image_laws.proofs.Names.{◌≡◌, ◌∙◌, ◌+◌, ◌*◌, ◌%◌, ◌<◌, ◌≤◌, ◌==◌, ◌&&◌, ℕ, suc, true, false, cond, nat_lt, nat_le, List, [], ◌∷◌, map, length, refl}
-use Rattle.image_laws.proofs.Names.{ap, arith, slice_index, nat_tests, fram_first, place_of, is_fram, IsFram, IsPlace, fram_of, VariablePlace, end_of, home_region}
+use Rattle.image_laws.proofs.Names.{ap, arith, slice_index, nat_tests, fram_first, place_of, is_fram, IsFram, IsPlace, fram_of, VariablePlace, end_of}
+use Rattle.image_laws.proofs.Names.{home_region}
 use Rattle.image_laws.proofs.Names.{AreInOrder, is_within, word_of_row, shared_word}
 use Rattle.memory_map.proofs.Interface.{in_order_end}
 use Rattle.code_forms.specs.Placed.{Holds}

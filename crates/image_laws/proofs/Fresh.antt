@@ -4,7 +4,8 @@ use Rattle.image_laws.proofs.Names.{true, false, List, length, All, slice_index,
 use Rattle.image_laws.proofs.Names.{IsAcceptedText, ImageValue, place_of, is_fram, IsFram, fram_of, IsSharedWord, HoldsWords, RestsAt, privates_are_few}
 use Rattle.image_laws.proofs.Names.{HasLayout, tasks_match, program_places, is_within, shared_word, state_view, Model, is_redo, code_words, code_region}
 use Rattle.image_laws.proofs.Names.{data_word, IsCompiled, fresh_world, IsFreshImage, ImagesAreFresh, reset_vector, CurrentTask, Gate, Base, MemoryMap}
-use Rattle.image_laws.proofs.Names.{word_place, end_of, IsLaidOut, Bool, eq-eqb, leb-true, ltb-true, ⊎_elim, ◌⊎◌, nat_le, nat_lt, event_vector, program_end, handler_place, head_place, is_ring}
+use Rattle.image_laws.proofs.Names.{word_place, end_of, IsLaidOut, Bool, eq-eqb, leb-true, ltb-true, ⊎_elim, ◌⊎◌, nat_le, nat_lt, event_vector}
+use Rattle.image_laws.proofs.Names.{program_end, handler_place, head_place, is_ring}
 use Rattle.image_laws.proofs.Names.{HasHandler, handler_length, handler_words, handler_region, with_handler}
 use Rattle.std.proofs.lemmas.Bool.{and_parts}
 use Rattle.source_values.specs.Running.{IsRunnable}

@@ -1,6 +1,7 @@
 -- The names that the proofs here share, from the rooms below and from this one's specs.
 -- std
-pub use Rattle.std.proofs.Common.{All, Bool, List, ⊎_elim, ◌⊎◌, Some, [], ap, ap₂, arith, cond, eq-eqb, eqb-true, false, get_or, if◌then◌else◌, length, leb-true, ltb-true, map, nat_le, nat_lt, ne_eqb, refl}
+pub use Rattle.std.proofs.Common.{All, Bool, List, ⊎_elim, ◌⊎◌, Some, [], ap, ap₂, arith, cond, eq-eqb, eqb-true, false, get_or, if◌then◌else◌, length}
+pub use Rattle.std.proofs.Common.{leb-true, ltb-true, map, nat_le, nat_lt, ne_eqb, refl}
 pub use Rattle.std.proofs.Common.{replicate, slice_index, slice_index_or, subst, suc, sym, true, zero, ℕ, ◌%◌, ◌&&◌, ◌*◌, ◌++◌, ◌+◌, ◌-◌, ◌/◌, ◌<◌, ◌==◌, ◌^◌}
 pub use Rattle.std.proofs.Common.{◌∙◌, ◌∷◌, ◌≡◌, ◌≢◌, ◌≤◌}
 pub use Rattle.std.proofs.lemmas.Bool.Decides.{nat_tests}

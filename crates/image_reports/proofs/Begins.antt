@@ -4,7 +4,8 @@ use Rattle.image_reports.proofs.Names.{fresh, started, BoardCharge, RunOutcome, 
 use Rattle.image_reports.proofs.Names.{first_state, first_history, Origin, Resting, StandsFor, Begins, runs_may_begin, outside_of, ArePowerStates}
 use Rattle.image_reports.proofs.Names.{IsPlacedProgram, IsRunOfWords, MemoryMap, compiled_model, source_code, compiled_program, code_keeps_the_laws}
 use Rattle.image_reports.proofs.Names.{code_is_placed, runs_leave_the_code, BearsModel, map_of, IsCompiled, fresh_world, IsFreshImage, IsReadyToRun}
-use Rattle.image_reports.proofs.Names.{runtime_marks, world_with, KeepsCode, steady, Bool, true, false, if◌then◌else◌, ◌==◌, ap, eqb-true, slice_index, place_of}
+use Rattle.image_reports.proofs.Names.{runtime_marks, world_with, KeepsCode, steady, Bool, true, false, if◌then◌else◌, ◌==◌, ap, eqb-true, slice_index}
+use Rattle.image_reports.proofs.Names.{place_of}
 use Rattle.std.proofs.Common.{◌&&◌, inr}
 use Rattle.std.proofs.Math.Path.{fun_ext}
 use Rattle.event_places.specs.Places.{answer_place, is_ring}

@@ -1,5 +1,6 @@
 -- Fronts of a run from their last power-up on, and what steps leave alone.
-use Rattle.image_reports.proofs.Names.{◌≡◌, ◌<◌, ◌≤◌, ℕ, zero, suc, Bool, true, false, refl, sym, ap, ◌∙◌, subst, arith, nat_tests, eqb-true, List, [], ◌∷◌, ◌++◌, length}
+use Rattle.image_reports.proofs.Names.{◌≡◌, ◌<◌, ◌≤◌, ℕ, zero, suc, Bool, true, false, refl, sym, ap, ◌∙◌, subst, arith, nat_tests, eqb-true, List, []}
+use Rattle.image_reports.proofs.Names.{◌∷◌, ◌++◌, length}
 use Rattle.image_reports.proofs.Names.{Some, encoding, BoardValue, Moment, PowerUp, MachineBoard, fram_of, last_board, AreMoments, Instructs, IsMomentFrom}
 use Rattle.image_reports.proofs.Names.{NoneServes, PowersUp, Serves, AreInstructionMoments, program_steps}
 use Rattle.std.specs.Prelude.{if◌then◌else◌, ◌==◌, nat_le, Result, Ok}
@@ -90,6 +91,12 @@ own_part (suc n) (m ∷ ms) h = by (is_handlers m) refl (own_part (suc n) ms) (o
     by false e more less =
         let same : program_steps (m ∷ ms) ≡ suc (program_steps ms) = ap (λ c. if c then program_steps ms else suc (program_steps ms)) e in
         own_one n m ms e (less (omega (arith, h, same)))
+
+-- a number from two on
+pub two_less : (n : ℕ) → 2 ≤ n → (k : ℕ) × (n ≡ suc (suc k))
+two_less zero h = absurd (omega (arith, h))
+two_less (suc zero) h = absurd (omega (arith, h))
+two_less (suc (suc k)) h = (k, refl)
 
 -- ---- what steps leave alone
 

@@ -2,14 +2,15 @@
 use Rattle.image_reports.proofs.Names.{ℕ, subst, arith, List, ImageValue, BoardValue, fresh, Moment, last_board, CheckedProgram, State, first_state}
 use Rattle.image_reports.proofs.Names.{MemoryMap, Model, History, Resting, trace_inputs, traces_are_few, stops_where_short, SoundAtRest, compiled_model}
 use Rattle.image_reports.proofs.Names.{is_redo, false, map_of, word_place, CurrentTask, Allow, IsCompiled, IsAcceptedText, IsTaskWithin, cost_of, state_within}
-use Rattle.image_reports.proofs.Names.{KeepsCapacities, compiled_program, sources_are_ready, [], world_with, laid_out, images_are_fresh, known_behind, KeepsCode}
+use Rattle.image_reports.proofs.Names.{KeepsCapacities, compiled_program, sources_are_ready, [], world_with, laid_out, images_are_fresh, known_behind}
+use Rattle.image_reports.proofs.Names.{KeepsCode}
 use Rattle.image_reports.proofs.Names.{HoldsAt, ImagesKeepTheLaws, ImagesAreTold, ImagesKeepCapacities, HoldsFrom, ImagesBelong}
 use Rattle.board_run.specs.Charges.{charges_of}
 use Rattle.image_reports.proofs.Begins.{at_first, bears, fram_is, own_code, rests, run_of_words}
 use Rattle.image_reports.proofs.Capacities.{fresh_capacities}
 use Rattle.image_reports.proofs.CompiledTold.{models_are_of_sources}
 use Rattle.image_reports.proofs.Told.{source, runs_are_told}
-use Rattle.image_reports.proofs.Onward.{Onward, front, unheard, raises, pays}
+use Rattle.image_reports.proofs.Onward.{Onward, front, unheard, opens, raises, pays}
 
 -- the fresh image belongs to itself
 pub images_belong : ImagesBelong
@@ -79,6 +80,7 @@ images_keep_the_laws text p allow image ok c cs starts readings events inputs r 
       stops = stops_where_short (compiled_model p l) (compiled_program p l) readings (Resting (first_state p)) (world_with image.words []) cs
           (fresh image.words readings events) r on.run (bears on.start);
       unheard = unheard on;
+      opens = opens on;
       raises = raises on;
       progress = pays on false (first_within text p allow image ok c);
       told = runs_are_told text p allow image ok c cs readings events inputs r on.run;

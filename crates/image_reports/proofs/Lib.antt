@@ -4,6 +4,7 @@ mod HandlerWords
 mod InFront
 mod Accounted
 mod Cuts
+mod Opens
 pub mod Told
 pub mod Capacities
 pub mod ImageStart

@@ -1,7 +1,9 @@
 -- At each front of a run of an accepted text's image, from any world that belongs to the image.
 use Rattle.image_reports.proofs.Names.{◌≡◌, ◌≢◌, ℕ, zero, suc, ◌+◌, ◌%◌, ◌<◌, ◌≤◌, true, false, refl, sym, ap, ◌∙◌, subst, arith, List, [], ◌∷◌, ◌++◌, length}
-use Rattle.image_reports.proofs.Names.{Some, append_assoc, encoding, MachineBoard, placed_at, IsPoweredFrom, Shows, StandsAs, outside_with, steady_low, NoneServes}
-use Rattle.image_reports.proofs.Names.{Serves, program_steps, world_with, EventsHold, HasRoom, StepsOn, BoardValue, PowerState, powered, started, filled, BoardCharge, PowerUp, Moment}
+use Rattle.image_reports.proofs.Names.{Some, append_assoc, encoding, MachineBoard, placed_at, IsPoweredFrom, Shows, StandsAs, outside_with, steady_low}
+use Rattle.image_reports.proofs.Names.{NoneServes}
+use Rattle.image_reports.proofs.Names.{Serves, program_steps, world_with, EventsHold, HasRoom, StepsOn, BoardValue, PowerState, powered, started, filled}
+use Rattle.image_reports.proofs.Names.{BoardCharge, PowerUp, Moment}
 use Rattle.image_reports.proofs.Names.{RunOutcome, World, fram_after, going, continued, fram_of, last_board, words_of, CheckedProgram, State, IsAcceptedText}
 use Rattle.image_reports.proofs.Names.{map_of, Gate, Version, MemoryMap, word_place, IsElsewhere, Model, ModelLaws, History, first_history, Program}
 use Rattle.image_reports.proofs.Names.{Origin, Phase, UndecidedPhase, DecidedPhase, CommittingPhase, Begins, world_fram, never_lost}
@@ -14,7 +16,7 @@ use Rattle.image_reports.proofs.Names.{phase_keeps_versions, capacities_are_kept
 use Rattle.image_reports.proofs.Names.{power_ups_raise_version, scripts_store_below, at_first, EachChargePays, runtime_marks, VersionsBelow, KeepsCode}
 use Rattle.image_reports.proofs.Names.{IsRaisedSoon, RaisesVersion, BelongsTo, known_from, HoldsFrom}
 use Rattle.std.proofs.lemmas.Bool.{and_parts}
-use Rattle.event_places.specs.Places.{answer_place, is_ring}
+use Rattle.event_places.specs.Places.{answer_place, handler_place, is_ring}
 use Rattle.std.specs.Prelude.{if◌then◌else◌, None}
 use Rattle.stands_for.specs.Program.{answer_word}
 use Rattle.msp_isa.specs.declared.instructions.Instr.{Instr}
@@ -37,7 +39,7 @@ use Rattle.event_handler.specs.Boundaries.{IsInterrupted, IsInHandler}
 use Rattle.event_handler.proofs.Interface.{handler_goes_on}
 use Rattle.program_view.specs.View.{AtCode}
 use Rattle.program_view.specs.View as view
-use Rattle.program_view.proofs.Interface.{stands_fram}
+use Rattle.program_view.proofs.Interface.{stands_fram, handler_is_high}
 use Rattle.run_charges.specs.Laws.{IsProgramRun}
 use Rattle.run_charges.specs.View.{BeginWithPower, looks_in}
 use Rattle.run_charges.proofs.Interface.{follows_keeps, are_behind, front_moments, run_front, PlacedProgram, Machine, nothing_seen, is_powered, is_powered_from}
@@ -53,7 +55,9 @@ use Rattle.image_reports.proofs.Begins.{holds_as, Beginning, first_world, first_
 use Rattle.image_reports.proofs.HandlerWords.{stage_holds}
 use Rattle.image_reports.proofs.Accounted.{moments_account}
 use Rattle.image_reports.proofs.Cuts.{CutAtPower, Uncut, Cut, cut_at_power, no_power, last-append, none_serves, own_part, ring_stays}
-use Rattle.image_reports.proofs.Cuts.{encoding_has_words, prepared_bounds, handler_is_closed}
+use Rattle.image_reports.proofs.Cuts.{encoding_has_words, prepared_bounds, handler_is_closed, two_less}
+use Rattle.image_reports.proofs.Opens.{opens as machine_opens}
+use Rattle.image_reports.specs.ImageLaw.{StaysOpen}
 use Rattle.image_reports.proofs.Capacities.{attempts_fit}
 use Rattle.image_reports.proofs.CompiledTold.{models_are_of_sources}
 use Rattle.image_reports.proofs.Told.{source}
@@ -509,6 +513,49 @@ module _ (onward : Onward) where
       record { history = h; at = at; fram_words = subst HoldsWords (sym same) (keeps_versions ms tail e).words } in
       raises_from boot.before from steps begun more part.are part.many (front_are begun more (subst AreInstructionMoments part.are are)) boot up moments.1
       moments.2
+
+  -- behind the first instructions of a charge the CPU accepts interrupts, outside the handler
+  abbrev Opened : BoardValue → Type 0
+  Opened t = registers_of t.cpu 0 < handler_place → is_interruptible (registers_of t.cpu) ≡ true
+
+  open_by : (t : BoardValue) (u : MachineBoard) → StandsAs t u → is_interruptible u.registers ≡ true → Opened t
+  open_by t u (AtCode shows) accepts low = subst (λ g. is_interruptible g ≡ true) shows.registers accepts
+  open_by t u (view.InHandler from stage shows interrupted inside) accepts low =
+      let high = handler_is_high from stage t inside in absurd (omega (arith, low, high))
+
+  module _ (events : l.runtime.events ≡ true) where
+    opened_in : (t : BoardValue) (h : History) (at : IsReached t h) (power : PowerState) (powers : IsPowerState power) (steps : List Moment)
+        (are : AreInstructionMoments steps) (moments : AreMoments (powered t power) steps) → 4 ≤ program_steps steps
+        → Opened (last_board (powered t power) steps)
+    opened_in t h at power powers steps are moments many =
+        let looks = looks_in steps in
+        let see = sees on t h at.ready power powers steps are moments in
+        let begun = outside_with looks (powered t power) in
+        let made = leads on t h at.ready power powers steps are moments in
+        let last = (reach on t h at.ready power powers steps are moments).end in
+        let more = two_less (program_steps steps) (omega (arith, many)) in
+        open_by (last_board (powered t power) steps) last.u last.stands
+        (machine_opens p l new.fits events more.0 begun last.u (is_powered on t h at.ready power powers looks see)
+        (ap (λ n. (going program.step n begun).status) (sym more.1) ∙ made))
+
+    opened_from : (t : BoardValue) (h : History) → IsReached t h → (boot : Moment) → boot.action ≡ PowerUp → IsMomentFrom t boot
+        → (steps : List Moment) → AreInstructionMoments steps → AreMoments boot.after steps → 4 ≤ program_steps steps → Opened (last_board boot.after steps)
+    opened_from t h at boot up (Instructs i done current answer same is) steps are moments many =
+        absurd (let other = sym up ∙ ap (λ y. y.action) is in cc (other))
+    opened_from t h at boot up (Serves n done next answer served is) steps are moments many =
+        absurd (let other = sym up ∙ ap (λ y. y.action) is in cc (other))
+    opened_from t h at boot up (PowersUp power powers is) steps are moments many =
+        let P : Moment → Type 0 = λ y. AreMoments y.after steps → Opened (last_board y.after steps) in
+        subst P (sym is) (λ own_steps. opened_in t h at power powers steps are own_steps many) moments
+
+    pub opens : StaysOpen r.moments
+    opens ms steps rest boot e up are many =
+        let front : r.moments ≡ (ms ++ (boot ∷ steps)) ++ rest = e ∙ sym (append_assoc ms (boot ∷ steps) rest) in
+        let moments = are_behind b ms (boot ∷ steps) (front_moments b r (ms ++ (boot ∷ steps)) rest own.moments front) in
+        let h = known_from l x ms in
+        let t = last_board b ms in
+        let at = reached_on on b (first_history (runtime_marks l) x) t boot.before h moments.0 (reached ms (boot ∷ (steps ++ rest)) e) in
+        opened_from boot.before h at boot up moments.1 steps are moments.2 many
 
   -- where the source takes no events no step stores where HEAD and the ring would be
   pub ringless : l.runtime.events ≡ false → (ms rest : List Moment) → r.moments ≡ ms ++ rest → (a : ℕ) → is_ring a ≡ true

@@ -1,7 +1,8 @@
 -- The headline.
 use Rattle.image_reports.proofs.Names.{◌<◌, ◌^◌, ℕ, sym, refl, ap, subst, Option, List, Allow, MapValue, ImageValue, BoardValue, fresh, BoardCharge}
 use Rattle.image_reports.proofs.Names.{RunOutcome, start_with, start_of, report_of, CheckedProgram, IsRunnable, IsAcceptedText, accepted_texts_run}
-use Rattle.image_reports.proofs.Names.{IsRunOfWords, all_amounts, compiled_program, IsToldBySource, map_of, IsCompiled, [], world_with, laid_out, images_are_fresh}
+use Rattle.image_reports.proofs.Names.{IsRunOfWords, all_amounts, compiled_program, IsToldBySource, map_of, IsCompiled, [], world_with, laid_out}
+use Rattle.image_reports.proofs.Names.{images_are_fresh}
 use Rattle.image_reports.proofs.Names.{maps_find_states, sources_are_ready, ImagesAreMapped}
 use Rattle.energy_trace.specs.TraceValue.{Event}
 use Rattle.source_runs.specs.Traces.{AreInputs}

@@ -4,6 +4,7 @@
 -- image's, and what holds of the code is said of what happens outside it.
 use Rattle.std.specs.Prelude.{◌≡◌, ◌≢◌, ℕ, ◌+◌, ◌*◌, ◌^◌, ◌%◌, ◌<◌, ◌≤◌, true, false, List, [], ◌∷◌, ◌++◌, length}
 use Rattle.address_space.specs.Limits.{stack_floor, stack_top}
+use Rattle.event_places.specs.Places.{handler_place}
 use Rattle.msp_isa.specs.declared.instructions.Instr.{Instr}
 use Rattle.msp_isa.specs.Encoding.{encoding}
 use Rattle.msp_step.specs.Registers.{registers_of}
@@ -163,6 +164,12 @@ RaisesVersion l moments = (ms steps rest : List Moment) (boot : Moment) → mome
     → AreInstructionMoments steps → 40 ≤ program_steps steps → (outside_of boot.after).fram (word_place l Gate) ≡ 0
     → (outside_of boot.after).fram (word_place l Version) ≢ 0xFFFF → IsRaisedSoon l boot.after steps
 
+-- the CPU accepts interrupts at every boundary outside the handler behind the first four of a charge's own instructions
+abbrev pub StaysOpen : List Moment → Type 0
+StaysOpen moments = (ms steps rest : List Moment) (boot : Moment) → moments ≡ ms ++ (boot ∷ (steps ++ rest)) → boot.action ≡ PowerUp
+    → AreInstructionMoments steps → 4 ≤ program_steps steps
+    → let b = last_board boot.after steps in registers_of b.cpu 0 < handler_place → is_interruptible (registers_of b.cpu) ≡ true
+
 -- What holds of a run of an image under charges, on readings and events.
 pub record IsLawfulRun (text : List ℕ) (p : CheckedProgram) (allow : Allow) (l : MemoryMap) (image : ImageValue) (cs : List BoardCharge) (readings : List ℕ)
     (events : List Event) (r : RunOutcome) : Type 0 where
@@ -181,6 +188,8 @@ pub record IsLawfulRun (text : List ℕ) (p : CheckedProgram) (allow : Allow) (l
       → (e ≡ stop.NoReading) × IsShort (compiled_model p l) readings (Resting (first_state p)) (known_behind l image r.moments)
   -- where the source takes no events nothing is read of EVENT, by the step that stopped it neither
   pub unheard : l.runtime.events ≡ false → NeverReads r
+  -- where it does, the handler may begin between any two of a charge's instructions but the first ones
+  pub opens : l.runtime.events ≡ true → StaysOpen r.moments
   -- in a charge that begins with GATE 0 and VER not 65535, VER is raised within the first 40 instructions, if the charge has them
   pub raises : RaisesVersion l r.moments
   -- a charge that is spent has n transitions, if it has n bounds and 100 for each event that arose in it; and it is less than those and the costs of

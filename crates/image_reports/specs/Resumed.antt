@@ -42,7 +42,7 @@ use Rattle.compiled_bounds.specs.Laws.{KeepsCapacities}
 use Rattle.model_runs.specs.Events.{words_between}
 use Rattle.model_runs.specs.Runs.{IsShort, all_amounts}
 use Rattle.image_laws.specs.Compiled.{IsCompiled}
-use Rattle.image_reports.specs.ImageLaw.{runtime_marks, world_with, VersionsBelow, KeepsCode, StepsOn, EventsHold, HasRoom, RaisesVersion}
+use Rattle.image_reports.specs.ImageLaw.{runtime_marks, world_with, VersionsBelow, KeepsCode, StepsOn, EventsHold, HasRoom, RaisesVersion, StaysOpen}
 
 -- a world from which a run of an image may go on: the code, the vectors and the handler are the image's, the runtime's counts keep to their
 -- capacities, and it is sound
@@ -118,6 +118,8 @@ pub record IsResumedRun (text : List ℕ) (p : CheckedProgram) (allow : Allow) (
   -- and nothing stores where HEAD and the ring would be
   pub ringless : l.runtime.events ≡ false → (ms rest : List Moment) → r.moments ≡ ms ++ rest → (a : ℕ) → is_ring a ≡ true
       → fram_of (last_board b ms).fram a ≡ fram_of b.fram a
+  -- where it does, the handler may begin between any two of a charge's instructions but the first ones
+  pub opens : l.runtime.events ≡ true → StaysOpen r.moments
   -- in a charge that begins with GATE 0 and VER not 65535, VER is raised within the first 40 instructions, if the charge has them
   pub raises : RaisesVersion l r.moments
   -- a charge that is spent has n transitions, if it has n bounds and 100 for each event that arose in it; and it is less than those and the costs of

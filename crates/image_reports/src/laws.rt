@@ -15,17 +15,17 @@ pub fn models_are_of_sources()
     ensures { ModelsAreOfSources }
 {}
 
-/// The report of a run of a compiled source is the source's report on the committed readings of its transitions, behind the bound and
-/// before the lines that say what became of its events, of which none is accepted, and how it ended; each charge of n bounds that is
-/// spent has n transitions, as has one that holds the bounds of the next n tasks.
+/// The report of a run of a compiled source is the source's report on the committed readings of its transitions, given the answers that
+/// its `next_event()` had, behind the bound and before the lines that say what became of its events and how it ended; each charge of n
+/// bounds, and of 100 for each event that arose in it, that is spent has n transitions, as has one that holds the bounds of the next n tasks.
 pub fn compiled_runs_are_told<S: Coded>()
     ensures { CompiledRunsAreTold S.program }
 {}
 
 /// The report of the run of an accepted source's image on a trace is the source's report on the committed readings of its
-/// transitions, behind the bound and before the lines that say what became of the trace's events, of which none is accepted, and how it
-/// ended; the run never ends at a fault, and for want of a reading only where the source is short; and each charge of n bounds that is
-/// spent has n transitions, as has one that holds the bounds of the next n tasks.
+/// transitions, given the answers that its `next_event()` had, behind the bound and before the lines that say what became of the trace's
+/// events and how it ended; the run never ends at a fault, and for want of a reading only where the source is short; and each charge of n
+/// bounds, and of 100 for each event that arose in it, that is spent has n transitions, as has one that holds the bounds of the next n tasks.
 pub fn images_are_told()
     ensures { ImagesAreTold }
 {}

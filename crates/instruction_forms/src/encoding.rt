@@ -1,7 +1,8 @@
 //! The instruction of a form, and how long it is.
 
 ghost use Rattle.std.specs.Prelude.{◌≡◌, ◌*◌, ◌<◌, ◌≤◌};
-ghost use Rattle.instruction_forms.specs.Encoding.{index_of, source_operand, target_operand, modification_operand, instruction_of, source_bytes, target_bytes, form_bytes};
+ghost use Rattle.instruction_forms.specs.Encoding.{index_of, source_operand, target_operand, modification_operand, instruction_of, source_bytes};
+ghost use Rattle.instruction_forms.specs.Encoding.{target_bytes, form_bytes};
 
 use crate::kinds::{Form, Modification, Source, Target, WorkRegister};
 use address_space::{OUTDATA, OUTNUM, SENSOR};

@@ -22,8 +22,10 @@ use Rattle.machine_effects.specs.World.{put}
 use Rattle.machine_effects.specs.Inputs.{Look, first_look, other_looks, look_effects}
 use Rattle.machine_effects.specs.Going.{Goes, Stops, step_behind}
 use Rattle.machine_effects.specs.Machine.{MachineBus, machine_bus, machine_word, word_address, is_readable, reading_taken, machine_after_read, machine_stored}
-use Rattle.machine_effects.specs.Machine.{word_written, machine_port_written, machine_written, MachineBoard, machine_opened_seeing, MachineOutcome, machine_outcome}
-use Rattle.machine_effects.specs.Machine.{looks_there, machine_executed_seeing, machine_executed, executed_looking, standing, step_with, astray, is_exposed, undisturbed}
+use Rattle.machine_effects.specs.Machine.{word_written, machine_port_written, machine_written, MachineBoard, machine_opened_seeing, MachineOutcome}
+use Rattle.machine_effects.specs.Machine.{machine_outcome}
+use Rattle.machine_effects.specs.Machine.{looks_there, machine_executed_seeing, machine_executed, executed_looking, standing, step_with, astray}
+use Rattle.machine_effects.specs.Machine.{is_exposed, undisturbed}
 use Rattle.machine_effects.specs.Laws.{KeepsTheHandler, CodeKeepsTheHandler}
 use Rattle.machine_effects.proofs.Worlds.{put_other}
 

@@ -22,7 +22,8 @@ use Rattle.step_laws.proofs.Interface.{effect_alike}
 use Rattle.machine_effects.specs.World.{put}
 use Rattle.machine_effects.specs.Inputs.{Look, Inputs, first_look, look_effects}
 use Rattle.machine_effects.specs.Going.{Goes, Stops, step_behind}
-use Rattle.machine_effects.specs.Machine.{MachineBus, MachineBoard, MachineOutcome, machine_bus, word_address, machine_stored, word_written, machine_port_written}
+use Rattle.machine_effects.specs.Machine.{MachineBus, MachineBoard, MachineOutcome, machine_bus, word_address, machine_stored, word_written}
+use Rattle.machine_effects.specs.Machine.{machine_port_written}
 use Rattle.machine_effects.specs.Machine.{machine_written, machine_opened_seeing, machine_outcome, machine_executed_seeing, machine_executed, executed_looking}
 use Rattle.machine_effects.specs.Machine.{looks_there, IsRam}
 use Rattle.machine_effects.specs.Laws.{IsSameFrom, HaveSameTop, PushesAlike}

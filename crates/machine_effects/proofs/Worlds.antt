@@ -1,7 +1,8 @@
 -- The world after effects, by its parts and one stretch after another.
 use Rattle.std.proofs.Common.{◌≡◌, ◌≢◌, cond, ne_eqb, ℕ, List, [], ◌∷◌, ◌++◌, refl, sym, ap, ◌∙◌, map, eq-eqb, if◌then◌else◌, append_assoc}
 use Rattle.fram_board.specs.Effects.{Effect, Store, Take, Outside}
-use Rattle.machine_effects.specs.World.{World, put, accepted_behind, fram_after_one, fram_after, accepted_after_one, accepted_after, world_after_one, world_after}
+use Rattle.machine_effects.specs.World.{World, put, accepted_behind, fram_after_one, fram_after, accepted_after_one, accepted_after, world_after_one}
+use Rattle.machine_effects.specs.World.{world_after}
 use Rattle.machine_effects.specs.World.{readings_taken, looks_of, looks_taken, EachStore, OfStore}
 use Rattle.machine_effects.specs.Laws.{WorldByItsParts}
 

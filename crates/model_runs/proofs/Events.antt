@@ -23,7 +23,8 @@ use Rattle.machine_effects.proofs.Interface.{takes, world_after-append}
 use Rattle.crash_rules.specs.Model.{IsElsewhere, Marks}
 use Rattle.crash_rules.specs.History.{Done, History, is_done, is_decide, behind_decide, behind_done, behind_gate, observe}
 use Rattle.crash_rules.proofs.Interface.{observe-append, with_effects, observe_quiet, unchanged}
-use Rattle.model_runs.specs.Events.{marks_of, IsInFront, TellsOf, last_world, counted, world_values, words_between, SaysAlike, word_lines, change_lines, done_lines, dones_lines}
+use Rattle.model_runs.specs.Events.{marks_of, IsInFront, TellsOf, last_world, counted, world_values, words_between, SaysAlike, word_lines, change_lines}
+use Rattle.model_runs.specs.Events.{done_lines, dones_lines}
 use Rattle.run_charges.proofs.Interface.{AtMostOne, NoWrite, AStore, AnOutside, OneWrite}
 use Rattle.model_runs.proofs.Places.{world_word, shared_in, values_same, changes_same}
 

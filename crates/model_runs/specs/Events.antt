@@ -1,6 +1,7 @@
 -- The events of a board's run, read off its effects; what is known of the run so far by them; and the lines of its report as a
 -- function of its dones.
-use Rattle.std.specs.Prelude.{◌≡◌, ℕ, zero, suc, ◌+◌, ◌-◌, ◌*◌, ◌<◌, ◌≤◌, All, IfSome, List, [], ◌∷◌, ◌++◌, length, map, flat_map, take, drop, Option, Some, None}
+use Rattle.std.specs.Prelude.{◌≡◌, ℕ, zero, suc, ◌+◌, ◌-◌, ◌*◌, ◌<◌, ◌≤◌, All, IfSome, List, [], ◌∷◌, ◌++◌, length, map, flat_map, take, drop, Option}
+use Rattle.std.specs.Prelude.{Some, None}
 use Rattle.alp_io.specs.Count.{risen}
 use Rattle.alp_io.specs.Report.{accepted_line, step_line}
 use Rattle.image_map.specs.declared.parts.RingPlaces.{RingPlaces}

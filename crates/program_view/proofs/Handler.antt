@@ -1,5 +1,6 @@
 -- From an acceptance to its return the handler leaves the program's machine as it is.
-use Rattle.std.proofs.Common.{◌≡◌, ◌+◌, ◌&&◌, ◌≤◌, if◌then◌else◌, not, nat_le, arith, ℕ, refl, sym, ◌∙◌, ap, ap₂, subst, Bool, true, false, List, [], ◌++◌, length}
+use Rattle.std.proofs.Common.{◌≡◌, ◌+◌, ◌&&◌, ◌≤◌, if◌then◌else◌, not, nat_le, arith, ℕ, refl, sym, ◌∙◌, ap, ap₂, subst, Bool, true, false, List, [], ◌++◌}
+use Rattle.std.proofs.Common.{length}
 use Rattle.std.proofs.Common.{Option, Some, None, Result, Ok, Err, drop, leb-true}
 use Rattle.std.proofs.lemmas.Bool.{and_parts}
 use Rattle.event_places.specs.Places.{handler_place}
@@ -15,7 +16,8 @@ use Rattle.fram_board.specs.declared.board.Stepped.{Stepped}
 use Rattle.fram_board.specs.Bus.{BusState, board_bus, is_word}
 use Rattle.fram_board.specs.Effects.{Effect, store_at, stores_of, sends_of, takes_of, effects_of}
 use Rattle.fram_board.specs.Events.{is_full, words_in, words_heard}
-use Rattle.fram_board.specs.Board.{BoardValue, opened, answer_of, executed, acceptance_on, acceptance, performed, accepted_word, receiver_after, at_boundary, is_accepting}
+use Rattle.fram_board.specs.Board.{BoardValue, opened, answer_of, executed, acceptance_on, acceptance, performed, accepted_word, receiver_after}
+use Rattle.fram_board.specs.Board.{at_boundary, is_accepting}
 use Rattle.fram_board.specs.Run.{kind_of, moment_of, word_list}
 use Rattle.fram_board.proofs.Interface.{counted}
 use Rattle.machine_effects.specs.World.{EachStore}
@@ -27,7 +29,8 @@ use Rattle.event_handler.specs.Handler.{DoubleIndex, StoreWord, RaiseHead, Resto
 use Rattle.event_handler.specs.Boundaries.{IsInterrupted, IsInHandler, HasReturned, IsBehind, IsOutsideAs, KeepsTheRest, next_stage, effects_at, cycles_left}
 use Rattle.event_handler.specs.Boundaries.{instructions_left, left_behind, stack_of, heard_at, is_ring_full}
 use Rattle.event_handler.proofs.Interface.{handler_begins, handler_goes_on, handler_keeps_the_rest, handler_takes_its_cycles}
-use Rattle.program_view.specs.View.{steady, shown_from, outside_of, Shows, StandsAs, AtCode, InHandler, cycles_due, steps_due, stage_of, stage_behind, waiting_at, waiting, is_handlers_step, IsServed}
+use Rattle.program_view.specs.View.{steady, shown_from, outside_of, Shows, StandsAs, AtCode, InHandler, cycles_due, steps_due, stage_of, stage_behind}
+use Rattle.program_view.specs.View.{waiting_at, waiting, is_handlers_step, IsServed}
 use Rattle.program_view.specs.Laws.{Begins, AcceptancesBegin, GoesOn, HandlersGoOn}
 use Rattle.program_view.proofs.Steady.{same_steady}
 use Rattle.program_view.proofs.Ports.{acceptance_line}

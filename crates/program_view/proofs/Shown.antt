@@ -1,5 +1,6 @@
 -- An instruction does the same on a board and on the machine that the board shows, and the board goes on showing it.
-use Rattle.std.proofs.Common.{◌≡◌, ◌==◌, ◌&&◌, ◌||◌, ◌≤◌, ◌<◌, ◌+◌, ◌%◌, if◌then◌else◌, nat_le, leb-true, arith, ℕ, refl, sym, ◌∙◌, ap, ap₂, subst, Bool, true, false}
+use Rattle.std.proofs.Common.{◌≡◌, ◌==◌, ◌&&◌, ◌||◌, ◌≤◌, ◌<◌, ◌+◌, ◌%◌, if◌then◌else◌, nat_le, leb-true, arith, ℕ, refl, sym, ◌∙◌, ap, ap₂, subst, Bool}
+use Rattle.std.proofs.Common.{true, false}
 use Rattle.std.proofs.Common.{List, [], ◌++◌, append-nil, ◌⊎◌, inl, inr, ⊎_elim, Some, Result, Ok, Err, eqb-true}
 use Rattle.std.proofs.Math.Path.{fun_ext}
 use Rattle.std.proofs.lemmas.Bool.{and_parts, cases_lt}

@@ -22,7 +22,8 @@ use Rattle.crash_rules.specs.Runs.{Program, Charge, IsPoweredFrom, Charged}
 use Rattle.crash_rules.proofs.Interface.{observe-append}
 use Rattle.run_charges.specs.View.{outside_with, outside_of, outside_effects, looks_in, all_outside_effects, Follows, AreMoments, IsFront}
 use Rattle.run_charges.specs.Charges.{ChargeFront, board_powered, board_behind, board_behind_all, moments_of, IsInstruction, AreInstructionMoments}
-use Rattle.run_charges.specs.Charges.{program_steps, program_cycles, AreChargesFrom, behind_action, behind_moment, observed, charges_of, LeavesProgram, AlwaysLeaves}
+use Rattle.run_charges.specs.Charges.{program_steps, program_cycles, AreChargesFrom, behind_action, behind_moment, observed, charges_of, LeavesProgram}
+use Rattle.run_charges.specs.Charges.{AlwaysLeaves}
 use Rattle.run_charges.specs.Laws.{IsChargedBy}
 use Rattle.run_charges.proofs.View.{follows_keeps}
 use Rattle.run_charges.proofs.Moments.{nothing_seen}

@@ -21,7 +21,8 @@ use Rattle.machine_effects.proofs.Interface.{machine_is_of_words, fram_after-app
 use Rattle.event_handler.specs.Handler.{Stage}
 use Rattle.program_view.specs.View.{StandsAs, AtCode, InHandler, cycles_due, steps_due, stage_of, waiting}
 use Rattle.program_view.proofs.Interface.{handler_is_high}
-use Rattle.run_charges.specs.View.{outside_of, is_handlers, looks_by, outside_looks, looks_in, outside_effects, all_outside_effects, IsMomentFrom, PowersUp, Instructs, Serves, AreMoments}
+use Rattle.run_charges.specs.View.{outside_of, is_handlers, looks_by, outside_looks, looks_in, outside_effects, all_outside_effects, IsMomentFrom}
+use Rattle.run_charges.specs.View.{PowersUp, Instructs, Serves, AreMoments}
 use Rattle.run_charges.specs.Charges.{IsInstruction, AreInstructionMoments, program_steps, program_cycles, handler_steps, handler_cycles, acceptances}
 use Rattle.run_charges.proofs.Moments.{whole_behind, served_effects, front_sees, IsPowerOrStep, IsPower, IsStepped, moment_is}
 use Rattle.run_charges.proofs.Running.{PlacedProgram, Machine, relooked, Leads, Moves, Turn, looks_of, program_turn, turn_leads, leads_on}

@@ -1,6 +1,7 @@
 -- A board on which a program runs that stands in FRAM, and its handler beside it: its instructions are the program's steps, and the handler's
 -- are none of them.
-use Rattle.std.proofs.Common.{◌≡◌, ◌==◌, ◌+◌, ◌*◌, ◌-◌, ◌≤◌, ◌<◌, ⊎_elim, ℕ, suc, refl, sym, ap, ◌∙◌, subst, arith, Bool, true, false, if◌then◌else◌, nat_le, List, []}
+use Rattle.std.proofs.Common.{◌≡◌, ◌==◌, ◌+◌, ◌*◌, ◌-◌, ◌≤◌, ◌<◌, ⊎_elim, ℕ, suc, refl, sym, ap, ◌∙◌, subst, arith, Bool, true, false, if◌then◌else◌}
+use Rattle.std.proofs.Common.{nat_le, List, []}
 use Rattle.std.proofs.Common.{◌∷◌, ◌++◌, length, Option, Some, None, Ok, Err, leb-true}
 use Rattle.std.proofs.lemmas.Bool.{and_parts}
 use Rattle.std.proofs.lemmas.Bool.Decides.{nat_tests}
@@ -27,12 +28,14 @@ use Rattle.fram_board.specs.Run as run
 use Rattle.machine_effects.specs.World.{fram_after, EachStore}
 use Rattle.machine_effects.specs.Going.{Goes, Stops, At, stretch, after_effects, continued, going}
 use Rattle.machine_effects.specs.Inputs.{Look, SeeWords, look_effects}
-use Rattle.machine_effects.specs.Machine.{Code, MachineBoard, MachineOutcome, MachineStretch, IsStepBy, NoInstruction, Executes, code_executed, standing, step_with, undisturbed, exec, fram_of}
+use Rattle.machine_effects.specs.Machine.{Code, MachineBoard, MachineOutcome, MachineStretch, IsStepBy, NoInstruction, Executes, code_executed, standing}
+use Rattle.machine_effects.specs.Machine.{step_with, undisturbed, exec, fram_of}
 use Rattle.machine_effects.specs.Machine.{machine_bus, machine_opened, word_in, is_prepared, in_stack}
 use Rattle.machine_effects.specs.View.{machine_with, IsWhole, IsOfWords, looks_at, seen_at_pc, IsBusFault}
 use Rattle.machine_effects.specs.Laws.{KeepsTheHandler, ChangesByEffects}
 use Rattle.machine_effects.specs.Runs.{action_cycles}
-use Rattle.machine_effects.proofs.Interface.{each_store-front, each_store-back, machine_is_of_words, seen_by_words, current_on, stopped_to_machine, code_keeps_the_handler}
+use Rattle.machine_effects.proofs.Interface.{each_store-front, each_store-back, machine_is_of_words, seen_by_words, current_on, stopped_to_machine}
+use Rattle.machine_effects.proofs.Interface.{code_keeps_the_handler}
 use Rattle.machine_effects.proofs.Interface.{code_changes_by_effects, told_heard}
 use Rattle.event_handler.specs.Handler.{Stage, SaveR4, HasHandler, handler_length, instruction_at}
 use Rattle.event_handler.specs.Boundaries.{IsInterrupted, IsInHandler, IsBehind, next_stage, heard_at, cycles_left, instructions_left}

@@ -36,7 +36,8 @@ use Rattle.run_charges.specs.Charges.{AreInstructionMoments, observed, program_s
 use Rattle.run_charges.proofs.Moments.{charge_last, charge_instructs}
 use Rattle.run_charges.proofs.Running.{PlacedProgram, is_code, charge_moments}
 use Rattle.run_charges.proofs.Reaching.{Reach}
-use Rattle.run_charges.proofs.Programs.{Ready, running, first, starts, reach, end_fram, end_readings, made, seen, ready_behind, charged_once, Reached, charged_like, charged_join}
+use Rattle.run_charges.proofs.Programs.{Ready, running, first, starts, reach, end_fram, end_readings, made, seen, ready_behind, charged_once, Reached}
+use Rattle.run_charges.proofs.Programs.{charged_like, charged_join}
 
 -- a step that takes, or would take, so many cycles
 abbrev IsPriced : ℕ → MachineOutcome → Type 0

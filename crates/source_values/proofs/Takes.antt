@@ -1,5 +1,6 @@
 -- The value of an expression depends on the readings and the answers that it takes, and on no others; all else stays as it was.
-use Rattle.std.proofs.Common.{◌≡◌, ℕ, List, [], ◌∷◌, ◌++◌, Bool, true, false, refl, ap, sym, ◌∙◌, subst, Option, Some, None, append_assoc, drop, slice_index, length}
+use Rattle.std.proofs.Common.{◌≡◌, ℕ, List, [], ◌∷◌, ◌++◌, Bool, true, false, refl, ap, sym, ◌∙◌, subst, Option, Some, None, append_assoc, drop}
+use Rattle.std.proofs.Common.{slice_index, length}
 use Rattle.std.proofs.Common.{if◌then◌else◌, ◌<◌, arith, length-append}
 use Rattle.task_ast.specs.Tree.{Expression, number, long_number, name, element, sense, next_event, unary, binary, shift, short_circuit}
 use Rattle.task_ast.specs.declared.names.VariableName.{VariableName}

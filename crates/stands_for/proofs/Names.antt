@@ -21,7 +21,8 @@ pub use Rattle.runtime_effects.specs.Places.{CopyPair, entries_from, entry_bytes
 pub use Rattle.runtime_effects.specs.Stages.{cleared, clearing_if, commit_closed, commit_effects, copied_home, copied_in, counting_effects, emits_sent}
 pub use Rattle.runtime_effects.specs.Stages.{is_at_end, opening_effects, sends, start_effects, tail_moved}
 pub use Rattle.crash_rules.proofs.Interface.{holds-append, in_front, world_fram}
-pub use Rattle.crash_rules.specs.Model.{words_stored, answers_at, AttemptContract, CommitKeeps, HoldsThroughout, Inputs, InputsAreWords, IsBetween, IsElsewhere, behind_effects}
+pub use Rattle.crash_rules.specs.Model.{words_stored, answers_at, AttemptContract, CommitKeeps, HoldsThroughout, Inputs, InputsAreWords, IsBetween}
+pub use Rattle.crash_rules.specs.Model.{IsElsewhere, behind_effects}
 -- this crate
 pub use Rattle.stands_for.specs.Layout.{ArePrivate, HaveRoom, IsAmong, IsCopyWord, IsSharedWord, ProgramPlaces, StateView}
 pub use Rattle.stands_for.specs.Program.{CommitStores, IsCommitStore, IsStartStore, KeepsTheLaws, NumberedStarts, PendingCanCommit, ProgramParts, StartContract}

@@ -1,7 +1,8 @@
 -- An attempt's start keeps a world undecided, and leaves an attempt that has started.
 use Rattle.stands_for.proofs.Names.{◌≡◌, ℕ, zero, suc, ◌+◌, ◌*◌, ◌<◌, ◌≤◌, List, [], ◌∷◌, ◌++◌, refl, sym, ap, ◌∙◌, subst, ⊎_elim, inl, inr, arith, ◌==◌, ◌%◌}
 use Rattle.stands_for.proofs.Names.{Bool, true, false, cases_eq, Effect, Store, Take, Outside, World, put, world_after_one, world_after, fram_after}
-use Rattle.stands_for.proofs.Names.{inputs_taken, no_inputs, EachStore, none_taken_through, world_after-append, each_store-append, put_same, put_other, CopyPair}
+use Rattle.stands_for.proofs.Names.{inputs_taken, no_inputs, EachStore, none_taken_through, world_after-append, each_store-append, put_same, put_other}
+use Rattle.stands_for.proofs.Names.{CopyPair}
 use Rattle.stands_for.proofs.Names.{is_at_end, clearing_if, cleared, counting_effects, opening_effects, copied_in, start_effects, HoldsThroughout, IsElsewhere}
 use Rattle.stands_for.proofs.Names.{world_fram, holds-append, ProgramPlaces, StateView, IsSharedWord, IsAmong, ArePrivate, VersionsWithin, UndecidedAt}
 use Rattle.stands_for.proofs.Names.{StartedAt, IsStartStore, StartContract, MemoryMap, word_place, CurrentTask, Gate, ListLength, EmitCount, Base, Version}

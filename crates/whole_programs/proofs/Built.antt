@@ -34,7 +34,8 @@ use Rattle.array_versions.specs.declared.operations.LongOperation.TheVariants as
 use Rattle.array_versions.specs.declared.program.ArrayPlace.{ArrayPlace}
 use Rattle.array_versions.specs.declared.program.ListPlace.{ListPlace}
 use Rattle.array_versions.specs.Program.{Step, Test, Program, number, load, keep, local, set_local, update_local, unary, binary, shift, long, element}
-use Rattle.array_versions.specs.Program.{update, emit_word, list_entry, versioned_read, sense, next_event, freeze_events, truth, choose, repeat, store_number, move_word, jump}
+use Rattle.array_versions.specs.Program.{update, emit_word, list_entry, versioned_read, sense, next_event, freeze_events, truth, choose, repeat}
+use Rattle.array_versions.specs.Program.{store_number, move_word, jump}
 use Rattle.array_versions.specs.Program.{holds, compares, both, either, fails, nothing, step, joined}
 use Rattle.array_versions.specs.Form.{ArrayOfWords, ListOfWords, StepOfWords}
 use Rattle.memory_map.specs.MemoryMap.{word_place}

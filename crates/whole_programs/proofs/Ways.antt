@@ -36,7 +36,8 @@ use Rattle.lower.specs.Lowered.{freezing, loop_local, entries, lowered_transitio
 use Rattle.checked_trees.specs.WellFormed.{enough, IsWordName, IsArrayName, WellFormedExpression, WellFormedStatement, WellFormedChoice, WellFormedBlock}
 use Rattle.lower.proofs.Interface.{small_modulo, is_update}
 use Rattle.whole_programs.proofs.Placed.{PlacesOfWords}
-use Rattle.whole_programs.proofs.Built.{Leaf, a_number, a_load, a_reading, an_event, a_unary, a_shift, an_element, a_version, a_binary, a_widening, a_join, a_low_word}
+use Rattle.whole_programs.proofs.Built.{Leaf, a_number, a_load, a_reading, an_event, a_unary, a_shift, an_element, a_version, a_binary, a_widening, a_join}
+use Rattle.whole_programs.proofs.Built.{a_low_word}
 use Rattle.whole_programs.proofs.Built.{a_complement, a_left_shift, a_right_shift, a_calculation, is_below, is_above, ReadOf, Reads, two_fit, Fact}
 use Rattle.whole_programs.proofs.Built.{FitsAbove, right_fits, lowering_has, long_has}
 use Rattle.checked_trees.proofs.Interface.{names_read, is_path, some_turns, some_block, written, forgotten, behind, behind_both, behind_names}

@@ -4,7 +4,8 @@ use Rattle.word_code.proofs.Names.{Option, Waiting, right_source, stays, Source,
 use Rattle.word_code.proofs.Names.{to_register, source_operand, TwoOp, IsNotMov, writes_destination, ◌≤◌, form_bytes, ◌≡◌, ℕ, ◌+◌, ◌*◌, ◌%◌, ◌<◌, ◌==◌, not, []}
 use Rattle.word_code.proofs.Names.{◌∷◌, Some, refl, sym, ap, ap₂, ◌∙◌, subst, arith, Bool, true, false, if◌then◌else◌, not-not, Flags, Word, Condition, is_met}
 use Rattle.word_code.proofs.Names.{R4, Core, Constant, Form, Calculate, instruction_of, Stands, forms_bytes, Runs, Comparison, Above, SignedAbove, CommonBit}
-use Rattle.word_code.proofs.Names.{List, ◌++◌, stands_back, forms_bytes-append, is_true, compare_words, WordState, Behaviour, compare_form, holding, failing, jump_over, decision}
+use Rattle.word_code.proofs.Names.{List, ◌++◌, stands_back, forms_bytes-append, is_true, compare_words, WordState, Behaviour, compare_form, holding}
+use Rattle.word_code.proofs.Names.{failing, jump_over, decision}
 use Rattle.word_code.proofs.Middles.{IsRead, calculate}
 use Rattle.word_code.proofs.Follows.{stands_elsewhere, StandsFor, Follows, then_end}
 use Rattle.word_code.proofs.Registers.{Holds, Has, line, equal_flag}
@@ -57,7 +58,7 @@ module _ (z : Setting) where
 
   -- the jump alone
   module _ (w : WordState) (t : Core) where
-    decision_part : (when b : Bool) (pc d held failed : ℕ) (met opposite : Condition) → Forked when d pc (decision when d met opposite) held failed
+    pub decision_part : (when b : Bool) (pc d held failed : ℕ) (met opposite : Condition) → Forked when d pc (decision when d met opposite) held failed
         → pc < 0x10000 → Decided z pc w b met opposite t → Runs z.code [] 5 t (StandsFor z (if b then held else failed) w)
     decision_part true true pc d held failed met opposite k l i =
         let low = stands_low z pc (jump_over met opposite d) k.stands l in

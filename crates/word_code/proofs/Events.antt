@@ -1,6 +1,8 @@
 -- The next word of the ring, and the index that a transition leaves.
-use Rattle.word_code.proofs.Names.{◌≡◌, ℕ, ◌+◌, ◌-◌, ◌*◌, ◌%◌, ◌<◌, ◌==◌, Bool, true, false, not, if◌then◌else◌, List, [], ◌∷◌, length, refl, sym, ap, ◌∙◌, subst, append_assoc}
-use Rattle.word_code.proofs.Names.{◌++◌, Effect, behind_effects, All, arith, bit_and, and_mask, Store, put, IsPlace, R4, Core, Stands, forms_bytes, Runs, WordState, Behaviour, stored, pushed}
+use Rattle.word_code.proofs.Names.{◌≡◌, ℕ, ◌+◌, ◌-◌, ◌*◌, ◌%◌, ◌<◌, ◌==◌, Bool, true, false, not, if◌then◌else◌, List, [], ◌∷◌, length, refl, sym, ap, ◌∙◌}
+use Rattle.word_code.proofs.Names.{subst, append_assoc}
+use Rattle.word_code.proofs.Names.{◌++◌, Effect, behind_effects, All, arith, bit_and, and_mask, Store, put, IsPlace, R4, Core, Stands, forms_bytes, Runs}
+use Rattle.word_code.proofs.Names.{WordState, Behaviour, stored, pushed}
 use Rattle.word_code.proofs.Names.{next_event, freeze_events, event_index, none_answered, word_answered, event_pushed, events_frozen, with_looks}
 use Rattle.word_code.proofs.Names.{Waiting, flushed, event_code, freeze_code}
 use Rattle.array_versions.specs.machine_effects.Inputs.{Look, first_look, other_looks, look_effects}

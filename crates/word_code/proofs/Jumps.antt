@@ -11,7 +11,7 @@ use Rattle.word_code.proofs.Registers.{bytes_even, jump_to, skip_to}
 pub whole_size : (ms : List Form) → forms_bytes ms ≡ 2 * size ms
 whole_size ms = let e = bytes_even ms in omega arith
 
-near_is : (d : ℕ) → nat_le d 511 ≡ true → d ≤ 511
+pub near_is : (d : ℕ) → nat_le d 511 ≡ true → d ≤ 511
 near_is d e = grind (arith, nat_tests)
 
 -- a jump on, by up to 511 words
@@ -19,7 +19,7 @@ pub near_distance : (d : ℕ) → d ≤ 511 → distance d ≡ 2 * d
 near_distance d l = ap (λ b. (2 * d + (if b then 0 else 0x10000 - 0x800)) % 0x10000) (eq-eqb (d / 0x200) 0 (omega arith)) ∙ omega arith
 
 -- and back
-back_distance : (d : ℕ) → d ≤ 511 → distance (1023 - d) ≡ 0xFFFE - 2 * d
+pub back_distance : (d : ℕ) → d ≤ 511 → distance (1023 - d) ≡ 0xFFFE - 2 * d
 back_distance d l =
     ap (λ b. (2 * (1023 - d) + (if b then 0 else 0x10000 - 0x800)) % 0x10000) (ne_eqb ((1023 - d) / 0x200) 0 (λ e. omega arith)) ∙ omega arith
 

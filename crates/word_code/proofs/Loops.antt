@@ -89,7 +89,7 @@ module _ (z : Setting) where
       subst (λ p. Runs z.code [] 10 u (Raised p n (k + 1) below w)) end (runs_on z added
       (λ t j. compare_raised R4 (pc + 10) n (k + 1) below w t l lb (form_at z.code pc 3 all last h refl) j))
 
-  raise_part : (pc n k below : ℕ) (w : WordState) (u : Core) → n < z.locals → w.locals n ≡ Some k → k + 1 < 0x10000 → below < 0x10000
+  pub raise_part : (pc n k below : ℕ) (w : WordState) (u : Core) → n < z.locals → w.locals n ≡ Some k → k + 1 < 0x10000 → below < 0x10000
       → Stands z.code pc (turn_end n below) → StandsFor z pc w u → Runs z.code [] 10 u (Raised (pc + forms_bytes (turn_end n below)) n (k + 1) below w)
   raise_part pc n k below w u lt q l lb h i = raise_by (nat_lt n 8) pc n k below w u refl lt q l lb h i
 

@@ -1,5 +1,6 @@
 -- Operations on registers: what each leaves, and the steps that they are.
-use Rattle.word_code.proofs.Names.{source_effects, if◌then◌else◌, ◌≤◌, IsNotMov, writes_destination, TwoOp, Bool, Calculate, Goes, Some, Source, SourceNeeds, cycles_of}
+use Rattle.word_code.proofs.Names.{source_effects, if◌then◌else◌, ◌≤◌, IsNotMov, writes_destination, TwoOp, Bool, Calculate, Goes, Some, Source}
+use Rattle.word_code.proofs.Names.{SourceNeeds, cycles_of}
 use Rattle.word_code.proofs.Names.{flags_after, instruction_of, put, source_bytes, source_cycles, source_operand, source_read, source_value, subst, sym}
 use Rattle.word_code.proofs.Names.{to_register, true, work_number, ◌≡◌, ℕ, ◌+◌, ◌-◌, ◌%◌, ◌<◌, List, [], refl, ap, ap₂, ◌∙◌, arith, Flags, Word, operated}
 use Rattle.word_code.proofs.Names.{WorkRegister, R4, R5, Core, Form, Stands, forms_bytes, Runs, Negate, Complement, PlainOperation, Add, Subtract, Plain}

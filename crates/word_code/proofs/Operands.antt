@@ -1,5 +1,6 @@
 -- Words that wait to be pushed: what the machine stands for where some do, how they are pushed, and how they come to registers.
-use Rattle.word_code.proofs.Names.{source_effects, ◌≡◌, ℕ, suc, ◌+◌, ◌-◌, ◌%◌, ◌<◌, ◌≤◌, nat_le, Bool, true, false, nat_lt, if◌then◌else◌, List, [], ◌∷◌, ◌++◌, length, get_or}
+use Rattle.word_code.proofs.Names.{source_effects, ◌≡◌, ℕ, suc, ◌+◌, ◌-◌, ◌%◌, ◌<◌, ◌≤◌, nat_le, Bool, true, false, nat_lt, if◌then◌else◌, List, [], ◌∷◌}
+use Rattle.word_code.proofs.Names.{◌++◌, length, get_or}
 use Rattle.word_code.proofs.Names.{Inputs, drop, Option, Some, None, ◌==◌, eqb-true, refl, sym, ap, ap₂, ◌∙◌, subst, arith, append_assoc, append-nil}
 use Rattle.word_code.proofs.Names.{length-append, Flags, unwrap_or, AllByRecursion, put, Goes, IsPlace, Konst, constant_value, CycleRow, cycles_of}
 use Rattle.word_code.proofs.Names.{source_cycles, to_register, to_memory, push, put_same, put_other, WorkRegister, R4, R5, work_number, Core, Source, Number}

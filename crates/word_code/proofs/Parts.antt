@@ -1,6 +1,7 @@
 -- The steps that are straight code: words of FRAM, locals, jumps.
 use Rattle.word_code.proofs.Names.{◌≡◌, ℕ, ◌+◌, ◌-◌, ◌%◌, ◌<◌, Bool, true, false, nat_lt, List, [], ◌∷◌, length, Option, Some, refl, sym, ap, ap₂, ◌∙◌, ◌++◌}
-use Rattle.word_code.proofs.Names.{source_value, ◌==◌, subst, arith, put_other, ◌≤◌, eq-eqb, if◌then◌else◌, cycles_of, source_cycles, to_register, to_memory, Store, put}
+use Rattle.word_code.proofs.Names.{source_value, ◌==◌, subst, arith, put_other, ◌≤◌, eq-eqb, if◌then◌else◌, cycles_of, source_cycles, to_register}
+use Rattle.word_code.proofs.Names.{to_memory, Store, put}
 use Rattle.word_code.proofs.Names.{Goes, At, stretch, IsPlace, Konst, constant_value, work_number, Core, Source, source_operand, source_bytes, source_read}
 use Rattle.word_code.proofs.Names.{Constant, Fram, Ram, ToRegister, ToFram, ToRam, Move, Push, Branch, instruction_of, Stands, forms_bytes, forms_run, Runs}
 use Rattle.word_code.proofs.Names.{stands_at, end_of, WordState, behaves, goes_on, Jumps, broken, with_stack, pushed, stored, with_local, is_place, word_stored}

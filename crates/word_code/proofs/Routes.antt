@@ -1,8 +1,10 @@
 -- Routes through code: some forms, then a jump that is taken or isn't, and so on. The machine begins with the words of R4 to R7 by name and with the FRAM
 -- of the state that it stands for, so what it does and what it holds at the end are computations. Here alone it is reckoned where a jump comes to.
 use Rattle.word_code.proofs.Names.{◌≡◌, ℕ, zero, suc, ◌+◌, ◌-◌, ◌%◌, ◌<◌, ◌==◌, List, [], ◌∷◌, drop, refl, sym, ap, ap₂, ◌∙◌, subst, arith, Bool, true, false}
-use Rattle.word_code.proofs.Names.{if◌then◌else◌, eqb-true, Effect, stretch, after_effects, At, Halted, put, Condition, sum16, distance, is_met, Core, Form, Jump}
-use Rattle.word_code.proofs.Names.{form_bytes, Stands, forms_bytes, forms_run, AreStraight, FormsNeed, Runs, stands_at, first_forms, forms_at, forms_behind, forms_bytes-append, end_of}
+use Rattle.word_code.proofs.Names.{if◌then◌else◌, eqb-true, Effect, stretch, after_effects, At, Halted, put, Condition, sum16, distance, is_met, Core}
+use Rattle.word_code.proofs.Names.{Form, Jump}
+use Rattle.word_code.proofs.Names.{form_bytes, Stands, forms_bytes, forms_run, AreStraight, FormsNeed, Runs, stands_at, first_forms, forms_at}
+use Rattle.word_code.proofs.Names.{forms_behind, forms_bytes-append, end_of}
 use Rattle.word_code.proofs.Names.{WordState, Inputs}
 use Rattle.std.proofs.Common.{take, take-add}
 use Rattle.code_forms.specs.Forms.{CoreStretch}

@@ -1,6 +1,7 @@
 -- The two sides of an operation: the left one in R4, and the right one in R5, or read where it waits.
 use Rattle.word_code.specs.Code.{is_turned, compare_sides, compare_source}
-use Rattle.word_code.proofs.Names.{source_effects, Comparison, Core, Form, R5, Register, Runs, Source, SourceNeeds, Stands, Waiting, WordState, WorkRegister, any_held}
+use Rattle.word_code.proofs.Names.{source_effects, Comparison, Core, Form, R5, Register, Runs, Source, SourceNeeds, Stands, Waiting, WordState}
+use Rattle.word_code.proofs.Names.{WorkRegister, any_held}
 use Rattle.word_code.proofs.Names.{below_top, cleared, drop, five_from, flushed, forms_bytes, four_from, get_or, kept, rest_source, rests, right_source}
 use Rattle.word_code.proofs.Names.{right_to_rest, sides, source_cycles, source_from, source_operand, source_read, source_value, stays, to_memory, to_register}
 use Rattle.word_code.proofs.Names.{to_rest, top_of, two_to_registers, update_sides, waiting_source, with_stack, work_number, ◌≡◌, ℕ, ◌+◌, ◌≤◌, Bool, true}
@@ -9,7 +10,8 @@ use Rattle.word_code.specs.declared.waiting.Waiting.TheVariants as waiting
 use Rattle.word_code.proofs.Stretches.{two_parts, Setting, dearer, nothing_run, so_runs}
 use Rattle.word_code.proofs.Registers.{With, HasSides}
 use Rattle.word_code.proofs.Middles.{IsRead}
-use Rattle.word_code.proofs.Operands.{IsThere, owed, owed_least, load_cycles, load_price, load_owed, store_price, number_cases, source_still, source_quiet, source_needs}
+use Rattle.word_code.proofs.Operands.{IsThere, owed, owed_least, load_cycles, load_price, load_owed, store_price, number_cases, source_still, source_quiet}
+use Rattle.word_code.proofs.Operands.{source_needs}
 use Rattle.word_code.proofs.Operands.{source_word, Describes, Waits, bare, flush_under, drop_part, five_part, four_part, clear_cycles, none_held}
 use Rattle.word_code.proofs.Operands.{behind_cleared}
 use Rattle.word_code.proofs.Memory.{local_words, local_word, in_register}

@@ -1,5 +1,6 @@
 -- Whatever holds of each form that the code of tasks is made of holds of each form of a program's code: a fact is a list of cases on forms.
-use Rattle.word_code.proofs.Names.{ℕ, Bool, List, [], ◌∷◌, Form, Move, Calculate, Update, Push, Jump, SetStack, instruction_of, instructions, AreInstructions, Ram}
+use Rattle.word_code.proofs.Names.{ℕ, Bool, List, [], ◌∷◌, Form, Move, Calculate, Update, Push, Jump, SetStack, instruction_of, instructions}
+use Rattle.word_code.proofs.Names.{AreInstructions, Ram}
 use Rattle.word_code.proofs.Names.{ToRam, Source, Program, code_of, locals_of, stack_base, CodeIsInstructions}
 use Rattle.array_versions.specs.msp_step.msp_isa.Encoding.{IsInstruction}
 use Rattle.code_forms.specs.Forms as forms

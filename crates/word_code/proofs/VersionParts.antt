@@ -10,7 +10,8 @@ use Rattle.word_code.proofs.Registers.{HasSides, Holds, Has, HasTwo, jump_with, 
 use Rattle.word_code.proofs.Stretches.{Setting, runs_on, dearer, so_runs}
 use Rattle.word_code.proofs.Follows.{Follows, more_cycles, then_end, ends_at, guarded}
 use Rattle.word_code.proofs.Jumps.{stands_low}
-use Rattle.word_code.proofs.Access.{twice, doubled_fits, check_part, within, beyond, within_stands, zero_stands, checked_end, checked_past, checked_within, over_zero}
+use Rattle.word_code.proofs.Access.{twice, doubled_fits, check_part, within, beyond, within_stands, zero_stands, checked_end, checked_past, checked_within}
+use Rattle.word_code.proofs.Access.{over_zero}
 use Rattle.word_code.proofs.ListParts.{first_follows}
 use Rattle.word_code.proofs.Routes.{on, jump, route, store_route, starts}
 

@@ -1,7 +1,8 @@
 -- Elements that are updated in place.
 use Rattle.word_code.proofs.Names.{rests, ◌≡◌, ℕ, ◌+◌, ◌-◌, ◌*◌, ◌%◌, ◌<◌, ◌≤◌, ◌==◌, not, Bool, true, false, nat_lt, nat_le, if◌then◌else◌, List, [], ◌∷◌}
 use Rattle.word_code.proofs.Names.{◌++◌, Some, None, refl, sym, ap, ap₂, ◌∙◌, subst, arith, word_sum, Word, operated, sum16, distance, cycles_of, source_cycles}
-use Rattle.word_code.proofs.Names.{to_register, to_memory, Store, put, Goes, IsPlace, R4, R6, R7, Core, Source, source_bytes, source_value, source_read, source_operand}
+use Rattle.word_code.proofs.Names.{to_register, to_memory, Store, put, Goes, IsPlace, R4, R6, R7, Core, Source, source_bytes, source_value, source_read}
+use Rattle.word_code.proofs.Names.{source_operand}
 use Rattle.word_code.proofs.Names.{Register, Number, Fram, Indexed, ToRegister, ToIndexed, Form, Move, Calculate, Update, Jump, flags_after, instruction_of}
 use Rattle.word_code.proofs.Names.{form_bytes, Stands, forms_bytes, Runs, stands_front, stands_back, forms_bytes-append, PlainOperation, ArrayPlace, ListPlace}
 use Rattle.word_code.proofs.Names.{plain_word, versioned_update, WordState, Behaviour, goes_on, behind_effects, with_two, with_stack, is_place, at_place}

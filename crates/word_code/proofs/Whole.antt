@@ -43,26 +43,26 @@ use Rattle.word_code.proofs.Events.{look_small, event_part, freeze_part}
 use Rattle.word_code.proofs.LongResults.{long_reaches}
 
 -- a state from which what follows is fit, which holds words, and in which the local of each loop around is below its number
-record Ready (bs : List Bound) (next : Place → Type 0) (w : WordState) : Type 0 where
-  place : Place
-  fit : next place
-  matches : Matches place w
-  words_in : IsStateOfWords w
-  bounded : Bounded bs w.locals
+pub record Ready (bs : List Bound) (next : Place → Type 0) (w : WordState) : Type 0 where
+  pub place : Place
+  pub fit : next place
+  pub matches : Matches place w
+  pub words_in : IsStateOfWords w
+  pub bounded : Bounded bs w.locals
 
-ready_on : (bs : List Bound) (next : Place → Type 0) (e : End) → GoesWell next e → EndsInWords e → OnGoesOn (λ v. Bounded bs v.locals) e
+pub ready_on : (bs : List Bound) (next : Place → Type 0) (e : End) → GoesWell next e → EndsInWords e → OnGoesOn (λ v. Bounded bs v.locals) e
     → OnGoesOn (Ready bs next) e
 ready_on bs next (GoesOn w) g h b = record { place = g.0; fit = g.1; matches = g.2; words_in = h; bounded = b }
 ready_on bs next _ g h b = tt
 
 -- the same with the word of a local
-ready_with : (bs : List Bound) (next : Place → Type 0) (n k : ℕ) (e : End) → GoesWell next e → EndsInWords e → OnGoesOn (λ v. Bounded bs v.locals) e
+pub ready_with : (bs : List Bound) (next : Place → Type 0) (n k : ℕ) (e : End) → GoesWell next e → EndsInWords e → OnGoesOn (λ v. Bounded bs v.locals) e
     → Leaves n (Some k) e → OnGoesOn (λ v. Ready bs next v × (v.locals n ≡ Some k)) e
 ready_with bs next n k (GoesOn w) g h b l = (record { place = g.0; fit = g.1; matches = g.2; words_in = h; bounded = b }, l)
 ready_with bs next n k _ g h b l = tt
 
 -- what is left where so many words are taken
-ready_popped : (bs : List Bound) (next : Place → Type 0) (q : Place) (n : ℕ) (w : WordState) (us : List ℕ) → next (record q { depth = q.depth - n + 0 })
+pub ready_popped : (bs : List Bound) (next : Place → Type 0) (q : Place) (n : ℕ) (w : WordState) (us : List ℕ) → next (record q { depth = q.depth - n + 0 })
     → Matches q w → IsStateOfWords w → Bounded bs w.locals → length us + n ≡ length w.stack → AreWords us → Ready bs next (with_stack us w)
 ready_popped bs next q n w us f m h b e l =
     record {
@@ -74,7 +74,7 @@ ready_popped bs next q n w us f m h b e l =
     }
 
 -- a turn of a loop begins: its local has this word, which is below its number
-turn_ready : (bs : List Bound) (next : Place → Type 0) (n k below : ℕ) (w : WordState) → Ready bs (λ q. next (assigning n q)) w → Spared bs (λ m. n ≢ m)
+pub turn_ready : (bs : List Bound) (next : Place → Type 0) (n k below : ℕ) (w : WordState) → Ready bs (λ q. next (assigning n q)) w → Spared bs (λ m. n ≢ m)
     → k < 0x10000 → k < below → Ready (bound_of n below ∷ bs) next (with_local n k w)
 turn_ready bs next n k below w r spared small less =
     record {
@@ -93,31 +93,31 @@ record Way : Type 1 where
   does : WordState → Behaviour
 
 -- what is known beforehand of a part of a program: its numbers are words, its locals are there, its loops count, and it spares the numbers of the loops around
-record Known (words locals loops spared : Type 0) : Type 0 where
-  of_words : words
-  below : locals
-  count : loops
-  spares : spared
+pub record Known (words locals loops spared : Type 0) : Type 0 where
+  pub of_words : words
+  pub below : locals
+  pub count : loops
+  pub spares : spared
 
 -- of one part, and of the other, where it is known of both
-known_first : {A B C D E F : Type 0} (S T : ℕ → Type 0) (bs : List Bound) → Known (A × B) (C × D) (E × F) (Spared bs (λ n. S n × T n)) → Known A C E (Spared bs S)
+pub known_first : {A B C D E F : Type 0} (S T : ℕ → Type 0) (bs : List Bound) → Known (A × B) (C × D) (E × F) (Spared bs (λ n. S n × T n)) → Known A C E (Spared bs S)
 known_first S T bs k =
     record { of_words = k.of_words.0; below = k.below.0; count = k.count.0; spares = spared_so bs (λ n. S n × T n) S (λ n q. q.0) k.spares }
 
-known_second : {A B C D E F : Type 0} (S T : ℕ → Type 0) (bs : List Bound) → Known (A × B) (C × D) (E × F) (Spared bs (λ n. S n × T n)) → Known B D F (Spared bs T)
+pub known_second : {A B C D E F : Type 0} (S T : ℕ → Type 0) (bs : List Bound) → Known (A × B) (C × D) (E × F) (Spared bs (λ n. S n × T n)) → Known B D F (Spared bs T)
 known_second S T bs k =
     record { of_words = k.of_words.1; below = k.below.1; count = k.count.1; spares = spared_so bs (λ n. S n × T n) T (λ n q. q.1) k.spares }
 
 module _ (z : Setting) where
   -- 1 is pushed, and the jump leads past the other number
-  one_pushed : (pc : ℕ) (w : WordState) (u : Core) → Stands z.code pc truth_code → length w.stack < z.room → StandsFor z pc w u
+  pub one_pushed : (pc : ℕ) (w : WordState) (u : Core) → Stands z.code pc truth_code → length w.stack < z.room → StandsFor z pc w u
       → Follows z (pc + 6) 5 u (number_pushed 1 w)
   one_pushed pc w u h l i =
       let high = (z.tidy (pc + 2) _ h.1.0).high in
       runs_on z (constant_part z konst.One pc w u l (h.0, tt) i) (λ t j. jump_to z condition.Always 1 (pc + 2) (pc + 6) true _ t h.1.0 refl (omega arith) j)
 
   -- 0 is pushed
-  zero_pushed : (pc : ℕ) (w : WordState) (u : Core) → Stands z.code pc truth_code → length w.stack < z.room → StandsFor z (pc + 4) w u
+  pub zero_pushed : (pc : ℕ) (w : WordState) (u : Core) → Stands z.code pc truth_code → length w.stack < z.room → StandsFor z (pc + 4) w u
       → Follows z (pc + 6) 3 u (number_pushed 0 w)
   zero_pushed pc w u h l i =
       ends_at z (pc + 4 + 2) (pc + 6) 3 u (number_pushed 0 w) (omega arith)
@@ -254,17 +254,17 @@ module _ (z : Setting) where
       (f (stands_front z.code pc a (flushed os) h)))
       (λ t v d. flush_part z os mid v t d (stands_back z.code pc a (flushed os) h)))
 
-  abbrev KnownStep : List Bound → Step → Type 0
+  abbrev pub KnownStep : List Bound → Step → Type 0
   KnownStep bs first = Known (StepOfWords first) (StepLocalsBelow z.locals first) (StepLoopsCount first) (Spared bs (λ n. StepSpares n first))
 
-  abbrev KnownTest : List Bound → Test → Type 0
+  abbrev pub KnownTest : List Bound → Test → Type 0
   KnownTest bs t = Known (TestOfWords t) (TestLocalsBelow z.locals t) (TestLoopsCount t) (Spared bs (λ n. TestSpares n t))
 
-  abbrev KnownProgram : List Bound → Program → Type 0
+  abbrev pub KnownProgram : List Bound → Program → Type 0
   KnownProgram bs p = Known (OfWords p) (LocalsBelow z.locals p) (LoopsCount p) (Spared bs (λ n. Spares n p))
 
   mutual
-    step_follows : (bs : List Bound) (first : Step) (next : Place → Type 0) (os : List Waiting) (pc : ℕ) (w : WordState) (u : Core)
+    pub step_follows : (bs : List Bound) (first : Step) (next : Place → Type 0) (os : List Waiting) (pc : ℕ) (w : WordState) (u : Core)
         → Ready bs (EachStepWay z.room first next) w → KnownStep bs first → Stands z.code pc (step_code bs os first) → Describes z os pc w u
         → Does z (waiting_behind os first) (pc + forms_bytes (step_code bs os first)) (step_spent first w + owed os) u (step_behaviour first w)
     step_follows bs (number v) next os pc w u r known h d = number_part z v os pc w u (omega (arith, r.fit.1, r.matches.depth)) d
@@ -512,7 +512,7 @@ module _ (z : Setting) (p : Program) (whole : IsWhole p) (of_words : OfWords p) 
   by_end pc most u es Broken a g = g
 
   -- the machine whose stack is there stands for the state at the start
-  begun : (mid : ℕ) (u t : Core) → HasStack mid z.base u t → StandsFor z mid (started u.fram u.inputs) t
+  pub begun : (mid : ℕ) (u t : Core) → HasStack mid z.base u t → StandsFor z mid (started u.fram u.inputs) t
   begun mid u t k =
       record {
         at = k.at;

@@ -1,0 +1,7 @@
+mod Names
+mod Alone
+mod Reaching
+mod Tests
+mod Turns
+mod Ways
+pub mod Interface

@@ -1,0 +1,95 @@
+-- What the code of a word program costs at most, whatever the words are that decide its ways: its dearest way. What follows costs so much; behind a jump
+-- nothing does.
+use Rattle.std.specs.Prelude.{ℕ, zero, suc, ◌+◌, ◌-◌, max, Bool, true, false, not, nat_le, if◌then◌else◌, List, [], ◌∷◌, ◌++◌}
+use Rattle.word_code.specs.declared.bounds.Bound.{Bound}
+use Rattle.word_code.specs.declared.waiting.Waiting.{Waiting}
+use Rattle.word_code.specs.declared.waiting.Waiting.TheVariants as waiting
+use Rattle.word_code.specs.array_versions.Program.{Step, Test, Program, binary, truth, choose, repeat, jump, holds, compares, both, either, fails, nothing}
+use Rattle.word_code.specs.array_versions.Program.{step}
+use Rattle.word_code.specs.array_versions.Form.{locals_of}
+use Rattle.word_code.specs.array_versions.declared.operations.BinaryOperation.TheVariants.{Multiply}
+use Rattle.word_code.specs.Code.{flushed, holds_code, compares_code, number_code, turn_end, pass_over, size, bound_of, stack_set, waiting_behind, waiting_after}
+use Rattle.word_code.specs.Code.{step_code, test_code, block_code}
+use Rattle.code_paths.specs.Paths.{forward_most}
+
+-- the cycles of the push of a word that waits, at most
+abbrev pub push_most : Waiting → ℕ
+push_most (waiting.Number n) = 4
+push_most (waiting.Fram a) = 5
+push_most (waiting.Local n) = 5
+push_most waiting.R4 = 3
+push_most waiting.R6 = 3
+
+-- of all of them
+abbrev pub pushes_most : List Waiting → ℕ
+pushes_most [] = 0
+pushes_most (o ∷ os) = pushes_most os + push_most o
+
+-- and by their code
+abbrev pub flush_most : List Waiting → ℕ
+flush_most os = forward_most (flushed os) (pushes_most os)
+
+-- a step that is no test, no choice, no loop and no jump, whatever its code is: products and quotients, which go by the bits of a word, have the most
+abbrev pub any_most : Step → ℕ
+any_most (binary Multiply) = 152
+any_most _ = 202
+
+-- and by its code
+abbrev pub leaf_most : List Bound → List Waiting → Step → ℕ
+leaf_most bs os s = forward_most (step_code bs os s) (any_most s + pushes_most os)
+
+-- what goes back over so many words: a jump of one word, or further
+abbrev pub back_cycles : ℕ → ℕ
+back_cycles d = if nat_le d 511 then 2 else 5
+
+-- the end of a turn of so many words, and what goes back
+abbrev pub turn_most : ℕ → ℕ → ℕ → ℕ
+turn_most n below words = forward_most (turn_end n below) 10 + back_cycles words
+
+-- so many turns, by what one costs with what follows it
+abbrev pub turns_most : ℕ → (ℕ → ℕ) → ℕ → ℕ → ℕ
+turns_most zero body end next = next
+turns_most (suc m) body end next = body (end + turns_most m body end next)
+
+abbrev mutual
+  -- the code of a step in the bodies of loops with these bounds, where these words wait
+  pub step_most : List Bound → List Waiting → Step → ℕ → ℕ
+  step_most bs os (truth t) next = flush_most os + test_most bs t false 2 (5 + next) (3 + next)
+  step_most bs os (choose t taken otherwise) next =
+      let other = block_code bs otherwise in
+      let first = block_code bs taken ++ pass_over (size other) in
+      let held = steps_most bs [] taken (flush_most (waiting_after [] taken) + (forward_most (pass_over (size other)) 3 + next)) in
+      let failed = steps_most bs [] otherwise (flush_most (waiting_after [] otherwise) + next) in
+      flush_most os + test_most bs t false (size first) held failed
+  step_most bs os (repeat n from below body) next =
+      let inner = bound_of n below ∷ bs in
+      let end = turn_most n below (size (block_code inner body ++ turn_end n below)) in
+      let made : ℕ → ℕ = λ more. steps_most inner [] body (flush_most (waiting_after [] body) + more) in
+      flush_most os + (forward_most (number_code n from) 5 + turns_most (below - from) made end next)
+  step_most bs os (jump to) next = flush_most os + 3
+  step_most bs os s next = leaf_most bs os s + next
+
+  -- the code of a test that goes over so many words where its truth is this one, by what follows where it holds and where it fails
+  pub test_most : List Bound → Test → Bool → ℕ → ℕ → ℕ → ℕ
+  test_most bs (holds p) when d held failed =
+      let os = waiting_after [] p in steps_most bs [] p (forward_most (holds_code os when d) (8 + pushes_most os) + max held failed)
+  test_most bs (compares c p) when d held failed =
+      let os = waiting_after [] p in steps_most bs [] p (forward_most (compares_code os c when d) (10 + pushes_most os) + max held failed)
+  test_most bs (both t u) when d held failed =
+      test_most bs t false (size (test_code bs u when d) + (if not when then d else 0)) (test_most bs u when d held failed) failed
+  test_most bs (either t u) when d held failed =
+      test_most bs t true (size (test_code bs u when d) + (if when then d else 0)) held (test_most bs u when d held failed)
+  test_most bs (fails t) when d held failed = test_most bs t (not when) d failed held
+
+  -- the code of steps, one after another
+  pub steps_most : List Bound → List Waiting → Program → ℕ → ℕ
+  steps_most bs os nothing next = next
+  steps_most bs os (step first more) next = step_most bs os first (steps_most bs (waiting_behind os first) more next)
+
+-- with no word waiting in front of them or behind them
+abbrev pub block_most : List Bound → Program → ℕ → ℕ
+block_most bs p next = steps_most bs [] p (flush_most (waiting_after [] p) + next)
+
+-- the code of a program, by whether it takes events
+abbrev pub most_spent : Bool → Program → ℕ
+most_spent events p = forward_most (stack_set events (locals_of p)) 2 + block_most [] p 0

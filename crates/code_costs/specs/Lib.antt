@@ -1,0 +1,3 @@
+pub mod Dearest
+pub mod Laws
+pub use Rattle.word_code.specs as word_code

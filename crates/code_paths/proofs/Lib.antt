@@ -1,0 +1,5 @@
+mod Forms
+mod Alone
+mod Spends
+mod Costs
+pub mod Interface
