@@ -1,5 +1,5 @@
 -- What a compiled source's bound pays for, and what its runtime's words hold at most.
-use Rattle.std.specs.Prelude.{◌≡◌, ℕ, ◌+◌, ◌*◌, ◌<◌, ◌≤◌, List, ◌++◌}
+use Rattle.std.specs.Prelude.{◌≡◌, ℕ, ◌+◌, ◌≤◌, List, ◌++◌}
 use Rattle.fram_board.specs.Board.{BoardValue}
 use Rattle.fram_board.specs.Run.{BoardCharge, Moment, RunOutcome}
 use Rattle.machine_effects.specs.World.{World}
@@ -9,7 +9,7 @@ use Rattle.cost_bound.specs.Allowance.{CheckedProgram, IsAllowed, bound_of}
 use Rattle.source_values.specs.Runs.{State}
 use Rattle.war_analysis.specs.PlanValue.{TaskPlanValue}
 use Rattle.linked_code.specs.Rooms.{PrivatesAreCounted}
-use Rattle.memory_map.specs.declared.words.RuntimeWord.TheVariants.{ListLength, EmitCount, Version}
+use Rattle.memory_map.specs.declared.words.RuntimeWord.TheVariants.{ListLength, EmitCount}
 use Rattle.memory_map.specs.MemoryMap.{MemoryMap, word_place}
 use Rattle.privatise.specs.Layouts.{IsLayout}
 use Rattle.crash_rules.specs.Model.{bound}
@@ -20,7 +20,8 @@ use Rattle.run_charges.specs.Laws.{IsRunOfWords}
 use Rattle.memory_map.specs.Laws.{AreApart}
 use Rattle.compiled_model.specs.Parts.{compiled_model}
 use Rattle.compiled_model.specs.Needs.{CostsAreWithin, AttemptsStore}
-use Rattle.model_runs.specs.Runs.{BearsModel}
+use Rattle.model_runs.specs.Bears.{BearsModel}
+use Rattle.compiled_bounds.specs.Capacities.{KeepsCapacities}
 
 -- the bound of a compiled source is that of its allowance
 abbrev pub BoundIsTheSources : Type 0
@@ -31,12 +32,6 @@ BoundIsTheSources = (p : CheckedProgram) (l : MemoryMap) → bound (compiled_mod
 abbrev pub TasksKeepToTheBound : Type 0
 TasksKeepToTheBound = (p : CheckedProgram) (allow : Allow) (plans : List TaskPlanValue) (l : MemoryMap) → IsAllowed p allow → PrivatesAreCounted p l
     → IsLayout p allow plans l → CostsAreWithin p l
-
--- CLN and EN are within the capacities of the list and of the buffer, and no version word is above VER
-pub record KeepsCapacities (l : MemoryMap) (f : ℕ → ℕ) : Type 0 where
-  pub list : f (word_place l ListLength) ≤ l.entries
-  pub emits : f (word_place l EmitCount) ≤ l.emits.words
-  pub versions : (i : ℕ) → i < l.versions.words → f (l.versions.address + 2 * i) ≤ f (word_place l Version)
 
 -- a store to CLN or EN is within the capacity
 pub record CountsFit (l : MemoryMap) (a w : ℕ) : Type 0 where

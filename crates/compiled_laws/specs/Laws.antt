@@ -15,7 +15,7 @@ use Rattle.crash_rules.specs.Model.{ModelLaws, Short}
 use Rattle.crash_rules.specs.History.{History, observe, behind_boot, first_history, given_since}
 use Rattle.crash_rules.specs.Runs.{ProgramLaws, Charge, IsSpentFrom}
 use Rattle.crash_rules.specs.Laws.{Origin, Resting, StandsFor, IsLawful, Matches, Begins, HasRun, PowersUpBehind, AcceptedWords, AreConsecutive}
-use Rattle.run_charges.specs.Charges.{AlwaysLeaves}
+use Rattle.run_charges.specs.Fronts.{AlwaysLeaves}
 use Rattle.compiled_model.specs.Parts.{compiled_model}
 use Rattle.compiled_runs.specs.Program.{source_code, compiled_program}
 use Rattle.whole_programs.specs.Laws.{IsLaidOutText}

@@ -18,7 +18,7 @@ use Rattle.crash_rules.specs.Model.{ModelLaws}
 use Rattle.crash_rules.specs.History.{first_history}
 use Rattle.crash_rules.specs.Runs.{ProgramLaws}
 use Rattle.crash_rules.specs.Laws.{Origin, Begins}
-use Rattle.run_charges.specs.Charges.{IsPlacedProgram, AlwaysLeaves}
+use Rattle.run_charges.specs.Fronts.{IsPlacedProgram, AlwaysLeaves}
 use Rattle.memory_map.specs.Laws.{AreApart}
 use Rattle.stands_for.specs.Layout.{HaveRoom, ArePrivate}
 use Rattle.linked_code.specs.Linked.{CodeFits}

@@ -27,8 +27,9 @@ use Rattle.event_handler.specs.Handler.{Stage, SaveR4, SaveR5, TakeEvent, LoadHe
 use Rattle.event_handler.specs.Handler.{DoubleIndex, StoreWord, RaiseHead, RestoreR5, RestoreR4, Return, instruction_at}
 use Rattle.event_handler.specs.Boundaries.{IsInterrupted, IsInHandler, IsBehind, next_stage, heard_at, is_ring_full, head_of, event_of, fram_at, fram_behind}
 use Rattle.event_handler.specs.Boundaries.{with_event, with_head_raised}
-use Rattle.program_view.specs.View.{stage_behind, IsPrograms}
-use Rattle.run_charges.specs.View.{is_handlers, IsMomentFrom, PowersUp, Instructs, Serves}
+use Rattle.program_view.specs.Stands.{stage_behind, IsPrograms}
+use Rattle.run_charges.specs.View.{is_handlers}
+use Rattle.run_charges.specs.Moments.{IsMomentFrom, PowersUp, Instructs, Serves}
 use Rattle.run_charges.specs.Charges.{IsInstruction}
 use Rattle.run_charges.proofs.Interface.{PlacedProgram, Moves, MovesOwn, MovesIn, MovesOn}
 use Rattle.event_rules.specs.Laws.{KeepsHand}

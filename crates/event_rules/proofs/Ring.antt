@@ -18,12 +18,13 @@ use Rattle.event_handler.specs.Handler.{Stage, SaveR4, SaveR5, TakeEvent, LoadHe
 use Rattle.event_handler.specs.Handler.{DoubleIndex, StoreWord, RaiseHead, RestoreR5, RestoreR4, Return, instruction_at}
 use Rattle.event_handler.specs.Boundaries.{IsInterrupted, IsInHandler, IsBehind, next_stage, is_ring_full, head_of, event_of, fram_at, fram_behind}
 use Rattle.event_handler.specs.Boundaries.{with_event, with_head_raised}
-use Rattle.program_view.specs.View.{stage_of}
+use Rattle.program_view.specs.Stands.{stage_of}
 use Rattle.crash_rules.specs.History.{History, behind_boot}
 use Rattle.crash_rules.specs.Runs.{Program}
-use Rattle.run_charges.specs.View.{is_handlers, IsMomentFrom, PowersUp, Instructs, Serves, AreMoments}
-use Rattle.run_charges.specs.Charges.{IsInstruction, AreInstructionMoments, ChargeFront, board_powered, board_behind, board_behind_all, moments_of, AreChargesFrom}
-use Rattle.run_charges.specs.Charges.{observed}
+use Rattle.run_charges.specs.View.{is_handlers}
+use Rattle.run_charges.specs.Moments.{IsMomentFrom, PowersUp, Instructs, Serves, AreMoments}
+use Rattle.run_charges.specs.Charges.{IsInstruction, AreInstructionMoments, observed}
+use Rattle.run_charges.specs.Fronts.{ChargeFront, board_powered, board_behind, board_behind_all, moments_of, AreChargesFrom}
 use Rattle.run_charges.proofs.Interface.{PlacedProgram, Moves, MovesOwn, MovesIn, MovesOn, MoveOn, silent_behind, Ready, ready_on, reach, ready_behind}
 use Rattle.run_charges.proofs.Interface.{last_behind, front_charges, run_front, placed_program, ready_there, programs_run}
 use Rattle.event_rules.specs.Laws.{HoldsLast, RingHoldsAccepted}

@@ -9,12 +9,13 @@ use Rattle.board_run.specs.Events.{Hand, no_hand, losing, hand_behind, hand_afte
 use Rattle.machine_effects.specs.Runs.{last_board}
 use Rattle.machine_effects.proofs.Interface.{powered_heard}
 use Rattle.event_handler.specs.Handler.{Stage}
-use Rattle.program_view.specs.View.{StandsAs, AtCode, InHandler, stage_of}
+use Rattle.program_view.specs.Stands.{StandsAs, AtCode, InHandler, stage_of}
 use Rattle.program_view.proofs.Interface.{handler_is_high}
 use Rattle.crash_rules.specs.History.{History, behind_boot}
 use Rattle.crash_rules.specs.Runs.{Program}
-use Rattle.run_charges.specs.View.{AreMoments}
-use Rattle.run_charges.specs.Charges.{AreInstructionMoments, ChargeFront, board_powered, board_behind, board_behind_all, moments_of, AreChargesFrom, observed}
+use Rattle.run_charges.specs.Moments.{AreMoments}
+use Rattle.run_charges.specs.Charges.{AreInstructionMoments, observed}
+use Rattle.run_charges.specs.Fronts.{ChargeFront, board_powered, board_behind, board_behind_all, moments_of, AreChargesFrom}
 use Rattle.run_charges.proofs.Interface.{PlacedProgram, MoveOn, Machine, silent_behind, Ready, ready_on, reach, ready_behind, last_behind, front_charges, run_front}
 use Rattle.run_charges.proofs.Interface.{placed_program, ready_there, programs_run}
 use Rattle.event_rules.specs.Laws.{KeepsHand, EachKeepsHand, HandsAreKept, WaitsInTheHandler}

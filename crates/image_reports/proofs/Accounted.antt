@@ -8,7 +8,7 @@ use Rattle.fram_board.specs.Run.{moment_of, power_up_of}
 use Rattle.fram_board.proofs.Interface.{AreCounted, IsCountedLine, step_counts, boundary_counts, power_up_counts}
 use Rattle.board_run.specs.Events.{Hand, hand_behind, hand_after, words_known}
 use Rattle.board_run.proofs.Interface.{step_known, power_up_known}
-use Rattle.run_charges.specs.View.{Serves}
+use Rattle.run_charges.specs.Moments.{Serves}
 use Rattle.std.proofs.Common.{Ok}
 
 -- behind a board's line all that was taken from EVENT is known by a hand

@@ -22,7 +22,8 @@ use Rattle.machine_effects.specs.View.{looks_at, machine_with, outcome_of_answer
 use Rattle.machine_effects.proofs.Interface.{standing_keeps}
 use Rattle.event_handler.specs.Handler.{Stage}
 use Rattle.event_handler.specs.Boundaries.{IsInHandler}
-use Rattle.program_view.specs.View.{IsPrograms, is_handlers}
+use Rattle.program_view.specs.View.{is_handlers}
+use Rattle.program_view.specs.Stands.{IsPrograms}
 use Rattle.run_charges.specs.Charges.{IsInstruction}
 
 -- moments that are the steps of a charge, or end with those behind their last power-up

@@ -31,15 +31,19 @@ pub use Rattle.crash_rules.specs.Model.{Ends, Given, IsElsewhere, Marks, Model, 
 pub use Rattle.crash_rules.specs.Runs.{Charge, Charged, IsPoweredFrom, Program}
 pub use Rattle.stands_for.proofs.Interface.{each_weaker, elsewhere_same, unsent_are_few}
 pub use Rattle.stands_for.specs.StandsFor.{HoldsWords, IsAtRest, IsPendingCommit, IsSound, SoundAtRest, SoundPending, VersionsWithin}
-pub use Rattle.program_view.specs.View.{Shows, StandsAs, outside_of, outside_with, steady}
+pub use Rattle.program_view.specs.View.{outside_of, outside_with, steady}
+pub use Rattle.program_view.specs.Stands.{Shows, StandsAs}
 pub use Rattle.program_view.proofs.Interface.{steady_low, steady_off}
-pub use Rattle.run_charges.specs.Charges.{AreInstructionMoments, ArePowerStates, IsPlacedProgram, program_steps}
+pub use Rattle.run_charges.specs.Charges.{AreInstructionMoments, ArePowerStates, program_steps}
+pub use Rattle.run_charges.specs.Fronts.{IsPlacedProgram}
 pub use Rattle.run_charges.specs.Laws.{IsRunOfWords}
-pub use Rattle.run_charges.specs.View.{AreMoments, Instructs, IsMomentFrom, NoneServes, PowersUp, Serves}
+pub use Rattle.run_charges.specs.View.{NoneServes}
+pub use Rattle.run_charges.specs.Moments.{AreMoments, Instructs, IsMomentFrom, PowersUp, Serves}
 pub use Rattle.board_run.specs.History.{start_of, start_with}
 pub use Rattle.board_run.specs.Report.{report_of}
 pub use Rattle.model_runs.proofs.Interface.{AtFront, at_front, fronts_are_lawful, powers_up, starts_hold, stood, stops_where_short}
-pub use Rattle.model_runs.specs.Runs.{BearsModel, all_amounts}
+pub use Rattle.model_runs.specs.Runs.{all_amounts}
+pub use Rattle.model_runs.specs.Bears.{BearsModel}
 -- sources
 pub use Rattle.cost_bound.specs.declared.allowance.Allow.{Allow}
 pub use Rattle.source_values.specs.Running.{IsRunnable}
@@ -57,7 +61,8 @@ pub use Rattle.compiled_model.specs.Places.{program_places}
 pub use Rattle.compiled_runs.proofs.Interface.{code_is_placed, code_keeps_the_laws, power_ups_raise_version, runs_leave_the_code, scripts_store_below}
 pub use Rattle.compiled_runs.specs.Program.{compiled_program, placed_code, source_code}
 pub use Rattle.compiled_bounds.proofs.Interface.{KeepsVersions, bound_is_the_sources, capacities_are_kept, phase_keeps_versions}
-pub use Rattle.compiled_bounds.specs.Laws.{AttemptsFit, CountsFit, KeepsCapacities}
+pub use Rattle.compiled_bounds.specs.Laws.{AttemptsFit, CountsFit}
+pub use Rattle.compiled_bounds.specs.Capacities.{KeepsCapacities}
 pub use Rattle.compiled_laws.proofs.Interface.{sources_are_ready}
 pub use Rattle.compiled_laws.specs.Ready.{IsReadyToRun}
 pub use Rattle.image_laws.proofs.Interface.{images_are_fresh, laid_out, maps_find_states, place_in_fram, version, worlds_stand, zero_at}

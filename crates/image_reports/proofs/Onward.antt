@@ -37,11 +37,12 @@ use Rattle.memory_map.specs.MemoryMap.{with_events}
 use Rattle.event_handler.specs.Handler.{Stage}
 use Rattle.event_handler.specs.Boundaries.{IsInterrupted, IsInHandler}
 use Rattle.event_handler.proofs.Interface.{handler_goes_on}
-use Rattle.program_view.specs.View.{AtCode}
+use Rattle.program_view.specs.Stands.{AtCode}
 use Rattle.program_view.specs.View as view
 use Rattle.program_view.proofs.Interface.{stands_fram, handler_is_high}
 use Rattle.run_charges.specs.Laws.{IsProgramRun}
-use Rattle.run_charges.specs.View.{BeginWithPower, looks_in}
+use Rattle.run_charges.specs.View.{looks_in}
+use Rattle.run_charges.specs.Moments.{BeginWithPower}
 use Rattle.run_charges.proofs.Interface.{follows_keeps, are_behind, front_moments, run_front, PlacedProgram, Machine, nothing_seen, is_powered, is_powered_from}
 use Rattle.run_charges.proofs.Interface.{sees, reach, leads, reached_on, powered_there, Counts, moments_count}
 use Rattle.board_run.specs.Events.{NeverReads, hand_after, head_of, no_hand}

@@ -41,7 +41,7 @@ use Rattle.run_charges.specs.Charges.{ArePowerStates, AreInstructionMoments, obs
 use Rattle.memory_map.specs.Laws.{AreApart}
 use Rattle.compiled_model.specs.Parts.{compiled_model, start_of as start_due}
 use Rattle.stands_for.specs.Program.{answer_word}
-use Rattle.compiled_bounds.specs.Laws.{KeepsCapacities}
+use Rattle.compiled_bounds.specs.Capacities.{KeepsCapacities}
 use Rattle.model_runs.specs.Runs.{IsShort, all_amounts}
 use Rattle.image_laws.specs.Words.{code_words}
 use Rattle.image_laws.specs.Compiled.{IsCompiled}

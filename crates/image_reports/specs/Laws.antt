@@ -15,7 +15,7 @@ use Rattle.source_meaning.specs.Acceptance.{IsAcceptedText}
 use Rattle.source_runs.specs.Naming.{IsMapOf}
 use Rattle.source_runs.specs.Traces.{IsTraceOfWords}
 use Rattle.source_runs.specs.Tells.{IsToldBySource}
-use Rattle.compiled_bounds.specs.Laws.{KeepsCapacities}
+use Rattle.compiled_bounds.specs.Capacities.{KeepsCapacities}
 use Rattle.source_maps.specs.Maps.{map_of}
 use Rattle.image_laws.specs.Compiled.{IsCompiled}
 

@@ -38,7 +38,7 @@ use Rattle.stands_for.specs.StandsFor.{IsSound}
 use Rattle.compiled_model.specs.Places.{program_places}
 use Rattle.compiled_model.specs.View.{state_in, state_left}
 use Rattle.compiled_model.specs.Parts.{compiled_model, start_of as start_due}
-use Rattle.compiled_bounds.specs.Laws.{KeepsCapacities}
+use Rattle.compiled_bounds.specs.Capacities.{KeepsCapacities}
 use Rattle.model_runs.specs.Events.{words_between}
 use Rattle.model_runs.specs.Runs.{IsShort, all_amounts}
 use Rattle.image_laws.specs.Compiled.{IsCompiled}

@@ -14,7 +14,8 @@ use Rattle.machine_effects.proofs.Interface.{power_up_keeps_words}
 use Rattle.crash_rules.specs.Model.{Marks}
 use Rattle.crash_rules.specs.History.{History, is_done, is_decide, behind_boot, behind_done, behind_decide, behind_gate, observe}
 use Rattle.crash_rules.proofs.Interface.{observed_taken, with_effects}
-use Rattle.run_charges.specs.View.{outside_effects, IsMomentFrom, AreMoments}
+use Rattle.run_charges.specs.View.{outside_effects}
+use Rattle.run_charges.specs.Moments.{IsMomentFrom, AreMoments}
 use Rattle.run_charges.specs.Charges.{behind_moment, observed}
 use Rattle.run_charges.proofs.Interface.{follows_keeps, Steps, IsPowerOrStep, IsPower, IsStepped, moment_is, step_is_observed}
 use Rattle.model_runs.proofs.Events.{seen}

@@ -13,7 +13,8 @@ use Rattle.crash_rules.specs.Laws.{Origin, IsSettled, Reaches, Phase, UndecidedP
 use Rattle.crash_rules.proofs.Interface.{stops_short}
 use Rattle.run_charges.specs.View.{outside_of}
 use Rattle.run_charges.proofs.Interface.{run_front, StopsBehind, run_halts}
-use Rattle.model_runs.specs.Runs.{BearsModel, history_behind, IsShort}
+use Rattle.model_runs.specs.Runs.{history_behind, IsShort}
+use Rattle.model_runs.specs.Bears.{BearsModel}
 use Rattle.model_runs.specs.Laws.{StopsWhereShort}
 use Rattle.model_runs.proofs.Fronts.{stood, runs_so, at_front, powers_up}
 

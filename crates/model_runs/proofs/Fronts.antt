@@ -11,10 +11,12 @@ use Rattle.crash_rules.specs.History.{History, first_history}
 use Rattle.crash_rules.specs.Runs.{Program, Charge, IsPoweredFrom, Charged}
 use Rattle.crash_rules.specs.Laws.{Origin, IsLawful, Matches, HasRun, PowersUpBehind}
 use Rattle.crash_rules.proofs.Interface.{crash_theorem}
-use Rattle.run_charges.specs.View.{outside_of, NoneServes, IsFront}
+use Rattle.run_charges.specs.View.{outside_of, NoneServes}
+use Rattle.run_charges.specs.Moments.{IsFront}
 use Rattle.run_charges.specs.Laws.{IsRunOfWords, IsProgramRun}
 use Rattle.run_charges.proofs.Interface.{PlacedProgram, Ready, Reached, front_reached, program_run, run_alone, run_front}
-use Rattle.model_runs.specs.Runs.{BearsModel, history_behind}
+use Rattle.model_runs.specs.Runs.{history_behind}
+use Rattle.model_runs.specs.Bears.{BearsModel}
 use Rattle.model_runs.specs.Laws.{FrontsAreLawful}
 
 module _ {St : Type 0} (m : Model St) (c : Program) (readings : List ℕ) (origin : Origin St) (x : World) (b : BoardValue)

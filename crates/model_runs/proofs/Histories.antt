@@ -20,7 +20,8 @@ use Rattle.machine_effects.proofs.Interface.{world_by_its_parts, power_up_keeps_
 use Rattle.crash_rules.specs.Model.{Marks}
 use Rattle.crash_rules.specs.History.{Done, History, behind_boot, behind_gate, first_history, observe}
 use Rattle.crash_rules.proofs.Interface.{with_effects, observed_world, observed_taken}
-use Rattle.run_charges.specs.View.{outside_of, outside_effects, Follows, IsMomentFrom, AreMoments}
+use Rattle.run_charges.specs.View.{outside_of, outside_effects}
+use Rattle.run_charges.specs.Moments.{Follows, IsMomentFrom, AreMoments}
 use Rattle.run_charges.specs.Charges.{behind_moment, observed}
 use Rattle.model_runs.specs.Events.{marks_of, IsInFront, TellsOf, last_world, counted, SaysAlike, SaysTheSame, done_lines, dones_lines}
 use Rattle.model_runs.specs.EventLaws.{HistoriesStayTheSame, FirstHistoriesAreTheSame}

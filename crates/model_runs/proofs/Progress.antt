@@ -13,11 +13,13 @@ use Rattle.crash_rules.specs.Runs.{Program, Spends}
 use Rattle.crash_rules.specs.Laws.{Origin, PowersUpBehind, TaskCosts, CoversTasks, IsSpentOn}
 use Rattle.crash_rules.proofs.Interface.{tasks_pay, instructions_pay, progress_law}
 use Rattle.run_charges.specs.View.{looks_in}
-use Rattle.run_charges.specs.Charges.{ArePowerStates, observed, program_steps, acceptances, events_met}
+use Rattle.run_charges.specs.Charges.{ArePowerStates, observed, program_steps}
+use Rattle.run_charges.specs.Fronts.{acceptances, events_met}
 use Rattle.run_charges.proofs.Interface.{PlacedProgram, run_front, first_start, other_starts, charge_instructs, sees, is_powered, is_powered_from}
 use Rattle.run_charges.proofs.Interface.{powered_there}
 use Rattle.run_charges.proofs.Interface.{spent_moments, spent_seen, spent_reached, status_behind, events_arise, all_made, SpendsItsPart, is_spent, p, q}
-use Rattle.model_runs.specs.Runs.{BearsModel, arisen_between, PaysFor, Progresses, AllSpent, SpentOne, StoppedIn}
+use Rattle.model_runs.specs.Runs.{arisen_between, PaysFor, Progresses, AllSpent, SpentOne, StoppedIn}
+use Rattle.model_runs.specs.Bears.{BearsModel}
 use Rattle.model_runs.specs.Laws.{MakesProgress}
 use Rattle.model_runs.proofs.Fronts.{stood, runs_so, AtFront, at_front, powers_up}
 

@@ -14,12 +14,14 @@ use Rattle.crash_rules.specs.History.{observe, first_history}
 use Rattle.crash_rules.specs.Runs.{Program, Charge}
 use Rattle.crash_rules.specs.Laws.{Origin, Resting, Pending, HasRun, AreConsecutive, FollowFirst}
 use Rattle.crash_rules.proofs.Interface.{spans_follow, pending_spans_follow}
-use Rattle.run_charges.specs.View.{outside_of, outside_effects, AreMoments}
+use Rattle.run_charges.specs.View.{outside_of, outside_effects}
+use Rattle.run_charges.specs.Moments.{AreMoments}
 use Rattle.run_charges.specs.Charges.{AreInstructionMoments, behind_action, behind_moment, observed, program_steps}
 use Rattle.run_charges.specs.Laws.{IsRunOfWords}
 use Rattle.run_charges.proofs.Interface.{first_start, charge_instructs, front_moments, end, charged_once}
 use Rattle.run_charges.proofs.Interface.{first as first_of}
-use Rattle.model_runs.specs.Runs.{BearsModel, history_behind, AreInOrder, AreInOrderPast}
+use Rattle.model_runs.specs.Runs.{history_behind, AreInOrder, AreInOrderPast}
+use Rattle.model_runs.specs.Bears.{BearsModel}
 use Rattle.model_runs.specs.Laws.{SpansAreInOrder, SpansPastAreInOrder}
 use Rattle.model_runs.proofs.Fronts.{stood, ready_at_first, runs_so, has_run}
 

@@ -11,7 +11,7 @@ use Rattle.crash_rules.specs.Runs.{Program}
 use Rattle.crash_rules.specs.Laws.{Origin}
 use Rattle.run_charges.specs.Laws.{IsRunOfWords}
 use Rattle.run_charges.proofs.Interface.{moments_hear_nothing, run_silent}
-use Rattle.model_runs.specs.Runs.{BearsModel}
+use Rattle.model_runs.specs.Bears.{BearsModel}
 use Rattle.model_runs.proofs.Fronts.{stood, ready_at_first, runs_so, runs_alone}
 
 pub never_reads : {St : Type 0} (m : Model St) (c : Program) (readings : List ℕ) (origin : Origin St) (x : World) (b : BoardValue)

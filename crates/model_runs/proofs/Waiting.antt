@@ -4,7 +4,8 @@ use Rattle.fram_board.specs.Events.{EventLine, words_in, port_behind, arising, a
 use Rattle.fram_board.specs.Board.{BoardValue}
 use Rattle.fram_board.specs.Run.{Moment}
 use Rattle.machine_effects.specs.Runs.{last_board}
-use Rattle.run_charges.specs.View.{NoneServes, is_handlers, IsMomentFrom, PowersUp, Instructs, Serves, AreMoments}
+use Rattle.run_charges.specs.View.{NoneServes, is_handlers}
+use Rattle.run_charges.specs.Moments.{IsMomentFrom, PowersUp, Instructs, Serves, AreMoments}
 
 -- each event that arose waits in the port, or was lost there
 abbrev pub AreWaiting : EventLine → Type 0

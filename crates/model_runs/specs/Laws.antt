@@ -13,7 +13,8 @@ use Rattle.crash_rules.specs.Laws.{Origin, Resting, Pending, IsLawful, Matches, 
 use Rattle.run_charges.specs.View.{outside_of}
 use Rattle.run_charges.specs.Charges.{observed}
 use Rattle.run_charges.specs.Laws.{IsRunOfWords, IsProgramRun}
-use Rattle.model_runs.specs.Runs.{BearsModel, history_behind, IsShort, Progresses, all_amounts, AreInOrder, AreInOrderPast}
+use Rattle.model_runs.specs.Runs.{history_behind, IsShort, Progresses, all_amounts, AreInOrder, AreInOrderPast}
+use Rattle.model_runs.specs.Bears.{BearsModel}
 
 -- what is known behind each front of a run stands for a run of the source, and the board is so
 abbrev pub FrontsAreLawful : {St : Type 0} → Model St → Program → Type 0

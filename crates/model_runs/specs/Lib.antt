@@ -1,4 +1,5 @@
 pub mod Runs
+pub mod Bears
 pub mod Laws
 pub mod Events
 pub mod EventLaws

@@ -4,20 +4,11 @@ use Rattle.msp_step.specs.declared.machine.Stop.{Stop}
 use Rattle.fram_board.specs.Board.{BoardValue, powered}
 use Rattle.fram_board.specs.Run.{Cycles, Moment, Charges, Stopped, RunOutcome, run_outcome, after_moments, BoardCharge, ChargeRun, power_up_of}
 use Rattle.machine_effects.specs.World.{World}
-use Rattle.crash_rules.specs.Model.{Model, ModelLaws, Marks, Inputs, Short}
+use Rattle.crash_rules.specs.Model.{Model, Marks, Inputs, Short}
 use Rattle.crash_rules.specs.History.{Done, History, first_history, given_since}
-use Rattle.crash_rules.specs.Runs.{Program, ProgramLaws}
-use Rattle.crash_rules.specs.Laws.{Origin, Begins, IsSettled, Reaches, TaskCosts, IsSpentOn}
-use Rattle.run_charges.specs.View.{outside_with, outside_of, looks_in}
+use Rattle.crash_rules.specs.Laws.{Origin, IsSettled, Reaches, TaskCosts, IsSpentOn}
+use Rattle.run_charges.specs.View.{outside_with, looks_in}
 use Rattle.run_charges.specs.Charges.{observed}
-use Rattle.run_charges.specs.Laws.{StandsIn}
-
--- a program that keeps what it owes to a model stands on a board, whose world then a run may begin with
-pub record BearsModel {St : Type 0} (m : Model St) (c : Program) (readings : List ℕ) (origin : Origin St) (x : World) (b : BoardValue) : Type 0 where
-  pub model : ModelLaws m
-  pub program : ProgramLaws m c
-  pub begins : Begins m readings origin x (outside_of b)
-  pub stands : StandsIn c m.marks b (first_history m.marks x)
 
 -- what is known behind moments of a run that began with this world
 abbrev pub history_behind : {St : Type 0} → Model St → World → List Moment → History

@@ -29,8 +29,9 @@ use Rattle.event_handler.specs.Handler.{DoubleIndex, StoreWord, RaiseHead, Resto
 use Rattle.event_handler.specs.Boundaries.{IsInterrupted, IsInHandler, HasReturned, IsBehind, IsOutsideAs, KeepsTheRest, next_stage, effects_at, cycles_left}
 use Rattle.event_handler.specs.Boundaries.{instructions_left, left_behind, stack_of, heard_at, is_ring_full}
 use Rattle.event_handler.proofs.Interface.{handler_begins, handler_goes_on, handler_keeps_the_rest, handler_takes_its_cycles}
-use Rattle.program_view.specs.View.{steady, shown_from, outside_of, Shows, StandsAs, AtCode, InHandler, cycles_due, steps_due, stage_of, stage_behind}
-use Rattle.program_view.specs.View.{waiting_at, waiting, is_handlers_step, IsServed}
+use Rattle.program_view.specs.View.{steady, outside_of, is_handlers_step}
+use Rattle.program_view.specs.Stands.{shown_from, Shows, StandsAs, AtCode, InHandler, cycles_due, steps_due, stage_of, stage_behind}
+use Rattle.program_view.specs.Stands.{waiting_at, waiting, IsServed}
 use Rattle.program_view.specs.Laws.{Begins, AcceptancesBegin, GoesOn, HandlersGoOn}
 use Rattle.program_view.proofs.Steady.{same_steady}
 use Rattle.program_view.proofs.Ports.{acceptance_line}

@@ -27,7 +27,8 @@ use Rattle.machine_effects.specs.View.{machine_with, looks_at, outcome_of_answer
 use Rattle.machine_effects.specs.Laws.{IsSameFrom, AreSameFrom, ChangesByEffects, HaveSameTop, KeepsTheHandler}
 use Rattle.machine_effects.proofs.Interface.{looks_as_the_board, code_changes, standing_keeps, machine_is_blind, pushes_alike}
 use Rattle.machine_effects.proofs.Interface.{executed_is_step, step_leaves_it_whole, boundary_whole}
-use Rattle.program_view.specs.View.{steady, shown_from, Shows, IsPrograms}
+use Rattle.program_view.specs.View.{steady}
+use Rattle.program_view.specs.Stands.{shown_from, Shows, IsPrograms}
 use Rattle.program_view.specs.Laws.{KeepsItsStack, KeepsRules, IsMade, DoesAlike, InstructionsAreThePrograms}
 use Rattle.program_view.proofs.Steady.{steady_low, steady_off, left_alike}
 

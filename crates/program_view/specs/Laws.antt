@@ -19,7 +19,7 @@ use Rattle.machine_effects.specs.Machine.{MachineBoard, code_executed, keeps_sta
 use Rattle.machine_effects.specs.View.{looks_at, IsWhole, IsBusFault}
 use Rattle.event_handler.specs.Handler.{Stage, SaveR4, instruction_at}
 use Rattle.event_handler.specs.Boundaries.{IsInterrupted, IsInHandler, IsBehind, next_stage, heard_at, cycles_left, instructions_left}
-use Rattle.program_view.specs.View.{Shows, StandsAs, IsPrograms, IsServed, cycles_due, steps_due, stage_of, stage_behind, waiting_at, waiting}
+use Rattle.program_view.specs.Stands.{Shows, StandsAs, IsPrograms, IsServed, cycles_due, steps_due, stage_of, stage_behind, waiting_at, waiting}
 
 -- how SP moves in a step with this instruction where the CPU accepts interrupts, and goes on to do so
 pub record KeepsItsStack (i : Instr) (u next : MachineBoard) : Type 0 where

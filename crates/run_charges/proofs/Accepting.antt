@@ -13,10 +13,13 @@ use Rattle.machine_effects.specs.Inputs.{Look}
 use Rattle.machine_effects.specs.Machine.{MachineBoard}
 use Rattle.machine_effects.specs.Runs.{last_board}
 use Rattle.event_handler.specs.Boundaries.{IsInterrupted}
-use Rattle.program_view.specs.View.{Shows, StandsAs, AtCode, InHandler, is_handlers_step}
+use Rattle.program_view.specs.View.{is_handlers_step}
+use Rattle.program_view.specs.Stands.{Shows, StandsAs, AtCode, InHandler}
 use Rattle.crash_rules.specs.History.{History, behind_boot}
-use Rattle.run_charges.specs.View.{NoneServes, IsFront}
-use Rattle.run_charges.specs.Charges.{ArePowerStates, ChargeFront, board_behind, board_behind_all, AreChargesFrom, observed}
+use Rattle.run_charges.specs.View.{NoneServes}
+use Rattle.run_charges.specs.Moments.{IsFront}
+use Rattle.run_charges.specs.Charges.{ArePowerStates, observed}
+use Rattle.run_charges.specs.Fronts.{ChargeFront, board_behind, board_behind_all, AreChargesFrom}
 use Rattle.run_charges.proofs.Charges.{front_charges}
 use Rattle.run_charges.proofs.Moments.{step_is_programs, first_start, other_starts, nothing_seen}
 use Rattle.run_charges.proofs.Running.{PlacedProgram, Machine, Running, is_code, runs_on}

@@ -6,7 +6,8 @@ use Rattle.machine_effects.specs.Runs.{action_cycles}
 use Rattle.crash_rules.specs.History.{History, behind_boot}
 use Rattle.crash_rules.specs.Runs.{Program}
 use Rattle.run_charges.specs.View.{is_handlers}
-use Rattle.run_charges.specs.Charges.{ChargeFront, board_behind, moments_of, AreChargesFrom, observed, handler_cycles, handler_steps, acceptances}
+use Rattle.run_charges.specs.Charges.{observed}
+use Rattle.run_charges.specs.Fronts.{ChargeFront, board_behind, moments_of, AreChargesFrom, handler_cycles, handler_steps, acceptances}
 use Rattle.run_charges.specs.Laws.{HandlerIsBrief, HandlersAreBrief}
 use Rattle.run_charges.proofs.Charges.{front_charges, run_front}
 use Rattle.run_charges.proofs.Running.{PlacedProgram}

@@ -4,8 +4,9 @@ use Rattle.fram_board.specs.Board.{BoardValue, PowerState, powered}
 use Rattle.fram_board.specs.Steps.{IsPowerState}
 use Rattle.fram_board.specs.Run.{Action, PowerUp, Execute, Moment, power_up_of, RunOutcome, BoardCharge, Run, Over, Next, Last}
 use Rattle.machine_effects.specs.Runs.{last_board}
-use Rattle.run_charges.specs.Charges.{ChargeFront, moments_of, IsInstruction, AreInstructionMoments, AreChargesFrom}
-use Rattle.run_charges.specs.View.{Follows, IsMomentFrom, PowersUp, Instructs, Serves, AreMoments, BeginWithPower, IsFront}
+use Rattle.run_charges.specs.Charges.{IsInstruction, AreInstructionMoments}
+use Rattle.run_charges.specs.Fronts.{ChargeFront, moments_of, AreChargesFrom}
+use Rattle.run_charges.specs.Moments.{Follows, IsMomentFrom, PowersUp, Instructs, Serves, AreMoments, BeginWithPower, IsFront}
 use Rattle.run_charges.specs.Laws.{IsProgramRun, IsOfCharges, FrontsAreCharges}
 use Rattle.run_charges.proofs.Moments.{front_moments}
 

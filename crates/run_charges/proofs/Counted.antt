@@ -12,7 +12,8 @@ use Rattle.machine_effects.proofs.Interface.{world_by_its_parts, power_up_keeps_
 use Rattle.crash_rules.specs.Model.{Marks}
 use Rattle.crash_rules.specs.History.{History, observe, behind_boot}
 use Rattle.crash_rules.proofs.Interface.{observed_world, observed_taken}
-use Rattle.run_charges.specs.View.{outside_effects, Follows, IsMomentFrom, AreMoments}
+use Rattle.run_charges.specs.View.{outside_effects}
+use Rattle.run_charges.specs.Moments.{Follows, IsMomentFrom, AreMoments}
 use Rattle.run_charges.specs.Charges.{behind_moment, observed}
 use Rattle.run_charges.specs.Laws.{IsProgramRun}
 use Rattle.run_charges.proofs.View.{follows_keeps}

@@ -6,7 +6,8 @@ use Rattle.machine_effects.specs.Runs.{last_board}
 use Rattle.crash_rules.specs.Model.{Marks}
 use Rattle.crash_rules.specs.History.{History, behind_boot}
 use Rattle.crash_rules.specs.Runs.{Program}
-use Rattle.run_charges.specs.View.{outside_of, PowersUp, AreMoments}
+use Rattle.run_charges.specs.View.{outside_of}
+use Rattle.run_charges.specs.Moments.{PowersUp, AreMoments}
 use Rattle.run_charges.specs.Charges.{ArePowerStates, observed}
 use Rattle.run_charges.specs.Laws.{IsRunOfWords, IsProgramRun, StandsIn, ProgramsRun, ProgramsRunAlone, FrontsAreCharged}
 use Rattle.run_charges.proofs.View.{no_gap}

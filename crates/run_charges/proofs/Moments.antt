@@ -41,8 +41,8 @@ use Rattle.crash_rules.specs.History.{History, observe}
 use Rattle.crash_rules.proofs.Interface.{observed_taken, events_of_instructions}
 use Rattle.program_view.specs.View.{is_handlers_step}
 use Rattle.program_view.proofs.Interface.{kind_is}
-use Rattle.run_charges.specs.View.{outside_of, is_handlers, looks_by, outside_looks, outside_effects, IsPrograms, IsServed, IsMomentFrom, PowersUp, Instructs}
-use Rattle.run_charges.specs.View.{Serves, AreMoments}
+use Rattle.run_charges.specs.View.{outside_of, is_handlers, looks_by, outside_looks, outside_effects}
+use Rattle.run_charges.specs.Moments.{IsPrograms, IsServed, IsMomentFrom, PowersUp, Instructs, Serves, AreMoments}
 use Rattle.run_charges.specs.Charges.{ArePowerStates, AreInstructionMoments, behind_action, behind_moment}
 
 -- the board behind the moments of a charge that is spent

@@ -13,17 +13,18 @@ use Rattle.machine_effects.specs.View.{IsWhole, IsOfWords, IsMachineOfWords}
 use Rattle.machine_effects.specs.Runs.{last_board}
 use Rattle.machine_effects.proofs.Interface.{fram_untouched, power_up_keeps_words, machine_is_of_words}
 use Rattle.event_handler.specs.Handler.{HasHandler}
-use Rattle.program_view.specs.View.{AtCode}
+use Rattle.program_view.specs.Stands.{AtCode}
 use Rattle.program_view.proofs.Interface.{stands_fram, stands_readings}
 use Rattle.code_forms.specs.Placed.{words_of, Holds}
 use Rattle.crash_rules.specs.Model.{IsElsewhere, Marks}
 use Rattle.crash_rules.specs.History.{History, observe, behind_boot}
 use Rattle.crash_rules.specs.Runs.{Program, Charge, IsPoweredFrom, Charged}
 use Rattle.crash_rules.proofs.Interface.{observe-append}
-use Rattle.run_charges.specs.View.{outside_with, outside_of, outside_effects, looks_in, all_outside_effects, Follows, AreMoments, IsFront}
-use Rattle.run_charges.specs.Charges.{ChargeFront, board_powered, board_behind, board_behind_all, moments_of, IsInstruction, AreInstructionMoments}
-use Rattle.run_charges.specs.Charges.{program_steps, program_cycles, AreChargesFrom, behind_action, behind_moment, observed, charges_of, LeavesProgram}
-use Rattle.run_charges.specs.Charges.{AlwaysLeaves}
+use Rattle.run_charges.specs.View.{outside_with, outside_of, outside_effects, looks_in, all_outside_effects}
+use Rattle.run_charges.specs.Moments.{Follows, AreMoments, IsFront}
+use Rattle.run_charges.specs.Charges.{IsInstruction, AreInstructionMoments, program_steps, program_cycles, behind_action, behind_moment, observed}
+use Rattle.run_charges.specs.Fronts.{ChargeFront, board_powered, board_behind, board_behind_all, moments_of, AreChargesFrom, charges_of, LeavesProgram}
+use Rattle.run_charges.specs.Fronts.{AlwaysLeaves}
 use Rattle.run_charges.specs.Laws.{IsChargedBy}
 use Rattle.run_charges.proofs.View.{follows_keeps}
 use Rattle.run_charges.proofs.Moments.{nothing_seen}

@@ -12,7 +12,8 @@ use Rattle.fram_board.specs.Run.{Run, Over, Next, Last, StepKind}
 use Rattle.fram_board.specs.Run.{ChargeRun, Spent, NoInstruction, TooDear, Refused, Executed}
 use Rattle.machine_effects.proofs.Interface.{boundary_heard, powered_heard, told_heard}
 use Rattle.crash_rules.specs.History.{History, behind_boot}
-use Rattle.run_charges.specs.View.{is_handlers, NoneServes, IsMomentFrom, PowersUp, Instructs, Serves, AreMoments}
+use Rattle.run_charges.specs.View.{is_handlers, NoneServes}
+use Rattle.run_charges.specs.Moments.{IsMomentFrom, PowersUp, Instructs, Serves, AreMoments}
 use Rattle.run_charges.specs.Charges.{ArePowerStates, observed}
 use Rattle.run_charges.proofs.Moments.{first_start, other_starts, nothing_seen}
 use Rattle.run_charges.proofs.Running.{PlacedProgram, Running, looks_of, sees_of, refused_on, runs_on}

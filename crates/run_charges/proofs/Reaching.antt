@@ -19,11 +19,12 @@ use Rattle.machine_effects.specs.World.{fram_after}
 use Rattle.machine_effects.specs.Runs.{action_cycles, last_board}
 use Rattle.machine_effects.proofs.Interface.{machine_is_of_words, fram_after-append, boundary_heard, powered_heard}
 use Rattle.event_handler.specs.Handler.{Stage}
-use Rattle.program_view.specs.View.{StandsAs, AtCode, InHandler, cycles_due, steps_due, stage_of, waiting}
+use Rattle.program_view.specs.Stands.{StandsAs, AtCode, InHandler, cycles_due, steps_due, stage_of, waiting}
 use Rattle.program_view.proofs.Interface.{handler_is_high}
-use Rattle.run_charges.specs.View.{outside_of, is_handlers, looks_by, outside_looks, looks_in, outside_effects, all_outside_effects, IsMomentFrom}
-use Rattle.run_charges.specs.View.{PowersUp, Instructs, Serves, AreMoments}
-use Rattle.run_charges.specs.Charges.{IsInstruction, AreInstructionMoments, program_steps, program_cycles, handler_steps, handler_cycles, acceptances}
+use Rattle.run_charges.specs.View.{outside_of, is_handlers, looks_by, outside_looks, looks_in, outside_effects, all_outside_effects}
+use Rattle.run_charges.specs.Moments.{IsMomentFrom, PowersUp, Instructs, Serves, AreMoments}
+use Rattle.run_charges.specs.Charges.{IsInstruction, AreInstructionMoments, program_steps, program_cycles}
+use Rattle.run_charges.specs.Fronts.{handler_steps, handler_cycles, acceptances}
 use Rattle.run_charges.proofs.Moments.{whole_behind, served_effects, front_sees, IsPowerOrStep, IsPower, IsStepped, moment_is}
 use Rattle.run_charges.proofs.Running.{PlacedProgram, Machine, relooked, Leads, Moves, Turn, looks_of, program_turn, turn_leads, leads_on}
 

@@ -15,14 +15,16 @@ use Rattle.machine_effects.specs.Inputs.{Look, SeeWords}
 use Rattle.machine_effects.specs.Machine.{MachineBoard, MachineOutcome, in_stack}
 use Rattle.machine_effects.specs.View.{IsWhole, IsOfWords}
 use Rattle.machine_effects.specs.Runs.{last_board}
-use Rattle.program_view.specs.View.{StandsAs, AtCode, InHandler}
+use Rattle.program_view.specs.Stands.{StandsAs, AtCode, InHandler}
 use Rattle.program_view.proofs.Interface.{handler_is_high}
 use Rattle.code_forms.specs.Placed.{placed}
 use Rattle.code_forms.proofs.Interface.{code_stays_open}
 use Rattle.crash_rules.specs.History.{History, behind_boot}
 use Rattle.crash_rules.specs.Runs.{Program}
-use Rattle.run_charges.specs.View.{looks_in, IsMomentFrom, PowersUp, Instructs, Serves, AreMoments}
-use Rattle.run_charges.specs.Charges.{AreInstructionMoments, IsInstruction, ChargeFront, board_behind, board_behind_all, AreChargesFrom, observed, program_steps}
+use Rattle.run_charges.specs.View.{looks_in}
+use Rattle.run_charges.specs.Moments.{IsMomentFrom, PowersUp, Instructs, Serves, AreMoments}
+use Rattle.run_charges.specs.Charges.{AreInstructionMoments, IsInstruction, observed, program_steps}
+use Rattle.run_charges.specs.Fronts.{ChargeFront, board_behind, board_behind_all, AreChargesFrom}
 use Rattle.run_charges.specs.Laws.{Accepts, HasRoom, StackHasRoom, InterruptsStayOn}
 use Rattle.run_charges.proofs.Charges.{front_charges, run_front}
 use Rattle.run_charges.proofs.Moments.{nothing_seen, are_behind, are_front, whole_behind}

@@ -39,7 +39,8 @@ use Rattle.machine_effects.proofs.Interface.{code_keeps_the_handler}
 use Rattle.machine_effects.proofs.Interface.{code_changes_by_effects, told_heard}
 use Rattle.event_handler.specs.Handler.{Stage, SaveR4, HasHandler, handler_length, instruction_at}
 use Rattle.event_handler.specs.Boundaries.{IsInterrupted, IsInHandler, IsBehind, next_stage, heard_at, cycles_left, instructions_left}
-use Rattle.program_view.specs.View.{steady, Shows, StandsAs, AtCode, InHandler, cycles_due, steps_due, stage_of, stage_behind, waiting_at, waiting, is_handlers_step}
+use Rattle.program_view.specs.View.{steady, is_handlers_step}
+use Rattle.program_view.specs.Stands.{Shows, StandsAs, AtCode, InHandler, cycles_due, steps_due, stage_of, stage_behind, waiting_at, waiting}
 use Rattle.program_view.specs.Laws.{KeepsItsStack, KeepsRules, DoesAlike, Begins, GoesOn}
 use Rattle.program_view.proofs.Interface.{steady_low, steady_off, instructions_are_the_programs, acceptances_begin, handlers_go_on, step_arises}
 use Rattle.code_forms.specs.Placed.{placed, words_of, Holds, LeavesCode, IsOutside}
@@ -47,10 +48,9 @@ use Rattle.code_forms.specs.Laws.{IsNoHole}
 use Rattle.code_forms.proofs.Interface.{placed_next, placed_within, holds_stores, code_in_fram_steps, code_goes_undisturbed, code_stays_prepared}
 use Rattle.crash_rules.specs.Model.{Marks}
 use Rattle.crash_rules.specs.Runs.{Program}
-use Rattle.run_charges.specs.View.{is_handlers, outside_looks, outside_effects, IsServed, IsMomentFrom}
-use Rattle.run_charges.specs.View.{Instructs, Serves, AreMoments}
-use Rattle.run_charges.specs.Charges.{IsPlacedProgram}
-use Rattle.run_charges.specs.Charges.{accepts_in}
+use Rattle.run_charges.specs.View.{is_handlers, outside_looks, outside_effects}
+use Rattle.run_charges.specs.Moments.{IsServed, IsMomentFrom, Instructs, Serves, AreMoments}
+use Rattle.run_charges.specs.Fronts.{IsPlacedProgram, accepts_in}
 use Rattle.run_charges.proofs.View.{no_gap}
 use Rattle.run_charges.proofs.Moments.{told_alike, step_is_programs, front_sees, nothing_seen, whole_behind, served_looks}
 use Rattle.run_charges.proofs.Rules.{stack_kept}

@@ -25,14 +25,16 @@ use Rattle.machine_effects.proofs.Interface.{told_cycles, powered_heard}
 use Rattle.machine_effects.specs.Runs.{action_cycles, last_board}
 use Rattle.fram_board.specs.Effects.{Effect}
 use Rattle.event_handler.specs.Handler.{instruction_at}
-use Rattle.program_view.specs.View.{StandsAs, AtCode, InHandler, cycles_due}
+use Rattle.program_view.specs.Stands.{StandsAs, AtCode, InHandler, cycles_due}
 use Rattle.program_view.proofs.Interface.{handlers_go_on, power_up_arises, waits_or_accepts}
 use Rattle.machine_effects.proofs.msp_step.Interface.{same_current}
 use Rattle.fram_board.specs.Bus.{board_bus}
 use Rattle.crash_rules.specs.History.{History, observe, behind_boot}
 use Rattle.crash_rules.specs.Runs.{Charge, IsSpent, Spends}
-use Rattle.run_charges.specs.View.{outside_of, is_handlers, AreMoments}
-use Rattle.run_charges.specs.Charges.{AreInstructionMoments, observed, program_steps, program_cycles, handler_steps, handler_cycles, acceptances, events_met}
+use Rattle.run_charges.specs.View.{outside_of, is_handlers}
+use Rattle.run_charges.specs.Moments.{AreMoments}
+use Rattle.run_charges.specs.Charges.{AreInstructionMoments, observed, program_steps, program_cycles}
+use Rattle.run_charges.specs.Fronts.{handler_steps, handler_cycles, acceptances, events_met}
 use Rattle.run_charges.proofs.Moments.{charge_last, charge_instructs}
 use Rattle.run_charges.proofs.Running.{PlacedProgram, is_code, charge_moments}
 use Rattle.run_charges.proofs.Reaching.{Reach}

@@ -19,7 +19,8 @@ use Rattle.crash_rules.specs.Model.{IsElsewhere, Marks, words_stored, answers_at
 use Rattle.crash_rules.specs.History.{History, observe, behind_boot}
 use Rattle.crash_rules.specs.Runs.{IsPoweredFrom}
 use Rattle.crash_rules.proofs.Interface.{observe-append, observe_quiet, with_effects, goes_on}
-use Rattle.run_charges.specs.View.{looks_in, all_outside_effects, AreMoments}
+use Rattle.run_charges.specs.View.{looks_in, all_outside_effects}
+use Rattle.run_charges.specs.Moments.{AreMoments}
 use Rattle.run_charges.specs.Charges.{ArePowerStates, AreInstructionMoments, observed, program_steps, program_cycles}
 use Rattle.run_charges.proofs.Moments.{first_start, other_starts, charge_instructs, nothing_seen}
 use Rattle.run_charges.proofs.Running.{PlacedProgram, Machine, relooked, Running, looks_of, sees_of, none_to_make, refused_on, runs_on, charge_moments}

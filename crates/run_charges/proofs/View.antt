@@ -2,7 +2,8 @@
 use Rattle.std.proofs.Common.{◌≡◌, refl, sym, subst}
 use Rattle.fram_board.specs.Board.{BoardValue, next_number}
 use Rattle.machine_effects.specs.View.{IsWhole, IsOfWords}
-use Rattle.run_charges.specs.View.{outside_of, Follows}
+use Rattle.run_charges.specs.View.{outside_of}
+use Rattle.run_charges.specs.Moments.{Follows}
 
 -- what came from outside in between leaves all but itself as it was
 pub record Keeps (left next : BoardValue) : Type 0 where

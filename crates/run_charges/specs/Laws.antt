@@ -15,9 +15,11 @@ use Rattle.code_forms.specs.Placed.{words_of, Holds}
 use Rattle.crash_rules.specs.Model.{Marks}
 use Rattle.crash_rules.specs.History.{History}
 use Rattle.crash_rules.specs.Runs.{Program, Charged}
-use Rattle.run_charges.specs.View.{outside_of, NoneServes, AreMoments}
-use Rattle.run_charges.specs.Charges.{ArePowerStates, AreInstructionMoments, ChargeFront, moments_of, AreChargesFrom, observed, charges_of, handler_cycles, handler_steps}
-use Rattle.run_charges.specs.Charges.{acceptances, IsPlacedProgram, AlwaysLeaves}
+use Rattle.run_charges.specs.View.{outside_of, NoneServes}
+use Rattle.run_charges.specs.Moments.{AreMoments}
+use Rattle.run_charges.specs.Charges.{ArePowerStates, AreInstructionMoments, observed}
+use Rattle.run_charges.specs.Fronts.{ChargeFront, moments_of, AreChargesFrom, charges_of, handler_cycles, handler_steps}
+use Rattle.run_charges.specs.Fronts.{acceptances, IsPlacedProgram, AlwaysLeaves}
 
 -- a run of a whole board of words under charges with any power-ups
 pub record IsRunOfWords (cs : List BoardCharge) (b : BoardValue) (r : RunOutcome) : Type 0 where

@@ -18,7 +18,8 @@ use Rattle.machine_effects.specs.Runs.{step_effects}
 use Rattle.machine_effects.specs.View.{IsWhole, IsOfWords, seen_at_pc}
 use Rattle.machine_effects.proofs.Interface.{takes}
 use Rattle.crash_rules.specs.Model.{Marks, words_stored, answers_at, answers_in}
-use Rattle.run_charges.specs.View.{is_handlers, IsMomentFrom, PowersUp, Instructs, Serves, outside_effects, stored_by}
+use Rattle.run_charges.specs.View.{is_handlers, outside_effects}
+use Rattle.run_charges.specs.Moments.{IsMomentFrom, PowersUp, Instructs, Serves, stored_by}
 use Rattle.run_charges.proofs.Interface.{stepped, step_is_programs}
 use Rattle.model_runs.specs.Events.{answer_in}
 use Rattle.source_runs.specs.Tells.{written_at, answer_by}

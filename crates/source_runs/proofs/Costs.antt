@@ -16,7 +16,8 @@ use Rattle.crash_rules.specs.Model.{Marks}
 use Rattle.crash_rules.specs.History.{Done, History, is_decide, behind_decide, behind_done, behind_gate}
 use Rattle.crash_rules.specs.Laws.{TaskCosts, next_cost, costs_of, IsSpentOn}
 use Rattle.crash_rules.proofs.Interface.{with_effects}
-use Rattle.run_charges.specs.View.{outside_effects, IsMomentFrom, AreMoments}
+use Rattle.run_charges.specs.View.{outside_effects}
+use Rattle.run_charges.specs.Moments.{IsMomentFrom, AreMoments}
 use Rattle.run_charges.proofs.Interface.{stepped, Steps, IsPowerOrStep, IsPower, IsStepped, moment_is}
 use Rattle.run_charges.specs.Charges.{behind_moment, observed}
 use Rattle.model_runs.specs.Events.{marks_of, IsInFront, counted, last_world, SaysTheSame}

@@ -24,7 +24,7 @@ use Rattle.machine_effects.specs.Runs.{last_board}
 use Rattle.crash_rules.specs.History.{Done, first_history}
 use Rattle.run_charges.specs.Charges.{observed}
 use Rattle.run_charges.specs.Laws.{IsProgramRun}
-use Rattle.run_charges.specs.View.{IsMomentFrom, PowersUp, Instructs, Serves, AreMoments}
+use Rattle.run_charges.specs.Moments.{IsMomentFrom, PowersUp, Instructs, Serves, AreMoments}
 use Rattle.run_charges.proofs.Interface.{follows_keeps, charge_last, Counts, moments_count}
 use Rattle.model_runs.specs.Events.{marks_of, IsInFront, last_world}
 use Rattle.model_runs.specs.EventLaws.{StartsWith}

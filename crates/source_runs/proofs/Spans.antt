@@ -20,7 +20,8 @@ use Rattle.crash_rules.specs.Model.{Marks, answers_at, answers_in}
 use Rattle.crash_rules.specs.History.{Done, History, is_decide, behind_decide, behind_done, behind_gate, first_history}
 use Rattle.crash_rules.specs.Laws.{TaskCosts}
 use Rattle.crash_rules.proofs.Interface.{with_effects}
-use Rattle.run_charges.specs.View.{outside_effects, IsMomentFrom, AreMoments}
+use Rattle.run_charges.specs.View.{outside_effects}
+use Rattle.run_charges.specs.Moments.{IsMomentFrom, AreMoments}
 use Rattle.run_charges.specs.Charges.{behind_moment, observed}
 use Rattle.run_charges.specs.Laws.{IsProgramRun}
 use Rattle.run_charges.proofs.Interface.{charge_last, front_moments, are_behind, stepped, Steps, IsPowerOrStep, IsPower, IsStepped, moment_is}

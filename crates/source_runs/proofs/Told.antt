@@ -33,7 +33,8 @@ use Rattle.model_runs.proofs.Interface.{report_is_of_dones, fronts_are_lawful, s
 use Rattle.model_runs.proofs.Interface.{runs_so, never_reads, spans_are_in_order, spans_past_are_in_order}
 use Rattle.source_runs.specs.Transitions.{HasWordsOf, StandForTransitions, committed_by}
 use Rattle.source_runs.proofs.Lines.{dones_are_transitions, counted_below}
-use Rattle.model_runs.specs.Runs.{BearsModel, history_behind, IsShort, Progresses, all_amounts, AreInOrder, AreInOrderPast}
+use Rattle.model_runs.specs.Runs.{history_behind, IsShort, Progresses, all_amounts, AreInOrder, AreInOrderPast}
+use Rattle.model_runs.specs.Bears.{BearsModel}
 use Rattle.source_runs.specs.Tells.{CommittedAttempt, spans_in, no_answers, answers_after, given_next, cost_of, cost_due, EachChargePays, IsEndOf}
 use Rattle.source_runs.specs.Tells.{IsUninterrupted, at_first}
 use Rattle.source_runs.specs.Resumed.{unread, is_pending, IsToldFrom, IsToldUndone, IsToldBehind, CommitUndone, CommitDone, HasTransition}

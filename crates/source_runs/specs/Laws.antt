@@ -15,7 +15,8 @@ use Rattle.crash_rules.specs.Laws.{Resting, Pending}
 use Rattle.run_charges.specs.Charges.{ArePowerStates}
 use Rattle.run_charges.specs.Laws.{IsRunOfWords}
 use Rattle.model_runs.specs.EventLaws.{StartsWith}
-use Rattle.model_runs.specs.Runs.{BearsModel, all_amounts}
+use Rattle.model_runs.specs.Runs.{all_amounts}
+use Rattle.model_runs.specs.Bears.{BearsModel}
 use Rattle.source_runs.specs.Traces.{IsTraceOfWords}
 use Rattle.source_runs.specs.Tells.{IsToldBySource}
 use Rattle.source_runs.specs.Transitions.{HasWordsOf}

@@ -18,7 +18,8 @@ use Rattle.model_runs.specs.EventLaws.{StartsWith}
 use Rattle.source_runs.specs.Naming.{IsMapOf}
 use Rattle.source_runs.specs.Tells.{cost_of}
 use Rattle.source_runs.specs.Transitions.{HasWordsOf}
-use Rattle.model_runs.specs.Runs.{BearsModel, no_delay}
+use Rattle.model_runs.specs.Runs.{no_delay}
+use Rattle.model_runs.specs.Bears.{BearsModel}
 
 -- what a task of the source is given, by what its model's is
 abbrev pub inputs_of : Given → TaskInputs
