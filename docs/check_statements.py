@@ -30,6 +30,8 @@ TWO_NOTIONS = {
     ('Event', 'Written'): 'an event of a trace, steps and word, and a write of an instruction, address and word',
     ('Look', 'Registers'): 'what stands in the ring by address, and what stands in the registers by number',
     ('ring_slots', 'ring_words'): 'the slots of the ring in a compiled image, and the words of a ring that any map may name',
+    ('Given', 'TaskInputs'): 'what a task of any model is given, and what a task of a source is',
+    ('capped',): 'prices of a source, and cycles of paths of code, by crates that have no other in common',
     ('is_word',): 'the words of the FRAM board, and those of the board of tests, each by its own memory',
 }
 OTHER = ('use', 'mod', 'module', 'mutual', 'record', 'data', 'open', 'ruleset', 'syntax', 'infixl', 'infixr', 'infix', '--')
