@@ -38,7 +38,7 @@ use Rattle.event_handler.specs.Handler.{Stage}
 use Rattle.event_handler.specs.Boundaries.{IsInterrupted, IsInHandler}
 use Rattle.event_handler.proofs.Interface.{handler_goes_on}
 use Rattle.program_view.specs.Stands.{AtCode}
-use Rattle.program_view.specs.Stands as standing
+use Rattle.program_view.specs.Stands as stance
 use Rattle.program_view.proofs.Interface.{stands_fram, handler_is_high}
 use Rattle.run_charges.specs.Laws.{IsProgramRun}
 use Rattle.run_charges.specs.View.{looks_in}
@@ -330,14 +330,14 @@ module _ (onward : Onward) where
 
     next_by : StandsAs t st.u → StepsOn p l image t
     next_by (AtCode shows) = by_code shows (is_accepting t) refl
-    next_by (standing.InHandler from stage shows interrupted inside) = in_handler from stage interrupted inside l.runtime.events refl shows
+    next_by (stance.InHandler from stage shows interrupted inside) = in_handler from stage interrupted inside l.runtime.events refl shows
 
     fetches : StepsOn p l image t
     fetches = next_by st.stands
 
     room_by : l.runtime.events ≡ true → StandsAs t st.u → HasRoom t
     room_by events (AtCode shows) = room_at_code shows events
-    room_by events (standing.InHandler from stage shows interrupted inside) = λ accepts. absurd (handler_is_closed from t stage inside accepts)
+    room_by events (stance.InHandler from stage shows interrupted inside) = λ accepts. absurd (handler_is_closed from t stage inside accepts)
 
     room : l.runtime.events ≡ true → HasRoom t
     room events = room_by events st.stands
@@ -521,7 +521,7 @@ module _ (onward : Onward) where
 
   open_by : (t : BoardValue) (u : MachineBoard) → StandsAs t u → is_interruptible u.registers ≡ true → Opened t
   open_by t u (AtCode shows) accepts low = subst (λ g. is_interruptible g ≡ true) shows.registers accepts
-  open_by t u (standing.InHandler from stage shows interrupted inside) accepts low =
+  open_by t u (stance.InHandler from stage shows interrupted inside) accepts low =
       let high = handler_is_high from stage t inside in absurd (omega (arith, low, high))
 
   module _ (events : l.runtime.events ≡ true) where
