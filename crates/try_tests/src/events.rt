@@ -29,20 +29,33 @@ const BY_NONE: &str = "bound 952\nt 1 a a 0 1\nt 2 a a 1 2\nevents 1 1 0\nend re
 
 const NEVER: &str = "bound 952\nt 1 a a 0 1\nt 2 a a 1 2\nevents 0 0 0\nend readings 2 0 0\n";
 
+// Which of them a report is, or 4.
+fn phase_of(report: &[u8]) -> u32 {
+    if report == BY_FIRST.as_bytes() {
+        0
+    } else if report == BY_SECOND.as_bytes() {
+        1
+    } else if report == BY_NONE.as_bytes() {
+        2
+    } else if report == NEVER.as_bytes() {
+        3
+    } else {
+        4
+    }
+}
+
 // From one step on the second attempt finds it, then none does, and then the run is over.
 #[test]
 fn an_event_at_each_step(rt: HostRuntime) -> Result<(), Fail> {
     let alloc = rt.alloc();
-    let phases = [BY_FIRST, BY_SECOND, BY_NONE, NEVER];
-    let mut phase = 0;
+    let mut phase: u32 = 0;
     for n in 0..=250 {
         let trace = format!(in alloc; "c 1000000 0\nr 1 2\ne {n} 7\n")?;
         let answer = tries(alloc, SUM_OF_EVENTS, &trace)?;
-        if phase < 3 && answer.out.as_slice() == phases[phase + 1].as_bytes() {
-            phase += 1;
-        }
+        let now = phase_of(answer.out.as_slice());
         assert_eq!(rt; answer.status.code(), 0);
-        assert_eq!(rt; answer.out.as_slice(), phases[phase].as_bytes());
+        assert!(rt; now <= 3 && (now == phase || now == phase.saturating_add(1)));
+        phase = now;
     }
     assert_eq!(rt; phase, 3);
     Ok(())
@@ -109,11 +122,11 @@ const THIRTY: &str = "r 1 1 1 1 1 1 1 1 1 1 1 1 1 1 1 1 1 1 1 1 1 1 1 1 1 1 1 1 
 #[test]
 fn events_at_two_cuts(rt: HostRuntime) -> Result<(), Fail> {
     let alloc = rt.alloc();
-    for first in (0..=160).step_by(5) {
-        for second in (0..=160).step_by(5) {
+    for first in (0..=160u32).step_by(5) {
+        for second in (0..=160u32).step_by(5) {
             let early = first / 2;
-            let between = first + second / 2;
-            let late = first + second + 20;
+            let between = first.saturating_add(second / 2);
+            let late = first.saturating_add(second).saturating_add(20);
             let trace = format!(in alloc;
                 "s {first} 0\ns {second} 65535\nc 1000000 0\n{THIRTY}e {early} 3\ne {between} 5\ne {late} 8\n"
             )?;
@@ -138,7 +151,9 @@ fn an_event_at_each_step_and_a_cut(rt: HostRuntime) -> Result<(), Fail> {
 fn storm(alloc: Global, from: u32, count: u32) -> Result<String, Fail> {
     let mut text = String::new(alloc);
     for i in 0..count {
-        text.push_str(&format!(in alloc; "e {} {}\n", from + i, i + 1)?)?;
+        let step = from.saturating_add(i);
+        let word = i.saturating_add(1);
+        text.push_str(&format!(in alloc; "e {step} {word}\n")?)?;
     }
     Ok(text)
 }
@@ -159,8 +174,10 @@ fn a_full_ring(rt: HostRuntime) -> Result<(), Fail> {
         trace.push_str(if i < 200 { " 1" } else { " 10" })?;
     }
     trace.push_str("\n")?;
-    for i in 0..100 {
-        trace.push_str(&format!(in alloc; "e {} {}\n", 20 + 60 * i, i + 1)?)?;
+    let mut step: u32 = 20;
+    for word in 1..=100u32 {
+        trace.push_str(&format!(in alloc; "e {step} {word}\n")?)?;
+        step = step.saturating_add(60);
     }
     let answer = tries(alloc, SENDS_LATER, &trace)?;
     let words = sent(alloc, &answer.out)?;
