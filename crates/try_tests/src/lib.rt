@@ -5,8 +5,6 @@
 #[cfg(test)]
 mod cuts;
 #[cfg(test)]
-mod events;
-#[cfg(test)]
 mod meaning;
 #[cfg(test)]
 mod program;
