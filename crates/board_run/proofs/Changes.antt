@@ -96,7 +96,7 @@ pub word_named : (before fram name other : List ℕ) (a n i : ℕ) → other ≡
     ≡ changed_line (word_of other a i) (word_in before (a + 2 * i)) (word_in fram (a + 2 * i)) ++ told_lines before fram (words_left name a n (i + 1))
 word_named before fram name other a n i e h = word_next before fram name a n i h
     ∙ ap (λ x. changed_line (word_of x a i) (word_in before (a + 2 * i)) (word_in fram (a + 2 * i)) ++ told_lines before fram (words_left name a n (i + 1)))
-      (sym e)
+    (sym e)
 
 same_word : (x y : ℕ) → x ≡ y → (y == x) ≡ true
 same_word x y e = grind (arith, nat_tests, e)

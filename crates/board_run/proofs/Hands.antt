@@ -65,7 +65,7 @@ pub silent_runs_accept_nothing : SilentRunsAcceptNothing
 silent_runs_accept_nothing m r never =
     let line = r.board.line in
     let silent : run_hand m r ≡ no_hand = ap (hand_at r.ending r.board) (moments_silent (head_of m) r.moments never.moments)
-      ∙ end_silent r.ending r.board never.stop in
+    ∙ end_silent r.ending r.board never.stop in
     ap (counts_of line.arisen line.missed) silent
     ∙ ap (λ n. record { arisen = line.arisen; accepted = 0; lost = n }) (let e : line.missed + 0 ≡ line.missed = omega arith in e)
 

@@ -7,7 +7,8 @@ use Rattle.word_code.specs.array_versions.Program.{Step, Test, Program, binary, 
 use Rattle.word_code.specs.array_versions.Program.{step}
 use Rattle.word_code.specs.array_versions.Form.{locals_of}
 use Rattle.word_code.specs.array_versions.declared.operations.BinaryOperation.TheVariants.{Multiply}
-use Rattle.word_code.specs.Code.{owed, flushed, holds_code, compares_code, number_code, turn_end, pass_over, size, bound_of, stack_set, waiting_behind, waiting_after}
+use Rattle.word_code.specs.Code.{owed, flushed, holds_code, compares_code, number_code, turn_end, pass_over, size, bound_of, stack_set, waiting_behind}
+use Rattle.word_code.specs.Code.{waiting_after}
 use Rattle.word_code.specs.Code.{step_code, test_code, block_code}
 use Rattle.code_paths.specs.Paths.{forward_most}
 

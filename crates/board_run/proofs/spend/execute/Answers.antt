@@ -54,7 +54,7 @@ returns-clause-turn g c =
     let noted : IsNoted (known_so watch) (known_so c.note.new.self) b after (Instruction i) c.in-Ok.done = record {
       history = c.in_ok-note.ensures.history;
       tally = tallied_by _ (moment_of b (Instruction i) c.in-Ok.done) _ (counted watch.tally) _
-        (step_ends_are _ watch.head.place watch.head.word b (Instruction i) c.in-Ok.done
+          (step_ends_are _ watch.head.place watch.head.word b (Instruction i) c.in-Ok.done
           after.fram c.is_return.result c.requires.follows.head c.is_return.ensures (ap (λ (x : BoardValue). x.fram) made.board)) c.note.ensures.tally;
       words = c.note.ensures.few;
     } in
