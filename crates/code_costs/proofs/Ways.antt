@@ -86,7 +86,7 @@ module _ (z : Setting) where
       let there : mid + forms_bytes (flushed os) ≡ pc + forms_bytes (block_code bs p) = omega (arith, forms_bytes-append a (flushed os)) in
       subst (λ q. Reaches z next (StandsFor z q) (block_most bs p next) u b.effects b.end) there
       (then_more z (flush_most os) next (block_most bs p next) u (λ v. Describes z os mid v) (λ v. StandsFor z (mid + forms_bytes (flushed os)) v) b.effects
-        b.end
+      b.end
       (f (stands_front z.code pc a (flushed os) h)) (λ t v d. flushes z os mid v t (stands_back z.code pc a (flushed os) h) d))
 
   -- over so many words in any case
@@ -132,7 +132,7 @@ module _ (z : Setting) where
     step_reach bs (choose t taken otherwise) fits os pc w u r known h d next =
         let taken_spares = spared_so bs (λ m. StepSpares m (choose t taken otherwise)) (λ m. Spares m taken) (λ m k. k.1) known.spares in
         let taken_known : KnownProgram z bs taken =
-          record { of_words = known.of_words.1; below = known.below.1; count = known.count.1; spares = taken_spares } in
+        record { of_words = known.of_words.1; below = known.below.1; count = known.count.1; spares = taken_spares } in
         let other_spares = spared_so bs (λ m. StepSpares m (choose t taken otherwise)) (λ m. Spares m otherwise) (λ m k. k.2) known.spares in
         let other_known : KnownProgram z bs otherwise = record {
           of_words = known.of_words.2;
@@ -254,7 +254,7 @@ module _ (z : Setting) where
         let middle = pc + forms_bytes first in
         let back = forked_behind z when d pc first second ways.held.at ways.failed.at k in
         let counted = fork_at when d ways.held.at ways.failed.at (middle + forms_bytes second) (middle + 2 * size second) (omega (arith, whole_size second))
-          back.fork in
+        back.fork in
         let low : middle < 0x10000 → middle + 2 * size second < 0x10000 =
         λ less. omega (arith, stands_low z middle second back.stands less, whole_size second) in
         let inner : Way = record {
@@ -271,15 +271,17 @@ module _ (z : Setting) where
           if_held = λ v x q j. test_reach bs next Q e when d middle ways v x q inner_known back j;
           if_failed = ways.if_failed;
         }) w u r first_known
-        (record { stands = stands_front z.code pc first second k.stands;
-          fork = fork_both when d (size second) ways.held.at ways.failed.at middle low counted }) i
+        (record {
+          stands = stands_front z.code pc first second k.stands;
+          fork = fork_both when d (size second) ways.held.at ways.failed.at middle low counted;
+        }) i
     test_reach bs next Q (either t e) when d pc ways w u r known k i =
         let second = test_code bs e when d in
         let first = test_code bs t true (size second + (if when then d else 0)) in
         let middle = pc + forms_bytes first in
         let back = forked_behind z when d pc first second ways.held.at ways.failed.at k in
         let counted = fork_at when d ways.held.at ways.failed.at (middle + forms_bytes second) (middle + 2 * size second) (omega (arith, whole_size second))
-          back.fork in
+        back.fork in
         let low : middle < 0x10000 → middle + 2 * size second < 0x10000 =
         λ less. omega (arith, stands_low z middle second back.stands less, whole_size second) in
         let inner : Way = record {
@@ -296,8 +298,10 @@ module _ (z : Setting) where
           if_held = ways.if_held;
           if_failed = λ v x q j. test_reach bs next Q e when d middle ways v x q inner_known back j;
         }) w u r first_known
-        (record { stands = stands_front z.code pc first second k.stands;
-          fork = fork_either when d (size second) ways.held.at ways.failed.at middle low counted }) i
+        (record {
+          stands = stands_front z.code pc first second k.stands;
+          fork = fork_either when d (size second) ways.held.at ways.failed.at middle low counted;
+        }) i
     test_reach bs next Q (fails t) when d pc ways w u r known k i =
         test_reach bs next Q t (not when) d pc
         (record { held = ways.failed; failed = ways.held; if_held = ways.if_failed; if_failed = ways.if_held }) w u r known
@@ -359,7 +363,7 @@ module _ (z : Setting) (p : Program) (whole : IsWhole p) (of_words : OfWords p) 
       (then_reach z 0 (λ v. StandsFor z end v) front (block_most [] p 0) u (HasStack mid z.base u) [] b.effects b.end set (λ t k. block_reach z [] p mid 0 s t h
       (λ hs. steps_reach z [] p (λ q. ⊥) [] mid s t r
       (record { of_words = of_words; below = below; count = whole.loops_count; spares = tt }) hs
-        (dressed z mid s t (begun z p whole of_words below room mid u t k))
+      (dressed z mid s t (begun z p whole of_words below room mid u t k))
       (flush_most (waiting_after [] p) + 0))))
       (whole_ends_soundly p u.fram u.inputs whole)
 

@@ -273,8 +273,14 @@ module _ (code : Code) (tidy : IsTidy code) where
       }
 
   pub dearer_starves : (es : List Effect) (most more : ℕ) (u : Core) → most ≤ more → Starves code es most u → Starves code es more u
-  dearer_starves es most more u l a = record { steps = a.steps; cycles = a.cycles; price = a.price; within = omega (arith, a.within, l); stalls = a.stalls;
-      forms = a.forms }
+  dearer_starves es most more u l a = record {
+    steps = a.steps;
+    cycles = a.cycles;
+    price = a.price;
+    within = omega (arith, a.within, l);
+    stalls = a.stalls;
+    forms = a.forms;
+  }
 
 pub straight_code_leads : StraightCodeLeads
 straight_code_leads code ms u t es c tidy st h w e = block code tidy ms u t es c st h w e

@@ -181,7 +181,7 @@ module _ (events : Bool) (p : ℕ) (all : List Form) (tidy : IsTidy (placed even
       let behind = jump_on n c o ms q u t (is_met c u.flags) refl few low high far there rest
       (forms_behind_step alone n (board_of u) (board_of t) [] 2 e' forms) in
       subst (λ x. outcome_cost (outcome_of_core (form_step x u)) (steps_cost (exec alone) n) ≤ form_cycles (Jump c o) + behind_form (Jump c o)
-        (dearest_from ms))
+      (dearest_from ms))
       (sym is) (omega (arith, behind))
   one_step n (Move x y) ms q low high far rest forward k u same at e forms = one_straight n (Move x y) ms q low high far rest k u tt same at e forms
   one_step n (Calculate op x b) ms q low high far rest forward k u same at e forms =

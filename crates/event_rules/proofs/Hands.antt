@@ -79,7 +79,7 @@ ends r was now returns = reads_of r ++ (change_ends was now ++ return_ends retur
 ends_quiet : (r : Heard) (was now : ℕ) (returns : Bool) → r ≡ heard.Nothing → now ≡ was → ends r was now returns ≡ return_ends returns
 ends_quiet r was now returns none same =
     ap (λ (h : Heard). reads_of h ++ (change_ends was now ++ return_ends returns)) none ∙ ap (λ (l : List HandEnd). l ++ return_ends returns)
-      (change_same was now same)
+    (change_same was now same)
 
 -- hands of which one lost and accepted no more
 record SameHand (h k : Hand) : Type 0 where
@@ -215,7 +215,7 @@ module _ (from : BoardValue) (interrupted : IsInterrupted from) (b : BoardValue)
       ∙ ap (λ (r : Heard). handed_all (ends r was now false) h) once
       ∙ ap (λ (l : List HandEnd). handed_all (Reads from.line.port ∷ (l ++ [])) h) (change_same was now same) in
       let lost : h.lost + length (word_list h.word) ≡ h.lost = ap (λ (o : Option ℕ). h.lost + length (word_list o)) empty
-        ∙ (let e : h.lost + 0 ≡ h.lost = omega arith in e) in
+      ∙ (let e : h.lost + 0 ≡ h.lost = omega arith in e) in
       let P : Hand → Type 0 = λ k. Behind m h from.line.port [] k in
       subst P (sym all) (record { holds = refl; keeps = record { lost = inl lost; accepted = inl refl }; exact = sym (append-nil h.accepted) })
 

@@ -209,8 +209,14 @@ module _ (from : BoardValue) (u : MachineBoard) (shows : Shows from u) (interrup
 
   stands_behind : (o : Option Stage) (b : BoardValue) → IsBehind from o b → Stands o b
   stands_behind None b h =
-      record { stands = AtCode (shows_again b h); cycles = refl; steps = refl; waits = refl; stage = refl;
-        outside = (handler_keeps_the_rest from interrupted).returned b h }
+      record {
+        stands = AtCode (shows_again b h);
+        cycles = refl;
+        steps = refl;
+        waits = refl;
+        stage = refl;
+        outside = (handler_keeps_the_rest from interrupted).returned b h;
+      }
   stands_behind (Some at) b h = record {
     stands = InHandler from at shows interrupted h;
     cycles = refl;
@@ -286,7 +292,7 @@ module _ (from : BoardValue) (u : MachineBoard) (shows : Shows from u) (interrup
         served = served b (next_step.Instruction i) step.done step.made
             (kind_is i b ∙ ap (λ (p : ℕ). nat_le handler_place p) inside.pc ∙ place_high at)
             (told_stores (λ a w. handler_place ≤ a) b i step.done step.made (subst P (sym step.effects) (stage_stores from at))) here (next_stage from at)
-              step.behind;
+            step.behind;
         stands = behind.stands;
         interrupted = interrupted;
         inside = inside;

@@ -235,7 +235,7 @@ module _ (b : BoardValue) (u : MachineBoard) (i : Instr) (more : List Look) (who
       ram_moved is stack (Up l) a above even = going.same.ram a (omega (arith, is, l, above)) even
       ram_moved is stack (Down p e f) a above even =
           let inside = leb-true (u.registers 1) stack_start
-            (and_parts (nat_le stack_floor (u.registers 1)) (nat_le (u.registers 1) stack_start) stack.in_stack).1 in
+          (and_parts (nat_le stack_floor (u.registers 1)) (nat_le (u.registers 1) stack_start) stack.in_stack).1 in
           ⊎_elim (λ at. ap next.ram at ∙ same_there p f (omega (arith, inside, e)) ∙ ap (ram_of after.ram) (sym at))
           (λ further. going.same.ram a (omega (arith, is, e, further)) even) (even_from (next.registers 1) a sp_even even above)
 

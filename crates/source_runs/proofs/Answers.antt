@@ -105,7 +105,7 @@ module _ (ring : RingPlaces) (answer : IsAnswer ring) where
   said_by : (handlers : Bool) (kind : StepKind) (b after : BoardValue) (done : Stepped) (offered : Option ℕ)
       → (kind ≡ Accepting → handlers ≡ true) → (handlers ≡ true → EachStore (λ a w. handler_place ≤ a) (store_at done.wrote after.fram))
       → words_stored ring.answer (if handlers then [] else look_effects (seen_at_pc b) ++ step_effects kind b
-        (record { answer = Ok done; offered = offered; board = after }))
+      (record { answer = Ok done; offered = offered; board = after }))
       ≡ written_at ring.answer done.wrote after.fram
   said_by true kind b after done offered is off =
       sym (stores_elsewhere ring.answer handler_place (store_at done.wrote after.fram) answer.front (off refl))
