@@ -107,16 +107,21 @@ fn list_entries(
     plus(scalars, array_entries(shared, &stores))
 }
 
-// What tasks need: the bound of each, the words of all, the list entries and emits of each; 2^64 - 1 where it is more.
+/// What a task needs, or several of them at most; each number is 2^64 - 1 where it is more.
 #[derive(Clone, Copy)]
-struct Needs {
-    bound: u64,
-    words: u64,
-    list: u64,
-    emits: u64,
+pub struct Needs {
+    /// The bound, in cycles: the greatest.
+    pub bound: u64,
+    /// The words of the code: of all.
+    pub words: u64,
+    /// The entries of the commit list: the most.
+    pub list: u64,
+    /// The emits that are counted: the most.
+    pub emits: u64,
 }
 
-fn task_needs(
+/// What the task needs by the table of prices, in a source that takes events or not and has so many version words.
+pub fn task_needs(
     shared: &[SharedDeclaration],
     events: bool,
     versions: u64,
