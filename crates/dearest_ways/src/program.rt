@@ -5,9 +5,9 @@ ghost use Rattle.word_code.specs.array_versions.Program.{truth, choose, repeat};
 ghost use Rattle.word_code.specs.array_versions.View.{program_of, steps_of, step_of, test_of};
 ghost use Rattle.word_code.specs.array_versions.Form.{IsWhole, LocalsBelow, StepLocalsBelow, TestLocalsBelow};
 ghost use Rattle.word_code.specs.array_versions.Cost.{words_of, step_words, test_words};
-ghost use Rattle.word_code.specs.Code.{size, holds_code, compares_code, number_code, turn_end, pass_over, test_code, block_code, waiting_behind, waiting_after, bound_of};
+ghost use Rattle.word_code.specs.Code.{owed_by, owed, size, holds_code, compares_code, number_code, turn_end, pass_over, test_code, block_code, waiting_behind, waiting_after, bound_of};
 ghost use Rattle.code_paths.specs.Paths.{capped, forward_most};
-ghost use Rattle.code_costs.specs.Dearest.{any_most, push_most, pushes_most, flush_most, leaf_most, back_cycles, turn_most, turns_most, step_most};
+ghost use Rattle.code_costs.specs.Dearest.{any_most, flush_most, leaf_most, back_cycles, turn_most, turns_most, step_most};
 ghost use Rattle.code_costs.specs.Dearest.{test_most, steps_most, block_most, most_spent};
 ghost use Rattle.dearest_ways.specs.Ways.{straight_of, ways_cost, AreWaysOf, AreForksOf};
 
@@ -25,7 +25,7 @@ use word_code::{Bound, Waiting};
 
 // The cycles of the push of a word that waits, at most.
 fn push_most(word: Waiting) -> u64
-    ensures { result ≡ push_most word }
+    ensures { result ≡ owed_by word }
 {
     match word {
         Waiting::Number(_) => 4,
@@ -35,12 +35,12 @@ fn push_most(word: Waiting) -> u64
 }
 
 // Of all of them.
-fn pushes_most(waiting: &[Waiting]) -> u64
-    ensures { result ≡ capped (pushes_most waiting.now) }
+fn owed(waiting: &[Waiting]) -> u64
+    ensures { result ≡ capped (owed waiting.now) }
 {
     let mut cycles = 0;
     for i in (0..waiting.len()).rev() {
-        cycles = plus(cycles, push_most(waiting[i]));
+        cycles = plus(cycles, owed_by(waiting[i]));
     }
     cycles
 }
@@ -58,7 +58,7 @@ fn flush(alloc: Global, waiting: &mut Vec<Waiting>) -> Result<Ways, AllocError>
     ensures ways { IfOk result (λ w. w ≡ straight_of (capped (flush_most waiting.old.items))) }
     ensures waiting { OnOk result (waiting.new.items ≡ []) }
 {
-    let most = pushes_most(waiting);
+    let most = owed(waiting);
     let mut code = Vec::new(alloc);
     emit_all(waiting, &mut code)?;
     priced(alloc, code.as_slice(), most)
@@ -86,7 +86,7 @@ fn leaf(
     ensures ways { IfOk result (λ w. w ≡ straight_of (capped (leaf_most bounds.now waiting.old.items (step_of step.now)))) }
     ensures waiting { OnOk result (waiting.new.items ≡ waiting_behind waiting.old.items (step_of step.now)) }
 {
-    let most = plus(any_most(step), pushes_most(waiting));
+    let most = plus(any_most(step), owed(waiting));
     let mut code = Vec::new(alloc);
     emit_step(alloc, bounds, step, waiting, &mut code)?;
     priced(alloc, code.as_slice(), most)
@@ -100,9 +100,9 @@ fn holds_asked(
     waiting: &mut Vec<Waiting>,
 ) -> Result<Ways, AllocError>
     requires { 2 * over ≤ 0xFFFE }
-    ensures { IfOk result (λ w. w ≡ straight_of (capped (forward_most (holds_code waiting.old.items when over) (8 + pushes_most waiting.old.items)))) }
+    ensures { IfOk result (λ w. w ≡ straight_of (capped (forward_most (holds_code waiting.old.items when over) (8 + owed waiting.old.items)))) }
 {
-    let most = plus(8, pushes_most(waiting));
+    let most = plus(8, owed(waiting));
     let mut code = Vec::new(alloc);
     emit_holds(when, over, waiting, &mut code)?;
     priced(alloc, code.as_slice(), most)
@@ -118,9 +118,9 @@ fn compares_asked(
 ) -> Result<Ways, AllocError>
     requires { 2 * over ≤ 0xFFFE }
     ensures { IfOk result (λ w. w ≡ straight_of (capped (forward_most (compares_code waiting.old.items comparison when over)
-        (10 + pushes_most waiting.old.items)))) }
+        (10 + owed waiting.old.items)))) }
 {
-    let most = plus(10, pushes_most(waiting));
+    let most = plus(10, owed(waiting));
     let mut code = Vec::new(alloc);
     emit_compares(comparison, when, over, waiting, &mut code)?;
     priced(alloc, code.as_slice(), most)

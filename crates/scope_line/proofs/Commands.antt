@@ -11,12 +11,12 @@ use Rattle.clap.specs.Walk.{has_row}
 use Rattle.command_line.specs.CommandLine.{AreTexts, Subcommand, all_said, files_of}
 use Rattle.command_line.specs.Commands.{values_of}
 use Rattle.command_line.proofs.Files.{files_said, IsGiven, IsInOrder, built_subcommand, file_row, given_row, more_given, rows_for}
-use Rattle.command_line.proofs.Lines.{has_name, in_order}
+use Rattle.command_line.proofs.Lines.{has_name}
 use Rattle.scope_line.specs.ScopeLine.{IsScopeLine, NamesScopeCommand, bounds_line, line_found, plain_line, scope_app, scope_line_of}
 use Rattle.scope_line.specs.ScopeLine.{subcommand_named, subcommands}
 use Rattle.scope_line.specs.declared.Command.{Command}
 use Rattle.scope_line.specs.declared.Command.TheVariants.{Bounds}
-use Rattle.scope_line.proofs.Lines.{Line, all_in_order, line_reads, line_says, line_there}
+use Rattle.scope_line.proofs.Lines.{Line, in_order, is_bounds, line_reads, line_says, line_there}
 
 -- ---- a line's files have their values
 
@@ -52,7 +52,7 @@ line_found_is words name rows l is =
     let kept : rows_for l.command.files l.files ≡ rows = ap (λ (o : Option (Text × List Row)). (unwrap_or o (name, rows)).1) same in
     let word : l.command.name ≡ l.name = has_name subcommands l.name l.command l.named in
     let values : values_of l.command.files rows ≡ Some l.files = ap (values_of l.command.files) (sym kept)
-    ∙ values_after l.command.files (built_subcommand l.command).rules [] 1 [] l.files (in_order subcommands l.name l.command all_in_order l.named) tt l.count in
+    ∙ values_after l.command.files (built_subcommand l.command).rules [] 1 [] l.files (in_order l.name l.command l.named) tt l.count in
     let found : line_found l.name rows ≡ Some (l.name ∷ l.files) =
     ap (λ o. option_and_then (λ (s : Subcommand). option_map (λ files. l.name ∷ files) (values_of s.files rows)) o) l.named
     ∙ ap (option_map (λ files. l.name ∷ files)) values in
@@ -93,17 +93,13 @@ bounds_has_lines [] count = absurd (omega arith)
 bounds_has_lines (a ∷ []) count = (Bounds (lent a), refl)
 bounds_has_lines (a ∷ other ∷ more) count = absurd (omega arith)
 
--- a command that has a name is this one
+-- and so do those of each command
 has_command : (name : Text) (files : List Text) (s : Subcommand) → subcommand_named name ≡ Some s → length files ≡ length s.files
     → (c : Command) × (plain_line c ≡ name ∷ files)
-has_command name files s is count = go (bytes_eq bounds_line.name name) refl is
-  where
-    go : (b : Bool) → bytes_eq bounds_line.name name ≡ b → cond b (Some bounds_line) None ≡ Some s → (c : Command) × (plain_line c ≡ name ∷ files)
-    go true e found =
-        let same : bounds_line ≡ s = ap (λ o. unwrap_or o bounds_line) found in
-        let c = bounds_has_lines files (count ∙ ap (λ (x : Subcommand). length x.files) (sym same)) in
-        (c.0, c.1 ∙ ap (λ n. n ∷ files) ((bytes_eq-Decides bounds_line.name name).0 e))
-    go false e found = cc
+has_command name files s is count =
+    let same = is_bounds name s is in
+    let c = bounds_has_lines files (count ∙ ap (λ (x : Subcommand). length x.files) (sym same)) in
+    (c.0, c.1 ∙ ap (λ (x : Subcommand). x.name ∷ files) same ∙ ap (λ n. n ∷ files) (has_name subcommands name s is))
 
 pub line_is_command : (words : List Text) → AreTexts words → IsScopeLine words → NamesScopeCommand words
 line_is_command words texts line =

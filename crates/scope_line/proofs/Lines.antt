@@ -15,8 +15,8 @@ use Rattle.clap.specs.Faults.{other_fault, settle_fault, step_fault, turn_fault,
 use Rattle.clap.specs.declared.error.kind.ErrorKind.{ErrorKind}
 use Rattle.clap.specs.declared.error.kind.ErrorKind.TheVariants.{UnknownArgument, MissingSubcommand, InvalidSubcommand}
 use Rattle.command_line.specs.CommandLine.{AreTexts, Subcommand, all_said, files_of}
-use Rattle.scope_line.specs.ScopeLine.{IsScopeLine, scope_app, scope_line_of, subcommand_named, subcommands}
-use Rattle.command_line.proofs.Lines.{AreInOrder, has_name, in_order, named}
+use Rattle.scope_line.specs.ScopeLine.{IsScopeLine, bounds_line, scope_app, scope_line_of, subcommand_named, subcommands}
+use Rattle.command_line.proofs.Lines.{has_name, named}
 use Rattle.command_line.proofs.Files.{IsInOrder, IsJudged, Kind, built_subcommand, command_judged, ends, kind_of_word, long, no_kind, plain, rows_for, short}
 use Rattle.command_line.proofs.Files.{some_char, walk_at}
 
@@ -73,10 +73,18 @@ entered_by_name (x ∷ xs) word = go (bytes_eq x.name word) (entered_by_name xs 
     go true rest = refl
     go false rest = rest
 
--- each command's files have names of their own
-pub all_in_order : AreInOrder subcommands
-unfolding AreInOrder
-all_in_order = ((refl, refl, refl, refl, refl, (refl, refl)), tt)
+-- the command of a name is this one
+pub is_bounds : (word : Text) (s : Subcommand) → subcommand_named word ≡ Some s → bounds_line ≡ s
+is_bounds word s is = go (bytes_eq bounds_line.name word) is
+  where
+    go : (b : Bool) → cond b (Some bounds_line) None ≡ Some s → bounds_line ≡ s
+    go true e = ap (λ o. unwrap_or o bounds_line) e
+    go false e = cc
+
+-- its file has a name of its own
+pub in_order : (word : Text) (s : Subcommand) → subcommand_named word ≡ Some s → IsInOrder (built_subcommand s).rules [] 1 s.files
+in_order word s is =
+    subst (λ (y : Subcommand). IsInOrder (built_subcommand y).rules [] 1 y.files) (is_bounds word s is) (refl, refl, refl, refl, refl, (refl, refl))
 
 -- ---- the first word
 
@@ -247,7 +255,7 @@ line_reads (word ∷ words) texts line = go (subcommand_named word) refl
 
     go : (o : Option Subcommand) → subcommand_named word ≡ o → Line (word ∷ words)
     go None is = absurd (unnamed_fails word is words texts.0 (kind_of_word word) line)
-    go (Some s) is = read s is (command_judged s.name s.files words (in_order subcommands word s all_in_order is) texts.1)
+    go (Some s) is = read s is (command_judged s.name s.files words (in_order word s is) texts.1)
 
 -- what a line says
 pub line_says : (words : List Text) (l : Line words) → scope_line_of words ≡ Some (l.name ∷ l.files)
@@ -256,7 +264,7 @@ line_says words l = ap scope_line_of l.is ∙ ap (λ o. option_map (λ files. l.
 pub line_there : (name : Text) (rest files said : List Text) (s : Subcommand) → AreTexts (name ∷ rest) → subcommand_named name ≡ Some s
     → files_of rest ≡ Some files
     → length files ≡ length s.files → all_said s.files files ≡ Some said → IsScopeLine (name ∷ rest)
-line_there name rest files said s texts is from count all = go (command_judged s.name s.files rest (in_order subcommands name s all_in_order is) texts.1)
+line_there name rest files said s texts is from count all = go (command_judged s.name s.files rest (in_order name s is) texts.1)
   where
     go : IsJudged s.name s.files false 1 s.files [] nothing_held rest → IsScopeLine (name ∷ rest)
     go (inl r) = fault_behind name s is rest ∙ r.fault

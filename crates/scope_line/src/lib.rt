@@ -2,8 +2,8 @@
 #![tactic(auto)]
 
 ghost use Rattle.std.specs.Prelude.{◌≡◌, ◌↔◌, ◌∷◌, [], IfOk, IsErrOf, Some, List, codes, false, map, option_map, string_bytes};
-ghost use Rattle.clap.specs.Words.{Text, found_of, rows_of, rule_of, subcommand_of, subcommand_rows_of};
-ghost use Rattle.command_line.specs.CommandLine.{AreTexts, IsCommand, file_rule, subcommand_app};
+ghost use Rattle.clap.specs.Words.{Text, app_of, found_of, rows_of, rule_of, subcommand_of, subcommand_rows_of, with_subcommand};
+ghost use Rattle.command_line.specs.CommandLine.{AreTexts, IsCommand, file_rule, has_globals, subcommand_app, subcommand_shape};
 ghost use Rattle.command_line.specs.Commands.{values_of};
 ghost use Rattle.scope_line.specs.ScopeLine.{IsScopeLine, NamesScopeCommand, bare_scope, bounds_line, line_found, plain_line, scope_app, scope_line_of};
 
@@ -118,10 +118,23 @@ fn bare_command<'a>(alloc: Global) -> clap::Command<'a>
         .subcommand_required(true)
 }
 
+/// `command` with the command `bounds` added to it.
+fn with_bounds<'a>(
+    alloc: Global,
+    command: clap::Command<'a>,
+) -> Result<clap::Command<'a>, AllocError>
+    requires { has_globals command ≡ false }
+    ensures { IfOk result (λ c. IsCommand (with_subcommand (app_of command.entry) (subcommand_shape bounds_line)) c) }
+{
+    let added = bounds_command(alloc)?;
+    command.subcommand(added)
+}
+
 /// The command line of the program.
 fn scope_command<'a>(alloc: Global) -> Result<clap::Command<'a>, AllocError>
     ensures { IfOk result (IsCommand scope_app) }
 {
-    let bounds = bounds_command(alloc)?;
-    bare_command(alloc).subcommand(bounds)
+    let bare = bare_command(alloc);
+    let command = with_bounds(alloc, bare)?;
+    Ok(command)
 }
