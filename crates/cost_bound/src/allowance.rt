@@ -107,20 +107,20 @@ fn list_entries(
     plus(scalars, array_entries(shared, &stores))
 }
 
-/// What a task needs, or several of them at most; each number is 2^64 - 1 where it is more.
+/// What tasks need by the table, 2^64 - 1 where it is more.
 #[derive(Clone, Copy)]
 pub struct Needs {
-    /// The bound, in cycles: the greatest.
+    /// The cycles of each task at most, from a power-up to the end of its commit.
     pub bound: u64,
-    /// The words of the code: of all.
+    /// The words of all of them.
     pub words: u64,
-    /// The entries of the commit list: the most.
+    /// The list entries of each at most.
     pub list: u64,
-    /// The emits that are counted: the most.
+    /// The emits of each at most.
     pub emits: u64,
 }
 
-/// What the task needs by the table of prices, in a source that takes events or not and has so many version words.
+/// What a task needs by the table, in a source that takes events or not, with so many version words.
 pub fn task_needs(
     shared: &[SharedDeclaration],
     events: bool,
