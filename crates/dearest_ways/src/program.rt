@@ -24,7 +24,7 @@ use word_code::forms::Form;
 use word_code::{Bound, Waiting};
 
 // The cycles of the push of a word that waits, at most.
-fn push_most(word: Waiting) -> u64
+fn owed_by(word: Waiting) -> u64
     ensures { result ≡ owed_by word }
 {
     match word {
