@@ -1,7 +1,7 @@
 //! The dearest way of a program's code.
 
 ghost use Rattle.std.specs.Prelude.{◌≡◌, ◌+◌, ◌*◌, ◌<◌, ◌≤◌, ◌∷◌, ◌++◌, ◌-◌, [], ℕ, None, not, if◌then◌else◌, max, IfOk, OnOk};
-ghost use Rattle.word_code.specs.array_versions.Program.{truth, choose, repeat};
+ghost use Rattle.word_code.specs.array_versions.Program.{truth, repeat};
 ghost use Rattle.word_code.specs.array_versions.View.{program_of, steps_of, step_of, test_of};
 ghost use Rattle.word_code.specs.array_versions.Form.{IsWhole, LocalsBelow, StepLocalsBelow, TestLocalsBelow};
 ghost use Rattle.word_code.specs.array_versions.Cost.{words_of, step_words, test_words};
@@ -279,35 +279,6 @@ fn truth_ways(
     Ok(behind(front, chosen(test, straight(5), straight(3))))
 }
 
-// A choice.
-#[cycle(ways)]
-fn choice_ways(
-    alloc: Global,
-    bounds: &[Bound],
-    test: &WordTest,
-    taken: &[WordStep],
-    otherwise: &[WordStep],
-    waiting: &mut Vec<Waiting>,
-) -> Result<Ways, AllocError>
-    requires room { step_words (choose (test_of test.now) (steps_of taken.now) (steps_of otherwise.now)) ≤ 0x7FFF }
-    requires locals { StepLocalsBelow 1016 (choose (test_of test.now) (steps_of taken.now) (steps_of otherwise.now)) }
-    ensures ways { IfOk result (AreWaysOf (step_most bounds.now waiting.old.items
-        (choose (test_of test.now) (steps_of taken.now) (steps_of otherwise.now)))) }
-    ensures waiting { OnOk result (waiting.new.items ≡ []) }
-{
-    let front = flush(alloc, waiting)?;
-    let mut other = Vec::new(alloc);
-    emit_block(alloc, bounds, otherwise, &mut other)?;
-    let passed = code_words(other.as_slice());
-    let mut first = Vec::new(alloc);
-    emit_block(alloc, bounds, taken, &mut first)?;
-    emit_pass_over(passed, &mut first)?;
-    let test = test_forks(alloc, bounds, test, false, code_words(first.as_slice()))?;
-    let held = behind(block_ways(alloc, bounds, taken)?, pass(alloc, passed)?);
-    let failed = block_ways(alloc, bounds, otherwise)?;
-    Ok(behind(front, chosen(test, held, failed)))
-}
-
 // A loop, by the bound in its body.
 #[cycle(ways)]
 fn loop_ways(
@@ -349,7 +320,17 @@ fn step_ways(
     match step {
         WordStep::Truth(test) => truth_ways(alloc, bounds, test, waiting),
         WordStep::Choose(test, taken, otherwise) => {
-            choice_ways(alloc, bounds, test, taken, otherwise, waiting)
+            let front = flush(alloc, waiting)?;
+            let mut other = Vec::new(alloc);
+            emit_block(alloc, bounds, otherwise, &mut other)?;
+            let passed = code_words(other.as_slice());
+            let mut first = Vec::new(alloc);
+            emit_block(alloc, bounds, taken, &mut first)?;
+            emit_pass_over(passed, &mut first)?;
+            let forks = test_forks(alloc, bounds, test, false, code_words(first.as_slice()))?;
+            let held = behind(block_ways(alloc, bounds, taken)?, pass(alloc, passed)?);
+            let failed = block_ways(alloc, bounds, otherwise)?;
+            Ok(behind(front, chosen(forks, held, failed)))
         }
         WordStep::Repeat {
             local,
