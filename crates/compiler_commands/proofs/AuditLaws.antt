@@ -67,7 +67,8 @@ module _ (m : MapValue) (ring : m.ring ≡ None) where
   by_none : (h : History) (action : Action) (b : BoardValue) (a : Answers) → HasNone a → All IsUnanswered (attempts_by m h a action b)
   by_none h PowerUp b a none = All-nil IsUnanswered
   by_none h (Execute kind done offered) b a none =
-      one_or_none (is_done h.gate (word_in b.fram m.words.gate)) (record { span = record { from = h.span_from; to = h.span_to }; answers = a.decided }) none.decided
+      one_or_none (is_done h.gate (word_in b.fram m.words.gate)) (record { span = record { from = h.span_from; to = h.span_to }; answers = a.decided })
+      none.decided
 
   -- where a map has no ring no attempt has answers
   none_answered : (h : History) (a : Answers) → HasNone a → (ms : List Moment) → All IsUnanswered (attempts_of m h a ms)

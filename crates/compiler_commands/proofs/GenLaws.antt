@@ -81,7 +81,8 @@ no_fault image trace old new x board after watch now is_board is_watch ends r ca
     faulty : at_fault ≡ well → ⊥
     faulty e = cc
 
-    go : (y : RunFault) → IsRunOf (start_of image) (charges_of trace.charges) trace.events (fresh image.words trace.readings trace.events) old new (Err y) after now
+    go : (y : RunFault) → IsRunOf (start_of image) (charges_of trace.charges) trace.events (fresh image.words trace.readings trace.events) old new (Err y)
+        after now
         → HasWriteCause 0 0 (Err y) → ⊥
     go (fault.Illegal pc word) q w = let f = is_written _ _ trace old new (Err (fault.Illegal pc word)) after now q in faulty (ends at_fault f.0 f.1)
     go (fault.Bus pc address) q w = let f = is_written _ _ trace old new (Err (fault.Bus pc address)) after now q in faulty (ends at_fault f.0 f.1)
