@@ -1,19 +1,20 @@
 -- What each task of a source needs of a charge: the cycles that its linked code takes at most, from a power-up or from the end of a commit on up to the end
 -- of its own commit, on every path.
-use Rattle.std.specs.Prelude.{ℕ, ◌+◌, ◌-◌, min, List, [], length, Option, Some, None, get_or, slice_get}
+use Rattle.std.specs.Prelude.{ℕ, ◌+◌, ◌-◌, min, true, List, [], length, Option, Some, None, slice_get}
 use Rattle.task_ast.specs.declared.SharedDeclaration.{SharedDeclaration}
-use Rattle.cost_bound.specs.Allowance.{task_bound, uses_events, versions_of, list_part, shared_sum}
+use Rattle.cost_bound.specs.Allowance.{list_part, shared_sum}
 use Rattle.cost_bound.specs.Counts.{CheckedBlock, emits_of, stores_of}
 use Rattle.source_values.specs.Runs.{CheckedProgram, task_body}
-use Rattle.array_versions.specs.Program.{Program, nothing}
 use Rattle.memory_map.specs.declared.place.PrivateScalar.{PrivateScalar}
 use Rattle.memory_map.specs.MemoryMap.{MemoryMap, TaskPlace, with_events}
 use Rattle.memory_map.specs.Spots.{private_words}
 use Rattle.lower.specs.Runs.{runs_of}
-use Rattle.lower.specs.Lowered.{lowered}
 use Rattle.code_costs.specs.Dearest.{most_spent}
 use Rattle.boot_runtime.specs.Listing.{start_cycles}
 use Rattle.commit_runtime.specs.Listing.{commit_cycles}
+use Rattle.compiled_model.specs.Parts.{task_program, program_parts}
+
+-- ---- the commit
 
 -- the private scalars of a task with its place, if there is one
 abbrev pub privates_of : Option TaskPlace → List PrivateScalar
@@ -36,6 +37,8 @@ own_entries p l t = length (runs_of (own_privates l t)) + elements_of p.shared (
 abbrev pub own_words : CheckedProgram → MemoryMap → ℕ → ℕ
 own_words p l t = private_words (own_privates l t) + elements_of p.shared (task_body p t)
 
+-- ---- part by part
+
 -- a boot, up to the start of an attempt: behind its test of GATE
 abbrev pub boot_need : MemoryMap → ℕ
 boot_need l = with_events l.runtime.events 3 + 6
@@ -48,28 +51,19 @@ start_need l t = start_cycles l.runtime.events true l.versions.words (private_wo
 abbrev pub commit_need : CheckedProgram → MemoryMap → ℕ → ℕ
 commit_need p l t = commit_cycles l.runtime.events (own_entries p l t) (own_words p l t) (emits_of (task_body p t))
 
--- the word program of a task by its number
-abbrev pub own_program : CheckedProgram → MemoryMap → ℕ → Program
-own_program p l t = get_or (lowered l p) t nothing
-
--- the cycles of a task by the table of allowances
-abbrev pub table_need : CheckedProgram → ℕ → ℕ
-table_need p t = task_bound (uses_events p) (versions_of p) p.shared (task_body p t)
-
 -- what a task needs beside its own code
 abbrev pub beside_path : CheckedProgram → MemoryMap → ℕ → ℕ
 beside_path p l t = boot_need l + start_need l t + commit_need p l t
 
--- the code of a task on its dearest way, and no more than the table leaves for it
+-- the code of a task on its dearest way, and no more than the table of allowances leaves for it
 abbrev pub path_need : CheckedProgram → MemoryMap → ℕ → ℕ
-path_need p l t = min (most_spent l.runtime.events (own_program p l t)) (table_need p t - beside_path p l t)
+path_need p l t = min (most_spent l.runtime.events (task_program p l t)) ((program_parts p l).cost t - beside_path p l t)
 
--- what a task needs, part by part
 pub record Need : Type 0 where
   pub boot : ℕ  -- from a power-up to the start of an attempt
   pub start : ℕ  -- to the task's own code
-  pub path : ℕ  -- to its last instruction, behind the store that decides
-  pub commit : ℕ  -- to the end of its commit
+  pub path : ℕ  -- through this, up to the commit
+  pub commit : ℕ  -- to the end of the commit
 
 abbrev pub need_parts : CheckedProgram → MemoryMap → ℕ → Need
 need_parts p l t = record { boot = boot_need l; start = start_need l t; path = path_need p l t; commit = commit_need p l t }
