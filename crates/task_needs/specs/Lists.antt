@@ -39,16 +39,20 @@ pub record NeedsAreWithin (p : CheckedProgram) (l : MemoryMap) : Type 0 where
 abbrev pub pending_need : MemoryMap → ℕ
 pending_need l = boot_cycles l + commit_cycles l.runtime.events l.entries l.entries l.emits.words
 
--- decided as the model has it, with a list of the task's
-pub record DecidedWithin (p : CheckedProgram) (l : MemoryMap) (s next : State) (x : World) : Type 0 where
-  pub decided : (compiled_model p l).Decided s next x
+-- decided as a model has it, with a list of the task's
+pub record DecidedWithin (m : Model State) (p : CheckedProgram) (l : MemoryMap) (s next : State) (x : World) : Type 0 where
+  pub decided : m.Decided s next x
   pub lists : ListsWithin p l s.task x.fram
 
--- The source with its layout, and with its tasks' needs as their costs. One task more, which no state has, stands for a commit that was pending at the
--- start, of which nobody knows the task
-abbrev pub needs_model : CheckedProgram → MemoryMap → Model State
-needs_model p l = record (compiled_model p l) {
+-- A model of a source with its layout, and with its tasks' needs as their costs. One task more, which no state has, stands for a commit that was pending
+-- at the start, of which nobody knows the task
+abbrev pub with_needs : CheckedProgram → MemoryMap → Model State → Model State
+with_needs p l m = record m {
   tasks = suc (length p.tasks);
   task_cost = λ t. if nat_lt t (length p.tasks) then need_of p l t else pending_need l;
-  Decided = DecidedWithin p l;
+  Decided = DecidedWithin m p l;
 }
+
+-- the source under its runtime, with these costs
+abbrev pub needs_model : CheckedProgram → MemoryMap → Model State
+needs_model p l = with_needs p l (compiled_model p l)
