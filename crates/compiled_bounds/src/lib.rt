@@ -4,4 +4,6 @@
 
 mod laws;
 
-pub use laws::{bound_is_the_sources, capacities_are_kept, tasks_keep_to_the_bound};
+pub use laws::{
+    bound_is_the_sources, capacities_are_kept, table_covers_needs, tasks_keep_to_the_bound,
+};

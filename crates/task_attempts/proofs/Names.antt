@@ -81,7 +81,8 @@ pub use Rattle.compiled_model.specs.Parts.{effects_of, has_jumped, model_by, out
 pub use Rattle.compiled_model.specs.Places.{is_private_in, program_places, stays_in_place}
 pub use Rattle.compiled_model.specs.View.{are_rows, are_words, shared_word, state_view}
 pub use Rattle.layout_facts.proofs.Interface.{addresses_are, among_back, among_either, among_front, among_scalars, contains_at, each_is_one_word}
-pub use Rattle.layout_facts.proofs.Interface.{elements_stand, found_word, in_place_not_private, in_place_written, elements_are_stores, lists_have_room, places_are_apart}
+pub use Rattle.layout_facts.proofs.Interface.{elements_are_stores, elements_stand, found_word, in_place_not_private, in_place_written, lists_have_room}
+pub use Rattle.layout_facts.proofs.Interface.{places_are_apart}
 pub use Rattle.layout_facts.proofs.Interface.{places_are_as_declared, places_are_declared, privates_are_theirs, rows_fit_places, scalar_declared, scalar_found}
 pub use Rattle.layout_facts.proofs.Interface.{scalar_is, scalar_of_seen, scalars_among, shared_words_are_of_variables, task_places_are_apart}
 pub use Rattle.layout_facts.proofs.Interface.{task_places_are_even, tasks_have_room, tasks_match, view_has_their_words, word_of_seen, word_pair}

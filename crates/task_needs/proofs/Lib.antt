@@ -1,2 +1,3 @@
 mod Bodies
+mod Privates
 pub mod Interface
