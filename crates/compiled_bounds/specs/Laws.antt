@@ -1,5 +1,5 @@
 -- What a compiled source's bound pays for, and what its runtime's words hold at most.
-use Rattle.std.specs.Prelude.{◌≡◌, ℕ, ◌+◌, ◌≤◌, List, ◌++◌}
+use Rattle.std.specs.Prelude.{◌≡◌, ℕ, ◌+◌, ◌<◌, ◌≤◌, List, ◌++◌, length}
 use Rattle.fram_board.specs.Board.{BoardValue}
 use Rattle.fram_board.specs.Run.{BoardCharge, Moment, RunOutcome}
 use Rattle.machine_effects.specs.World.{World}
@@ -20,7 +20,7 @@ use Rattle.run_charges.specs.Laws.{IsRunOfWords}
 use Rattle.memory_map.specs.Laws.{AreApart}
 use Rattle.compiled_model.specs.Parts.{compiled_model}
 use Rattle.compiled_model.specs.Needs.{CostsAreWithin, AttemptsStore}
-use Rattle.task_needs.specs.Lists.{NeedsAreWithin}
+use Rattle.task_needs.specs.Lists.{NeedsAreWithin, needs_model}
 use Rattle.model_runs.specs.Bears.{BearsModel}
 use Rattle.compiled_bounds.specs.Capacities.{KeepsCapacities}
 
@@ -38,6 +38,11 @@ TasksKeepToTheBound = (p : CheckedProgram) (allow : Allow) (plans : List TaskPla
 abbrev pub TableCoversNeeds : Type 0
 TableCoversNeeds = (p : CheckedProgram) (allow : Allow) (plans : List TaskPlanValue) (l : MemoryMap) → IsAllowed p allow → PrivatesAreCounted p l
     → IsLayout p allow plans l → NeedsAreWithin p l
+
+-- the bound of the needs is within it too, with a commit that was pending at the start
+abbrev pub NeedsKeepToTheBound : Type 0
+NeedsKeepToTheBound = (p : CheckedProgram) (l : MemoryMap) → 0 < length p.tasks → CostsAreWithin p l → NeedsAreWithin p l
+    → bound (needs_model p l) ≤ bound_of p
 
 -- a store to CLN or EN is within the capacity
 pub record CountsFit (l : MemoryMap) (a w : ℕ) : Type 0 where

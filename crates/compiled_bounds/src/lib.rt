@@ -5,5 +5,6 @@
 mod laws;
 
 pub use laws::{
-    bound_is_the_sources, capacities_are_kept, table_covers_needs, tasks_keep_to_the_bound,
+    bound_is_the_sources, capacities_are_kept, needs_keep_to_the_bound, table_covers_needs,
+    tasks_keep_to_the_bound,
 };

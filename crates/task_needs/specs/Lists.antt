@@ -1,9 +1,11 @@
 -- That tasks list no more than what their needs have cycles for.
 use Rattle.std.specs.Prelude.{ℕ, suc, ◌+◌, ◌<◌, ◌≤◌, nat_lt, if◌then◌else◌, length}
+use Rattle.alp_words.specs.Words.{HoldsWords}
 use Rattle.machine_effects.specs.World.{World, fram_after}
 use Rattle.machine_effects.specs.Inputs.{Inputs, InputsAreWords}
 use Rattle.source_values.specs.Runs.{CheckedProgram, State}
 use Rattle.array_versions.specs.Behaviour.{End, Jumps, GoesOn, Short, Strays, Broken, behaviour, started}
+use Rattle.word_code.specs.Code.{code_spent}
 use Rattle.memory_map.specs.declared.words.RuntimeWord.TheVariants.{ListLength}
 use Rattle.memory_map.specs.MemoryMap.{MemoryMap, word_place}
 use Rattle.runtime_effects.specs.Places.{listed}
@@ -31,9 +33,10 @@ pub record TasksListFew (p : CheckedProgram) (l : MemoryMap) : Type 0 where
   pub few : (s : State) (x : World) (inputs : Inputs) → InputsAreWords inputs → IsStarted p l s x
       → let b = behaviour (task_program p l s.task) (started x.fram inputs) in ListsAtEnd p l s.task (fram_after b.effects x.fram) b.end
 
--- the table of allowances has the cycles of what each task needs beside its code
+-- the table of allowances has the cycles of what each task needs beside its code, and of its code, whatever FRAM holds and whatever the inputs are
 pub record NeedsAreWithin (p : CheckedProgram) (l : MemoryMap) : Type 0 where
-  pub within : (t : ℕ) → t < length p.tasks → beside_path p l t ≤ (program_parts p l).cost t
+  pub within : (t : ℕ) (fram : ℕ → ℕ) (inputs : Inputs) → t < length p.tasks → HoldsWords fram → InputsAreWords inputs
+      → beside_path p l t + code_spent (task_program p l t) (started fram inputs) ≤ (program_parts p l).cost t
 
 -- a boot and the commit of a full list and a full buffer, of whatever tasks
 abbrev pub pending_need : MemoryMap → ℕ
