@@ -13,7 +13,8 @@ use Rattle.compiled_model.specs.Needs.{StoresBelow}
 use Rattle.compiled_model.proofs.Interface.{is_redo, under_map, under_redo}
 use Rattle.task_attempts.proofs.Given.{IsGiven, given}
 use Rattle.task_attempts.proofs.Started.{attempt_at}
-use Rattle.task_attempts.proofs.Contracts.{program_keeps, program_stores, program_leaves}
+use Rattle.task_attempts.specs.Laws.{TasksListFewWords}
+use Rattle.task_attempts.proofs.Contracts.{program_keeps, program_stores, program_leaves, program_lists}
 
 -- ---- under redo
 
@@ -68,4 +69,11 @@ tasks_leave text p allow plans l laid runnable = record {
   leave = λ s x inputs small st.
       let P : Logging → Role → Type 0 = λ logging role. started_under logging p l s x in
       program_leaves (attempt_at p l (given text p allow plans l laid runnable) s x inputs (under_redo l P st)) blocks_agree small;
+}
+
+pub tasks_list_few : TasksListFewWords
+tasks_list_few text p allow plans l laid runnable = record {
+  few = λ s x inputs small st.
+      let P : Logging → Role → Type 0 = λ logging role. started_under logging p l s x in
+      program_lists (attempt_at p l (given text p allow plans l laid runnable) s x inputs (under_redo l P st)) blocks_agree small;
 }

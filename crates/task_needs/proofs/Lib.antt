@@ -1,0 +1,3 @@
+mod Bodies
+mod Privates
+pub mod Interface
