@@ -1,10 +1,10 @@
 //! `bounds SRC`: what each task of a source needs of a charge, in cycles.
-ghost use Rattle.std.specs.Prelude.{◌≤◌, ◌∷◌, [], IfOk, IfErr, length};
+ghost use Rattle.std.specs.Prelude.{◌≡◌, ◌≤◌, ◌∷◌, [], IfOk, IfErr, length};
 ghost use Rattle.plain_commands.specs.alp_io.Shelf.{NeverFall};
 ghost use Rattle.plain_commands.specs.command_answers.Ending.{well};
 ghost use Rattle.plain_commands.specs.command_answers.Outside.{WhereStands};
 ghost use Rattle.plain_commands.specs.command_answers.CommandAnswers.{CommandAnswers, IsWhole, TextAnswers};
-ghost use Rattle.plain_commands.specs.command_answers.Outcomes.{FailsBy};
+ghost use Rattle.plain_commands.specs.command_answers.Outcomes.{FailsBy, FailsWriting, Gains};
 ghost use Rattle.scope_commands.specs.Bounds.{bounds_promise};
 
 use crate::needs::needs_text;
@@ -12,6 +12,20 @@ use plain_commands::answers::{Failure, Status, answer_failure, answer_unread, re
 use plain_commands::outside::{Shelf, Sink, write_all};
 use plain_commands::texts::source_of;
 use std::alloc::Global;
+
+// Writes a text. Takes no memory.
+fn write_text<'t, O: Sink>(out: &mut O, text: &[u8]) -> Result<(), Failure<'t>>
+    ensures faults { O.faults out.old ≤ O.faults out.new }
+    ensures whole { IfOk result (λ _. Gains
+        (record { old = O.contents out.old; new = O.contents out.new; faults_old = O.faults out.old; faults_new = O.faults out.new })
+        (λ output. output ≡ text.now)) }
+    ensures failure { IfErr result (λ e. FailsWriting e
+        (record { old = O.contents out.old; new = O.contents out.new; faults_old = O.faults out.old; faults_new = O.faults out.new })
+        (λ output. output ≡ text.now)) }
+{
+    write_all(out, text)?;
+    Ok(())
+}
 
 /// Writes what the tasks of the source that the text is need. All memory is taken before.
 ///
@@ -33,8 +47,7 @@ pub fn bounds_texts<'t, O: Sink>(
 {
     let source = source_of(alloc, name, source)?;
     let text = needs_text(alloc, &source)?;
-    write_all(out, text.as_slice())?;
-    Ok(())
+    write_text(out, text.as_slice())
 }
 
 fn bounds_of<O: Sink, E: Sink>(

@@ -3,8 +3,7 @@ ghost use Rattle.std.specs.Prelude.{◌≡◌, ℕ, List, ◌≤◌, ◌⊎◌, 
 ghost use Rattle.plain_commands.specs.alp_io.Shelf.{NeverFall, Told};
 ghost use Rattle.plain_commands.specs.command_answers.Messages.{Tells};
 ghost use Rattle.plain_commands.specs.command_answers.CommandAnswers.{CommandAnswers};
-ghost use Rattle.scope_commands.specs.Answers.{ScopeAnswers, promise_of, scope_usage};
-ghost use Rattle.scope_line.specs.ScopeLine.{IsScopeLine};
+ghost use Rattle.scope_commands.specs.Answers.{OnScopeLine, ScopeAnswers, promise_of, scope_usage};
 
 use crate::bounds::answer_bounds;
 use plain_commands::answers::{Status, messages};
@@ -42,6 +41,35 @@ fn answer_command<H: Shelf, O: Sink, E: Sink>(
     }
 }
 
+// The answer to the words.
+fn answer<H: Shelf, O: Sink, E: Sink>(
+    alloc: Global,
+    words: &[String],
+    shelf: &mut H,
+    out: &mut O,
+    err: &mut E,
+) -> Status
+    ensures counts { NeverFall (H.counts shelf.old) (H.counts shelf.new) }
+    ensures out_faults { O.faults out.old ≤ O.faults out.new }
+    ensures err_faults { E.faults err.old ≤ E.faults err.new }
+    ensures answers { ScopeAnswers result (map string_bytes words.entry.now)
+        (record { old = H.files shelf.old; new = H.files shelf.new; counts_old = H.counts shelf.old; counts_new = H.counts shelf.new })
+        (record { old = O.contents out.old; new = O.contents out.new; faults_old = O.faults out.old; faults_new = O.faults out.new })
+        (record { old = E.contents err.old; new = E.contents err.new; faults_old = E.faults err.old; faults_new = E.faults err.new }) }
+{
+    match command_of(alloc, words) {
+        Ok(command) => answer_command(alloc, command, shelf, out, err),
+        Err(WordsFault::Usage) => {
+            tell_usage(err);
+            Status::Usage
+        }
+        Err(WordsFault::Memory) => {
+            messages::tell_out_of_memory(err);
+            Status::OutOfMemory
+        }
+    }
+}
+
 /// Runs the program on its words, without its own name.
 ///
 /// `bounds SRC` writes to `out` what each task of the source needs of a charge, in cycles, with its parts. Every other answer than `Done`
@@ -66,18 +94,8 @@ pub fn alpaca_scope<H: Shelf, O: Sink, E: Sink>(
         (record { old = E.contents err.old; new = E.contents err.new; faults_old = E.faults err.old; faults_new = E.faults err.new }) }
 
     // Words that are no line are answered by the usage, or memory ran out.
-    ensures no_line { (IsScopeLine (map string_bytes words.entry.now) → ⊥)
+    ensures no_line { (OnScopeLine (map string_bytes words.entry.now) (λ command. Unit {0}) → ⊥)
         → (result ≡ Status.Usage) ⊎ (result ≡ Status.OutOfMemory) }
 {
-    match command_of(alloc, words) {
-        Ok(command) => answer_command(alloc, command, shelf, out, err),
-        Err(WordsFault::Usage) => {
-            tell_usage(err);
-            Status::Usage
-        }
-        Err(WordsFault::Memory) => {
-            messages::tell_out_of_memory(err);
-            Status::OutOfMemory
-        }
-    }
+    answer(alloc, words, shelf, out, err)
 }

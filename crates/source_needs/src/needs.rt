@@ -85,12 +85,10 @@ fn parts_of(
     requires few { length privates.now ≤ 512 }
     requires small { 12 * versions + 40 * table.elements + 40 * table.emits < 2 ^ 32 }
     requires bounded { table.bound < 2 ^ 32 }
-    ensures parts { result ≡ record {
-      boot = boot_part events;
-      start = start_part events versions privates.now;
-      path = path_part events versions privates.now table most;
-      commit = commit_part events privates.now table;
-    } }
+    ensures boot { result.boot ≡ boot_part events }
+    ensures start { result.start ≡ start_part events versions privates.now }
+    ensures path { result.path ≡ path_part events versions privates.now table most }
+    ensures commit { result.commit ≡ commit_part events privates.now table }
     ensures low { (result.boot < 2 ^ 32) × (result.start < 2 ^ 32) × (result.path < 2 ^ 32) × (result.commit < 2 ^ 32) }
 {
     let words = word_count(privates) as u64;

