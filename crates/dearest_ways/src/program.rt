@@ -1,13 +1,13 @@
 //! The dearest way of a program's code.
 
-ghost use Rattle.std.specs.Prelude.{◌≡◌, ◌+◌, ◌*◌, ◌<◌, ◌≤◌, ◌∷◌, ◌++◌, ◌-◌, [], ℕ, None, not, if◌then◌else◌, max, IfOk, OnOk};
+ghost use Rattle.std.specs.Prelude.{◌≡◌, ◌+◌, ◌*◌, ◌<◌, ◌≤◌, ◌∷◌, ◌++◌, ◌-◌, [], ℕ, None, not, if◌then◌else◌, is_some, max, IfOk, OnOk};
 ghost use Rattle.word_code.specs.array_versions.Program.{truth, repeat};
 ghost use Rattle.word_code.specs.array_versions.View.{program_of, steps_of, step_of, test_of};
 ghost use Rattle.word_code.specs.array_versions.Form.{IsWhole, LocalsBelow, StepLocalsBelow, TestLocalsBelow};
 ghost use Rattle.word_code.specs.array_versions.Cost.{words_of, step_words, test_words};
-ghost use Rattle.word_code.specs.Code.{owed_by, owed, size, holds_code, compares_code, number_code, turn_end, pass_over, test_code, block_code, waiting_behind, waiting_after, bound_of};
+ghost use Rattle.word_code.specs.Code.{owed_by, owed, power, size, holds_code, compares_code, number_code, turn_end, pass_over, test_code, block_code, waiting_behind, waiting_after, bound_of};
 ghost use Rattle.code_paths.specs.Paths.{capped, forward_most};
-ghost use Rattle.code_costs.specs.Dearest.{any_most, flush_most, leaf_most, back_cycles, turn_most, turns_most, step_most};
+ghost use Rattle.code_costs.specs.Dearest.{any_most, bits_in, by_number_most, product_most, flush_most, leaf_most, back_cycles, turn_most, turns_most, step_most};
 ghost use Rattle.code_costs.specs.Dearest.{test_most, steps_most, block_most, most_spent};
 ghost use Rattle.dearest_ways.specs.Ways.{straight_of, ways_cost, AreWaysOf, AreForksOf};
 
@@ -64,12 +64,57 @@ fn flush(alloc: Global, waiting: &mut Vec<Waiting>) -> Result<Ways, AllocError>
     priced(alloc, code.as_slice(), most)
 }
 
+// Whether a number is a power of two.
+fn is_power(number: u16) -> bool
+    ensures { result ≡ is_some (power number) }
+{
+    let count = number.trailing_zeros();
+    count < 16 && number == 1 << count
+}
+
+// How many bits a number has, 15 at most.
+fn bits_in(number: u16) -> u64
+    ensures value { result ≡ bits_in 15 number }
+    ensures low { result ≤ 15 }
+{
+    let mut left = number;
+    let mut bits = 0;
+    for turn in 0..15 {
+        if left != 0 {
+            bits += 1;
+            left = left / 2;
+        }
+    }
+    bits
+}
+
+// What a product by a number costs: a turn for each of its bits, and one for 0.
+fn by_number_most(number: u16) -> u64
+    ensures { result ≡ by_number_most (power number) number }
+{
+    if is_power(number) {
+        152
+    } else {
+        8 + (1 + bits_in(number / 2)) * 9
+    }
+}
+
+// What a product costs whose right side may wait on top.
+fn product_most(waiting: &[Waiting]) -> u64
+    ensures { result ≡ product_most waiting.now }
+{
+    match waiting.first() {
+        Some(Waiting::Number(number)) => by_number_most(*number),
+        _ => 152,
+    }
+}
+
 // What a step costs that is no test, no choice, no loop and no jump, whatever its code is.
-fn any_most(step: &WordStep) -> u64
-    ensures { result ≡ any_most (step_of step.now) }
+fn any_most(waiting: &[Waiting], step: &WordStep) -> u64
+    ensures { result ≡ any_most waiting.now (step_of step.now) }
 {
     match step {
-        WordStep::Binary(BinaryOperation::Multiply) => 152,
+        WordStep::Binary(BinaryOperation::Multiply) => product_most(waiting),
         _ => 202,
     }
 }
@@ -86,7 +131,7 @@ fn leaf(
     ensures ways { IfOk result (λ w. w ≡ straight_of (capped (leaf_most bounds.now waiting.old.items (step_of step.now)))) }
     ensures waiting { OnOk result (waiting.new.items ≡ waiting_behind waiting.old.items (step_of step.now)) }
 {
-    let most = plus(any_most(step), owed(waiting));
+    let most = plus(any_most(waiting, step), owed(waiting));
     let mut code = Vec::new(alloc);
     emit_step(alloc, bounds, step, waiting, &mut code)?;
     priced(alloc, code.as_slice(), most)

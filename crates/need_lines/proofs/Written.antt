@@ -26,18 +26,18 @@ unfolding printed
 two_lines l m ls = refl
 
 -- both lines of one task more are written
-pub task_written : (ts : List TaskNeed) (t : TaskNeed) (i : ℕ) (a b c : List ℕ) → i < length ts → t ≡ get_or ts i t
-    → b ≡ a ++ (spaced (task_fields (row_of t)) ++ 10 ∷ []) → c ≡ b ++ (spaced (parts_fields (row_of t)) ++ 10 ∷ [])
+pub task_written : (ts : List TaskNeed) (i : ℕ) (d : TaskNeed) (a b c : List ℕ) → i < length ts
+    → b ≡ a ++ (spaced (task_fields (row_of (get_or ts i d))) ++ 10 ∷ []) → c ≡ b ++ (spaced (parts_fields (row_of (get_or ts i d))) ++ 10 ∷ [])
     → c ++ printed (rows_fields (map row_of (drop (i + 1) ts))) ≡ a ++ printed (rows_fields (map row_of (drop i ts)))
-task_written ts t i a b c h e f g =
+task_written ts i d a b c h f g =
+    let t = get_or ts i d in
     let next : i + 1 ≡ suc i = omega arith in
     let rest : List ℕ = printed (rows_fields (map row_of (drop (i + 1) ts))) in
     let first : List ℕ = line_text (task_fields (row_of t)) in
     let second : List ℕ = line_text (parts_fields (row_of t)) in
     ap (λ x. x ++ rest) (g ∙ ap (λ x. x ++ second) f) ∙ append_assoc (a ++ first) second rest ∙ append_assoc a first (second ++ rest)
     ∙ ap (λ x. a ++ x) (sym (two_lines (task_fields (row_of t)) (parts_fields (row_of t)) (rows_fields (map row_of (drop (i + 1) ts)))))
-    ∙ ap (λ ts. a ++ printed (rows_fields (map row_of ts)))
-    (ap (λ j. t ∷ drop j ts) next ∙ ap (λ t. t ∷ drop (suc i) ts) e ∙ sym (drop-cons ts i t h))
+    ∙ ap (λ ts. a ++ printed (rows_fields (map row_of ts))) (ap (λ j. t ∷ drop j ts) next ∙ sym (drop-cons ts i d h))
 
 pub no_tasks_written : (a : List ℕ) → a ++ printed (rows_fields []) ≡ a
 unfolding printed

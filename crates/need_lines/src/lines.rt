@@ -92,11 +92,7 @@ fn push_last(out: &mut Vec<u8>, most: u64, bound: u32) -> Result<(), AllocError>
 }
 
 /// Writes behind a text two lines for each task, and the greatest need of them with the bound.
-pub fn push_needs(
-    out: &mut Vec<u8>,
-    tasks: &[TaskNeed<'_>],
-    bound: u32,
-) -> Result<(), AllocError>
+pub fn push_needs(out: &mut Vec<u8>, tasks: &[TaskNeed<'_>], bound: u32) -> Result<(), AllocError>
     ensures { OnOk result (out.new.items ≡ out.old.items ++ needs_text (map row_of tasks.now) bound) }
 {
     push_tasks(out, tasks)?;
