@@ -10,38 +10,12 @@ use Rattle.clap.specs.Words.{Row, Rule, Text, first_of, subcommand_of}
 use Rattle.clap.specs.Walk.{has_row}
 use Rattle.command_line.specs.CommandLine.{AreTexts, Subcommand, all_said, files_of}
 use Rattle.command_line.specs.Commands.{values_of}
-use Rattle.command_line.proofs.Files.{files_said, IsGiven, IsInOrder, built_subcommand, file_row, given_row, more_given, rows_for}
-use Rattle.command_line.proofs.Lines.{has_name}
+use Rattle.command_line.proofs.Interface.{built_subcommand, files_said, has_name, lent, values_after}
 use Rattle.scope_line.specs.ScopeLine.{IsScopeLine, NamesScopeCommand, bounds_line, line_found, plain_line, scope_app, scope_line_of}
-use Rattle.scope_line.specs.ScopeLine.{subcommand_named, subcommands}
+use Rattle.scope_line.specs.ScopeLine.{subcommand_named, scope_subcommands}
 use Rattle.scope_line.specs.declared.Command.{Command}
 use Rattle.scope_line.specs.declared.Command.TheVariants.{Bounds}
 use Rattle.scope_line.proofs.Lines.{Line, in_order, is_bounds, line_reads, line_says, line_there}
-
--- ---- a line's files have their values
-
-first_after : (front rest : List Row) (id file : Text) → has_row id front ≡ false → first_of id (front ++ file_row id file ∷ rest) ≡ Some file
-first_after [] rest id file e = rw ((bytes_eq-Decides id id).1 refl) refl
-first_after (r ∷ front) rest id file e = go (bytes_eq r.id id) refl (first_after front rest id file)
-  where
-    go : (b : Bool) → bytes_eq r.id id ≡ b → (has_row id front ≡ false → first_of id (front ++ file_row id file ∷ rest) ≡ Some file)
-        → option_and_then (λ (x : Row). slice_get x.values 0)
-        (cond b (Some r) (find (λ (x : Row). bytes_eq x.id id) (front ++ file_row id file ∷ rest))) ≡ Some file
-    go true is more = absurd (true≢false (sym (ap (λ b. b || has_row id front) is) ∙ e))
-    go false is more = more (ap (λ b. b || has_row id front) (sym is) ∙ e)
-
-values_after : (ids : List Text) (rules : List Rule) (keys : List Text) (k : ℕ) (front : List Row) (files : List Text) → IsInOrder rules keys k ids
-    → IsGiven keys front
-    → length files ≡ length ids → values_of ids (front ++ rows_for ids files) ≡ Some files
-values_after [] rules keys k front [] order given count = refl
-values_after [] rules keys k front (file ∷ files) order given count = absurd (omega arith)
-values_after (id ∷ ids) rules keys k front [] order given count = absurd (omega arith)
-values_after (id ∷ ids) rules keys k front (file ∷ files) order given count =
-    let rest : values_of ids (front ++ file_row id file ∷ rows_for ids files) ≡ Some files =
-    ap (values_of ids) (sym (append_assoc front (file_row id file ∷ []) (rows_for ids files)))
-    ∙ values_after ids rules (keys ++ id ∷ []) (k + 1) (front ++ file_row id file ∷ []) files order.5 (more_given keys front id file given) (omega arith) in
-    ap₂ (λ (first : Option Text) (more : Option (List Text)). option_and_then (λ f. option_map (λ fs. f ∷ fs) more) first)
-    (first_after front (rows_for ids files) id file (given_row keys front id given ∙ order.3)) rest
 
 -- what the parse found of a line is the line
 pub line_found_is : (words : List Text) (name : Text) (rows : List Row) → Line words → subcommand_of scope_app words ≡ Some (name, rows)
@@ -50,7 +24,7 @@ line_found_is words name rows l is =
     let same = sym l.rows ∙ is in
     let called : l.command.name ≡ name = ap (λ (o : Option (Text × List Row)). (unwrap_or o (name, rows)).0) same in
     let kept : rows_for l.command.files l.files ≡ rows = ap (λ (o : Option (Text × List Row)). (unwrap_or o (name, rows)).1) same in
-    let word : l.command.name ≡ l.name = has_name subcommands l.name l.command l.named in
+    let word : l.command.name ≡ l.name = has_name scope_subcommands l.name l.command l.named in
     let values : values_of l.command.files rows ≡ Some l.files = ap (values_of l.command.files) (sym kept)
     ∙ values_after l.command.files (built_subcommand l.command).rules [] 1 [] l.files (in_order l.name l.command l.named) tt l.count in
     let found : line_found l.name rows ≡ Some (l.name ∷ l.files) =
@@ -84,9 +58,6 @@ command_is_line (name ∷ rest) texts n =
     let s = of_line n.0 name m.0 m.2 in
     line_there name rest m.0 m.0 s.command texts s.named m.1 s.count s.says
 
-abbrev lent : Text → Bor Text
-lent text = record { ref_ptr = (0, 0); now = text }
-
 -- the files of `bounds` make its line
 bounds_has_lines : (files : List Text) → length files ≡ 1 → (c : Command) × (plain_line c ≡ codes "bounds" ∷ files)
 bounds_has_lines [] count = absurd (omega arith)
@@ -99,7 +70,7 @@ has_command : (name : Text) (files : List Text) (s : Subcommand) → subcommand_
 has_command name files s is count =
     let same = is_bounds name s is in
     let c = bounds_has_lines files (count ∙ ap (λ (x : Subcommand). length x.files) (sym same)) in
-    (c.0, c.1 ∙ ap (λ (x : Subcommand). x.name ∷ files) same ∙ ap (λ n. n ∷ files) (has_name subcommands name s is))
+    (c.0, c.1 ∙ ap (λ (x : Subcommand). x.name ∷ files) same ∙ ap (λ n. n ∷ files) (has_name scope_subcommands name s is))
 
 pub line_is_command : (words : List Text) → AreTexts words → IsScopeLine words → NamesScopeCommand words
 line_is_command words texts line =

@@ -15,18 +15,9 @@ use Rattle.clap.specs.Faults.{other_fault, settle_fault, step_fault, turn_fault,
 use Rattle.clap.specs.declared.error.kind.ErrorKind.{ErrorKind}
 use Rattle.clap.specs.declared.error.kind.ErrorKind.TheVariants.{UnknownArgument, MissingSubcommand, InvalidSubcommand}
 use Rattle.command_line.specs.CommandLine.{AreTexts, Subcommand, all_said, files_of}
-use Rattle.scope_line.specs.ScopeLine.{IsScopeLine, bounds_line, scope_app, scope_line_of, subcommand_named, subcommands}
-use Rattle.command_line.proofs.Lines.{has_name, named}
-use Rattle.command_line.proofs.Files.{IsInOrder, IsJudged, Kind, built_subcommand, command_judged, ends, kind_of_word, long, no_kind, plain, rows_for, short}
-use Rattle.command_line.proofs.Files.{some_char, walk_at}
-
-first_none : (a b : Kinds) → or_else a b ≡ [] → a ≡ []
-first_none [] b e = refl
-first_none (k ∷ ks) b e = cc
-
-or_nothing : (a : Kinds) → or_else a [] ≡ a
-or_nothing [] = refl
-or_nothing (k ∷ ks) = refl
+use Rattle.command_line.proofs.Interface.{IsInOrder, IsJudged, Kind, built_subcommand, command_judged, ends, kind_of_word, long, no_kind, plain, rows_for}
+use Rattle.command_line.proofs.Interface.{entered_by_name, first_none, has_name, met_by_name, named, names_in, or_nothing, short, some_char, stopped_at, walk_at}
+use Rattle.scope_line.specs.ScopeLine.{IsScopeLine, bounds_line, scope_app, scope_line_of, subcommand_named, scope_subcommands}
 
 -- ---- the program after building
 
@@ -41,37 +32,11 @@ top = record (new_shape (codes "alpaca-scope")) {
 }
 
 abbrev built_app : App
-built_app = record { top = top; subs = map built_subcommand subcommands }
+built_app = record { top = top; subs = map built_subcommand scope_subcommands }
 
 fault_is : (words : List Text) → fault_of scope_app words ≡ built_fault built_app nothing_held words
 unfolding scope_app
 fault_is words = refl
-
--- ---- commands by their names
-
-abbrev names_in : List Subcommand → Names
-names_in xs = map label_of (map built_subcommand xs)
-
-met_by_name : (xs : List Subcommand) (word : Text) → find (answers_to word) (names_in xs) ≡ option_map (λ (s : Subcommand). (s.name, [])) (named xs word)
-met_by_name [] word = refl
-met_by_name (x ∷ xs) word = go (bytes_eq x.name word) (met_by_name xs word)
-  where
-    go : (b : Bool) → find (answers_to word) (names_in xs) ≡ option_map (λ (s : Subcommand). (s.name, [])) (named xs word)
-        → cond (b || false) (Some (x.name, [])) (find (answers_to word) (names_in xs)) ≡ option_map (λ (s : Subcommand). (s.name, []))
-        (cond b (Some x) (named xs word))
-    go true rest = refl
-    go false rest = rest
-
-entered_by_name : (xs : List Subcommand) (word : Text)
-    → find (λ s. answers_to word (label_of s)) (map built_subcommand xs) ≡ option_map built_subcommand (named xs word)
-entered_by_name [] word = refl
-entered_by_name (x ∷ xs) word = go (bytes_eq x.name word) (entered_by_name xs word)
-  where
-    go : (b : Bool) → find (λ s. answers_to word (label_of s)) (map built_subcommand xs) ≡ option_map built_subcommand (named xs word)
-        → cond (b || false) (Some (built_subcommand x)) (find (λ s. answers_to word (label_of s)) (map built_subcommand xs)) ≡ option_map built_subcommand
-        (cond b (Some x) (named xs word))
-    go true rest = refl
-    go false rest = rest
 
 -- the command of a name is this one
 pub is_bounds : (word : Text) (s : Subcommand) → subcommand_named word ≡ Some s → bounds_line ≡ s
@@ -89,10 +54,7 @@ in_order word s is =
 -- ---- the first word
 
 abbrev names : Names
-names = names_in subcommands
-
-abbrev stopped_at : Text → List Text → Walk
-stopped_at name words = record (walk_from nothing_held) { stopped = Some (name, words) }
+names = names_in scope_subcommands
 
 stopped_walk : (words : List Text) (name : Text) (before : List Text)
     → fold (walked [] names) (stopped_at name before) words ≡ stopped_at name (before ++ words)
@@ -115,9 +77,9 @@ whole_is words = refl
 
 module _ (word : Text) (s : Subcommand) (is : subcommand_named word ≡ Some s) where
   met : subcommand_met names idle word ≡ Some word
-  met = ap (option_map (λ (p : Text × List Text). p.0)) (met_by_name subcommands word)
+  met = ap (option_map (λ (p : Text × List Text). p.0)) (met_by_name scope_subcommands word)
       ∙ ap (λ o. option_map (λ (p : Text × List Text). p.0) (option_map (λ (s : Subcommand). (s.name, [])) o)) is
-      ∙ ap Some (has_name subcommands word s is)
+      ∙ ap Some (has_name scope_subcommands word s is)
 
   first_turn : turn_fault top names (walk_from nothing_held) word ≡ []
   first_turn =
@@ -138,8 +100,8 @@ module _ (word : Text) (s : Subcommand) (is : subcommand_named word ≡ Some s) 
   unfolding walk_fault
   whole_walk_fault words = (λ i. or_else (first_turn i) (walk_fault top names (first_walked i) words)) ∙ stopped_fault words word []
 
-  found : find (λ (x : Shape). answers_to word (label_of x)) (map built_subcommand subcommands) ≡ Some (built_subcommand s)
-  found = entered_by_name subcommands word ∙ ap (option_map built_subcommand) is
+  found : find (λ (x : Shape). answers_to word (label_of x)) (map built_subcommand scope_subcommands) ≡ Some (built_subcommand s)
+  found = entered_by_name scope_subcommands word ∙ ap (option_map built_subcommand) is
 
   -- what is at fault is what is at fault behind the command's name
   pub fault_behind : (words : List Text) → fault_of scope_app (word ∷ words) ≡ level_fault (built_subcommand s) [] nothing_held words false []
@@ -159,7 +121,7 @@ module _ (word : Text) (s : Subcommand) (is : subcommand_named word ≡ Some s) 
 -- a first word that names no command
 module _ (word : Text) (none : subcommand_named word ≡ None) where
   not_met : subcommand_met names idle word ≡ None
-  not_met = ap (option_map (λ (p : Text × List Text). p.0)) (met_by_name subcommands word)
+  not_met = ap (option_map (λ (p : Text × List Text). p.0)) (met_by_name scope_subcommands word)
       ∙ ap (λ o. option_map (λ (p : Text × List Text). p.0) (option_map (λ (s : Subcommand). (s.name, [])) o)) none
 
   turn_of : turn_fault top names (walk_from nothing_held) word

@@ -13,8 +13,8 @@ abbrev pub bounds_line : Subcommand
 bounds_line = record { name = codes "bounds"; files = codes "SRC" ∷ [] }
 
 -- all commands
-abbrev pub subcommands : List Subcommand
-subcommands = bounds_line ∷ []
+abbrev pub scope_subcommands : List Subcommand
+scope_subcommands = bounds_line ∷ []
 
 -- the program's command line with no command yet
 unfoldable pub bare_scope : App
@@ -38,7 +38,7 @@ scope_app = record {
     subcommand_required = true;
     is_leaf = false;
   };
-  subs = map subcommand_shape subcommands;
+  subs = map subcommand_shape scope_subcommands;
 }
 
 -- the words are a command line of the program: `clap`'s rules give no fault for them
@@ -49,7 +49,7 @@ IsScopeLine words = fault_of scope_app words ≡ []
 
 -- the command of this name
 abbrev pub subcommand_named : Text → Option Subcommand
-subcommand_named name = find (λ s. bytes_eq s.name name) subcommands
+subcommand_named name = find (λ s. bytes_eq s.name name) scope_subcommands
 
 -- the first word and then the files that the words behind it give
 abbrev pub scope_line_of : List Text → Option (List Text)

@@ -13,15 +13,6 @@ pub at_most_two : (w : ScalarWidth) → scalar_words w ≤ 2
 at_most_two OneWord = omega arith
 at_most_two TwoWords = omega arith
 
-at_least_one : (w : ScalarWidth) → 1 ≤ scalar_words w
-at_least_one OneWord = omega arith
-at_least_one TwoWords = omega arith
-
--- scalars are no more than their words
-pub scalars_at_most : (ps : List PrivateScalar) → length ps ≤ private_words ps
-scalars_at_most [] = omega arith
-scalars_at_most (s ∷ ps) = let rest = scalars_at_most ps in let one = at_least_one s.width in omega (arith, rest, one)
-
 -- a scalar that follows a run belongs to it
 pub followed : (r : Run) (ps : List PrivateScalar) (i : ℕ) (d : PrivateScalar) → i < length ps → is_followed_by r (get_or ps i d) ≡ true
     → length (runs_from (longer r (get_or ps i d)) (drop (i + 1) ps)) ≡ length (runs_from r (drop i ps))

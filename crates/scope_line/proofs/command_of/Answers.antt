@@ -1,6 +1,6 @@
 use Rattle.std.proofs.Common.{◌∙◌, ◌∷◌, List, map, string_bytes, IsErrOf, option_map, sym, ap, arith}
 use Rattle.clap.specs.Words.{Text, found_of, rows_of}
-use Rattle.command_line.proofs.Commands.{are_texts, entered_is, has_met, is_there_by}
+use Rattle.command_line.proofs.Interface.{are_texts, entered_is, has_met, is_there_by}
 use Rattle.scope_line.specs.ScopeLine.{IsScopeLine, plain_line}
 use Rattle.scope_line.specs.declared.WordsFault.TheVariants.{Usage}
 use Rattle.scope_line.proofs.Commands.{command_is_line, line_found_is}
