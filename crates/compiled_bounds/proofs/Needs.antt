@@ -26,7 +26,7 @@ use Rattle.word_code.specs.Code.{code_spent}
 use Rattle.compiled_model.specs.Parts.{program_parts, task_program, compiled_model}
 use Rattle.compiled_model.specs.Needs.{boot_cycles, whole_cycles}
 use Rattle.task_needs.specs.Needs.{privates_of, own_privates, own_entries, own_words, start_need, commit_need, beside_path, need_of}
-use Rattle.task_needs.specs.Lists.{pending_need, needs_model}
+use Rattle.task_needs.specs.Lists.{pending_need, with_needs}
 use Rattle.task_needs.proofs.Interface.{privates_count}
 use Rattle.compiled_bounds.specs.Laws.{NeedsKeepToTheBound, TableCoversNeeds}
 use Rattle.compiled_bounds.proofs.Bounds.{greater, bound_is_the_sources}
@@ -97,7 +97,7 @@ one_within cost (suc n) k below =
 
 pub needs_keep_to_the_bound : NeedsKeepToTheBound
 needs_keep_to_the_bound p l some costs needs =
-    let n = needs_model p l in
+    let n = with_needs p l (compiled_model p l) in
     let most = bound (compiled_model p l) in
     let is : most ≡ bound_of p = bound_is_the_sources p l in
     let pending : pending_need l ≤ most = costs.commits 0 some in

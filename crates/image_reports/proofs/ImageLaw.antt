@@ -8,7 +8,7 @@ use Rattle.image_reports.proofs.Names.{KeepsCode}
 use Rattle.image_reports.proofs.Names.{HoldsAt, ImagesKeepTheLaws, ImagesAreTold, ImagesKeepCapacities, HoldsFrom, ImagesBelong}
 use Rattle.board_run.specs.Charges.{charges_of}
 use Rattle.task_needs.specs.Needs.{need_of}
-use Rattle.task_needs.specs.Lists.{needs_model}
+use Rattle.task_needs.specs.Lists.{with_needs}
 use Rattle.image_reports.proofs.Begins.{at_first, bears, fram_is, own_code, rests, undecided, run_of_words}
 use Rattle.image_reports.proofs.Capacities.{fresh_capacities}
 use Rattle.image_reports.proofs.CompiledTold.{models_are_of_sources}
@@ -76,7 +76,8 @@ some_task text p allow image ok c =
 -- the first task needs what the fresh world says
 first_need : (text : List ℕ) (p : CheckedProgram) (allow : Allow) (image : ImageValue) (ok : IsAcceptedText text p allow)
     → (c : IsCompiled text p allow image)
-    → IsTaskWithin (needs_model p c.layout) (first_state p) (need_of p c.layout ((world_with image.words []).fram (word_place c.layout CurrentTask)))
+    → IsTaskWithin (with_needs p c.layout (compiled_model p c.layout)) (first_state p)
+    (need_of p c.layout ((world_with image.words []).fram (word_place c.layout CurrentTask)))
 first_need text p allow image ok c =
     let l = c.layout in
     let m = map_of text p l allow in
@@ -112,8 +113,8 @@ images_keep_the_laws text p allow image ok c cs starts readings events inputs r 
       raises = raises on;
       progress = pays on false (first_within text p allow image ok c);
       needs = needs_pay on
-          ((runs_may_begin (needs_model p l) (needs_model_laws p l on.start.ready) readings).resting (first_state p) (world_with image.words [])
-          (undecided text p allow image c on.start.ready on.start.new)) (some_task text p allow image ok c) false (first_need text p allow image ok c);
+          ((runs_may_begin (with_needs p l (compiled_model p l)) (needs_model_laws p l on.start.ready) readings).resting (first_state p)
+          (world_with image.words []) (undecided text p allow image c on.start.ready on.start.new)) (some_task text p allow image ok c) false (first_need text p allow image ok c);
       told = runs_are_told text p allow image ok c cs readings events inputs r on.run;
     }
 

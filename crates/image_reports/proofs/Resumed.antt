@@ -19,7 +19,7 @@ use Rattle.image_reports.proofs.Told.{source}
 use Rattle.image_reports.proofs.Begins.{bears, run_of_words}
 use Rattle.crash_rules.specs.Model.{bound}
 use Rattle.task_needs.specs.Needs.{need_of}
-use Rattle.task_needs.specs.Lists.{needs_model}
+use Rattle.task_needs.specs.Lists.{with_needs}
 use Rattle.image_reports.proofs.Names.{◌≤◌}
 use Rattle.image_reports.proofs.Needs.{needs_model_laws, need_within, needs_bound, needs_pay}
 use Rattle.image_reports.proofs.Onward.{Onward, starts_with, front, unheard, ringless, opens, raises, pays}
@@ -77,7 +77,7 @@ module _ (text : List ℕ) (p : CheckedProgram) (allow : Allow) (image : ImageVa
 
   -- so it is with the needs
   needs : Model State
-  needs = needs_model p l
+  needs = with_needs p l (compiled_model p l)
 
   -- the first task needs what CUR says; a pending commit takes no more than the bound
   first_need : (pending : Bool) → bound needs ≤ m.bound → IsSound (program_places p l) x

@@ -55,7 +55,3 @@ with_needs p l m = record m {
   task_cost = λ t. if nat_lt t (length p.tasks) then need_of p l t else pending_need l;
   Decided = DecidedWithin m p l;
 }
-
--- the source under its runtime, with these costs
-abbrev pub needs_model : CheckedProgram → MemoryMap → Model State
-needs_model p l = with_needs p l (compiled_model p l)
