@@ -114,7 +114,8 @@ images_keep_the_laws text p allow image ok c cs starts readings events inputs r 
       progress = pays on false (first_within text p allow image ok c);
       needs = needs_pay on
           ((runs_may_begin (with_needs p l (compiled_model p l)) (needs_model_laws p l on.start.ready) readings).resting (first_state p)
-          (world_with image.words []) (undecided text p allow image c on.start.ready on.start.new)) (some_task text p allow image ok c) false (first_need text p allow image ok c);
+          (world_with image.words []) (undecided text p allow image c on.start.ready on.start.new)) (some_task text p allow image ok c) false
+          (first_need text p allow image ok c);
       told = runs_are_told text p allow image ok c cs readings events inputs r on.run;
     }
 
