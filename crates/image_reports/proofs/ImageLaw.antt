@@ -6,6 +6,7 @@ use Rattle.image_reports.proofs.Names.{is_redo, false, map_of, word_place, Curre
 use Rattle.image_reports.proofs.Names.{KeepsCapacities, compiled_program, sources_are_ready, [], world_with, laid_out, images_are_fresh, known_behind}
 use Rattle.image_reports.proofs.Names.{KeepsCode}
 use Rattle.image_reports.proofs.Names.{HoldsAt, ImagesKeepTheLaws, ImagesAreTold, ImagesKeepCapacities, HoldsFrom, ImagesBelong}
+use Rattle.image_reports.specs.Laws.{ImagesKeepToNeeds}
 use Rattle.board_run.specs.Charges.{charges_of}
 use Rattle.task_needs.specs.Needs.{need_of}
 use Rattle.task_needs.specs.Lists.{with_needs}
@@ -131,3 +132,8 @@ images_keep_capacities text p allow image ok c trace t r run ms rest e =
     let few = traces_are_few trace t in
     ((images_keep_the_laws text p allow image ok c (charges_of trace.charges) few.0 trace.readings trace.events (trace_inputs trace t) r run).fronts ms
     rest e).capacities
+
+pub images_keep_to_needs : ImagesKeepToNeeds
+images_keep_to_needs text p allow image ok c trace t r run =
+    let few = traces_are_few trace t in
+    (images_keep_the_laws text p allow image ok c (charges_of trace.charges) few.0 trace.readings trace.events (trace_inputs trace t) r run).needs
