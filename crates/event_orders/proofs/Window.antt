@@ -46,7 +46,7 @@ stands_put f i n v [] e l h = tt
 stands_put f i n v (w ∷ ws) e l h =
     let here : i < i + length (w ∷ ws) = omega arith in
     let near : i + length (w ∷ ws) ≤ i + 63 = omega (arith, l) in
-    let next : n ≡ ((i + 1) + length ws) % 0x10000 = e ∙ (let s : i + (1 + length ws) ≡ (i + 1) + length ws = omega arith in ap (λ k. k % 0x10000) s) in
+    let next : n ≡ ((i + 1) + length ws) % 0x10000 = e ∙ (let s : i + length (w ∷ ws) ≡ (i + 1) + length ws = omega arith in ap (λ k. k % 0x10000) s) in
     (put_other f (slot_place n) v (slot_place i) (other_slot i (i + length (w ∷ ws)) n e here near) ∙ h.0,
     stands_put f (i + 1) n v ws next (omega (arith, l)) h.1)
 
@@ -59,13 +59,13 @@ stands_head f i v (w ∷ ws) h = (put_other f head_place v (slot_place i) (λ e.
 stands_more : (f : ℕ → ℕ) (i w : ℕ) (ws : List ℕ) → Stands f i ws → f (slot_place (i + length ws)) ≡ w → Stands f i (ws ++ w ∷ [])
 stands_more f i w [] h e = (ap (λ k. f (slot_place k)) (let s : i ≡ i + 0 = omega arith in s) ∙ e, tt)
 stands_more f i w (v ∷ ws) h e =
-    (h.0, stands_more f (i + 1) w ws h.1 (ap (λ k. f (slot_place k)) (let s : (i + 1) + length ws ≡ i + (1 + length ws) = omega arith in s) ∙ e))
+    (h.0, stands_more f (i + 1) w ws h.1 (ap (λ k. f (slot_place k)) (let s : (i + 1) + length ws ≡ i + length (v ∷ ws) = omega arith in s) ∙ e))
 
 -- those behind the first ones
 pub stands_behind : (f : ℕ → ℕ) (i : ℕ) (ts rs : List ℕ) → Stands f i (ts ++ rs) → Stands f (i + length ts) rs
 stands_behind f i [] rs h = subst (λ k. Stands f k rs) (let s : i ≡ i + 0 = omega arith in s) h
 stands_behind f i (t ∷ ts) rs h =
-    subst (λ k. Stands f k rs) (let s : (i + 1) + length ts ≡ i + (1 + length ts) = omega arith in s) (stands_behind f (i + 1) ts rs h.1)
+    subst (λ k. Stands f k rs) (let s : (i + 1) + length ts ≡ i + length (t ∷ ts) = omega arith in s) (stands_behind f (i + 1) ts rs h.1)
 
 -- a ring that isn't full, though it has no more words than slots, has room for one more
 free : (h t n : ℕ) → (word_difference h t == ring_slots) ≡ false → n ≤ word_difference h t → word_difference h t ≤ ring_slots → n ≤ 63
@@ -106,7 +106,7 @@ raises_head f tail i v ws full small stands w =
     let near = w.near in
     let room = w.room in
     record {
-      stands = stands_head _ i _ _ (stands_more f i v ws w.stands (ap f (sym (same_slot (i + length ws) n w.head)) ∙ stands));
+      stands = stands_head f i (word_sum n 1) (ws ++ v ∷ []) (stands_more f i v ws w.stands (ap f (sym (same_slot (i + length ws) n w.head)) ∙ stands));
       head = head ∙ (let e : word_sum n 1 ≡ (i + length (ws ++ v ∷ [])) % 0x10000 = omega (arith, at, longer) in e);
       near = subst (λ h. length (ws ++ v ∷ []) ≤ word_difference h tail) (sym head) (let e : length (ws ++ v ∷ []) ≤ word_difference (word_sum n 1) tail =
           omega (arith, longer, more, near) in e);
