@@ -2,3 +2,9 @@
 
 -- What becomes of a word in hand.
 pub use Rattle.event_rules.proofs.Runs.{hands_are_kept, waits_in_the_handler}
+-- What stands in the ring.
+pub use Rattle.event_rules.proofs.Ring.{ring_holds_accepted}
+-- Effects that take words of the ring in order, one part behind another, as long as looks are left.
+pub use Rattle.event_rules.proofs.Scripts.{looks_after, left_behind, dropped, joined, off_ring}
+-- So do the moments of runs whose scripts do.
+pub use Rattle.event_rules.proofs.InOrder.{runs_take_in_order}
