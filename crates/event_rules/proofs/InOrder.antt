@@ -137,8 +137,8 @@ module _ {St : Type 0} (m : Model St) (c : Program) (laws : ModelLaws m) (code :
         let taken : TakesExactly es p.inputs reached.end.u.inputs =
         subst (λ l. TakesExactly l p.inputs reached.end.u.inputs) made (changed c.step code.changes n p reached.end.u led).inputs in
         let left : looks_in ms ++ no_look ≡ looks_taken es ++ no_look = sym taken.looks ∙ ap (λ l. looks_taken es ++ l) reached.end.looks in
-        let seeing : FollowsSeeing gate (outside_of start).fram (looks_in ms ++ no_look) Before es does.0 =
-        subst (λ l. FollowsSeeing gate (outside_of start).fram (looks_in ms ++ no_look) Before l does.0) made does.1 in
+        let seeing : FollowsSeeing (Advances gate) (outside_of start).fram (looks_in ms ++ no_look) Before es does.0 =
+        subst (λ l. FollowsSeeing (Advances gate) (outside_of start).fram (looks_in ms ++ no_look) Before l does.0) made does.1 in
         steps_follow gate start ms run.whole run.words from.moments from.instructions Before does.0
         (sighted gate (looks_in ms ++ no_look) es (λ a. 0) [] left seeing)
 

@@ -14,7 +14,8 @@ use Rattle.crash_rules.specs.Model.{Model, ModelLaws, Inputs, InputsAreWords, in
 use Rattle.crash_rules.specs.Model.{AttemptContract, Comes, Lacks, Decides, CommitKeeps}
 use Rattle.crash_rules.specs.Runs.{Program, AtEntry, Makes, ProgramLaws}
 use Rattle.crash_rules.proofs.Interface.{world_fram, in_front, goes_on, changed}
-use Rattle.event_rules.specs.Taking.{Taking, Before, IsIdle, Advances, Takes, Sends, Stores, Follows, looks_behind, FollowsSeeing, Ended, Next, Blind, IsOffRing, ScriptsTakeInOrder}
+use Rattle.event_rules.specs.Taking.{Taking, Before, IsIdle, Advances, Takes, Sends, Stores, Follows, Rule, looks_behind, FollowsSeeing, Ended, Next, Blind}
+use Rattle.event_rules.specs.Taking.{IsOffRing, ScriptsTakeInOrder}
 
 -- the looks that effects leave
 abbrev pub looks_after : List Effect → List Look → List Look
@@ -37,24 +38,25 @@ dropped (Outside (Offered n w) ∷ es) looks = dropped es looks
 dropped (Outside (Looked seen) ∷ es) [] = dropped es [] ∙ drop-nil (length (looks_taken es))
 dropped (Outside (Looked seen) ∷ es) (look ∷ more) = dropped es more
 
-module _ (gate : ℕ) where
+module _ (R : Rule) where
   -- effects behind effects
-  pub joined : {f : ℕ → ℕ} {looks : List Look} {t u v : Taking} {es fs : List Effect} → FollowsSeeing gate f looks t es u
-      → FollowsSeeing gate (fram_after es f) (looks_after es looks) u fs v → FollowsSeeing gate f looks t (es ++ fs) v
+  pub joined : {f : ℕ → ℕ} {looks : List Look} {t u v : Taking} {es fs : List Effect} → FollowsSeeing R f looks t es u
+      → FollowsSeeing R (fram_after es f) (looks_after es looks) u fs v → FollowsSeeing R f looks t (es ++ fs) v
   joined Ended k = k
   joined (Next a h) k = Next a (joined h k)
   joined Blind k = Blind
 
   -- the first of them
-  pub first_part : {f : ℕ → ℕ} {looks : List Look} {t u : Taking} (es fs : List Effect) → FollowsSeeing gate f looks t (es ++ fs) u
-      → (v : Taking) × FollowsSeeing gate f looks t es v
+  pub first_part : {f : ℕ → ℕ} {looks : List Look} {t u : Taking} (es fs : List Effect) → FollowsSeeing R f looks t (es ++ fs) u
+      → (v : Taking) × FollowsSeeing R f looks t es v
   first_part {t = t} [] fs h = (t, Ended)
   first_part (e ∷ es) fs (Next a h) = let k = first_part es fs h in (k.0, Next a k.1)
   first_part {t = t} (e ∷ es) fs Blind = (t, Blind)
 
+module _ (gate : ℕ) where
   -- where looks are left behind them, each is one that may be there
   pub sighted : {f : ℕ → ℕ} {t u : Taking} (looks : List Look) (es : List Effect) (x : Look) (left : List Look) → looks ≡ looks_taken es ++ (x ∷ left)
-      → FollowsSeeing gate f looks t es u → Follows gate f t es u
+      → FollowsSeeing (Advances gate) f looks t es u → Follows gate f t es u
   sighted looks [] x left e Ended = refl
   sighted looks (Store a w ∷ es) x left e (Next {v = v} n h) = (v, n, sighted looks es x left e h)
   sighted looks (Take r ∷ es) x left e (Next {v = v} n h) = (v, n, sighted looks es x left e h)
@@ -68,7 +70,7 @@ module _ (gate : ℕ) where
 
   -- ordinary stores
   pub off_ring : (f : ℕ → ℕ) (looks : List Look) (t : Taking) → IsIdle t → (es : List Effect) → EachStore (IsOffRing gate) es → looks_taken es ≡ []
-      → FollowsSeeing gate f looks t es t
+      → FollowsSeeing (Advances gate) f looks t es t
   off_ring f looks t idle [] h n = Ended
   off_ring f looks t idle (Store a w ∷ es) h n = Next (Stores idle h.0.0 h.0.1) (off_ring _ looks t idle es h.1 n)
   off_ring f looks t idle (Take r ∷ es) h n = Next (Takes idle) (off_ring f looks t idle es h.1 n)
@@ -107,7 +109,7 @@ module _ {St : Type 0} (m : Model St) (c : Program) (laws : ModelLaws m) (code :
   -- a whole script: what it does is in order; and behind it the next is due
   record IsScript (x : World) (inputs : Inputs) (p : ProgramEffects) : Type 0 where
     until : Taking
-    follows : FollowsSeeing gate x.fram inputs.looks Before p.effects until
+    follows : FollowsSeeing (Advances gate) x.fram inputs.looks Before p.effects until
     whole : p.ends ≡ true → until ≡ Before
     some : p.ends ≡ true → p.effects ≡ [] → ⊥
     next : p.ends ≡ true → Entry false (world_after p.effects x)
@@ -135,7 +137,7 @@ module _ {St : Type 0} (m : Model St) (c : Program) (laws : ModelLaws m) (code :
   -- an attempt behind a recovery
   attempt_follows : (booted : Bool) (s : St) (x : World) (inputs : Inputs) → InputsAreWords inputs → m.Undecided s x → (booted ≡ false → m.Settled s x)
       → let p = attempt_from m booted x.fram inputs in
-      (u : Taking) × FollowsSeeing gate x.fram inputs.looks Before p.effects u × (p.ends ≡ true → u ≡ Before)
+      (u : Taking) × FollowsSeeing (Advances gate) x.fram inputs.looks Before p.effects u × (p.ends ≡ true → u ≡ Before)
   attempt_follows false s x inputs words undecided settled = scripts.attempts s x inputs words (settled refl)
   attempt_follows true s x inputs words undecided settled =
       let recovery = m.recover x.fram in
@@ -146,12 +148,12 @@ module _ {St : Type 0} (m : Model St) (c : Program) (laws : ModelLaws m) (code :
       let first = off_ring gate x.fram inputs.looks Before tt recovery (scripts.recoveries s x undecided) quiet in
       let left : looks_after recovery inputs.looks ≡ inputs.looks =
       ap (λ l. looks_after recovery (l ++ inputs.looks)) (sym quiet) ∙ left_behind recovery inputs.looks in
-      let P : (ℕ → ℕ) → Type 0 = λ f. (u : Taking) × FollowsSeeing gate f inputs.looks Before (m.attempt f inputs).effects u
+      let P : (ℕ → ℕ) → Type 0 = λ f. (u : Taking) × FollowsSeeing (Advances gate) f inputs.looks Before (m.attempt f inputs).effects u
       × ((m.attempt f inputs).ends ≡ true → u ≡ Before) in
       let there = subst P (world_fram recovery x) a in
       let f = fram_after recovery x.fram in
-      let Q : List Look → Type 0 = λ l. FollowsSeeing gate f l Before (m.attempt f inputs).effects there.0 in
-      (there.0, joined gate first (subst Q (sym left) there.1), there.2)
+      let Q : List Look → Type 0 = λ l. FollowsSeeing (Advances gate) f l Before (m.attempt f inputs).effects there.0 in
+      (there.0, joined (Advances gate) first (subst Q (sym left) there.1), there.2)
 
   -- it keeps its contract
   attempt_owed : (booted : Bool) (s : St) (x : World) (inputs : Inputs) → InputsAreWords inputs → m.Undecided s x → (booted ≡ false → m.Settled s x)
@@ -170,14 +172,14 @@ module _ {St : Type 0} (m : Model St) (c : Program) (laws : ModelLaws m) (code :
 
   -- with its commit
   task_script : (x : World) (inputs : Inputs) (p : ProgramEffects) (s : St)
-      → (u : Taking) × FollowsSeeing gate x.fram inputs.looks Before p.effects u × (p.ends ≡ true → u ≡ Before)
+      → (u : Taking) × FollowsSeeing (Advances gate) x.fram inputs.looks Before p.effects u × (p.ends ≡ true → u ≡ Before)
       → AttemptContract m s inputs x p → IsScript x inputs (with_commit m x.fram inputs p)
   task_script x inputs p s follows (Lacks short) =
       let same : (with_commit m x.fram inputs p).effects ≡ p.effects =
       ap (λ (b : Bool). p.effects ++ (if b then m.commit (fram_after p.effects x.fram) (inputs_behind p.effects inputs) else [])) short.is ∙ append-nil p.effects in
       record {
         until = follows.0;
-        follows = subst (λ l. FollowsSeeing gate x.fram inputs.looks Before l follows.0) (sym same) follows.1;
+        follows = subst (λ l. FollowsSeeing (Advances gate) x.fram inputs.looks Before l follows.0) (sym same) follows.1;
         whole = follows.2;
         some = λ e. absurd (cc (short.is, e));
         next = λ e. absurd (cc (short.is, e));
@@ -197,14 +199,14 @@ module _ {St : Type 0} (m : Model St) (c : Program) (laws : ModelLaws m) (code :
       ∙ ap (λ f. es ++ m.commit f behind) (sym (world_fram es x)) in
       let committing = laws.decided_committing s next y decided in
       let done = commit_script next y behind committing in
-      let first : FollowsSeeing gate x.fram inputs.looks Before es Before =
-      subst (λ u. FollowsSeeing gate x.fram inputs.looks Before es u) (follows.2 ends) follows.1 in
-      let second : FollowsSeeing gate (fram_after es x.fram) (looks_after es inputs.looks) Before commit Before =
-      subst (λ (f : ℕ → ℕ). FollowsSeeing gate f (looks_after es inputs.looks) Before commit Before) (world_fram es x)
-      (subst (λ (l : List Look). FollowsSeeing gate y.fram l Before commit Before) (sym (dropped es inputs.looks)) (scripts.commits next y behind committing)) in
+      let first : FollowsSeeing (Advances gate) x.fram inputs.looks Before es Before =
+      subst (λ u. FollowsSeeing (Advances gate) x.fram inputs.looks Before es u) (follows.2 ends) follows.1 in
+      let second : FollowsSeeing (Advances gate) (fram_after es x.fram) (looks_after es inputs.looks) Before commit Before =
+      subst (λ (f : ℕ → ℕ). FollowsSeeing (Advances gate) f (looks_after es inputs.looks) Before commit Before) (world_fram es x)
+      (subst (λ (l : List Look). FollowsSeeing (Advances gate) y.fram l Before commit Before) (sym (dropped es inputs.looks)) (scripts.commits next y behind committing)) in
       record {
         until = Before;
-        follows = subst (λ l. FollowsSeeing gate x.fram inputs.looks Before l Before) (sym same) (joined gate first second);
+        follows = subst (λ l. FollowsSeeing (Advances gate) x.fram inputs.looks Before l Before) (sym same) (joined (Advances gate) first second);
         whole = λ e. refl;
         some = λ e none. ends_in d.before (Store gate 1) (sym effects_are ∙ nothing_first es commit (sym same ∙ none));
         next = λ e. subst (λ l. Entry false (world_after l x)) (sym same)
@@ -235,15 +237,15 @@ module _ {St : Type 0} (m : Model St) (c : Program) (laws : ModelLaws m) (code :
       (program_effects (m.commit x.fram b.inputs) true, bound m, subst P fram (code.makes_commit to x b entry fram holds), commit_script to x b.inputs holds)
 
   abbrev Does : MachineBoard → ℕ → Type 0
-  Does b n = (u : Taking) × FollowsSeeing gate b.fram b.inputs.looks Before (going c.step n b).effects u
+  Does b n = (u : Taking) × FollowsSeeing (Advances gate) b.fram b.inputs.looks Before (going c.step n b).effects u
 
   -- a part of a script
   part : (x : World) (b : MachineBoard) (n : ℕ) (es rest : List Effect) (u : Taking) → b.fram ≡ x.fram
-      → FollowsSeeing gate x.fram b.inputs.looks Before es u → (going c.step n b).effects ++ rest ≡ es → Does b n
+      → FollowsSeeing (Advances gate) x.fram b.inputs.looks Before es u → (going c.step n b).effects ++ rest ≡ es → Does b n
   part x b n es rest u fram follows e =
-      let P : List Effect → Type 0 = λ l. FollowsSeeing gate b.fram b.inputs.looks Before l u in
-      first_part gate (going c.step n b).effects rest
-      (subst P (sym e) (subst (λ (f : ℕ → ℕ). FollowsSeeing gate f b.inputs.looks Before es u) (sym fram) follows))
+      let P : List Effect → Type 0 = λ l. FollowsSeeing (Advances gate) b.fram b.inputs.looks Before l u in
+      first_part (Advances gate) (going c.step n b).effects rest
+      (subst P (sym e) (subst (λ (f : ℕ → ℕ). FollowsSeeing (Advances gate) f b.inputs.looks Before es u) (sym fram) follows))
 
   -- so many steps from where a world is entered are in order
   pub goes_so : (fuel n : ℕ) → n < fuel → (booted : Bool) (x : World) (b t : MachineBoard) → AtEntry c booted b → b.fram ≡ x.fram → InputsAreWords b.inputs
@@ -265,7 +267,7 @@ module _ {St : Type 0} (m : Model St) (c : Program) (laws : ModelLaws m) (code :
           let i : n + k ≡ mk.steps + 0 = omega (arith, fewer) in
           let a = part_of c.step n k b t at in
           part x b n (p.effects ++ []) a.0 script.until fram
-          (subst (λ l. FollowsSeeing gate x.fram b.inputs.looks Before l script.until) (sym (append-nil p.effects)) script.follows)
+          (subst (λ l. FollowsSeeing (Advances gate) x.fram b.inputs.looks Before l script.until) (sym (append-nil p.effects)) script.follows)
           (a.1 ∙ ap (λ j. (going c.step j b).effects) i ∙ ap (λ q. q.effects) here))
           (λ more.
           let k = n - mk.steps in
@@ -281,15 +283,15 @@ module _ {St : Type 0} (m : Model St) (c : Program) (laws : ModelLaws m) (code :
           let fram_behind : end.fram ≡ y.fram = fram_there ∙ ap (fram_after p.effects) fram ∙ sym (world_fram p.effects x) in
           let rest = goes_so fuel k (omega (arith, less, more, some)) false y end t r.at_start fram_behind
           (left_are_words p.effects b.inputs end.inputs taken words) (script.next e) (ap (λ q. q.status) (sym there) ∙ at) in
-          let first : FollowsSeeing gate b.fram b.inputs.looks Before p.effects Before =
-          subst (λ (f : ℕ → ℕ). FollowsSeeing gate f b.inputs.looks Before p.effects Before) (sym fram)
-          (subst (λ u. FollowsSeeing gate x.fram b.inputs.looks Before p.effects u) (script.whole e) script.follows) in
-          let second : FollowsSeeing gate (fram_after p.effects b.fram) (looks_after p.effects b.inputs.looks) Before (going c.step k end).effects rest.0 =
-          subst (λ (f : ℕ → ℕ). FollowsSeeing gate f (looks_after p.effects b.inputs.looks) Before (going c.step k end).effects rest.0) fram_there
-          (subst (λ (l : List Look). FollowsSeeing gate end.fram l Before (going c.step k end).effects rest.0)
+          let first : FollowsSeeing (Advances gate) b.fram b.inputs.looks Before p.effects Before =
+          subst (λ (f : ℕ → ℕ). FollowsSeeing (Advances gate) f b.inputs.looks Before p.effects Before) (sym fram)
+          (subst (λ u. FollowsSeeing (Advances gate) x.fram b.inputs.looks Before p.effects u) (script.whole e) script.follows) in
+          let second : FollowsSeeing (Advances gate) (fram_after p.effects b.fram) (looks_after p.effects b.inputs.looks) Before (going c.step k end).effects rest.0 =
+          subst (λ (f : ℕ → ℕ). FollowsSeeing (Advances gate) f (looks_after p.effects b.inputs.looks) Before (going c.step k end).effects rest.0) fram_there
+          (subst (λ (l : List Look). FollowsSeeing (Advances gate) end.fram l Before (going c.step k end).effects rest.0)
           (sym (looks_left p.effects b.inputs end.inputs taken)) rest.1) in
-          let P : List Effect → Type 0 = λ l. FollowsSeeing gate b.fram b.inputs.looks Before l rest.0 in
-          (rest.0, subst P (ap (λ q. q.effects) (sym there)) (joined gate first second)))
+          let P : List Effect → Type 0 = λ l. FollowsSeeing (Advances gate) b.fram b.inputs.looks Before l rest.0 in
+          (rest.0, subst P (ap (λ q. q.effects) (sym there)) (joined (Advances gate) first second)))
           (cases_lt n mk.steps)
 
       short : (p : ProgramEffects) (most : ℕ) → (mk : Makes c m.delay most p b) → IsScript x b.inputs p → p.ends ≡ false → Does b n

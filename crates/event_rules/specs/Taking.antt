@@ -61,12 +61,16 @@ looks_behind (Take r) looks = looks
 looks_behind (Outside (Offered n w)) looks = looks
 looks_behind (Outside (Looked seen)) looks = other_looks looks
 
--- so as long as looks are left: where none is a program sees nothing but 0, which no board shows it
-pub data FollowsSeeing (gate : ℕ) : (ℕ → ℕ) → List Look → Taking → List Effect → Taking → Type 0 where
-  Ended : {f : ℕ → ℕ} {looks : List Look} {t : Taking} → FollowsSeeing gate f looks t [] t
-  Next : {f : ℕ → ℕ} {looks : List Look} {t u v : Taking} {e : Effect} {es : List Effect} → Advances gate f t e v
-      → FollowsSeeing gate (fram_after_one e f) (looks_behind e looks) v es u → FollowsSeeing gate f looks t (e ∷ es) u
-  Blind : {f : ℕ → ℕ} {t u : Taking} {es : List Effect} → FollowsSeeing gate f [] t es u
+-- what an effect may be, by FRAM in front of it and how far a program is in front of it and behind it
+abbrev pub Rule : Type 1
+Rule = (ℕ → ℕ) → Taking → Effect → Taking → Type 0
+
+-- effects keep to a rule as long as looks are left: where none is a program sees nothing but 0, which no board shows it
+pub data FollowsSeeing (R : Rule) : (ℕ → ℕ) → List Look → Taking → List Effect → Taking → Type 0 where
+  Ended : {f : ℕ → ℕ} {looks : List Look} {t : Taking} → FollowsSeeing R f looks t [] t
+  Next : {f : ℕ → ℕ} {looks : List Look} {t u v : Taking} {e : Effect} {es : List Effect} → R f t e v
+      → FollowsSeeing R (fram_after_one e f) (looks_behind e looks) v es u → FollowsSeeing R f looks t (e ∷ es) u
+  Blind : {f : ℕ → ℕ} {t u : Taking} {es : List Effect} → FollowsSeeing R f [] t es u
 
 -- a store to another word than those that count events, or than GATE
 abbrev pub IsOffRing : ℕ → ℕ → ℕ → Type 0
@@ -77,9 +81,9 @@ pub record ScriptsTakeInOrder {St : Type 0} (m : Model St) : Type 0 where
   pub gate : m.marks.gate < tail_place
   pub recoveries : (s : St) (x : World) → m.Undecided s x → EachStore (IsOffRing m.marks.gate) (m.recover x.fram)
   pub attempts : (s : St) (x : World) (inputs : Inputs) → InputsAreWords inputs → m.Settled s x → let p = m.attempt x.fram inputs in
-      (u : Taking) × FollowsSeeing m.marks.gate x.fram inputs.looks Before p.effects u × (p.ends ≡ true → u ≡ Before)
+      (u : Taking) × FollowsSeeing (Advances m.marks.gate) x.fram inputs.looks Before p.effects u × (p.ends ≡ true → u ≡ Before)
   pub commits : (to : St) (x : World) (inputs : Inputs) → m.Committing to x
-      → FollowsSeeing m.marks.gate x.fram inputs.looks Before (m.commit x.fram inputs) Before
+      → FollowsSeeing (Advances m.marks.gate) x.fram inputs.looks Before (m.commit x.fram inputs) Before
 
 -- a moment of a run: a power-up begins anew; and the program goes on by what it does, a handler beside it doing nothing to it
 abbrev pub MomentFollows : ℕ → Action → Moment → Taking → Taking → Type 0
