@@ -24,7 +24,7 @@ use Rattle.plain_commands.specs.source_report.SourceReport.{given_of, readings_o
 use Rattle.source_runs.specs.Tells.{Answers, no_answers, answer_by, answers_behind, CommittedAttempt, attempts_by, attempts_of, spans_in, given_to}
 use Rattle.source_runs.specs.Tells.{at_first, IsEndOf}
 use Rattle.source_maps.specs.Maps.{event_ring, map_of}
-use Rattle.compiler_commands.specs.Build.{IsBuilt}
+use Rattle.compiler_commands.specs.Built.{IsBuilt}
 use Rattle.compiler_commands.specs.Audited.{TriedReportsAreGood, TriedReportsAreAnsweredYes}
 use Rattle.plain_commands.proofs.Interface.{of_same}
 

@@ -25,7 +25,7 @@ use Rattle.plain_commands.specs.source_meaning.Acceptance.{IsAcceptedText}
 use Rattle.source_runs.specs.Traces.{IsTraceOfWords}
 use Rattle.plain_commands.specs.command_answers.Ending.{Ending, well, at_fault}
 use Rattle.compiler_commands.specs.Generated.{RanSo, ended_line, four_lines, generated_lines}
-use Rattle.compiler_commands.specs.Build.{IsBuilt}
+use Rattle.compiler_commands.specs.Built.{IsBuilt}
 use Rattle.compiler_commands.specs.Gen.{Generates}
 use Rattle.plain_commands.specs.RunReport.{ending_of, IsRunReport}
 use Rattle.compiler_commands.specs.ToldRuns.{IsTold, IsToldOnTraces}

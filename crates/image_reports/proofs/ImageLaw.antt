@@ -5,12 +5,17 @@ use Rattle.image_reports.proofs.Names.{is_redo, false, map_of, word_place, Curre
 use Rattle.image_reports.proofs.Names.{KeepsCapacities, compiled_program, sources_are_ready, [], world_with, laid_out, images_are_fresh, known_behind}
 use Rattle.image_reports.proofs.Names.{KeepsCode}
 use Rattle.image_reports.proofs.Names.{HoldsAt, ImagesKeepTheLaws, ImagesAreTold, ImagesKeepCapacities, HoldsFrom, ImagesBelong}
+use Rattle.image_reports.proofs.Names.{◌≡◌, ◌<◌, ◌≤◌, ◌⊎◌, true, refl, inl, inr, fram_of, Gate}
+use Rattle.address_space.specs.Limits.{program_end}
+use Rattle.event_places.specs.Places.{handler_place, head_place, tail_place, sent_place, is_ring}
+use Rattle.machine_effects.specs.Machine.{IsFram}
+use Rattle.event_rules.specs.Rings.{KeepsRing}
 use Rattle.board_run.specs.Charges.{charges_of}
 use Rattle.image_reports.proofs.Begins.{at_first, bears, fram_is, own_code, rests, run_of_words}
 use Rattle.image_reports.proofs.Capacities.{fresh_capacities}
 use Rattle.image_reports.proofs.CompiledTold.{models_are_of_sources}
 use Rattle.image_reports.proofs.Told.{source, runs_are_told}
-use Rattle.image_reports.proofs.Onward.{Onward, front, unheard, opens, raises, pays}
+use Rattle.image_reports.proofs.Onward.{Onward, front, unheard, opens, rings, raises, pays}
 
 -- the fresh image belongs to itself
 pub images_belong : ImagesBelong
@@ -59,6 +64,17 @@ first_within text p allow image ok c =
     state_within text p m (compiled_model p l) is (first_state p) x
     (is.rests (first_state p) x (rests text p allow image c ready (images_are_fresh text p allow image ok c)))
 
+-- its ring keeps its rule: nothing waits
+fresh_keeps_ring : (text : List ℕ) (p : CheckedProgram) (allow : Allow) (image : ImageValue) → IsAcceptedText text p allow
+    → (c : IsCompiled text p allow image) → c.layout.runtime.events ≡ true → KeepsRing (word_place c.layout Gate) (fram_of image.words)
+fresh_keeps_ring text p allow image ok c takes =
+    let new = images_are_fresh text p allow image ok c in
+    let zero : (a : ℕ) → IsFram a → program_end ≤ a → (a < handler_place) ⊎ (is_ring a ≡ true) → fram_of image.words a ≡ 0 = new.ring in
+    let head = zero head_place (record { even = refl; low = omega arith; high = omega arith }) (omega arith) (inr refl) in
+    let tail = zero tail_place (record { even = refl; low = omega arith; high = omega arith }) (omega arith) (inl (omega arith)) in
+    let sent = zero sent_place (record { even = refl; low = omega arith; high = omega arith }) (omega arith) (inl (omega arith)) in
+    record { head = omega (arith, head, tail); sent = λ pending. omega (arith, head, tail, sent) }
+
 pub images_keep_the_laws : ImagesKeepTheLaws
 images_keep_the_laws text p allow image ok c cs starts readings events inputs r go =
     let l = c.layout in
@@ -81,6 +97,7 @@ images_keep_the_laws text p allow image ok c cs starts readings events inputs r 
           (fresh image.words readings events) r on.run (bears on.start);
       unheard = unheard on;
       opens = opens on;
+      rings = λ takes. rings on takes (fresh_keeps_ring text p allow image ok c takes);
       raises = raises on;
       progress = pays on false (first_within text p allow image ok c);
       told = runs_are_told text p allow image ok c cs readings events inputs r on.run;

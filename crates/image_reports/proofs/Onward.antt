@@ -58,7 +58,14 @@ use Rattle.image_reports.proofs.Accounted.{moments_account}
 use Rattle.image_reports.proofs.Cuts.{CutAtPower, Uncut, Cut, cut_at_power, none_serves, own_part, ring_stays}
 use Rattle.image_reports.proofs.Cuts.{encoding_has_words, prepared_bounds, handler_is_closed, two_less}
 use Rattle.image_reports.proofs.Opens.{opens as machine_opens}
-use Rattle.image_reports.specs.ImageLaw.{StaysOpen}
+use Rattle.image_reports.specs.ImageLaw.{StaysOpen, RingsHold}
+use Rattle.image_reports.proofs.Names.{append-nil, laid_out}
+use Rattle.task_attempts.proofs.Interface.{scripts_in_order}
+use Rattle.event_rules.specs.Rings.{KeepsRing}
+use Rattle.event_rules.specs.Taking.{Before, ScriptsTakeInOrder, EachFollows}
+use Rattle.event_rules.proofs.Interface.{runs_take_in_order, ring_holds_accepted}
+use Rattle.event_orders.specs.Laws.{TakesEvents}
+use Rattle.event_orders.proofs.Interface.{rings_keep_order}
 use Rattle.image_reports.proofs.Capacities.{attempts_fit}
 use Rattle.image_reports.proofs.CompiledTold.{models_are_of_sources}
 use Rattle.image_reports.proofs.Told.{source}
@@ -563,6 +570,37 @@ module _ (onward : Onward) where
       → fram_of (last_board b ms).fram a ≡ fram_of b.fram a
   ringless off ms rest e a of =
       ring_stays b ms (front_moments b r ms rest own.moments e) (none_serves ms rest (subst NoneServes e (alone off))) a of
+
+  -- where it does, each moment takes words of the ring in order
+  in_order : l.runtime.events ≡ true → ScriptsTakeInOrder model
+  in_order events = scripts_in_order text p allow c.plans l (laid_out text p allow image ok c) (source text p allow image ok c).runnable events
+
+  abbrev gate : ℕ
+  gate = word_place l Gate
+
+  pub follows : l.runtime.events ≡ true → EachFollows gate Before r.moments
+  follows events =
+      runs_take_in_order model program ready.model bearing.program (in_order events) readings origin x cs b r r.moments [] run
+      (sym (append-nil r.moments)) bearing.stands bearing.begins
+
+  -- as a run of a program that takes events, where the ring keeps its rule at first
+  pub takes_events : l.runtime.events ≡ true → KeepsRing gate (fram_of b.fram) → TakesEvents program (runtime_marks l) x cs b r
+  takes_events events keeps = record {
+    run = run;
+    stands = bearing.stands;
+    fram = refl;
+    answer = ap (λ e. if e then Some answer_place else None) events;
+    gate = (in_order events).gate;
+    follows = follows events;
+    ring = keeps;
+  }
+
+  -- so the ring holds the accepted words
+  pub rings : l.runtime.events ≡ true → KeepsRing gate (fram_of b.fram) → RingsHold l b r
+  rings events keeps ms rest e = record {
+    keeps = ((rings_keep_order program (runtime_marks l) x cs b r (takes_events events keeps)).fronts ms rest e).ring;
+    last = ring_holds_accepted program cs b r ms rest run e (runtime_marks l) first bearing.stands;
+  }
 
   -- each charge that is spent pays for its transitions, where the first one costs no more than its world says
   pub pays : (pending : Bool) → IsFirstWithin model origin (task_costs (map_of text p l allow) (cost_of p) pending x).first
