@@ -132,7 +132,7 @@ module _ {St : Type 0} (m : Model St) (c : Program) (laws : ModelLaws m) (code :
         let lawful = crash_theorem m c laws code readings origin at.end h has_run in
         let fram : p.fram ≡ h.world.fram = sym at.fram ∙ lawful.1.fram in
         let words : InputsAreWords p.inputs = record { readings = (machine_is_of_words start run.words).inputs.readings; looks = see } in
-        let does = goes_so m c laws code scripts (suc n) n (omega arith) true h.world p reached.end.u up fram words
+        let does = goes_so m c laws code scripts (suc n) n true (omega arith) h.world p reached.end.u up fram words
         (due_there lawful.0.stands.state h lawful.0.stands.phase) led in
         let taken : TakesExactly es p.inputs reached.end.u.inputs =
         subst (λ l. TakesExactly l p.inputs reached.end.u.inputs) made (changed c.step code.changes n p reached.end.u led).inputs in

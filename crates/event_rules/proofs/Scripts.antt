@@ -8,7 +8,7 @@ use Rattle.fram_board.specs.Effects.{Effect, Store, Take, Outside, Offered, Look
 use Rattle.machine_effects.specs.World.{World, world_after_one, world_after, fram_after_one, fram_after, looks_taken, EachStore}
 use Rattle.machine_effects.specs.Going.{At, stretch, after_effects, going, Leads, Stalls}
 use Rattle.machine_effects.specs.Inputs.{Look, other_looks, TakesExactly}
-use Rattle.machine_effects.specs.Machine.{MachineBoard}
+use Rattle.machine_effects.specs.Machine.{MachineBoard, MachineOutcome}
 use Rattle.machine_effects.proofs.Interface.{world_after-append, left_are_words}
 use Rattle.crash_rules.specs.Model.{Model, ModelLaws, Inputs, InputsAreWords, inputs_behind, ProgramEffects, program_effects, with_commit, attempt_from, bound}
 use Rattle.crash_rules.specs.Model.{AttemptContract, Comes, Lacks, Decides, CommitKeeps}
@@ -47,11 +47,11 @@ module _ (R : Rule) where
   joined Blind k = Blind
 
   -- the first of them
-  pub first_part : {f : ℕ → ℕ} {looks : List Look} {t u : Taking} (es fs : List Effect) → FollowsSeeing R f looks t (es ++ fs) u
+  pub first_part : (es fs : List Effect) {f : ℕ → ℕ} {looks : List Look} {t u : Taking} → FollowsSeeing R f looks t (es ++ fs) u
       → (v : Taking) × FollowsSeeing R f looks t es v
-  first_part {t = t} [] fs h = (t, Ended)
+  first_part [] fs {t = t} h = (t, Ended)
   first_part (e ∷ es) fs (Next a h) = let k = first_part es fs h in (k.0, Next a k.1)
-  first_part {t = t} (e ∷ es) fs Blind = (t, Blind)
+  first_part (e ∷ es) fs {t = t} Blind = (t, Blind)
 
 module _ (gate : ℕ) where
   -- where looks are left behind them, each is one that may be there
@@ -69,13 +69,13 @@ module _ (gate : ℕ) where
       none (y ∷ l) q = cc q
 
   -- ordinary stores
-  pub off_ring : (f : ℕ → ℕ) (looks : List Look) (t : Taking) → IsIdle t → (es : List Effect) → EachStore (IsOffRing gate) es → looks_taken es ≡ []
+  pub off_ring : (es : List Effect) (f : ℕ → ℕ) (looks : List Look) (t : Taking) → IsIdle t → EachStore (IsOffRing gate) es → looks_taken es ≡ []
       → FollowsSeeing (Advances gate) f looks t es t
-  off_ring f looks t idle [] h n = Ended
-  off_ring f looks t idle (Store a w ∷ es) h n = Next (Stores idle h.0.0 h.0.1) (off_ring _ looks t idle es h.1 n)
-  off_ring f looks t idle (Take r ∷ es) h n = Next (Takes idle) (off_ring f looks t idle es h.1 n)
-  off_ring f looks t idle (Outside (Offered i w) ∷ es) h n = Next (Sends idle) (off_ring f looks t idle es h.1 n)
-  off_ring f looks t idle (Outside (Looked seen) ∷ es) h n = absurd (cc n)
+  off_ring [] f looks t idle h n = Ended
+  off_ring (Store a w ∷ es) f looks t idle h n = Next (Stores idle h.0.0 h.0.1) (off_ring es (fram_after_one (Store a w) f) looks t idle h.1 n)
+  off_ring (Take r ∷ es) f looks t idle h n = Next (Takes idle) (off_ring es f looks t idle h.1 n)
+  off_ring (Outside (Offered i w) ∷ es) f looks t idle h n = Next (Sends idle) (off_ring es f looks t idle h.1 n)
+  off_ring (Outside (Looked seen) ∷ es) f looks t idle h n = absurd (cc n)
 
 -- by the value of a Bool
 by_value : {P : Type 0} (b : Bool) → (b ≡ true → P) → (b ≡ false → P) → P
@@ -145,7 +145,7 @@ module _ {St : Type 0} (m : Model St) (c : Program) (laws : ModelLaws m) (code :
       let y = world_after recovery x in
       let quiet : looks_taken recovery ≡ [] = ap (λ i. i.looks) r.stays.takes_none in
       let a = scripts.attempts s y inputs words r.settled in
-      let first = off_ring gate x.fram inputs.looks Before tt recovery (scripts.recoveries s x undecided) quiet in
+      let first = off_ring gate recovery x.fram inputs.looks Before tt (scripts.recoveries s x undecided) quiet in
       let left : looks_after recovery inputs.looks ≡ inputs.looks =
       ap (λ l. looks_after recovery (l ++ inputs.looks)) (sym quiet) ∙ left_behind recovery inputs.looks in
       let P : (ℕ → ℕ) → Type 0 = λ f. (u : Taking) × FollowsSeeing (Advances gate) f inputs.looks Before (m.attempt f inputs).effects u
@@ -247,57 +247,66 @@ module _ {St : Type 0} (m : Model St) (c : Program) (laws : ModelLaws m) (code :
       first_part (Advances gate) (going c.step n b).effects rest
       (subst P (sym e) (subst (λ (f : ℕ → ℕ). FollowsSeeing (Advances gate) f b.inputs.looks Before es u) (sym fram) follows))
 
-  -- so many steps from where a world is entered are in order
-  pub goes_so : (fuel n : ℕ) → n < fuel → (booted : Bool) (x : World) (b t : MachineBoard) → AtEntry c booted b → b.fram ≡ x.fram → InputsAreWords b.inputs
-      → Entry booted x → (going c.step n b).status ≡ At t → Does b n
-  goes_so zero n less booted x b t entry fram words enters at = absurd (omega (arith, less))
-  goes_so (suc fuel) n less booted x b t entry fram words enters at =
-      let d = due booted x b entry fram words enters in
-      by_value d.0.ends (λ e. whole d.0 d.1 d.2 d.3 e) (λ e. short d.0 d.1 d.2 d.3 e)
-    where
-      whole : (p : ProgramEffects) (most : ℕ) → (mk : Makes c m.delay most p b) → IsScript x b.inputs p → p.ends ≡ true → Does b n
-      whole p most mk script e =
-          let r = mk.ends e in
-          let end = r.end in
-          let some = some_steps c.step mk.steps p.effects mk.cycles b end r.leads (script.some e) in
-          let here = r.leads.by 0 in
-          ⊎_elim {C = Does b n}
-          (λ fewer.
-          let k = mk.steps - n in
-          let i : n + k ≡ mk.steps + 0 = omega (arith, fewer) in
-          let a = part_of c.step n k b t at in
-          part x b n (p.effects ++ []) a.0 script.until fram
-          (subst (λ l. FollowsSeeing (Advances gate) x.fram b.inputs.looks Before l script.until) (sym (append-nil p.effects)) script.follows)
-          (a.1 ∙ ap (λ j. (going c.step j b).effects) i ∙ ap (λ q. q.effects) here))
-          (λ more.
-          let k = n - mk.steps in
-          let i : mk.steps + k ≡ n = omega (arith, more) in
-          let on = r.leads.by k in
-          let there : going c.step n b ≡ after_effects p.effects mk.cycles (going c.step k end) = ap (λ j. going c.step j b) (sym i) ∙ on in
-          let led : (going c.step (mk.steps + 0) b).status ≡ At end = ap (λ q. q.status) here in
-          let ch0 = changed c.step code.changes (mk.steps + 0) b end led in
-          let made : (going c.step (mk.steps + 0) b).effects ≡ p.effects = ap (λ q. q.effects) here ∙ append-nil p.effects in
-          let fram_there : end.fram ≡ fram_after p.effects b.fram = ch0.fram ∙ ap (λ l. fram_after l b.fram) made in
-          let taken : TakesExactly p.effects b.inputs end.inputs = subst (λ l. TakesExactly l b.inputs end.inputs) made ch0.inputs in
-          let y = world_after p.effects x in
-          let fram_behind : end.fram ≡ y.fram = fram_there ∙ ap (fram_after p.effects) fram ∙ sym (world_fram p.effects x) in
-          let rest = goes_so fuel k (omega (arith, less, more, some)) false y end t r.at_start fram_behind
-          (left_are_words p.effects b.inputs end.inputs taken words) (script.next e) (ap (λ q. q.status) (sym there) ∙ at) in
-          let first : FollowsSeeing (Advances gate) b.fram b.inputs.looks Before p.effects Before =
-          subst (λ (f : ℕ → ℕ). FollowsSeeing (Advances gate) f b.inputs.looks Before p.effects Before) (sym fram)
-          (subst (λ u. FollowsSeeing (Advances gate) x.fram b.inputs.looks Before p.effects u) (script.whole e) script.follows) in
-          let second : FollowsSeeing (Advances gate) (fram_after p.effects b.fram) (looks_after p.effects b.inputs.looks) Before (going c.step k end).effects rest.0 =
-          subst (λ (f : ℕ → ℕ). FollowsSeeing (Advances gate) f (looks_after p.effects b.inputs.looks) Before (going c.step k end).effects rest.0) fram_there
-          (subst (λ (l : List Look). FollowsSeeing (Advances gate) end.fram l Before (going c.step k end).effects rest.0)
-          (sym (looks_left p.effects b.inputs end.inputs taken)) rest.1) in
-          let P : List Effect → Type 0 = λ l. FollowsSeeing (Advances gate) b.fram b.inputs.looks Before l rest.0 in
-          (rest.0, subst P (ap (λ q. q.effects) (sym there)) (joined (Advances gate) first second)))
-          (cases_lt n mk.steps)
+  -- what so few steps do from where a world is entered
+  abbrev DoesFrom : ℕ → ℕ → Bool → Type 0
+  DoesFrom fuel n booted = n < fuel → (x : World) (b t : MachineBoard) → AtEntry c booted b → b.fram ≡ x.fram → InputsAreWords b.inputs → Entry booted x
+      → (going c.step n b).status ≡ At t → Does b n
 
-      short : (p : ProgramEffects) (most : ℕ) → (mk : Makes c m.delay most p b) → IsScript x b.inputs p → p.ends ≡ false → Does b n
-      short p most mk script e =
-          let r = mk.lacks e in
-          let a = part_of c.step n (mk.steps + 1) b t at in
-          let i : n + (mk.steps + 1) ≡ mk.steps + suc n = omega arith in
-          part x b n p.effects a.0 script.until fram script.follows
-          (a.1 ∙ ap (λ j. (going c.step j b).effects) i ∙ ap (λ q. q.effects) (r.stalls.by n))
+  module _ (n : ℕ) (x : World) (b t : MachineBoard) (fram : b.fram ≡ x.fram) (words : InputsAreWords b.inputs) (at : (going c.step n b).status ≡ At t)
+      (p : ProgramEffects) (most : ℕ) (mk : Makes c m.delay most p b) (script : IsScript x b.inputs p) where
+    -- a script that comes to its end, and what follows it
+    whole : (fuel : ℕ) → n < suc fuel → p.ends ≡ true → ((k : ℕ) → DoesFrom fuel k false) → Does b n
+    whole fuel less e again =
+        let r = mk.ends e in
+        let end = r.end in
+        let some = some_steps c.step mk.steps p.effects mk.cycles b end r.leads (script.some e) in
+        let here = r.leads.by 0 in
+        ⊎_elim {C = Does b n}
+        (λ fewer.
+        let k = mk.steps - n in
+        let i : n + k ≡ mk.steps + 0 = omega (arith, fewer) in
+        let a = part_of c.step n k b t at in
+        part x b n (p.effects ++ []) a.0 script.until fram
+        (subst (λ l. FollowsSeeing (Advances gate) x.fram b.inputs.looks Before l script.until) (sym (append-nil p.effects)) script.follows)
+        (a.1 ∙ ap (λ j. (going c.step j b).effects) i ∙ ap (λ q. q.effects) here))
+        (λ more.
+        let k = n - mk.steps in
+        let i : mk.steps + k ≡ n = omega (arith, more) in
+        let on = r.leads.by k in
+        let there : going c.step n b ≡ after_effects p.effects mk.cycles (going c.step k end) = ap (λ j. going c.step j b) (sym i) ∙ on in
+        let led : (going c.step (mk.steps + 0) b).status ≡ At end = ap (λ q. q.status) here in
+        let made : (going c.step (mk.steps + 0) b).effects ≡ p.effects = ap (λ q. q.effects) here ∙ append-nil p.effects in
+        let change = changed c.step code.changes (mk.steps + 0) b end led in
+        let fram_there : end.fram ≡ fram_after p.effects b.fram = change.fram ∙ ap (λ l. fram_after l b.fram) made in
+        let taken : TakesExactly p.effects b.inputs end.inputs = subst (λ l. TakesExactly l b.inputs end.inputs) made change.inputs in
+        let y = world_after p.effects x in
+        let fram_behind : end.fram ≡ y.fram = fram_there ∙ ap (fram_after p.effects) fram ∙ sym (world_fram p.effects x) in
+        let rest = again k (omega (arith, less, more, some)) y end t r.at_start fram_behind (left_are_words p.effects b.inputs end.inputs taken words)
+        (script.next e) (ap (λ q. q.status) (sym there) ∙ at) in
+        let first : FollowsSeeing (Advances gate) b.fram b.inputs.looks Before p.effects Before =
+        subst (λ (f : ℕ → ℕ). FollowsSeeing (Advances gate) f b.inputs.looks Before p.effects Before) (sym fram)
+        (subst (λ u. FollowsSeeing (Advances gate) x.fram b.inputs.looks Before p.effects u) (script.whole e) script.follows) in
+        let second : FollowsSeeing (Advances gate) (fram_after p.effects b.fram) (looks_after p.effects b.inputs.looks) Before (going c.step k end).effects rest.0 =
+        subst (λ (f : ℕ → ℕ). FollowsSeeing (Advances gate) f (looks_after p.effects b.inputs.looks) Before (going c.step k end).effects rest.0) fram_there
+        (subst (λ (l : List Look). FollowsSeeing (Advances gate) end.fram l Before (going c.step k end).effects rest.0)
+        (sym (looks_left p.effects b.inputs end.inputs taken)) rest.1) in
+        let P : List Effect → Type 0 = λ l. FollowsSeeing (Advances gate) b.fram b.inputs.looks Before l rest.0 in
+        (rest.0, subst P (ap (λ q. q.effects) (sym there)) (joined (Advances gate) {v = rest.0} first second)))
+        (cases_lt n mk.steps)
+
+    -- one that is short
+    short : p.ends ≡ false → Does b n
+    short e =
+        let r = mk.lacks e in
+        let a = part_of c.step n (mk.steps + 1) b t at in
+        let i : n + (mk.steps + 1) ≡ mk.steps + suc n = omega arith in
+        part x b n p.effects a.0 script.until fram script.follows
+        (a.1 ∙ ap (λ j. (going c.step j b).effects) i ∙ ap (λ q. q.effects) (r.stalls.by n))
+
+  -- so many steps from where a world is entered are in order
+  pub goes_so : (fuel n : ℕ) (booted : Bool) → DoesFrom fuel n booted
+  goes_so zero n booted less x b t entry fram words enters at = absurd (omega (arith, less))
+  goes_so (suc fuel) n booted less x b t entry fram words enters at =
+      let d = due booted x b entry fram words enters in
+      by_value d.0.ends (λ e. whole n x b t fram words at d.0 d.1 d.2 d.3 fuel less e (λ k. goes_so fuel k false))
+      (λ e. short n x b t fram words at d.0 d.1 d.2 d.3 e)

@@ -26,11 +26,11 @@ looks_gone (Outside (Offered n w) ∷ es) = looks_gone es
 looks_gone (Outside (Looked seen) ∷ es) = looks_gone es
 
 -- effects in two parts
-parts : (R : Rule) {f : ℕ → ℕ} {looks : List Look} {t u : Taking} (es fs : List Effect) → FollowsSeeing R f looks t (es ++ fs) u
+parts : (R : Rule) (es fs : List Effect) {f : ℕ → ℕ} {looks : List Look} {t u : Taking} → FollowsSeeing R f looks t (es ++ fs) u
     → (v : Taking) × FollowsSeeing R f looks t es v × FollowsSeeing R (fram_after es f) (looks_after es looks) v fs u
-parts R {t = t} [] fs h = (t, Ended, h)
+parts R [] fs {t = t} h = (t, Ended, h)
 parts R (e ∷ es) fs (Next a h) = let k = parts R es fs h in (k.0, Next a k.1, k.2)
-parts R {f} {t = t} {u = u} (e ∷ es) fs Blind =
+parts R (e ∷ es) fs {f = f} {t = t} {u = u} Blind =
     let gone : looks_after (e ∷ es) [] ≡ [] = looks_gone (e ∷ es) in
     let P : List Look → Type 0 = λ l. FollowsSeeing R (fram_after (e ∷ es) f) l t fs u in
     (t, Blind, subst P (sym gone) Blind)
@@ -90,7 +90,7 @@ module _ (gate : ℕ) where
         let frozen : index ≡ next_index g = is ∙ sym (leaves_index front ordinary f) in
         let open_gate : g gate ≢ 1 = λ e. zero (sym (leaves_gate front ordinary f) ∙ e) in
         let other : fram_after (Store sent_place index ∷ []) g gate ≡ g gate = put_other g sent_place index gate (λ e. omega (arith, e, below)) in
-        joined (Advances gate) (off_ring gate f looks Open tt front ordinary sees_none)
+        joined (Advances gate) (off_ring gate front f looks Open tt ordinary sees_none)
         (Next (Freezes refl frozen) (Next (Decides refl refl (λ e. open_gate (sym other ∙ e))) Ended))
 
     -- behind statements that don't close

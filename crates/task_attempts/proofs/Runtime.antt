@@ -94,13 +94,13 @@ module _ (l : ProgramPlaces) (apart : memory.AreApart l.map) where
         ap (λ b. Store (word_place m Version) ((g (word_place m Version) + 1) % 0x10000) ∷ Store (word_place m ListLength) 0 ∷ Store (word_place m EmitCount) 0
         ∷ where_events b clear) on in
         let opened_is : opened ≡ front ++ clear = ap (λ fs. es ++ fs) counting ∙ sym (append_assoc es cs clear) in
-        let here = off_ring gate f looks Before tt front front_off front_none in
+        let here = off_ring gate front f looks Before tt front_off front_none in
         let same = leaves_gate gate front front_off f in
         let opens : FollowsSeeing (Advances gate) f looks Before opened Open =
         subst (λ l. FollowsSeeing (Advances gate) f looks Before l Open) (sym opened_is)
         (joined (Advances gate) here (Next (Clears refl refl (λ e. zero (sym same ∙ e))) Ended)) in
         joined (Advances gate) opens
-        (off_ring gate (fram_after opened f) (looks_after opened looks) Open tt back (copied_off task (privates task) (are task) (fram_after opened f))
+        (off_ring gate back (fram_after opened f) (looks_after opened looks) Open tt (copied_off task (privates task) (are task) (fram_after opened f))
         (copied_sees_none (privates task) (fram_after opened f)))
 
   -- ---- the commit
@@ -145,7 +145,7 @@ module _ (l : ProgramPlaces) (apart : memory.AreApart l.map) where
       let first_none : looks_taken first ≡ [] =
       looks_taken-append copies sent ∙ ap (λ ls. ls ++ looks_taken sent) (home_sees_none (listed m f) f)
       ∙ sends_see_none (f (word_place m EmitCount)) (f (word_place m SentBase)) m.emits.address f in
-      let here = off_ring gate f looks Before tt first first_off first_none in
+      let here = off_ring gate first f looks Before tt first_off first_none in
       let g = fram_after first f in
       let g_gate : g gate ≡ 1 = leaves_gate gate first first_off f ∙ pending.gate in
       let g_sent : g sent_place ≡ tail = leaves_high gate first first_off sent_place (omega arith) f in
