@@ -61,4 +61,5 @@ tries law source trace text file p allow image charges kept accepted said words 
       report = report;
       told = told.told output report;
       needs = subst Pays same (law text p allow image own built.compiled charges words report.outcome report.run);
+      answered = told.answered output report;
     } in subst (λ x. Tries x trace file output) kept tried
