@@ -5,13 +5,15 @@ mod InFront
 mod Accounted
 mod Cuts
 mod Opens
+mod Answered
 pub mod Told
 pub mod Capacities
 pub mod ImageStart
 pub mod ImageCode
 pub mod Untouched
 pub mod Onward
-pub mod ImageLaw
+pub mod Needs
+mod ImageLaw
 pub mod Resumed
 pub mod Tasks
 pub mod CompiledTold
