@@ -48,4 +48,5 @@ tries source trace text file p allow image charges kept accepted said built told
       built = built;
       report = report;
       told = told.told output report;
+      answered = told.answered output report;
     } in subst (λ x. Tries x trace file output) kept tried

@@ -1,10 +1,12 @@
 -- What `try` makes of its texts.
-use Rattle.std.specs.Prelude.{◌≡◌, ℕ, List, [], ◌∷◌, Some, Ok, IsSomeAnd}
+use Rattle.std.specs.Prelude.{◌≡◌, ℕ, List, [], ◌∷◌, map, Some, Ok, IsSomeAnd}
 use Rattle.plain_commands.specs.energy_trace.TraceValue.{TraceValue}
 use Rattle.plain_commands.specs.energy_trace.Reading.{trace_of}
 use Rattle.plain_commands.specs.image_text.ImageValue.{ImageValue}
 use Rattle.plain_commands.specs.fram_board.Board.{fresh}
 use Rattle.plain_commands.specs.board_run.Charges.{charges_of}
+use Rattle.plain_commands.specs.board_run.Events.{accepted_events}
+use Rattle.event_orders.specs.Answers.{AnswersInOrder}
 use Rattle.plain_commands.specs.cost_bound.declared.allowance.Allow.{Allow}
 use Rattle.plain_commands.specs.source_meaning.Acceptance.{IsAcceptedText}
 use Rattle.plain_commands.specs.source_values.Runs.{CheckedProgram}
@@ -18,7 +20,8 @@ use Rattle.plain_commands.specs.command_answers.Promises.{Promise, OfTwoTexts}
 use Rattle.compiler_commands.specs.Built.{IsBuilt}
 
 -- The texts are a source and a trace. These bytes are the image text of the source's image, and this is the report of the run of that
--- image on the trace, which ends well. And it is what the source tells of that run.
+-- image on the trace, which ends well. And it is what the source tells of that run, in which the answers of the transitions, joined, are the first of the
+-- events that were accepted, in order and each once.
 pub record Tries (source trace file output : List ℕ) : Type 0 where
   pub program : CheckedProgram
   pub allow : Allow
@@ -29,6 +32,7 @@ pub record Tries (source trace file output : List ℕ) : Type 0 where
   pub built : IsBuilt source program allow image file
   pub report : IsRunReport image charges well output
   pub told : IsToldBySource source program built.map (charges_of charges.charges) (fresh image.words charges.readings charges.events) report.outcome output
+  pub answered : AnswersInOrder (map (λ a. a.answers) told.attempts) (accepted_events (Some built.map) report.outcome.moments)
 
 -- the text of `try` at this place, from 0, is the first that is refused, and so
 pub data TryRefuses (source trace : List ℕ) : ℕ → Refusal → Type 0 where

@@ -70,7 +70,7 @@ pub use Rattle.image_laws.specs.Compiled.{IsCompiled}
 pub use Rattle.image_laws.specs.Laws.{HasStates, IsFreshImage, fresh_world}
 -- this crate
 pub use Rattle.image_reports.specs.ImageLaw.{FetchesCode, HoldsAt, ImagesKeepTheLaws, IsRaisedSoon, KeepsCode, RaisesVersion, VersionsBelow, known_behind}
-pub use Rattle.image_reports.specs.ImageLaw.{EventsHold, HasRoom, StepsOn, runtime_marks, world_with}
-pub use Rattle.image_reports.specs.Laws.{ImagesAreMapped, ImagesAreTold, ImagesKeepCapacities}
+pub use Rattle.image_reports.specs.ImageLaw.{EventsHold, HasRoom, IsLawfulRun, StepsOn, runtime_marks, world_with}
+pub use Rattle.image_reports.specs.Laws.{ImagesAnswerInOrder, ImagesAreMapped, ImagesAreTold, ImagesKeepCapacities}
 pub use Rattle.image_reports.specs.Resumed.{BelongsTo, HoldsFrom, ImagesBelong, ImagesResume, IsResumedRun, IsToldOnward, ToldAtRest, ToldPending, known_from}
 pub use Rattle.image_reports.specs.Resumed.{origin_of, pending_transition}

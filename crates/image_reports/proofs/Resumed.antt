@@ -17,7 +17,7 @@ use Rattle.compiled_model.specs.View.{state_in, state_left}
 use Rattle.image_reports.proofs.CompiledTold.{models_are_of_sources}
 use Rattle.image_reports.proofs.Told.{source}
 use Rattle.image_reports.proofs.Begins.{bears, run_of_words}
-use Rattle.image_reports.proofs.Onward.{Onward, starts_with, front, unheard, ringless, opens, rings, raises, pays}
+use Rattle.image_reports.proofs.Onward.{Onward, starts_with, front, unheard, ringless, opens, rings, takes, answered, raises, pays}
 
 -- the world of a saved state that belongs to an image
 module _ (text : List ℕ) (p : CheckedProgram) (allow : Allow) (image : ImageValue) (ok : IsAcceptedText text p allow) (c : IsCompiled text p allow image)
@@ -150,6 +150,8 @@ module _ (text : List ℕ) (p : CheckedProgram) (allow : Allow) (image : ImageVa
       ringless = ringless on;
       opens = opens on;
       rings = rings on;
+      takes = takes on;
+      answered = answered on;
       raises = raises on;
       progress = pays on (x.fram (word_place l Gate) == 1) (first_within (x.fram (word_place l Gate) == 1));
       told = onward;

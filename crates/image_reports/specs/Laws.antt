@@ -1,11 +1,12 @@
 -- The headline: the report of the image of an accepted source, on any trace, is told by the source.
-use Rattle.std.specs.Prelude.{◌≡◌, ℕ, List, ◌++◌}
+use Rattle.std.specs.Prelude.{◌≡◌, ℕ, List, ◌++◌, map, Some}
 use Rattle.cost_bound.specs.declared.allowance.Allow.{Allow}
 use Rattle.energy_trace.specs.TraceValue.{TraceValue}
 use Rattle.image_text.specs.ImageValue.{ImageValue}
 use Rattle.fram_board.specs.Board.{fresh}
 use Rattle.fram_board.specs.Run.{Moment, RunOutcome, Run}
 use Rattle.board_run.specs.Charges.{charges_of}
+use Rattle.board_run.specs.Events.{accepted_events}
 use Rattle.board_run.specs.History.{start_of}
 use Rattle.board_run.specs.Report.{report_of}
 use Rattle.machine_effects.specs.Runs.{last_board}
@@ -14,7 +15,8 @@ use Rattle.source_values.specs.Runs.{CheckedProgram}
 use Rattle.source_meaning.specs.Acceptance.{IsAcceptedText}
 use Rattle.source_runs.specs.Naming.{IsMapOf}
 use Rattle.source_runs.specs.Traces.{IsTraceOfWords}
-use Rattle.source_runs.specs.Tells.{IsToldBySource}
+use Rattle.source_runs.specs.Tells.{at_first, attempts_of, no_answers, IsToldBySource}
+use Rattle.event_orders.specs.Answers.{AnswersInOrder}
 use Rattle.compiled_bounds.specs.Capacities.{KeepsCapacities}
 use Rattle.source_maps.specs.Maps.{map_of}
 use Rattle.image_laws.specs.Compiled.{IsCompiled}
@@ -26,6 +28,15 @@ ImagesAreTold = (text : List ℕ) (p : CheckedProgram) (allow : Allow) (image : 
     → Run (charges_of trace.charges) (fresh image.words trace.readings trace.events) r
     → IsToldBySource text p (map_of text p c.layout allow) (charges_of trace.charges) (fresh image.words trace.readings trace.events) r
     (report_of (start_of image) trace.events r)
+
+-- and the answers that its transitions had, joined, are the first of the events that were accepted, in order and each once
+abbrev pub ImagesAnswerInOrder : Type 0
+ImagesAnswerInOrder = (text : List ℕ) (p : CheckedProgram) (allow : Allow) (image : ImageValue) → IsAcceptedText text p allow
+    → (c : IsCompiled text p allow image) → (trace : TraceValue) → IsTraceOfWords trace → (r : RunOutcome)
+    → Run (charges_of trace.charges) (fresh image.words trace.readings trace.events) r
+    → let m = map_of text p c.layout allow in
+    AnswersInOrder (map (λ a. a.answers) (attempts_of m (at_first m (fresh image.words trace.readings trace.events)) no_answers r.moments))
+    (accepted_events (Some m) r.moments)
 
 -- the map of an image names the variables and the tasks of the source
 abbrev pub ImagesAreMapped : Type 0

@@ -1,6 +1,6 @@
 //! The headline, and the capacities of a run. The functions do nothing: their contracts are the laws.
 
-ghost use Rattle.image_reports.specs.Laws.{ImagesAreMapped, ImagesAreTold, ImagesKeepCapacities};
+ghost use Rattle.image_reports.specs.Laws.{ImagesAnswerInOrder, ImagesAreMapped, ImagesAreTold, ImagesKeepCapacities};
 ghost use Rattle.crash_rules.specs.Runs.{Program};
 ghost use Rattle.image_reports.specs.CompiledLaws.{CompiledRunsAreTold, ModelsAreOfSources};
 
@@ -28,6 +28,12 @@ pub fn compiled_runs_are_told<S: Coded>()
 /// bounds, and of 100 for each event that arose in it, that is spent has n transitions, as has one that holds the bounds of the next n tasks.
 pub fn images_are_told()
     ensures { ImagesAreTold }
+{}
+
+/// The answers that are not 0, of the transitions of such a run, joined, are the first of the events that its handler accepted, in order: each is
+/// had by one transition, once.
+pub fn images_answer_in_order()
+    ensures { ImagesAnswerInOrder }
 {}
 
 /// The map of an accepted source's image names the source's variables and tasks, in order.
