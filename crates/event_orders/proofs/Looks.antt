@@ -19,10 +19,9 @@ use Rattle.crash_rules.proofs.Interface.{stored-append}
 use Rattle.run_charges.specs.View.{outside_of, outside_effects, all_outside_effects}
 use Rattle.run_charges.specs.Moments.{IsMomentFrom}
 use Rattle.run_charges.specs.Charges.{IsInstruction}
-use Rattle.run_charges.proofs.Interface.{moment_is, IsPower, IsStepped, IsPowerOrStep}
+use Rattle.run_charges.proofs.Interface.{moment_is, IsPower, IsStepped, IsPowerOrStep, no_power_up}
 use Rattle.event_rules.specs.Taking.{Taking, Before, Open, SawHead, SawSlot, Took, Frozen, IsIdle, next_index, Advances, Takes, Sends, Stores, Clears, Looks}
 use Rattle.event_rules.specs.Taking.{Sees, AnswersNone, AnswersWord, Counts, Freezes, Decides, Moves, Ends, Follows, MomentFollows}
-use Rattle.event_rules.proofs.Interface.{no_power_up}
 use Rattle.event_orders.specs.Waiting.{NoneWaited}
 use Rattle.event_orders.proofs.Moments.{NoLook, NoLooks, Tells, tells, step_follows}
 

@@ -34,9 +34,9 @@ use Rattle.run_charges.specs.View.{outside_of, is_handlers, looks_by, outside_ef
 use Rattle.run_charges.specs.Moments.{IsMomentFrom, PowersUp, Instructs, Serves, AreMoments}
 use Rattle.run_charges.specs.Charges.{IsInstruction, AreInstructionMoments, behind_action, behind_moment, observed}
 use Rattle.run_charges.proofs.Interface.{PlacedProgram, Moves, MovesOwn, MovesIn, MovesOn, MoveOn, silent_behind, whole_behind, moment_is, IsPower, IsStepped}
-use Rattle.run_charges.proofs.Interface.{IsPowerOrStep}
+use Rattle.run_charges.proofs.Interface.{IsPowerOrStep, no_power_up}
 use Rattle.event_rules.specs.Taking.{Taking, Before, Open, SawHead, SawSlot, Took, Frozen, next_index, Follows, MomentFollows, EachFollows}
-use Rattle.event_rules.proofs.Interface.{held, stored_at, stored_by, moves_hand, own_high, event_head, no_power_up, fram_next, next_fram, either_fram, after}
+use Rattle.event_rules.proofs.Interface.{held, stored_at, stored_by, moves_hand, own_high, event_head, fram_next, next_fram, either_fram, after}
 use Rattle.event_orders.proofs.Window.{Window, window_same, stores_word, raises_head}
 use Rattle.event_orders.proofs.Order.{Account, account_of, Fresh, Pending, Asked, Knows, Keeps, SeesRing, SeeRing, effects_advance}
 
