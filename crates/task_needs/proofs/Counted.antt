@@ -1,12 +1,12 @@
 -- A need has the cycles of all that is done for its task.
-use Rattle.std.proofs.Common.{◌≡◌, ◌<◌, ◌≤◌, ◌+◌, ⊎_elim, ℕ, true, suc, length, sym, ap, cond, lt-ltb, le-ltb, arith, Bool}
+use Rattle.std.proofs.Common.{◌≡◌, ◌<◌, ◌≤◌, ⊎_elim, ℕ, true, suc, length, sym, ap, cond, lt-ltb, le-ltb, arith, Bool}
 use Rattle.std.proofs.lemmas.Bool.{cases_lt}
 use Rattle.source_values.specs.Runs.{CheckedProgram, State}
 use Rattle.memory_map.specs.MemoryMap.{MemoryMap}
 use Rattle.memory_map.specs.Spots.{private_words}
 use Rattle.boot_runtime.specs.Entries.{task_entries}
 use Rattle.boot_runtime.specs.Listing.{privates_in, start_cycles}
-use Rattle.crash_rules.specs.Model.{Model, bound, greatest}
+use Rattle.crash_rules.specs.Model.{Model, greatest}
 use Rattle.compiled_model.specs.Parts.{compiled_model}
 use Rattle.task_needs.specs.Needs.{own_privates, start_need, need_of}
 use Rattle.task_needs.specs.Lists.{pending_need, with_needs}

@@ -1,5 +1,5 @@
 -- What the code of a task spends, and that its need has all of it.
-use Rattle.std.specs.Prelude.{◌≡◌, ℕ, ◌+◌, ◌<◌, ◌≤◌, true, List, length, get_or}
+use Rattle.std.specs.Prelude.{ℕ, ◌+◌, ◌<◌, ◌≤◌, true, List, length, get_or}
 use Rattle.alp_words.specs.Words.{HoldsWords}
 use Rattle.machine_effects.specs.Inputs.{Inputs, InputsAreWords}
 use Rattle.code_forms.specs.Forms.{Core}
