@@ -105,7 +105,7 @@ module _ (p : CheckedProgram) (l : MemoryMap) (r : CanRun p l) (few : TasksListF
             let f = fits_commit p l r laws s next x d.decided in
             so s _ b d.decided.decided.sends.is_task (makes.decided s next x b k e d.decided
             (record { can = f.can; list = d.lists.entries; named = d.lists.words; sent = f.sent; base = f.base }));
-        makes_commit = λ to x b k e d. makes.commit to x b k e d _ (pending_commits_are_counted p l m);
+        makes_commit = λ to x b k e d. makes.commit to x b k e d _ (pending_commits_are_counted p l);
       }
 
 pub code_keeps_to_needs : CodeKeepsToNeeds

@@ -1,12 +1,13 @@
 -- A need has the cycles of all that is done for its task.
-use Rattle.std.proofs.Common.{◌≡◌, ◌<◌, ◌≤◌, ◌+◌, ⊎_elim, ℕ, true, suc, length, sym, ap, cond, lt-ltb, le-ltb, arith, Bool}
+use Rattle.std.proofs.Common.{◌≡◌, ◌<◌, ◌≤◌, ⊎_elim, ℕ, true, suc, length, sym, ap, cond, lt-ltb, le-ltb, arith, Bool}
 use Rattle.std.proofs.lemmas.Bool.{cases_lt}
 use Rattle.source_values.specs.Runs.{CheckedProgram, State}
 use Rattle.memory_map.specs.MemoryMap.{MemoryMap}
 use Rattle.memory_map.specs.Spots.{private_words}
 use Rattle.boot_runtime.specs.Entries.{task_entries}
 use Rattle.boot_runtime.specs.Listing.{privates_in, start_cycles}
-use Rattle.crash_rules.specs.Model.{Model, bound, greatest}
+use Rattle.crash_rules.specs.Model.{Model, greatest}
+use Rattle.compiled_model.specs.Parts.{compiled_model}
 use Rattle.task_needs.specs.Needs.{own_privates, start_need, need_of}
 use Rattle.task_needs.specs.Lists.{pending_need, with_needs}
 use Rattle.task_needs.specs.Laws.{AttemptsAreCounted, OwnCommitsAreCounted, PendingCommitsAreCounted}
@@ -43,7 +44,8 @@ pub pending_cost : (p : CheckedProgram) (l : MemoryMap) (m : Model State) (t : �
 pending_cost p l m t none = sym (ap (λ c. cond c (need_of p l t) (pending_need l)) (le-ltb t (length p.tasks) none))
 
 pub pending_commits_are_counted : PendingCommitsAreCounted
-pending_commits_are_counted p l m =
+pending_commits_are_counted p l =
+    let m = compiled_model p l in
     let last = last_within (with_needs p l m).task_cost (length p.tasks) in
     let is = pending_cost p l m (length p.tasks) (omega arith) in
     omega (arith, last, is)

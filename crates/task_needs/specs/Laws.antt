@@ -1,10 +1,10 @@
 -- What the code of a task spends, and that its need has all of it.
-use Rattle.std.specs.Prelude.{◌≡◌, ℕ, ◌+◌, ◌<◌, ◌≤◌, true, List, length, get_or}
+use Rattle.std.specs.Prelude.{ℕ, ◌+◌, ◌<◌, ◌≤◌, true, List, length, get_or}
 use Rattle.alp_words.specs.Words.{HoldsWords}
 use Rattle.machine_effects.specs.Inputs.{Inputs, InputsAreWords}
 use Rattle.code_forms.specs.Forms.{Core}
 use Rattle.cost_bound.specs.Counts.{emits_of}
-use Rattle.source_values.specs.Runs.{CheckedProgram, State, task_body}
+use Rattle.source_values.specs.Runs.{CheckedProgram, task_body}
 use Rattle.array_versions.specs.Program.{Program, nothing}
 use Rattle.array_versions.specs.Behaviour.{behaviour, started}
 use Rattle.word_code.specs.Laws.{ComesTo}
@@ -15,7 +15,8 @@ use Rattle.runtime_code.specs.Comes.{Enters}
 use Rattle.boot_runtime.specs.Entries.{task_entries}
 use Rattle.boot_runtime.specs.Listing.{entry_at, privates_in, start_cycles}
 use Rattle.commit_runtime.specs.Listing.{commit_cycles}
-use Rattle.crash_rules.specs.Model.{Model, bound}
+use Rattle.crash_rules.specs.Model.{bound}
+use Rattle.compiled_model.specs.Parts.{compiled_model}
 use Rattle.compiled_model.specs.Needs.{boot_cycles}
 use Rattle.linked_code.specs.Linked.{linked_code, CodeFits, ProgramsAreWhole}
 use Rattle.task_needs.specs.Needs.{own_entries, own_words, path_need, need_of}
@@ -43,5 +44,5 @@ OwnCommitsAreCounted = (p : CheckedProgram) (l : MemoryMap) (t : ℕ)
 
 -- the greatest of the needs has those of a boot that finds a commit pending of whatever tasks, where it is one of the costs
 abbrev pub PendingCommitsAreCounted : Type 0
-PendingCommitsAreCounted = (p : CheckedProgram) (l : MemoryMap) (m : Model State)
-    → boot_cycles l + commit_cycles l.runtime.events l.entries l.entries l.emits.words ≤ bound (with_needs p l m)
+PendingCommitsAreCounted = (p : CheckedProgram) (l : MemoryMap)
+    → boot_cycles l + commit_cycles l.runtime.events l.entries l.entries l.emits.words ≤ bound (with_needs p l (compiled_model p l))

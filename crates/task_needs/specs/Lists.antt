@@ -11,7 +11,7 @@ use Rattle.memory_map.specs.MemoryMap.{MemoryMap, word_place}
 use Rattle.runtime_effects.specs.Places.{listed}
 use Rattle.commit_runtime.specs.Listing.{commit_cycles}
 use Rattle.crash_rules.specs.Model.{Model}
-use Rattle.compiled_model.specs.Parts.{compiled_model, task_program, program_parts, IsStarted}
+use Rattle.compiled_model.specs.Parts.{task_program, program_parts, IsStarted}
 use Rattle.compiled_model.specs.Needs.{boot_cycles}
 use Rattle.task_needs.specs.Needs.{own_entries, own_words, beside_path, need_of}
 
