@@ -1,30 +1,28 @@
 -- Moments of a run take words of the ring in order, as its scripts do.
-use Rattle.std.proofs.Common.{◌≡◌, ℕ, suc, ◌+◌, ◌<◌, arith, refl, sym, ap, ◌∙◌, subst, List, [], ◌∷◌, ◌++◌, true, false, append_assoc}
+use Rattle.std.proofs.Common.{◌≡◌, ℕ, suc, ◌<◌, arith, refl, sym, ap, ◌∙◌, subst, List, [], ◌∷◌, ◌++◌, true, false, append_assoc}
 use Rattle.std.proofs.lemmas.List.Elements.{All-cons}
 use Rattle.fram_board.specs.Effects.{Effect}
 use Rattle.fram_board.specs.Board.{BoardValue}
 use Rattle.fram_board.specs.Run.{Action, PowerUp, Execute, Moment, BoardCharge, RunOutcome, power_up_of}
 use Rattle.machine_effects.specs.World.{World, fram_after_one, fram_after, looks_taken}
 use Rattle.machine_effects.specs.Inputs.{Look, SeeWords, TakesExactly, InputsAreWords}
-use Rattle.machine_effects.specs.Going.{At, stretch, going}
-use Rattle.machine_effects.specs.Machine.{MachineBoard}
+use Rattle.machine_effects.specs.Going.{At, going}
 use Rattle.machine_effects.specs.View.{IsWhole, IsOfWords}
 use Rattle.machine_effects.specs.Runs.{last_board}
 use Rattle.machine_effects.proofs.Interface.{machine_is_of_words}
 use Rattle.program_view.specs.Stands.{AtCode}
-use Rattle.code_forms.specs.Placed.{words_of}
 use Rattle.crash_rules.specs.Model.{Model, ModelLaws}
-use Rattle.crash_rules.specs.History.{History, first_history, observe, behind_boot}
-use Rattle.crash_rules.specs.Runs.{Program, ProgramLaws, Charge, IsPoweredFrom, Charged}
+use Rattle.crash_rules.specs.History.{History, first_history}
+use Rattle.crash_rules.specs.Runs.{Program, ProgramLaws}
 use Rattle.crash_rules.specs.Laws.{Origin, Begins, HasRun, Phase, UndecidedPhase, DecidedPhase, CommittingPhase}
 use Rattle.crash_rules.proofs.Interface.{crash_theorem, changed}
 use Rattle.run_charges.specs.View.{outside_of, outside_effects, all_outside_effects, looks_in}
-use Rattle.run_charges.specs.Moments.{IsMomentFrom, AreMoments}
+use Rattle.run_charges.specs.Moments.{AreMoments}
 use Rattle.run_charges.specs.Charges.{IsInstruction, AreInstructionMoments, observed, program_steps}
-use Rattle.run_charges.specs.Fronts.{ChargeFront, board_powered, board_behind, moments_of, IsChargeFrom, AreChargesFrom}
+use Rattle.run_charges.specs.Fronts.{ChargeFront, board_powered, moments_of, IsChargeFrom, AreChargesFrom}
 use Rattle.run_charges.specs.Laws.{IsRunOfWords, StandsIn}
-use Rattle.run_charges.proofs.Interface.{Steps, IsPowerOrStep, IsPower, IsStepped, moment_is, whole_behind, looks_see, PlacedProgram, Machine, Reach, instructions_reach}
-use Rattle.run_charges.proofs.Interface.{Ready, running, begun, is_powered, is_powered_from, Reached, front_reached, reached_on, front_charges, run_front}
+use Rattle.run_charges.proofs.Interface.{IsPowerOrStep, IsPower, IsStepped, moment_is, whole_behind, looks_see, PlacedProgram, Machine, instructions_reach}
+use Rattle.run_charges.proofs.Interface.{running, begun, is_powered, is_powered_from, Reached, front_reached, reached_on, front_charges, run_front}
 use Rattle.run_charges.proofs.Interface.{placed_program, ready_there, programs_run, no_power_up, nothing_seen, last-append}
 use Rattle.event_rules.specs.Taking.{Taking, Before, Advances, Follows, FollowsSeeing, ScriptsTakeInOrder, MomentFollows, EachFollows}
 use Rattle.event_rules.specs.Laws.{RunsTakeInOrder}
@@ -159,9 +157,12 @@ module _ {St : Type 0} (m : Model St) (c : Program) (laws : ModelLaws m) (code :
           let on_more : r.moments ≡ next ++ more =
           e ∙ ap (λ ms. before ++ (up ∷ ms)) (append_assoc f.instructions (moments_of fs) rest) ∙ sym (append_assoc before (up ∷ f.instructions) more) in
           let all_more : AreChargesFrom (last_board b0 next) fs =
-          subst (λ y. AreChargesFrom y fs) (sym (last-append b0 before (up ∷ f.instructions))) all.1 in
-          (Before, refl, both_follow gate f.instructions (moments_of fs) Before (charge_follows f h here charge)
-          (λ u. charges_follow fs next rest on_more all_more u))
+          subst (λ y. AreChargesFrom y fs) (sym (last-append b0 before (up ∷ f.instructions))) all.1 in (
+            Before,
+            refl,
+            both_follow gate f.instructions (moments_of fs) Before (charge_follows f h here charge)
+                (λ u. charges_follow fs next rest on_more all_more u),
+          )
 
       -- each front
       pub front_follows : (ms rest : List Moment) → r.moments ≡ ms ++ rest → EachFollows gate Before ms
