@@ -79,7 +79,7 @@ module _ (l : ProgramPlaces) (apart : memory.AreApart l.map) where
 
   module _ (on : m.runtime.events ≡ true) (privates : ℕ → List CopyPair) (are : (t : ℕ) → ArePrivate l t (privates t)) where
     pub start_in_order : (f : ℕ → ℕ) (looks : List Look) → f gate ≢ 1 → FollowsSeeing (Advances gate) f looks Before (start_effects m privates f) Open
-    start_in_order f looks zero =
+    start_in_order f looks undecided =
         let es = clearing_if m (is_at_end m f) in
         let g = fram_after es f in
         let cs = counts g in
@@ -98,7 +98,7 @@ module _ (l : ProgramPlaces) (apart : memory.AreApart l.map) where
         let same = leaves_gate gate front front_off f in
         let opens : FollowsSeeing (Advances gate) f looks Before opened Open =
         subst (λ l. FollowsSeeing (Advances gate) f looks Before l Open) (sym opened_is)
-        (joined (Advances gate) here (Next (Clears refl refl (λ e. zero (sym same ∙ e))) Ended)) in
+        (joined (Advances gate) here (Next (Clears refl refl (λ e. undecided (sym same ∙ e))) Ended)) in
         joined (Advances gate) opens
         (off_ring gate back (fram_after opened f) (looks_after opened looks) Open tt (copied_off task (privates task) (are task) (fram_after opened f))
         (copied_sees_none (privates task) (fram_after opened f)))
