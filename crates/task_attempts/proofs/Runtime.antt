@@ -1,18 +1,18 @@
 -- An attempt's start clears EC, and a commit moves TAIL.
 use Rattle.std.proofs.Common.{◌≡◌, ◌≢◌, ℕ, zero, suc, ◌+◌, ◌*◌, ◌%◌, ◌<◌, ◌≤◌, List, [], ◌∷◌, ◌++◌, refl, sym, ap, ◌∙◌, subst, arith, Bool, true, false}
-use Rattle.std.proofs.Common.{if◌then◌else◌, inl, inr, append_assoc}
-use Rattle.task_attempts.proofs.Names.{Effect, Store, Take, Outside, Offered, EachStore, World, fram_after, fram_after-append, each_store-append, each_weaker}
+use Rattle.std.proofs.Common.{inl, inr, append_assoc}
+use Rattle.task_attempts.proofs.Names.{Effect, Store, EachStore, World, fram_after, each_store-append}
 use Rattle.task_attempts.proofs.Names.{MemoryMap, word_place, CurrentTask, Gate, ListLength, EmitCount, Base, SentBase, NextTask, Version, ProgramPlaces, ArePrivate, IsAmong, CopyPair}
 use Rattle.task_attempts.proofs.Names.{where_events, listed, put}
 use Rattle.machine_effects.specs.World.{looks_taken}
 use Rattle.machine_effects.specs.Inputs.{Look}
-use Rattle.machine_effects.proofs.Interface.{fram_untouched, put_same, put_other, looks_taken-append}
+use Rattle.machine_effects.proofs.Interface.{put_same, put_other, looks_taken-append}
 use Rattle.memory_map.specs.Laws as memory
 use Rattle.memory_map.specs.event_places.Places.{tail_place, count_place, sent_place}
 use Rattle.runtime_effects.specs.Stages.{cleared, clearing_if, is_at_end, counting_effects, opening_effects, copied_in, start_effects, copied_home, sends}
 use Rattle.runtime_effects.specs.Stages.{emits_sent, commit_closed, commit_effects}
 use Rattle.stands_for.specs.StandsFor.{IsPendingCommit}
-use Rattle.event_rules.specs.Taking.{Taking, Before, Open, Advances, Clears, Moves, Ends, Stores, FollowsSeeing, Ended, Next, IsOffRing}
+use Rattle.event_rules.specs.Taking.{Before, Open, Advances, Clears, Moves, Ends, Stores, FollowsSeeing, Ended, Next, IsOffRing}
 use Rattle.event_rules.proofs.Interface.{looks_after, joined, off_ring}
 use Rattle.task_attempts.proofs.InOrder.{leaves_high, leaves_gate}
 
