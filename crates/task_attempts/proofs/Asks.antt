@@ -3,7 +3,7 @@ use Rattle.std.proofs.Common.{◌≡◌, ◌≢◌, ℕ, zero, suc, ◌+◌, ◌
 use Rattle.std.proofs.Common.{append-nil, arith, if◌then◌else◌}
 use Rattle.std.proofs.lemmas.Bool.Decides.{nat_tests}
 use Rattle.machine_effects.specs.fram_board.Effects.{Effect, Store, Take, Outside, Looked}
-use Rattle.machine_effects.specs.World.{put, fram_after}
+use Rattle.machine_effects.specs.World.{fram_after}
 use Rattle.machine_effects.specs.Inputs.{Look}
 use Rattle.machine_effects.proofs.Interface.{fram_after-append}
 use Rattle.memory_map.specs.event_places.Places.{tail_place, count_place, sent_place, answer_place, head_place, slot_place}
@@ -12,10 +12,11 @@ use Rattle.array_versions.specs.declared.program.ListPlace.{ListPlace}
 use Rattle.array_versions.specs.declared.operations.PlainOperation.{PlainOperation}
 use Rattle.array_versions.specs.Operations.{plain_word}
 use Rattle.array_versions.specs.Behaviour.{WordState, End, GoesOn, Jumps, Short, Strays, Broken, Behaviour, behaves, goes_on, strays, is_place, at_place}
-use Rattle.array_versions.specs.Behaviour.{pushed, stored, behind_effects, then_on, word_stored, element_pushed, word_emitted, raised, entry_stored, ends_before}
-use Rattle.array_versions.specs.Behaviour.{listed_behind, own_element, versioned_pushed, first_stored, own_stored, versioned_stored, own_place, own_kept, own_updated}
+use Rattle.array_versions.specs.Behaviour.{pushed, stored, behind_effects, then_on, word_stored, element_pushed, word_emitted, raised, entry_stored}
+use Rattle.array_versions.specs.Behaviour.{ends_before}
+use Rattle.array_versions.specs.Behaviour.{listed_behind, own_element, versioned_pushed, first_stored, own_stored, versioned_stored, own_place, own_updated}
 use Rattle.array_versions.specs.Behaviour.{versioned_updated}
-use Rattle.event_rules.specs.Taking.{Taking, Open, SawHead, SawSlot, Took, next_index, looks_behind, FollowsSeeing, Ended, Next, Blind}
+use Rattle.event_rules.specs.Taking.{Taking, Open, SawHead, SawSlot, Took, next_index, looks_behind, FollowsSeeing, Ended, Next}
 use Rattle.event_rules.proofs.Interface.{looks_after, joined}
 
 -- what a word program's effects may be: stores in front of the words that count events, readings, answers, and freezings anywhere between them
