@@ -1,6 +1,6 @@
 -- The names that the proofs here share, from the rooms below and from this one's specs.
 pub use Rattle.std.proofs.Common.{◌≡◌, ℕ, zero, suc, ◌+◌, ◌-◌, ◌*◌, ◌%◌, ◌<◌, ◌≤◌, ◌==◌, max, not, nat_le, nat_lt, Bool, true, false, if◌then◌else◌, List, []}
-pub use Rattle.std.proofs.Common.{◌∷◌, ◌++◌, length, Option, Some, None, refl, sym, ap, ◌∙◌, subst, arith, append-nil, eq-eqb, ne_eqb, ◌≢◌}
+pub use Rattle.std.proofs.Common.{◌∷◌, ◌++◌, length, Option, Some, None, refl, sym, ap, ◌∙◌, subst, arith, append-nil, eq-eqb, eqb-true, ne_eqb, ◌≢◌, ◌/◌, ◌^◌}
 pub use Rattle.std.proofs.lemmas.Bool.Decides.{nat_tests}
 pub use Rattle.word_code.proofs.code_forms.Interface.{stands_front, stands_back, forms_bytes-append, form_small}
 pub use Rattle.word_code.proofs.array_versions.Interface.{Matches, GoesWell, matches_local, start_matches, step_well, well, whole_ends_soundly, local_words}
@@ -9,7 +9,7 @@ pub use Rattle.word_code.proofs.Interface.{Setting, runs_on, nothing_run, so_run
 pub use Rattle.word_code.proofs.Interface.{FollowsEnd, OnGoesOn, Pays, Reaches, reach_more, then_reach, Has, Holds, jump_to, owed_by, owed, owed_kept}
 pub use Rattle.word_code.proofs.Interface.{load_owed, Describes}
 pub use Rattle.word_code.proofs.Interface.{dressed, flush_part, top_to_four_part, Aiming, compare_sides_part, compare_stays, reading_cycles, side_owed}
-pub use Rattle.word_code.proofs.Interface.{gathered}
+pub use Rattle.word_code.proofs.Interface.{gathered, StepDoes, product_part}
 pub use Rattle.word_code.proofs.Interface.{near_is, back_distance, stands_low, Decided, back_part, pass_part, whole_size, Fork, fork_at, fork_turned, fork_both}
 pub use Rattle.word_code.proofs.Interface.{fork_either, Forked, forked_behind, decision_part, zero_test, holds_part, compares_part, local_number, jump_part}
 pub use Rattle.word_code.proofs.Interface.{raise_part, Bounded, Spared, spared_so, bounded_with, bounded_on, step_bounded, HasStack, stack_part, Ready}
@@ -40,13 +40,13 @@ pub use Rattle.word_code.specs.array_versions.Laws.{IsStateOfWords, EndsInWords,
 pub use Rattle.word_code.specs.array_versions.declared.operations.Comparison.{Comparison}
 pub use Rattle.word_code.specs.declared.bounds.Bound.{Bound}
 pub use Rattle.word_code.specs.declared.waiting.Waiting.{Waiting}
-pub use Rattle.word_code.specs.Code.{flushed, top_of, below_top, kept, top_to_four, compare_form, is_turned, compare_sides, compare_source, holding, failing}
+pub use Rattle.word_code.specs.Code.{power, flushed, top_of, below_top, kept, top_to_four, compare_form, is_turned, compare_sides, compare_source, holding, failing}
 pub use Rattle.word_code.specs.Code.{decision, holds_code, compares_code, truth_code, number_code, turn_end, turns_code, jump_back, pass_over, size, bound_of}
 pub use Rattle.word_code.specs.Code.{stack_base, stack_set, waiting_behind, waiting_after, step_code, test_code, steps_code, block_code, code_of}
 pub use Rattle.word_code.specs.array_versions.machine_effects.address_space.Limits.{stack_start}
 pub use Rattle.word_code.specs.Laws.{IsEntry, HasJumped, ComesTo}
 pub use Rattle.code_paths.specs.Paths.{forward_most}
 pub use Rattle.code_paths.proofs.Interface.{runs_so, starves_so, stands_alone, tidy_alone}
-pub use Rattle.code_costs.specs.Dearest.{any_most, flush_most, leaf_most, back_cycles, turn_most, turns_most, step_most, test_most}
+pub use Rattle.code_costs.specs.Dearest.{bits_in, by_number_most, any_most, flush_most, leaf_most, back_cycles, turn_most, turns_most, step_most, test_most}
 pub use Rattle.code_costs.specs.Dearest.{steps_most}
 pub use Rattle.code_costs.specs.Dearest.{block_most, most_spent}

@@ -17,7 +17,9 @@ use Rattle.code_costs.proofs.Names.{truth_code, number_code, turn_end, turns_cod
 use Rattle.code_costs.proofs.Names.{waiting_after}
 use Rattle.code_costs.proofs.Names.{step_code, test_code, steps_code, block_code, code_of, ComesTo, forward_most, owed, flush_most, leaf_most}
 use Rattle.code_costs.proofs.Names.{turn_most, turns_most, step_most, test_most, steps_most, block_most, most_spent}
-use Rattle.code_costs.proofs.Names.{unary, binary, long, unary_cycles, binary_cycles, long_cycles, UnaryOperation, Negate, Complement, BinaryOperation}
+use Rattle.code_costs.proofs.Names.{power, StepDoes, product_part, bits_in, by_number_most, zero, suc, ◌/◌, ◌^◌, eqb-true, Option, None}
+use Rattle.word_code.specs.declared.waiting.Waiting.TheVariants as waiting
+use Rattle.code_costs.proofs.Names.{unary, binary, long, unary_cycles, long_cycles, UnaryOperation, Negate, Complement, BinaryOperation}
 use Rattle.code_costs.proofs.Names.{Multiply}
 use Rattle.code_costs.proofs.Names.{Divide, Remainder, Plain, LongOperation, any_most}
 use Rattle.word_code.specs.array_versions.declared.operations.LongOperation.TheVariants as with_longs
@@ -34,31 +36,78 @@ unary_few : (o : UnaryOperation) → unary_cycles o ≤ 202
 unary_few Negate = omega arith
 unary_few Complement = omega arith
 
-binary_few : (o : BinaryOperation) → binary_cycles o ≤ any_most (binary o)
-binary_few Multiply = omega arith
-binary_few Divide = omega arith
-binary_few Remainder = omega arith
-binary_few (Plain o) = omega arith
-
 long_few : (o : LongOperation) → long_cycles o ≤ 202
 long_few (with_longs.Calculate o) = omega arith
 long_few _ = omega arith
 
+-- a number is below the power of two that its bits tell
+bits_by : (is : Bool) (n k : ℕ) → (n == 0) ≡ is → n / 2 < 2 ^ k → n < 2 ^ (if is then 0 else suc k)
+bits_by true n k e l = let none = eqb-true n 0 e in omega (arith, none)
+bits_by false n k e l = let double : 2 ^ suc k ≡ 2 * 2 ^ k = grind arith in omega (arith, double, l)
+
+bits_hold : (m n : ℕ) → n < 2 ^ m → n < 2 ^ bits_in m n
+bits_hold zero n l = l
+bits_hold (suc m) n l =
+    let double : 2 ^ suc m ≡ 2 * 2 ^ m = grind arith in
+    bits_by (n == 0) n (bits_in m (n / 2)) refl (bits_hold m (n / 2) (omega (arith, double, l)))
+
+has_bits : (n : ℕ) → n < 0x10000 → n < 2 ^ suc (bits_in 15 (n / 2))
+has_bits n l =
+    let k = bits_in 15 (n / 2) in
+    let half : n / 2 < 2 ^ k = bits_hold 15 (n / 2) (omega (arith, l)) in
+    let double : 2 ^ suc k ≡ 2 * 2 ^ k = grind arith in
+    omega (arith, double, half)
+
 module _ (z : Setting) where
   -- a step that is no test, no choice, no loop and no jump, by what is known of it where its code stands alone
-  leaf : (bs : List Bound) (first : Step) (fits : Place → Type 0) (os : List Waiting) (pc : ℕ) (w : WordState) (u : Core) → step_spent first w ≤ any_most first
-      → Ready bs (EachStepWay z.room first fits) w → KnownStep z bs first → Stands z.code pc (step_code bs os first) → Describes z os pc w u → (next : ℕ)
-      → (let b = step_behaviour first w in
+  leaf_by : (bs : List Bound) (first : Step) (os : List Waiting) (pc : ℕ) (w : WordState) (u : Core) (cost : ℕ) → cost ≤ any_most os first
+      → (h : Stands z.code pc (step_code bs os first)) → Describes z os pc w u → (next : ℕ)
+      → (let y = alone z pc (step_code bs os first) h in StepDoes y bs os first cost pc w u (step_behaviour first w)) → (let b = step_behaviour first w in
       Reaches z next (Describes z (waiting_behind os first) (pc + forms_bytes (step_code bs os first))) (leaf_most bs os first + next) u b.effects b.end)
-  leaf bs first fits os pc w u least r known h d next =
+  leaf_by bs first os pc w u cost least h d next follows =
       let ms = step_code bs os first in
       let after = waiting_behind os first in
       let end = pc + forms_bytes ms in
       let y = alone z pc ms h in
       let b = step_behaviour first w in
-      reaches_there z pc ms h (owed after) next (step_spent first w + owed os) (any_most first + owed os) u (λ v. Describes y after end v)
+      reaches_there z pc ms h (owed after) next (cost + owed os) (any_most os first + owed os) u (λ v. Describes y after end v)
       (λ v. Describes z after end v) b.effects b.end d.is.at (omega (arith, least)) (λ v t j. describes_out z pc ms h after end v t j)
-      (step_follows y bs first fits os pc w u r known (stand z pc ms h) (describes_in z pc ms h os pc w u d))
+      (follows (stand z pc ms h) (describes_in z pc ms h os pc w u d))
+
+  leaf : (bs : List Bound) (first : Step) (fits : Place → Type 0) (os : List Waiting) (pc : ℕ) (w : WordState) (u : Core)
+      → step_spent first w ≤ any_most os first
+      → Ready bs (EachStepWay z.room first fits) w → KnownStep z bs first → Stands z.code pc (step_code bs os first) → Describes z os pc w u → (next : ℕ)
+      → (let b = step_behaviour first w in
+      Reaches z next (Describes z (waiting_behind os first) (pc + forms_bytes (step_code bs os first))) (leaf_most bs os first + next) u b.effects b.end)
+  leaf bs first fits os pc w u least r known h d next =
+      let y = alone z pc (step_code bs os first) h in
+      leaf_by bs first os pc w u (step_spent first w) least h d next (λ s i. step_follows y bs first fits os pc w u r known s i)
+
+  -- a product by a number that waits, by whether that is a power of two
+  number_leaf : (p : Option ℕ) (bs : List Bound) (fits : Place → Type 0) (n : ℕ) (os : List Waiting) (pc : ℕ) (w : WordState) (u : Core) → power n ≡ p
+      → Ready bs (EachStepWay z.room (binary Multiply) fits) w → KnownStep z bs (binary Multiply)
+      → Stands z.code pc (step_code bs (waiting.Number n ∷ os) (binary Multiply)) → Describes z (waiting.Number n ∷ os) pc w u → (next : ℕ)
+      → (let all = waiting.Number n ∷ os in let first = binary Multiply in let b = step_behaviour first w in
+      Reaches z next (Describes z (waiting_behind all first) (pc + forms_bytes (step_code bs all first))) (leaf_most bs all first + next) u b.effects b.end)
+  number_leaf None bs fits n os pc w u is r known h d next =
+      let all = waiting.Number n ∷ os in
+      let turns = bits_in 15 (n / 2) in
+      let y = alone z pc (step_code bs all (binary Multiply)) h in
+      leaf_by bs (binary Multiply) all pc w u (8 + suc turns * 9) (subst (λ p. 8 + suc turns * 9 ≤ by_number_most p n) (sym is) (omega arith)) h d next
+      (λ s i. product_part y turns n os pc w w.stack u is (λ small. has_bits n small) refl r.words_in.stack s i)
+  number_leaf (Some k) bs fits n os pc w u is r known h d next =
+      leaf bs (binary Multiply) fits (waiting.Number n ∷ os) pc w u (subst (λ p. 152 ≤ by_number_most p n) (sym is) (omega arith)) r known h d next
+
+  -- an operation on two words
+  binary_leaf : (op : BinaryOperation) (bs : List Bound) (fits : Place → Type 0) (os : List Waiting) (pc : ℕ) (w : WordState) (u : Core)
+      → Ready bs (EachStepWay z.room (binary op) fits) w → KnownStep z bs (binary op) → Stands z.code pc (step_code bs os (binary op))
+      → Describes z os pc w u → (next : ℕ) → (let first = binary op in let b = step_behaviour first w in
+      Reaches z next (Describes z (waiting_behind os first) (pc + forms_bytes (step_code bs os first))) (leaf_most bs os first + next) u b.effects b.end)
+  binary_leaf Multiply bs fits (waiting.Number n ∷ os) pc w u r known h d next = number_leaf (power n) bs fits n os pc w u refl r known h d next
+  binary_leaf Multiply bs fits os pc w u r known h d next = leaf bs (binary Multiply) fits os pc w u (omega arith) r known h d next
+  binary_leaf Divide bs fits os pc w u r known h d next = leaf bs (binary Divide) fits os pc w u (omega arith) r known h d next
+  binary_leaf Remainder bs fits os pc w u r known h d next = leaf bs (binary Remainder) fits os pc w u (omega arith) r known h d next
+  binary_leaf (Plain o) bs fits os pc w u r known h d next = leaf bs (binary (Plain o)) fits os pc w u (omega arith) r known h d next
 
   -- behind steps with no word waiting in front of them, code that takes those that wait behind them
   leaf_reach : (bs : List Bound) (p : Program) (fits : Place → Type 0) (c next pc : ℕ) (Q : WordState → Core → Type 0) (go : WordState → Behaviour)
@@ -214,7 +263,7 @@ module _ (z : Setting) where
     -- of each other step alike: the first clause makes it a proof by cases
     step_reach bs (number v) fits os pc w u r known h d next = leaf bs (number v) fits os pc w u (omega arith) r known h d next
     step_reach bs (unary op) fits os pc w u r known h d next = leaf bs (unary op) fits os pc w u (omega (arith, unary_few op)) r known h d next
-    step_reach bs (binary op) fits os pc w u r known h d next = leaf bs (binary op) fits os pc w u (binary_few op) r known h d next
+    step_reach bs (binary op) fits os pc w u r known h d next = binary_leaf op bs fits os pc w u r known h d next
     step_reach bs (long op) fits os pc w u r known h d next = leaf bs (long op) fits os pc w u (omega (arith, long_few op)) r known h d next
     step_reach bs first fits os pc w u r known h d next = leaf bs first fits os pc w u (omega arith) r known h d next
 

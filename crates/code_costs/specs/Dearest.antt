@@ -1,13 +1,15 @@
 -- What the code of a word program costs at most, whatever the words are that decide its ways: its dearest way. What follows costs so much; behind a jump
 -- nothing does.
-use Rattle.std.specs.Prelude.{ℕ, zero, suc, ◌+◌, ◌-◌, max, Bool, true, false, not, nat_le, if◌then◌else◌, List, [], ◌∷◌, ◌++◌}
+use Rattle.std.specs.Prelude.{ℕ, zero, suc, ◌+◌, ◌-◌, ◌*◌, ◌/◌, ◌==◌, max, Bool, true, false, not, nat_le, if◌then◌else◌, List, [], ◌∷◌, ◌++◌}
+use Rattle.std.specs.Prelude.{Option, Some, None}
 use Rattle.word_code.specs.declared.bounds.Bound.{Bound}
 use Rattle.word_code.specs.declared.waiting.Waiting.{Waiting}
+use Rattle.word_code.specs.declared.waiting.Waiting.TheVariants as waiting
 use Rattle.word_code.specs.array_versions.Program.{Step, Test, Program, binary, truth, choose, repeat, jump, holds, compares, both, either, fails, nothing}
 use Rattle.word_code.specs.array_versions.Program.{step}
 use Rattle.word_code.specs.array_versions.Form.{locals_of}
 use Rattle.word_code.specs.array_versions.declared.operations.BinaryOperation.TheVariants.{Multiply}
-use Rattle.word_code.specs.Code.{owed, flushed, holds_code, compares_code, number_code, turn_end, pass_over, size, bound_of, stack_set, waiting_behind}
+use Rattle.word_code.specs.Code.{owed, power, flushed, holds_code, compares_code, number_code, turn_end, pass_over, size, bound_of, stack_set, waiting_behind}
 use Rattle.word_code.specs.Code.{waiting_after}
 use Rattle.word_code.specs.Code.{step_code, test_code, block_code}
 use Rattle.code_paths.specs.Paths.{forward_most}
@@ -16,14 +18,28 @@ use Rattle.code_paths.specs.Paths.{forward_most}
 abbrev pub flush_most : List Waiting → ℕ
 flush_most os = forward_most (flushed os) (owed os)
 
+-- how many bits a number has, of so many at most
+abbrev pub bits_in : ℕ → ℕ → ℕ
+bits_in zero n = 0
+bits_in (suc m) n = if n == 0 then 0 else suc (bits_in m (n / 2))
+
+-- a product by the word that waits on top: by a number a turn for each of its bits, and one for 0; a power of two has no turns
+abbrev pub by_number_most : Option ℕ → ℕ → ℕ
+by_number_most None n = 8 + suc (bits_in 15 (n / 2)) * 9
+by_number_most (Some k) n = 152
+
+abbrev pub product_most : List Waiting → ℕ
+product_most (waiting.Number n ∷ os) = by_number_most (power n) n
+product_most os = 152
+
 -- a step that is no test, no choice, no loop and no jump, whatever its code is: products and quotients, which go by the bits of a word, have the most
-abbrev pub any_most : Step → ℕ
-any_most (binary Multiply) = 152
-any_most _ = 202
+abbrev pub any_most : List Waiting → Step → ℕ
+any_most os (binary Multiply) = product_most os
+any_most os _ = 202
 
 -- and by its code
 abbrev pub leaf_most : List Bound → List Waiting → Step → ℕ
-leaf_most bs os s = forward_most (step_code bs os s) (any_most s + owed os)
+leaf_most bs os s = forward_most (step_code bs os s) (any_most os s + owed os)
 
 -- what goes back over so many words: a jump of one word, or further
 abbrev pub back_cycles : ℕ → ℕ

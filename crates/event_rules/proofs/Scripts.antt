@@ -1,17 +1,16 @@
 -- A program that takes words of the ring in order in each script does so over a whole charge.
-use Rattle.std.proofs.Common.{◌≡◌, ◌≢◌, ℕ, zero, suc, ◌+◌, ◌-◌, ◌<◌, ◌≤◌, List, [], ◌∷◌, ◌++◌, refl, sym, ap, ap₂, ◌∙◌, subst, ⊎_elim, arith, Bool}
+use Rattle.std.proofs.Common.{◌≡◌, ℕ, zero, suc, ◌+◌, ◌-◌, ◌<◌, List, [], ◌∷◌, ◌++◌, refl, sym, ap, ◌∙◌, subst, ⊎_elim, arith, Bool}
 use Rattle.std.proofs.Common.{true, false, append-nil, length, drop, if◌then◌else◌}
 use Rattle.std.proofs.Math.Seq.{drop-nil}
 use Rattle.std.proofs.lemmas.Bool.{cases_lt}
-use Rattle.machine_effects.specs.msp_step.declared.machine.Stop.TheVariants as stop
 use Rattle.fram_board.specs.Effects.{Effect, Store, Take, Outside, Offered, Looked}
-use Rattle.machine_effects.specs.World.{World, world_after_one, world_after, fram_after_one, fram_after, looks_taken, EachStore}
-use Rattle.machine_effects.specs.Going.{At, stretch, after_effects, going, Leads, Stalls}
+use Rattle.machine_effects.specs.World.{World, world_after, fram_after_one, fram_after, looks_taken, EachStore}
+use Rattle.machine_effects.specs.Going.{At, after_effects, going, Leads}
 use Rattle.machine_effects.specs.Inputs.{Look, other_looks, TakesExactly}
 use Rattle.machine_effects.specs.Machine.{MachineBoard, MachineOutcome}
 use Rattle.machine_effects.proofs.Interface.{world_after-append, left_are_words}
 use Rattle.crash_rules.specs.Model.{Model, ModelLaws, Inputs, InputsAreWords, inputs_behind, ProgramEffects, program_effects, with_commit, attempt_from, bound}
-use Rattle.crash_rules.specs.Model.{AttemptContract, Comes, Lacks, Decides, CommitKeeps}
+use Rattle.crash_rules.specs.Model.{AttemptContract, Comes, Lacks, CommitKeeps}
 use Rattle.crash_rules.specs.Runs.{Program, AtEntry, Makes, ProgramLaws}
 use Rattle.crash_rules.proofs.Interface.{world_fram, in_front, goes_on, changed}
 use Rattle.event_rules.specs.Taking.{Taking, Before, IsIdle, Advances, Takes, Sends, Stores, Follows, Rule, looks_behind, FollowsSeeing, Ended, Next, Blind}
@@ -222,16 +221,22 @@ module _ {St : Type 0} (m : Model St) (c : Program) (laws : ModelLaws m) (code :
       → (p : ProgramEffects) × (most : ℕ) × Makes c m.delay most p b × IsScript x b.inputs p
   due false x b entry fram words (AtTask s undecided settled) =
       let p = with_commit m x.fram b.inputs (attempt_from m false x.fram b.inputs) in
-      let P : (ℕ → ℕ) → Type 0 = λ f. Makes c m.delay (m.task_cost (m.task_number s)) (with_commit m f b.inputs (attempt_from m false f b.inputs)) b in
-      (p, m.task_cost (m.task_number s), subst P fram (code.makes_attempt s x b entry fram words (settled refl)),
-      task_script x b.inputs (attempt_from m false x.fram b.inputs) s (attempt_follows false s x b.inputs words undecided settled)
-      (attempt_owed false s x b.inputs words undecided settled))
+      let P : (ℕ → ℕ) → Type 0 = λ f. Makes c m.delay (m.task_cost (m.task_number s)) (with_commit m f b.inputs (attempt_from m false f b.inputs)) b in (
+        p,
+        m.task_cost (m.task_number s),
+        subst P fram (code.makes_attempt s x b entry fram words (settled refl)),
+        task_script x b.inputs (attempt_from m false x.fram b.inputs) s (attempt_follows false s x b.inputs words undecided settled)
+            (attempt_owed false s x b.inputs words undecided settled),
+      )
   due true x b entry fram words (AtTask s undecided settled) =
       let p = with_commit m x.fram b.inputs (attempt_from m true x.fram b.inputs) in
-      let P : (ℕ → ℕ) → Type 0 = λ f. Makes c m.delay (m.task_cost (m.task_number s)) (with_commit m f b.inputs (attempt_from m true f b.inputs)) b in
-      (p, m.task_cost (m.task_number s), subst P fram (code.makes_boot s x b entry fram words undecided),
-      task_script x b.inputs (attempt_from m true x.fram b.inputs) s (attempt_follows true s x b.inputs words undecided settled)
-      (attempt_owed true s x b.inputs words undecided settled))
+      let P : (ℕ → ℕ) → Type 0 = λ f. Makes c m.delay (m.task_cost (m.task_number s)) (with_commit m f b.inputs (attempt_from m true f b.inputs)) b in (
+        p,
+        m.task_cost (m.task_number s),
+        subst P fram (code.makes_boot s x b entry fram words undecided),
+        task_script x b.inputs (attempt_from m true x.fram b.inputs) s (attempt_follows true s x b.inputs words undecided settled)
+            (attempt_owed true s x b.inputs words undecided settled),
+      )
   due true x b entry fram words (AtCommit to holds) =
       let P : (ℕ → ℕ) → Type 0 = λ f. Makes c m.delay (bound m) (program_effects (m.commit f b.inputs) true) b in
       (program_effects (m.commit x.fram b.inputs) true, bound m, subst P fram (code.makes_commit to x b entry fram holds), commit_script to x b.inputs holds)

@@ -301,10 +301,11 @@ module _ (run : Started) where
       → EachStore (IsOffRing gate) (ordinary_part task count base)
   ordinary task count base few =
       let apart = facts.apart in
-      let entries = entry_effects (word_place l ListLength) l.list.address count (runs_of i.layout.privates) in
-      ((omega (arith, apart), λ e. omega (arith, e)),
-      each_store-append (IsOffRing gate) entries (Store (word_place l SentBase) base ∷ []) (entries_off (runs_of i.layout.privates) count few)
-      ((omega (arith, apart), λ e. omega (arith, e)), tt))
+      let entries = entry_effects (word_place l ListLength) l.list.address count (runs_of i.layout.privates) in (
+        (omega (arith, apart), λ e. omega (arith, e)),
+        each_store-append (IsOffRing gate) entries (Store (word_place l SentBase) base ∷ []) (entries_off (runs_of i.layout.privates) count few)
+            ((omega (arith, apart), λ e. omega (arith, e)), tt),
+      )
     where
       entries_off : (rs : List Run) (k : ℕ) → k + length rs ≤ list_of p.shared code
           → EachStore (IsOffRing gate) (entry_effects (word_place l ListLength) l.list.address k rs)

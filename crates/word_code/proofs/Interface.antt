@@ -31,3 +31,5 @@ pub use Rattle.word_code.proofs.LoopBounds.{Bounded, Spared, spared_so, bounded_
 pub use Rattle.word_code.proofs.Locals.{HasStack, stack_part}
 pub use Rattle.word_code.proofs.Whole.{Ready, ready_on, ready_with, ready_popped, turn_ready, Known, known_first, known_second, KnownStep, KnownTest}
 pub use Rattle.word_code.proofs.Whole.{KnownProgram, one_pushed, zero_pushed, step_follows, begun}
+-- A product by a number that waits.
+pub use Rattle.word_code.proofs.Results.{StepDoes, product_part}

@@ -3,7 +3,7 @@ use Rattle.word_code.proofs.Names.{◌≡◌, ℕ, zero, suc, ◌+◌, ◌*◌, 
 use Rattle.word_code.proofs.Names.{if◌then◌else◌, eqb-true, bit_and, nat_tests, and_mask, and_le_r, mul-mod_first, bit, R6, Core, Constant, ToRegister}
 use Rattle.word_code.proofs.Names.{Move, Stands, forms_bytes, Runs, Multiply, binary_word, WordState, binary_middle, multiply_turn}
 use Rattle.array_versions.specs.msp_step.msp_isa.declared.operands.Konst.TheVariants as konst
-use Rattle.word_code.proofs.Registers.{Holds, Has, Flagged, IsZero, line}
+use Rattle.word_code.proofs.Registers.{Holds, Has, HasTwo, Flagged, IsZero, line}
 use Rattle.word_code.proofs.Stretches.{Setting, runs_on, dearer}
 use Rattle.word_code.proofs.Middles.{BinaryMiddle}
 use Rattle.word_code.proofs.Routes.{on, jump, free, Work, route, starts}
@@ -116,12 +116,18 @@ module _ (z : Setting) where
         leave (suc m) ((a + a) % 0x10000) (b / 2) (sum even a acc) w u (b / 2 == 0) refl (sum_small even a acc small) j
         (λ ne v k. loop m ((a + a) % 0x10000) (b / 2) (sum even a acc) w v (halved_below m b l) (sum_small even a acc small) k))))
 
-  pub multiply_middle : BinaryMiddle z (binary_middle Multiply) R6 145 (binary_word Multiply)
-  multiply_middle pc x y w t a b h i =
+  -- a product by a word of so few bits
+  pub multiply_within : (turns pc x y : ℕ) (w : WordState) (t : Core) → x < 0x10000 → y < 2 ^ suc turns → Stands z.code pc (binary_middle Multiply)
+      → HasTwo z pc w x y t → Runs z.code [] (1 + suc turns * 9) t (Has z R6 (pc + forms_bytes (binary_middle Multiply)) w (binary_word Multiply x y))
+  multiply_within turns pc x y w t a b h i =
       let ms = Move (Constant konst.Zero) (ToRegister R6) ∷ [] in
+      let most = 1 + suc turns * 9 in
       let e : pc + 2 + 14 ≡ pc + forms_bytes (binary_middle Multiply) = omega arith in
       let is_zero : (0 + x * y) % 0x10000 ≡ (x * y) % 0x10000 = omega arith in
-      subst (λ n. Runs z.code [] 145 t (Has z R6 n w ((x * y) % 0x10000))) e (subst (λ v. Runs z.code [] 145 t (Has z R6 (pc + 2 + 14) w v)) is_zero
+      subst (λ n. Runs z.code [] most t (Has z R6 n w ((x * y) % 0x10000))) e (subst (λ v. Runs z.code [] most t (Has z R6 (pc + 2 + 14) w v)) is_zero
       (runs_on z (line z ms 1 (pc + 2) (Holds z (λ f. Work x y 0 (f 7) f) (pc + 2) w) i.is (tt, tt) (h.0, tt) ((tt, tt), tt) refl refl (omega (arith, i.is.at))
       (λ s. record { is = s; held = (i.held.four, i.held.five, refl, refl) }))
-      (λ u j. loop (pc + 2) h.1 15 x y 0 w u b (omega arith) (record { is = starts z j.is; held = j.held }))))
+      (λ u j. loop (pc + 2) h.1 turns x y 0 w u b (omega arith) (record { is = starts z j.is; held = j.held }))))
+
+  pub multiply_middle : BinaryMiddle z (binary_middle Multiply) R6 145 (binary_word Multiply)
+  multiply_middle pc x y w t a b h i = multiply_within 15 pc x y w t a b h i

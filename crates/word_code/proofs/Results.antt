@@ -1,6 +1,6 @@
 -- Steps where words wait: values that come to wait in a register, and statements behind which none waits.
 use Rattle.word_code.proofs.Names.{AllByRecursion, stays, ◌≡◌, ℕ, ◌+◌, ◌*◌, ◌<◌, ◌≤◌, ◌-◌, ◌/◌, ◌%◌, ◌^◌, ◌==◌, ◌&&◌, Bool, true, false, nat_lt, if◌then◌else◌}
-use Rattle.word_code.proofs.Names.{List, [], ◌∷◌, ◌++◌, length, Option, Some, None, refl, sym, ap, ◌∙◌, subst, arith, bit_and, w16, ltb-true, eqb-true, ne_eqb}
+use Rattle.word_code.proofs.Names.{suc, List, [], ◌∷◌, ◌++◌, length, Option, Some, None, refl, sym, ap, ◌∙◌, subst, arith, bit_and, w16, ltb-true, eqb-true, ne_eqb}
 use Rattle.word_code.proofs.Names.{le-leb, Step, and_parts, same_Some, and_mask, pow_pos, word_sum, word_product, quotient, remainder, unwrap_or, Take, put}
 use Rattle.word_code.proofs.Names.{IsPlace, R4, R5, R6, Core, Form, Move, Calculate, Update, Push, Ram, ToFram, sensed, Stands, forms_bytes, Runs, stands_front}
 use Rattle.word_code.proofs.Names.{stands_back, forms_bytes-append, ArrayPlace, ListPlace, UnaryOperation, Negate, Complement, BinaryOperation, Multiply}
@@ -28,7 +28,7 @@ use Rattle.word_code.proofs.LoopBounds.{Bounded, top_inside, under_inside}
 use Rattle.word_code.specs.Code.{any_at}
 use Rattle.word_code.proofs.Parts.{local_part, keep_part, keep_beside, set_part}
 use Rattle.word_code.proofs.Updates.{update_part, update_local_part}
-use Rattle.word_code.proofs.Products.{multiply_middle}
+use Rattle.word_code.proofs.Products.{multiply_within, multiply_middle}
 use Rattle.word_code.proofs.Quotients.{divide_part, remainder_part}
 use Rattle.word_code.proofs.ShiftParts.{shift_part}
 use Rattle.word_code.proofs.Access.{past_end, before_end, emit_part}
@@ -429,6 +429,31 @@ module _ (z : Setting) where
         (omega arith) (omega (arith, load_owed os)) h
     power_by (Some k) (Plain o) n os q h d = two_part (Plain o) (waiting.Number n ∷ os) h d
 
+    -- a product by a number that waits, of so few bits
+    known_product : (turns n : ℕ) (os : List Waiting) → (n < 0x10000 → n < 2 ^ suc turns) → Stands z.code pc (two_code (waiting.Number n ∷ os) Multiply)
+        → Describes z (waiting.Number n ∷ os) pc w u
+        → Does (binary_result Multiply ∷ kept (below_top os)) (pc + forms_bytes (two_code (waiting.Number n ∷ os) Multiply))
+        (8 + suc turns * 9 + (owed os + 4)) u (goes_on [] (with_stack (binary_word Multiply x y ∷ rest) w))
+    known_product turns n os few h d =
+        let all = waiting.Number n ∷ os in
+        let is = (drop_part z (waiting.Number n) os pc w y (x ∷ rest) u e d).1 in
+        let small : y < 2 ^ suc turns = subst (λ v. v < 2 ^ suc turns) is (few (omega (arith, is, ly))) in
+        template (two_fetched all pc w x y rest u e d)
+        (in_six (binary_middle Multiply) (1 + suc turns * 9) (binary_word Multiply x y)
+        (λ p xs t s k. multiply_within z turns p x y (with_stack xs w) t lx small s k))
+        (8 + suc turns * 9 + (owed os + 4)) (omega arith) (omega (arith, load_owed all, load_owed os)) h
+
+    product_by : (p : Option ℕ) (turns n : ℕ) (os : List Waiting) → p ≡ None → (n < 0x10000 → n < 2 ^ suc turns)
+        → Stands z.code pc (power_code p (waiting.Number n ∷ os) Multiply) → Describes z (waiting.Number n ∷ os) pc w u
+        → Does (power_result p Multiply ∷ kept (below_top os)) (pc + forms_bytes (power_code p (waiting.Number n ∷ os) Multiply))
+        (8 + suc turns * 9 + (owed os + 4)) u (goes_on [] (with_stack (binary_word Multiply x y ∷ rest) w))
+    product_by None turns n os none few h d = known_product turns n os few h d
+    product_by (Some k) turns n os none few h d = absurd (cc none)
+
+    product_on : (turns n : ℕ) (os : List Waiting) → power n ≡ None → (n < 0x10000 → n < 2 ^ suc turns)
+        → StepDoes [] (waiting.Number n ∷ os) (binary Multiply) (8 + suc turns * 9) pc w u (goes_on [] (with_stack (binary_word Multiply x y ∷ rest) w))
+    product_on turns n os none few h d = product_by (power n) turns n os none few h d
+
     binary_on : (o : BinaryOperation) (os : List Waiting)
         → StepDoes [] os (binary o) (binary_cycles o) pc w u (goes_on [] (with_stack (binary_word o x y ∷ rest) w))
     binary_on o (waiting.Number n ∷ os) h d = power_by (power n) o n os refl h d
@@ -439,6 +464,14 @@ module _ (z : Setting) where
   binary_part o os pc w [] u e l h d = tt
   binary_part o os pc w (y ∷ []) u e l h d = tt
   binary_part o os pc w (y ∷ (x ∷ rest)) u e l h d = binary_on pc w x y rest u e l.1.0 l.0 o os h d
+
+  -- a product by a number that waits, in a turn for each of its bits
+  pub product_part : (turns n : ℕ) (os : List Waiting) (pc : ℕ) (w : WordState) (vs : List ℕ) (u : Core) → power n ≡ None → (n < 0x10000 → n < 2 ^ suc turns)
+      → w.stack ≡ vs → AreWords vs → StepDoes [] (waiting.Number n ∷ os) (binary Multiply) (8 + suc turns * 9) pc w u
+      (with_two vs (λ x y us. goes_on [] (with_stack (binary_word Multiply x y ∷ us) w)))
+  product_part turns n os pc w [] u none few e l h d = tt
+  product_part turns n os pc w (y ∷ []) u none few e l h d = tt
+  product_part turns n os pc w (y ∷ (x ∷ rest)) u none few e l h d = product_on pc w x y rest u e l.1.0 l.0 turns n os none few h d
 
   -- ---- statements
 
