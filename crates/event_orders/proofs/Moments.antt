@@ -1,9 +1,10 @@
 -- The words of the ring over the moments of a charge: the handler's, which bring words, and the program's, which take them.
 use Rattle.std.proofs.Common.{◌≡◌, ◌≢◌, ◌+◌, ◌%◌, ◌≤◌, ◌<◌, ◌==◌, ◌⊎◌, inl, inr, if◌then◌else◌, arith, ℕ, refl, sym, ap, ◌∙◌, subst, Bool, true, false}
-use Rattle.std.proofs.Common.{List, [], ◌∷◌, ◌++◌, append-nil, append_assoc, length, length-append, Option, Some, None, Ok, Err, Result, map, ◌-◌, slice_index}
+use Rattle.std.proofs.Common.{List, [], ◌∷◌, ◌++◌, append-nil, append_assoc, length, length-append, Option, Some, None, Ok, Err, Result, map}
 use Rattle.event_places.specs.Places.{handler_place, head_place, tail_place, answer_place, ring_slots, slot_place}
 use Rattle.msp_step.specs.alp_words.Words.{word_sum, word_difference}
 use Rattle.msp_step.specs.Registers.{registers_of}
+use Rattle.msp_step.specs.Step.{return_place, status_place}
 use Rattle.msp_step.specs.declared.machine.Stop.{Stop}
 use Rattle.fram_board.specs.declared.board.NextStep.TheVariants as next_step
 use Rattle.fram_board.specs.declared.events.Heard.TheVariants as heard
@@ -13,7 +14,6 @@ use Rattle.fram_board.specs.Effects.{Effect, Store, Take, Outside, Offered, Look
 use Rattle.fram_board.specs.Effects.{store_of}
 use Rattle.fram_board.specs.Bus.{is_fram}
 use Rattle.std.specs.List.{slice_range}
-use Rattle.board_run.specs.image_text.ImageValue.{place_of}
 use Rattle.fram_board.specs.Run.{StepKind, Accepting, Returning, Plain, Action, PowerUp, Execute, Moment, moment_of}
 use Rattle.board_run.specs.Events.{Hand}
 use Rattle.machine_effects.specs.World.{World, Look, put, fram_after}
@@ -136,7 +136,7 @@ module _ (gate first : ℕ) (a : Account) (words more : List ℕ) (f g : ℕ →
     done = h.done;
     left = h.left ++ more;
     words_are = ap (λ l. l ++ more) h.words_are ∙ append_assoc h.done h.left more;
-    open = h.open;
+    unpending = h.unpending;
     committed = h.committed;
     asked = h.asked;
     tail = h.tail;
@@ -160,7 +160,7 @@ module _ (gate first : ℕ) (a : Account) (words more : List ℕ) (f g : ℕ →
     taken = h.taken;
     left = h.left ++ more;
     words_are = ap (λ l. l ++ more) h.words_are ∙ append_assoc h.done (h.taken ++ h.left) more ∙ ap (λ l. h.done ++ l) (append_assoc h.taken h.left more);
-    open = h.open;
+    unpending = h.unpending;
     committed = h.committed;
     asked = h.asked;
     tail = h.tail;
@@ -203,13 +203,13 @@ sends_no_look : (n : ℕ) (o : Option ℕ) → NoLooks (sends_of n o)
 sends_no_look n None = tt
 sends_no_look n (Some w) = (tt, tt)
 
+if_no_look : (c : Bool) (a w : ℕ) → NoLooks (if c then Store a w ∷ [] else [])
+if_no_look true a w = (tt, tt)
+if_no_look false a w = tt
+
 store_no_look : (o : Option ℕ) (fram : List ℕ) → NoLooks (store_at o fram)
 store_no_look None fram = tt
-store_no_look (Some a) fram = by (is_fram a)
-  where
-    by : (c : Bool) → NoLooks (if c then Store (a - a % 2) (slice_index fram (place_of a)) ∷ [] else [])
-    by true = (tt, tt)
-    by false = tt
+store_no_look (Some a) fram = if_no_look (is_fram a) _ _
 
 stored_no_look : (r : Result Stepped Stop) (after : BoardValue) → NoLooks (stores_of r after)
 stored_no_look (Ok done) after = store_no_look done.wrote after.fram
@@ -221,14 +221,12 @@ effects_no_look b x =
     (none-append (stores_of x.answer x.board) (sends_of b.outnum x.offered) (stored_no_look x.answer x.board) (sends_no_look b.outnum x.offered))
 
 one_no_look : (a w : ℕ) → NoLooks (store_of a w)
-one_no_look a w = by (is_fram a)
-  where
-    by : (c : Bool) → NoLooks (if c then Store a w ∷ [] else [])
-    by true = (tt, tt)
-    by false = tt
+one_no_look a w = if_no_look (is_fram a) a w
 
 step_no_look : (kind : StepKind) (b : BoardValue) (x : BoardOutcome) → NoLooks (step_effects kind b x)
-step_no_look Accepting b x = none-append (store_of _ _) _ (one_no_look _ _) (one_no_look _ _)
+step_no_look Accepting b x =
+    let r = registers_of b.cpu in
+    none-append (store_of (return_place r) (r 0)) (store_of (status_place r) (r 2)) (one_no_look (return_place r) (r 0)) (one_no_look (status_place r) (r 2))
 step_no_look Returning b x = effects_no_look b x
 step_no_look Plain b x = effects_no_look b x
 
@@ -394,7 +392,7 @@ module _ (marks : Marks) (low : marks.gate < tail_place) (ans : marks.answer ≡
     moves_leave _ _ (MovesOwn own) v u follows keeps = own_leaves same h told words own v u follows keeps
     moves_leave _ _ (MovesIn done interrupted inside quiet e) v u follows keeps =
         handler_leaves same h told words (ap is_handlers e) []
-        (subst (λ (y : Moment). Brings b y.after []) (sym e) (brings_none b _ (λ a l. ap (λ (f : ℕ → ℕ). f a) inside.fram))) v u follows keeps
+        (subst (λ (y : Moment). Brings b y.after []) (sym e) (brings_none b (moment_of b next_step.Acceptance done).after (λ a l. ap (λ (f : ℕ → ℕ). f a) inside.fram))) v u follows keeps
     moves_leave _ _ (MovesOn p at done interrupted inside read behind e) v u follows keeps =
         handler_leaves same h told words (handlers_move p at inside) (stored_at p at)
         (subst (λ (y : Moment). Brings b y.after (stored_at p at)) (sym e)

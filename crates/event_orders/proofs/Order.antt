@@ -37,7 +37,7 @@ pub record Fresh (gate first : ℕ) (ring : ℕ → ℕ) (a : Account) (words : 
   pub done : List ℕ
   pub left : List ℕ
   pub words_are : words ≡ done ++ left
-  pub open : a.fram gate ≢ 1
+  pub unpending : a.fram gate ≢ 1
   pub committed : not_zeros a.committed ≡ not_zeros done
   pub asked : not_zeros a.asked ≡ []
   pub tail : a.fram tail_place ≡ (first + length done) % 0x10000
@@ -68,7 +68,7 @@ pub record Asked (gate first : ℕ) (t : Taking) (ring : ℕ → ℕ) (a : Accou
   pub taken : List ℕ
   pub left : List ℕ
   pub words_are : words ≡ done ++ (taken ++ left)
-  pub open : a.fram gate ≢ 1
+  pub unpending : a.fram gate ≢ 1
   pub committed : not_zeros a.committed ≡ not_zeros done
   pub asked : not_zeros a.asked ≡ not_zeros taken
   pub tail : a.fram tail_place ≡ (first + length done) % 0x10000
@@ -189,7 +189,7 @@ module _ (marks : Marks) (low : marks.gate < tail_place) (ans : marks.answer ≡
     done = h.done;
     left = h.left;
     words_are = h.words_are;
-    open = λ one. h.open (sym e.at_gate ∙ one);
+    unpending = λ one. h.unpending (sym e.at_gate ∙ one);
     committed = h.committed;
     asked = h.asked;
     tail = e.at_tail ∙ h.tail;
@@ -221,7 +221,7 @@ module _ (marks : Marks) (low : marks.gate < tail_place) (ans : marks.answer ≡
     taken = h.taken;
     left = h.left;
     words_are = h.words_are;
-    open = λ one. h.open (sym e.at_gate ∙ one);
+    unpending = λ one. h.unpending (sym e.at_gate ∙ one);
     committed = h.committed;
     asked = h.asked;
     tail = e.at_tail ∙ h.tail;
@@ -258,7 +258,7 @@ module _ (marks : Marks) (low : marks.gate < tail_place) (ans : marks.answer ≡
         taken = [];
         left = h.left;
         words_are = h.words_are;
-        open = λ one. h.open (sym (put_other f count_place 0 gate (λ e. omega (arith, e, low))) ∙ one);
+        unpending = λ one. h.unpending (sym (put_other f count_place 0 gate (λ e. omega (arith, e, low))) ∙ one);
         committed = h.committed;
         asked = h.asked;
         tail = tail ∙ h.tail;
@@ -280,7 +280,7 @@ module _ (marks : Marks) (low : marks.gate < tail_place) (ans : marks.answer ≡
     taken = h.taken;
     left = h.left;
     words_are = h.words_are;
-    open = h.open;
+    unpending = h.unpending;
     committed = h.committed;
     asked = h.asked;
     tail = h.tail;
@@ -304,7 +304,7 @@ module _ (marks : Marks) (low : marks.gate < tail_place) (ans : marks.answer ≡
         taken = h.taken;
         left = h.left;
         words_are = h.words_are;
-        open = h.open;
+        unpending = h.unpending;
         committed = h.committed;
         asked = h.asked;
         tail = h.tail;
@@ -337,7 +337,7 @@ module _ (marks : Marks) (low : marks.gate < tail_place) (ans : marks.answer ≡
         taken = h.taken;
         left = h.left;
         words_are = h.words_are;
-        open = λ one. h.open (sym e.at_gate ∙ one);
+        unpending = λ one. h.unpending (sym e.at_gate ∙ one);
         committed = h.committed;
         asked = zeros_joined a.asked (0 ∷ []) ∙ append-nil (not_zeros a.asked) ∙ h.asked;
         tail = e.at_tail ∙ h.tail;
@@ -356,7 +356,7 @@ module _ (marks : Marks) (low : marks.gate < tail_place) (ans : marks.answer ≡
         taken = h.taken ++ word ∷ [];
         left = next.0;
         words_are = h.words_are ∙ ap (λ l. h.done ++ l) moved;
-        open = λ one. h.open (sym e.at_gate ∙ one);
+        unpending = λ one. h.unpending (sym e.at_gate ∙ one);
         committed = h.committed;
         asked = zeros_joined a.asked (word ∷ []) ∙ ap (λ l. l ++ not_zeros (word ∷ [])) h.asked ∙ sym (zeros_joined h.taken (word ∷ []));
         tail = e.at_tail ∙ h.tail;
@@ -381,7 +381,7 @@ module _ (marks : Marks) (low : marks.gate < tail_place) (ans : marks.answer ≡
         taken = h.taken;
         left = h.left;
         words_are = h.words_are;
-        open = λ one. h.open (sym (put_other f count_place w gate (λ e. omega (arith, e, low))) ∙ one);
+        unpending = λ one. h.unpending (sym (put_other f count_place w gate (λ e. omega (arith, e, low))) ∙ one);
         committed = h.committed;
         asked = h.asked;
         tail = tail ∙ h.tail;
@@ -402,7 +402,7 @@ module _ (marks : Marks) (low : marks.gate < tail_place) (ans : marks.answer ≡
         taken = h.taken;
         left = h.left;
         words_are = h.words_are;
-        open = λ one. h.open (sym (put_other f sent_place w gate (λ e. omega (arith, e, low))) ∙ one);
+        unpending = λ one. h.unpending (sym (put_other f sent_place w gate (λ e. omega (arith, e, low))) ∙ one);
         committed = h.committed;
         asked = h.asked;
         tail = tail ∙ h.tail;
@@ -433,7 +433,7 @@ module _ (marks : Marks) (low : marks.gate < tail_place) (ans : marks.answer ≡
 
   -- TAIL is moved
   moves : (a : Account) → a.fram gate ≡ 1 → K Before a → K Before (with_fram (put a.fram tail_place (a.fram sent_place)) a)
-  moves a one (inl h) = absurd (h.open one)
+  moves a one (inl h) = absurd (h.unpending one)
   moves a one (inr h) =
       let f = a.fram in
       let w = f sent_place in
@@ -451,7 +451,7 @@ module _ (marks : Marks) (low : marks.gate < tail_place) (ans : marks.answer ≡
 
   -- GATE becomes 0
   ends : (a : Account) → a.fram gate ≡ 1 → a.fram tail_place ≡ a.fram sent_place → K Before a → K Before (ended_behind marks a)
-  ends a one moved (inl h) = absurd (h.open one)
+  ends a one moved (inl h) = absurd (h.unpending one)
   ends a one moved (inr h) =
       let f = a.fram in
       let tail : put f gate 0 tail_place ≡ f tail_place = put_other f gate 0 tail_place (λ e. omega (arith, e, low)) in
@@ -459,7 +459,7 @@ module _ (marks : Marks) (low : marks.gate < tail_place) (ans : marks.answer ≡
         done = h.done;
         left = h.left;
         words_are = h.words_are;
-        open = λ e. let z = put_same f gate 0 in let no : 0 ≡ 1 = sym z ∙ e in omega (arith, no);
+        unpending = λ e. let z = put_same f gate 0 in let no : 0 ≡ 1 = sym z ∙ e in omega (arith, no);
         committed = zeros_joined a.committed a.decided ∙ h.committed;
         asked = ap not_zeros (answers_are []);
         tail = tail ∙ moved ∙ h.sent;
