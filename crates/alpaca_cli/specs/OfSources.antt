@@ -10,7 +10,7 @@ use Rattle.plain_commands.specs.fram_board.Saved.{saved}
 use Rattle.plain_commands.specs.cost_bound.declared.allowance.Allow.{Allow}
 use Rattle.plain_commands.specs.source_meaning.Acceptance.{IsAcceptedText}
 use Rattle.compiler_commands.specs.image_laws.Compiled.{IsCompiled, IsImageOf}
-use Rattle.compiled_states.specs.Worlds.{BelongsAt, KeepsRing, IsToldByItsSource, LeavesItsStates}
+use Rattle.compiled_states.specs.Worlds.{BelongsAt, IsToldByItsSource, LeavesItsStates}
 use Rattle.state_commands.specs.Saved.{from_state}
 use Rattle.state_commands.specs.Migrated.{HoldsOfMigrations, old_edition, new_edition}
 
@@ -18,11 +18,10 @@ use Rattle.state_commands.specs.Migrated.{HoldsOfMigrations, old_edition, new_ed
 abbrev pub IsStateOf : ImageValue → State → Type 0
 IsStateOf image s = (s ≡ record { image = image; receiver = 0 }) ⊎ Belongs image s
 
--- of whatever source's image a run went on from a state, what is saved at the run's end belongs to it, so that the image takes it; where the image has a
--- ring, if that keeps its rule then
+-- of whatever source's image a run went on from a state, what is saved at the run's end belongs to it, so that the image takes it
 abbrev pub StaysWithItsImage : State → RunOutcome → Type 0
 StaysWithItsImage s r = (source : List ℕ) (image : ImageValue) → IsImageOf source image → IsStateOf image s
-    → let left = saved r.board s.image.map in KeepsRing left → Belongs image left
+    → Belongs image (saved r.board s.image.map)
 
 -- whatever the trace
 abbrev pub SavedStatesStay : State → TraceValue → RunOutcome → Type 0

@@ -1,5 +1,5 @@
 -- The table of allowances has the cycles of what each task needs beside its code.
-use Rattle.std.proofs.Common.{◌≡◌, ℕ, zero, suc, ◌+◌, ◌≤◌, ◌<◌, max, sym, ap, subst, ⊎_elim, arith, true, cond, lt-ltb, le-ltb, List, length, Some, slice_get}
+use Rattle.std.proofs.Common.{◌≡◌, ℕ, zero, suc, ◌+◌, ◌≤◌, ◌<◌, max, sym, ap, subst, ⊎_elim, arith, true, List, length, Some, slice_get}
 use Rattle.std.proofs.lemmas.Bool.{cases_lt}
 use Rattle.std.proofs.lemmas.List.Elements.{All-nil}
 use Rattle.machine_effects.specs.Inputs.{Look, Inputs, InputsAreWords, no_inputs}
@@ -26,8 +26,8 @@ use Rattle.word_code.specs.Code.{code_spent}
 use Rattle.compiled_model.specs.Parts.{program_parts, task_program, compiled_model}
 use Rattle.compiled_model.specs.Needs.{boot_cycles, whole_cycles}
 use Rattle.task_needs.specs.Needs.{privates_of, own_privates, own_entries, own_words, start_need, commit_need, beside_path, need_of}
-use Rattle.task_needs.specs.Lists.{pending_need, needs_model}
-use Rattle.task_needs.proofs.Interface.{privates_count}
+use Rattle.task_needs.specs.Lists.{pending_need, with_needs}
+use Rattle.task_needs.proofs.Interface.{privates_count, own_cost, pending_cost}
 use Rattle.compiled_bounds.specs.Laws.{NeedsKeepToTheBound, TableCoversNeeds}
 use Rattle.compiled_bounds.proofs.Bounds.{greater, bound_is_the_sources}
 use Rattle.compiled_bounds.proofs.Costs.{tasks_keep_to_the_bound}
@@ -97,7 +97,7 @@ one_within cost (suc n) k below =
 
 pub needs_keep_to_the_bound : NeedsKeepToTheBound
 needs_keep_to_the_bound p l some costs needs =
-    let n = needs_model p l in
+    let n = with_needs p l (compiled_model p l) in
     let most = bound (compiled_model p l) in
     let is : most ≡ bound_of p = bound_is_the_sources p l in
     let pending : pending_need l ≤ most = costs.commits 0 some in
@@ -110,8 +110,8 @@ needs_keep_to_the_bound p l some costs needs =
     omega (arith, beside, own) in
     let each : (t : ℕ) → t < suc (length p.tasks) → n.task_cost t ≤ most = λ t below.
     ⊎_elim {C = n.task_cost t ≤ most}
-    (λ task. subst (λ c. cond c (need_of p l t) (pending_need l) ≤ most) (sym (lt-ltb t (length p.tasks) task)) (need t task))
-    (λ none. subst (λ c. cond c (need_of p l t) (pending_need l) ≤ most) (sym (le-ltb t (length p.tasks) none)) pending)
+    (λ task. subst (λ c. c ≤ most) (own_cost p l (compiled_model p l) t task) (need t task))
+    (λ none. subst (λ c. c ≤ most) (pending_cost p l (compiled_model p l) t none) pending)
     (cases_lt t (length p.tasks)) in
     let all = all_within n.task_cost most (suc (length p.tasks)) each in
     omega (arith, all, is)

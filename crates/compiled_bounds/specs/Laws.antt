@@ -20,7 +20,7 @@ use Rattle.run_charges.specs.Laws.{IsRunOfWords}
 use Rattle.memory_map.specs.Laws.{AreApart}
 use Rattle.compiled_model.specs.Parts.{compiled_model}
 use Rattle.compiled_model.specs.Needs.{CostsAreWithin, AttemptsStore}
-use Rattle.task_needs.specs.Lists.{NeedsAreWithin, needs_model}
+use Rattle.task_needs.specs.Lists.{NeedsAreWithin, with_needs}
 use Rattle.model_runs.specs.Bears.{BearsModel}
 use Rattle.compiled_bounds.specs.Capacities.{KeepsCapacities}
 
@@ -42,7 +42,7 @@ TableCoversNeeds = (p : CheckedProgram) (allow : Allow) (plans : List TaskPlanVa
 -- the bound of the needs is within it too, with a commit that was pending at the start
 abbrev pub NeedsKeepToTheBound : Type 0
 NeedsKeepToTheBound = (p : CheckedProgram) (l : MemoryMap) → 0 < length p.tasks → CostsAreWithin p l → NeedsAreWithin p l
-    → bound (needs_model p l) ≤ bound_of p
+    → bound (with_needs p l (compiled_model p l)) ≤ bound_of p
 
 -- a store to CLN or EN is within the capacity
 pub record CountsFit (l : MemoryMap) (a w : ℕ) : Type 0 where

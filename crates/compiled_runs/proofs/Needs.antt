@@ -1,6 +1,5 @@
 -- The code keeps to each task's need.
-use Rattle.std.proofs.Common.{◌≡◌, ◌<◌, ◌≤◌, ◌+◌, ◌-◌, ◌⊎◌, ⊎_elim, min, ℕ, Bool, true, List, length, suc, sym, ap, subst, arith, cond, nat_lt}
-use Rattle.std.proofs.Common.{lt-ltb, le-ltb}
+use Rattle.std.proofs.Common.{◌≡◌, ◌<◌, ◌-◌, ◌⊎◌, ⊎_elim, ℕ, true, length, sym, subst, arith}
 use Rattle.std.proofs.lemmas.Bool.{cases_lt}
 use Rattle.machine_effects.specs.World.{World, fram_after}
 use Rattle.machine_effects.specs.Inputs.{Inputs, InputsAreWords}
@@ -12,36 +11,22 @@ use Rattle.array_versions.specs.Behaviour.{started}
 use Rattle.word_code.specs.Code.{code_spent}
 use Rattle.code_costs.specs.Dearest.{most_spent}
 use Rattle.memory_map.specs.MemoryMap.{MemoryMap}
-use Rattle.memory_map.specs.Spots.{private_words}
-use Rattle.boot_runtime.specs.Entries.{task_entries}
-use Rattle.boot_runtime.specs.Listing.{privates_in, start_cycles}
 use Rattle.lower.specs.Lowered.{lowered}
-use Rattle.crash_rules.specs.Model.{Model, ModelLaws, ProgramEffects, bound, greatest}
+use Rattle.crash_rules.specs.Model.{Model, ModelLaws, ProgramEffects}
 use Rattle.crash_rules.specs.Runs.{Program, ProgramLaws, Makes}
 use Rattle.stands_for.specs.StandsFor.{HoldsWords}
 use Rattle.compiled_model.specs.Parts.{task_program, program_parts, redo_model}
-use Rattle.compiled_model.specs.Needs.{boot_cycles}
 use Rattle.compiled_model.proofs.Interface.{is_redo}
 use Rattle.linked_code.proofs.Interface.{body_there}
-use Rattle.task_needs.specs.Needs.{own_privates, own_entries, own_words, start_need, beside_path, path_need, commit_need, need_of}
-use Rattle.task_needs.specs.Lists.{ListsWithin, TasksListFew, NeedsAreWithin, DecidedWithin, pending_need, with_needs}
-use Rattle.task_needs.proofs.Interface.{tasks_keep_to_their_ways, privates_count}
+use Rattle.task_needs.specs.Needs.{own_entries, own_words, beside_path, need_of}
+use Rattle.task_needs.specs.Lists.{ListsWithin, TasksListFew, NeedsAreWithin, with_needs}
+use Rattle.task_needs.proofs.Interface.{tasks_keep_to_their_ways, attempts_are_counted, own_commits_are_counted, own_cost, pending_commits_are_counted}
 use Rattle.compiled_runs.specs.Program.{placed_code, compiled_program}
 use Rattle.compiled_runs.specs.Laws.{CanRun, CodeKeepsToNeeds}
 use Rattle.compiled_runs.proofs.Steps.{code_takes}
 use Rattle.compiled_runs.proofs.Costs.{FitsCommit, BodyWithin, Costs, programs_are, are_whole, decided_behind, fits_commit}
 use Rattle.compiled_runs.proofs.NeedsModel.{lists_there}
 use Rattle.compiled_runs.proofs.Program.{code_makes}
-
--- an attempt's start takes more than a pending commit does in front of its code
-start_some : (events : Bool) (versions privates : ℕ) → 30 ≤ start_cycles events true versions privates
-start_some events versions privates = omega arith
-
--- the last cost is within the greatest
-last_within : (cost : ℕ → ℕ) (k : ℕ) → cost k ≤ greatest cost (suc k)
-last_within cost k =
-    ⊎_elim {C = cost k ≤ greatest cost (suc k)} (λ lt. rw (lt-ltb (greatest cost k) (cost k) lt) (omega arith))
-    (λ ge. rw (le-ltb (greatest cost k) (cost k) ge) (omega (arith, ge))) (cases_lt (greatest cost k) (cost k))
 
 module _ (p : CheckedProgram) (l : MemoryMap) (r : CanRun p l) (few : TasksListFew p l) (within : NeedsAreWithin p l) (laws : ModelLaws (redo_model p l)) where
   abbrev m : Model State
@@ -56,10 +41,6 @@ module _ (p : CheckedProgram) (l : MemoryMap) (r : CanRun p l) (few : TasksListF
   abbrev words : ℕ → ℕ
   words = own_words p l
 
-  -- the boot copies what the need has the cycles for
-  start_is : (k : ℕ) → start_cycles l.runtime.events true l.versions.words (length (privates_in (task_entries l) k)) ≡ start_need l k
-  start_is k = ap (λ c. start_cycles l.runtime.events true l.versions.words c) (privates_count l k)
-
   -- by the dearest way; or as the table has it, where that is less
   body : (k : ℕ) (g : ℕ → ℕ) (inputs : Inputs) → k < length p.tasks → HoldsWords g → InputsAreWords inputs
       → BodyWithin p l (need_of p l k) (entries k) (words k) k g inputs
@@ -67,19 +48,18 @@ module _ (p : CheckedProgram) (l : MemoryMap) (r : CanRun p l) (few : TasksListF
       let count = programs_are p l r in
       let most = most_spent l.runtime.events (task_program p l k) in
       let left = (program_parts p l).cost k - beside_path p l k in
-      let start = start_is k in
       let table = within.within k g inputs named are_words ready in
       ⊎_elim {C = BodyWithin p l (need_of p l k) (entries k) (words k) k g inputs}
       (λ less. record {
         most = code_spent (task_program p l k) (started g inputs);
         comes = λ v enters. body_there l (lowered l p) r.fits (are_whole p l r) v k g inputs enters (omega (arith, named, count)) are_words ready;
-        within = let path : path_need p l k ≡ left = omega (arith, less) in omega (arith, start, table, path);
+        within = attempts_are_counted p l k (code_spent (task_program p l k) (started g inputs)) (omega (arith, less, table));
       })
       (λ enough. record {
         most = most;
         comes = λ v enters.
             tasks_keep_to_their_ways l (lowered l p) r.fits (are_whole p l r) v k g inputs enters (omega (arith, named, count)) are_words ready;
-        within = let path : path_need p l k ≡ most = omega (arith, enough) in omega (arith, start, path);
+        within = attempts_are_counted p l k most (omega (arith, enough));
       })
       (cases_lt left most)
 
@@ -101,21 +81,9 @@ module _ (p : CheckedProgram) (l : MemoryMap) (r : CanRun p l) (few : TasksListF
     entries = entries;
     words = words;
     body = body;
-    commits = λ k named.
-        let some = start_some l.runtime.events l.versions.words (private_words (own_privates l k)) in omega (arith, some);
+    commits = λ k named. own_commits_are_counted p l k;
     lists = lists;
   }
-
-  -- a task costs its need, and what comes behind the tasks what a pending commit takes
-  own_cost : (t : ℕ) → t < length p.tasks → need_of p l t ≡ n.task_cost t
-  own_cost t below = sym (ap (λ c. cond c (need_of p l t) (pending_need l)) (lt-ltb t (length p.tasks) below))
-
-  pending_within : pending_need l ≤ bound n
-  pending_within =
-      let last = last_within n.task_cost (length p.tasks) in
-      let is : n.task_cost (length p.tasks) ≡ pending_need l =
-      ap (λ c. cond c (need_of p l (length p.tasks)) (pending_need l)) (le-ltb (length p.tasks) (length p.tasks) (omega arith)) in
-      omega (arith, last, is)
 
   abbrev c : Program
   c = compiled_program p l
@@ -123,7 +91,7 @@ module _ (p : CheckedProgram) (l : MemoryMap) (r : CanRun p l) (few : TasksListF
   -- what is made within a task's need is within its cost
   so : (s : State) (q : ProgramEffects) (b : MachineBoard) → s.task < length p.tasks → Makes c m.delay (need_of p l s.task) q b
       → Makes c m.delay (n.task_cost s.task) q b
-  so s q b below made = subst (λ most. Makes c m.delay most q b) (own_cost s.task below) made
+  so s q b below made = subst (λ most. Makes c m.delay most q b) (own_cost p l m s.task below) made
 
   code_needs : ProgramLaws n c
   code_needs =
@@ -137,7 +105,7 @@ module _ (p : CheckedProgram) (l : MemoryMap) (r : CanRun p l) (few : TasksListF
             let f = fits_commit p l r laws s next x d.decided in
             so s _ b d.decided.decided.sends.is_task (makes.decided s next x b k e d.decided
             (record { can = f.can; list = d.lists.entries; named = d.lists.words; sent = f.sent; base = f.base }));
-        makes_commit = λ to x b k e d. makes.commit to x b k e d _ pending_within;
+        makes_commit = λ to x b k e d. makes.commit to x b k e d _ (pending_commits_are_counted p l);
       }
 
 pub code_keeps_to_needs : CodeKeepsToNeeds

@@ -5,7 +5,6 @@ use Rattle.fram_board.specs.Effects.{Effect, Store, Take, Outside}
 use Rattle.machine_effects.specs.World.{World, put, fram_after, world_after, world_after_one, EachStore}
 use Rattle.machine_effects.specs.Inputs.{Inputs, InputsAreWords}
 use Rattle.machine_effects.proofs.Interface.{fram_after-append, each_store-front, put_other}
-use Rattle.event_places.specs.Places.{tail_place}
 use Rattle.crash_rules.proofs.Interface.{world_fram}
 use Rattle.source_values.specs.Runs.{CheckedProgram, State}
 use Rattle.array_versions.specs.Behaviour.{Behaviour, End, GoesOn, Jumps, Short as Starving, Strays, Broken, behaviour, started}

@@ -7,7 +7,10 @@ use Rattle.compiled_states.proofs.Names.{map_of, map_ring, is_ring, is_in_ring, 
 use Rattle.compiled_states.proofs.Names.{IsFram}
 use Rattle.std.proofs.lemmas.Bool.Decides.{nat_tests}
 use Rattle.address_space.specs.Limits.{program_end}
-use Rattle.event_places.specs.Places.{handler_place}
+use Rattle.compiled_states.proofs.Names.{le-leb, leb-true, and_from, and_parts, eqb-true, eq-eqb}
+use Rattle.event_places.specs.Places.{handler_place, head_place, tail_place, sent_place}
+use Rattle.msp_step.specs.alp_words.Words.{word_difference}
+use Rattle.event_rules.specs.Rings as rings
 use Rattle.event_handler.specs.Handler.{HasHandler}
 use Rattle.runtime_effects.specs.Needs.{IsEventWord}
 use Rattle.source_maps.specs.Maps.{event_ring}
@@ -131,6 +134,77 @@ zeros_keep h t s pending head tail sent =
     let waiting : (h + 65536 - t) % 65536 ≡ 0 = omega (arith, head, tail) in
     let taken : (s + 65536 - t) % 65536 ≡ 0 = omega (arith, sent, tail) in
     ap₂ (λ w k. sound.is_ring (record { waiting = w; taken = k }) pending) waiting taken ∙ empty pending
+
+-- the rule of saved states by the words of FRAM, and back
+is_kept : (head tail sent : ℕ) (pending : Bool) → tail < 0x10000 → word_difference head tail ≤ 64
+    → (pending ≡ true → word_difference sent tail ≤ word_difference head tail)
+    → sound.is_ring (record { waiting = (head + 65536 - tail) % 65536; taken = (sent + 65536 - tail) % 65536 }) pending ≡ true
+is_kept head tail sent true small most taken =
+    let few : (head + 65536 - tail) % 65536 ≤ 64 = omega (arith, small, most) in
+    let ahead = taken refl in
+    and_from (nat_le ((head + 65536 - tail) % 65536) 64) (nat_le ((sent + 65536 - tail) % 65536) ((head + 65536 - tail) % 65536))
+    (le-leb ((head + 65536 - tail) % 65536) 64 few)
+    (le-leb ((sent + 65536 - tail) % 65536) ((head + 65536 - tail) % 65536) (omega (arith, small, ahead)))
+is_kept head tail sent false small most taken =
+    let few : (head + 65536 - tail) % 65536 ≤ 64 = omega (arith, small, most) in
+    and_from (nat_le ((head + 65536 - tail) % 65536) 64) true (le-leb ((head + 65536 - tail) % 65536) 64 few) refl
+
+-- what the rule of saved states says of these words
+record Kept (head tail sent : ℕ) (pending : Bool) : Type 0 where
+  waiting : word_difference head tail ≤ 64
+  taken : pending ≡ true → word_difference sent tail ≤ word_difference head tail
+
+kept_so : (head tail sent : ℕ) (pending : Bool) → tail < 0x10000
+    → sound.is_ring (record { waiting = (head + 65536 - tail) % 65536; taken = (sent + 65536 - tail) % 65536 }) pending ≡ true → Kept head tail sent pending
+kept_so head tail sent true small keeps =
+    let both = and_parts (nat_le ((head + 65536 - tail) % 65536) 64) (nat_le ((sent + 65536 - tail) % 65536) ((head + 65536 - tail) % 65536)) keeps in
+    let few = leb-true ((head + 65536 - tail) % 65536) 64 both.0 in
+    let ahead = leb-true ((sent + 65536 - tail) % 65536) ((head + 65536 - tail) % 65536) both.1 in
+    record { waiting = omega (arith, small, few); taken = λ e. omega (arith, small, ahead) }
+kept_so head tail sent false small keeps =
+    let both = and_parts (nat_le ((head + 65536 - tail) % 65536) 64) true keeps in
+    let few = leb-true ((head + 65536 - tail) % 65536) 64 both.0 in
+    record { waiting = omega (arith, small, few); taken = λ e. absurd (cc e) }
+
+module _ (words : List ℕ) (gate : ℕ) (is_gate : IsFram gate) (small : word_in words tail_place < 0x10000) where
+  there : (a : ℕ) → a % 2 ≡ 0 → 0x4400 ≤ a → a < 0x10000 → fram_of words a ≡ word_in words a
+  there a even low high = fram_at words a (record { even = even; low = low; high = high })
+
+  head_there : fram_of words head_place ≡ word_in words head_place
+  head_there = there head_place refl (omega arith) (omega arith)
+
+  tail_there : fram_of words tail_place ≡ word_in words tail_place
+  tail_there = there tail_place refl (omega arith) (omega arith)
+
+  sent_there : fram_of words sent_place ≡ word_in words sent_place
+  sent_there = there sent_place refl (omega arith) (omega arith)
+
+  -- a ring that keeps the rule on the board
+  pub rule_of_ring : rings.KeepsRing gate (fram_of words) → is_ring_at (Some event_ring) words (word_in words gate == 1) ≡ true
+  rule_of_ring k =
+      let waiting : word_difference (word_in words head_place) (word_in words tail_place) ≡ word_difference (fram_of words head_place) (fram_of words tail_place) =
+      ap₂ word_difference (sym head_there) (sym tail_there) in
+      let taken : word_difference (word_in words sent_place) (word_in words tail_place) ≡ word_difference (fram_of words sent_place) (fram_of words tail_place) =
+      ap₂ word_difference (sym sent_there) (sym tail_there) in
+      let most = k.head in
+      is_kept (word_in words head_place) (word_in words tail_place) (word_in words sent_place) (word_in words gate == 1) small (omega (arith, waiting, most))
+      (λ e. let ahead = k.sent (fram_at words gate is_gate ∙ eqb-true (word_in words gate) 1 e) in omega (arith, waiting, taken, ahead))
+
+  -- and back
+  pub ring_of_rule : is_ring_at (Some event_ring) words (word_in words gate == 1) ≡ true → rings.KeepsRing gate (fram_of words)
+  ring_of_rule keeps =
+      let k = kept_so (word_in words head_place) (word_in words tail_place) (word_in words sent_place) (word_in words gate == 1) small keeps in
+      let waiting : word_difference (fram_of words head_place) (fram_of words tail_place) ≡ word_difference (word_in words head_place) (word_in words tail_place) =
+      ap₂ word_difference head_there tail_there in
+      let taken : word_difference (fram_of words sent_place) (fram_of words tail_place) ≡ word_difference (word_in words sent_place) (word_in words tail_place) =
+      ap₂ word_difference sent_there tail_there in
+      let most = k.waiting in
+      record {
+        head = omega (arith, waiting, most);
+        sent = λ e.
+            let ahead = k.taken (eq-eqb (word_in words gate) 1 (sym (fram_at words gate is_gate) ∙ e)) in
+            omega (arith, waiting, taken, ahead);
+      }
 
 module _ (text : List ℕ) (image : ImageValue) (of : IsImageOf text image) where
   open of use {program as p, allow, accepted as ok, compiled as c}

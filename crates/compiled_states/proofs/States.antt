@@ -28,8 +28,12 @@ use Rattle.image_reports.specs.ImageLaw.{KeepsCode}
 use Rattle.compiled_states.proofs.Words.{fram_at}
 use Rattle.compiled_states.proofs.Named.{Mapped, its_map, named, of_ring, unnamed}
 use Rattle.compiled_states.proofs.Ring.{low_off, vector_off, interrupts_off, event_off, ring_off, handler_off, between_off, handler_stands}
-use Rattle.compiled_states.proofs.Ring.{fresh_keeps_ring}
-use Rattle.compiled_states.proofs.Sound.{Saved, list_within, emits_within, versions_within, is_sound, keeps_rules}
+use Rattle.compiled_states.proofs.Ring.{fresh_keeps_ring, rule_of_ring, ring_of_rule}
+use Rattle.compiled_states.proofs.Sound.{Saved, list_within, emits_within, versions_within, is_sound, keeps_rules, rules_of}
+use Rattle.compiled_states.proofs.Words.{fram_small}
+use Rattle.compiled_states.proofs.Names.{◌==◌, if◌then◌else◌, None, word_in, word_place, words_stand, Gate, IsSound, SoundAtRest, SoundPending, program_places}
+use Rattle.event_places.specs.Places.{tail_place}
+use Rattle.source_maps.specs.Maps.{event_ring}
 use Rattle.compiled_states.proofs.Ends.{run_saved}
 
 module _ (text : List ℕ) (image : ImageValue) (of : IsImageOf text image) where
@@ -172,6 +176,11 @@ fresh_states_belong text image of =
 
 -- ---- runs
 
+-- a sound world holds words
+sound_words : {p : CheckedProgram} {l : MemoryMap} {x : World} → IsSound (program_places p l) x → (a : ℕ) → x.fram a < 0x10000
+sound_words (SoundAtRest q) = q.words
+sound_words (SoundPending q) = q.words
+
 -- a run from a state that belongs to an image
 record StateRun : Type 0 where
   pub text : List ℕ
@@ -213,21 +222,70 @@ module _ (on : StateRun) where
       sym (steady_off (fram_of (last_board first ms).fram) a d) ∙ (lawful.fronts ms rest e).kept a from (event_off c.layout a off)
       ∙ steady_off (fram_of s.image.words) a d
 
-  board_belongs : (ms rest : List Moment) → r.moments ≡ ms ++ rest → let left = saved (last_board first ms) s.image.map in KeepsRing left
-      → Belongs image left
-  board_belongs ms rest e ring =
+  abbrev gate : ℕ
+  gate = word_place c.layout Gate
+
+  is_gate : IsFram gate
+  is_gate =
+      let is = (words_stand c.layout Gate c.is_layout.rules).is_fram in
+      let low = is.low in let high = is.high in record { even = is.even; low = omega (arith, low); high = omega (arith, high) }
+
+  -- the ring of these words keeps its rule, where the source takes events
+  abbrev IsKept : List ℕ → Type 0
+  IsKept words = is_ring_at (map_ring c.layout) words (word_in words gate == 1) ≡ true
+
+  -- so does the state's
+  keeps_at_first : IsKept s.image.words
+  keeps_at_first =
+      let P : MapValue → Type 0 = λ k. state.IsSound k s.image.words s.receiver in
+      let sound = subst P (one_map text image of b.map b.have.of_image) b.sound in
+      (rules_of (its_map (mapped text image of)) s.image.words s.receiver sound).ring
+
+  -- and that of each board
+  board_keeps : (ms rest : List Moment) → r.moments ≡ ms ++ rest → IsKept (last_board first ms).fram
+  board_keeps ms rest e = by c.layout.runtime.events refl
+    where
+      words : List ℕ
+      words = (last_board first ms).fram
+
+      abbrev KeptBy : Bool → List ℕ → Type 0
+      KeptBy events fram = is_ring_at (if events then Some event_ring else None) fram (word_in fram gate == 1) ≡ true
+
+      small : (fram : List ℕ) → fram_of fram tail_place < 0x10000 → word_in fram tail_place < 0x10000
+      small fram l =
+          let same = fram_at fram tail_place (record { even = refl; low = omega arith; high = omega arith }) in omega (arith, l, same)
+
+      last_small : fram_of words tail_place < 0x10000
+      last_small =
+          let k = lawful.fronts ms rest e in
+          let P : (ℕ → ℕ) → Type 0 = λ f. f tail_place < 0x10000 in
+          subst P k.fram (sound_words k.belongs.sound tail_place)
+
+      by : (events : Bool) → c.layout.runtime.events ≡ events → IsKept words
+      by false off = ap (λ o. is_ring_at (if o then Some event_ring else None) words (word_in words gate == 1)) off
+      by true on =
+          let at_first : KeptBy true s.image.words = subst (λ o. KeptBy o s.image.words) on keeps_at_first in
+          let first_keeps = ring_of_rule s.image.words gate is_gate (small s.image.words (fram_small s.image.words whole.are_words tail_place)) at_first in
+          let keeps = (lawful.rings on first_keeps ms rest e).keeps in
+          subst (λ o. KeptBy o words) (sym on) (rule_of_ring words gate is_gate (small words last_small) keeps)
+
+  board_belongs : (ms rest : List Moment) → r.moments ≡ ms ++ rest → Belongs image (saved (last_board first ms) s.image.map)
+  board_belongs ms rest e =
       let k = lawful.fronts ms rest e in
       let t = last_board first ms in
       let heard = (known_from c.layout x ms).world.accepted in
       let code = code_words text image of s b.map b.have.of_image b.others in
       let Kept : (ℕ → ℕ) → Type 0 = λ f. BelongsTo p c.layout image (record { fram = f; accepted = heard }) in
-      as_state text image of (saved t s.image.map) heard k.number k.whole.board.fram (b.have.of_state ∙ sym b.have.of_image)
+      let Ringed : Option MapValue → Type 0 = λ o. IfSome o (λ m. is_ring_at m.ring t.fram (is_pending (runtime_of m.words t.fram)) ≡ true) in
+      let same = b.have.of_state ∙ sym b.have.of_image in
+      let ring : KeepsRing (saved t s.image.map) = subst Ringed (sym (same ∙ c.map)) (board_keeps ms rest e) in
+      as_state text image of (saved t s.image.map) heard k.number k.whole.board.fram same
       (λ a is from off. kept_by ms rest e a from off (is_ring a) refl ∙ code a is from off) ring (subst Kept k.fram k.belongs)
 
   leaves : LeavesItsStates image s first r
   leaves = record {
     boards = board_belongs;
-    end = subst (λ y. KeepsRing y → Belongs image y) (sym (run_saved s.image.map cs first r run)) (board_belongs r.moments [] (sym (append-nil r.moments)));
+    end = subst (λ y. Belongs image y) (sym (run_saved s.image.map cs first r run)) (board_belongs r.moments [] (sym (append-nil r.moments)));
   }
 
 pub states_go_on : StatesGoOn

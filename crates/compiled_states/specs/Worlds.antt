@@ -73,8 +73,7 @@ IsToldByItsSource image s trace r report = (text : List ℕ) (p : CheckedProgram
     → IsToldOnward text p (map_of text p c.layout allow) c.layout (world_of s accepted) (charges_of trace.charges)
     (board_of s trace.readings trace.events) r report
 
--- what is saved of each board of a run from a state belongs to the image, and so does what is saved at its end; where the image has a ring, if that
--- keeps its rule there
+-- what is saved of each board of a run from a state belongs to the image, and so does what is saved at its end
 pub record LeavesItsStates (image : ImageValue) (s : State) (b : BoardValue) (r : RunOutcome) : Type 0 where
-  pub boards : (ms rest : List Moment) → r.moments ≡ ms ++ rest → let left = saved (last_board b ms) s.image.map in KeepsRing left → Belongs image left
-  pub end : let left = saved r.board s.image.map in KeepsRing left → Belongs image left
+  pub boards : (ms rest : List Moment) → r.moments ≡ ms ++ rest → Belongs image (saved (last_board b ms) s.image.map)
+  pub end : Belongs image (saved r.board s.image.map)

@@ -1,5 +1,6 @@
 -- The run of a source's image on a trace, by the law that each such run is told by its source.
 use Rattle.std.proofs.Common.{◌≡◌, ◌∙◌, ℕ, List, Option, Some, Ok, Err, refl, sym, subst}
+use Rattle.std.specs.Prelude.{map}
 use Rattle.std.specs.Io.KnownBytes.{Appends}
 use Rattle.plain_commands.specs.alp_io.Count.{Rose}
 use Rattle.plain_commands.specs.alp_io.declared.sink.Failed.{Failed}
@@ -12,23 +13,25 @@ use Rattle.plain_commands.specs.fram_board.Board.{BoardValue, fresh}
 use Rattle.plain_commands.specs.fram_board.Laws.{HasRun}
 use Rattle.plain_commands.specs.fram_board.Run.{End, Charges, Stopped, RunOutcome}
 use Rattle.plain_commands.specs.board_run.Charges.{charges_of}
+use Rattle.plain_commands.specs.board_run.Events.{accepted_events}
 use Rattle.plain_commands.specs.board_run.History.{History, start_of}
 use Rattle.plain_commands.specs.board_run.Report.{report_of}
 use Rattle.plain_commands.specs.source_values.Statements.{Outcome}
 use Rattle.plain_commands.specs.source_values.Runs.{CheckedProgram}
 use Rattle.plain_commands.specs.source_meaning.Acceptance.{IsAcceptedText}
 use Rattle.source_maps.specs.Maps.{map_of}
-use Rattle.source_runs.specs.Tells.{IsEndOf, IsToldBySource}
+use Rattle.source_runs.specs.Tells.{CommittedAttempt, IsEndOf, IsToldBySource}
 use Rattle.source_runs.specs.Traces.{IsTraceOfWords}
 use Rattle.image_laws.specs.Compiled.{IsCompiled}
-use Rattle.image_reports.specs.Laws.{ImagesAreTold}
+use Rattle.event_orders.specs.Answers.{AnswersInOrder}
+use Rattle.image_reports.specs.Laws.{ImagesAreTold, ImagesAnswerInOrder}
 use Rattle.plain_commands.specs.declared.run.RunEnding.{RunEnding}
 use Rattle.plain_commands.specs.declared.run.RunEnding.TheVariants.{Well, AtFault}
 use Rattle.plain_commands.specs.command_answers.Ending.{Ending, well, at_fault}
 use Rattle.plain_commands.specs.Ends.{WritesRun}
 use Rattle.plain_commands.specs.command_answers.Outcomes.{Breaks}
 use Rattle.plain_commands.specs.command_answers.Outside.{Written}
-use Rattle.plain_commands.specs.RunReport.{ending_of, IsReportFrom}
+use Rattle.plain_commands.specs.RunReport.{ending_of, IsReportFrom, IsRunReport}
 use Rattle.compiler_commands.specs.ToldRuns.{IsTold, IsToldOnTraces}
 
 -- a run that its source tells ends well
@@ -40,19 +43,25 @@ ends_well (Stopped (stop.Illegal pc word)) next why is = absurd is
 ends_well (Stopped (stop.Bus pc address)) next why is = absurd is
 
 -- of its map's values as an image has it
-module _ (law : ImagesAreTold) (runs : HasRun) (text : List ℕ) (p : CheckedProgram) (allow : Allow) (image : ImageValue)
+module _ (law : ImagesAreTold) (order : ImagesAnswerInOrder) (runs : HasRun) (text : List ℕ) (p : CheckedProgram) (allow : Allow) (image : ImageValue)
     (accepted : IsAcceptedText text p allow) (compiled : IsCompiled text p allow image) where
   on_trace : (trace : TraceValue) → IsTraceOfWords trace → IsTold text p (map_of text p compiled.layout allow) image trace
   on_trace trace words =
       let run = runs (charges_of trace.charges) (fresh image.words trace.readings trace.events) in
-      let told = law text p allow image accepted compiled trace words in
+      let law_told = law text p allow image accepted compiled trace words in
       let m = map_of text p compiled.layout allow in
       let Told : RunOutcome → List ℕ → Type 0 = IsToldBySource text p m (charges_of trace.charges) (fresh image.words trace.readings trace.events) in
+      let told_so : (output : List ℕ) (r : IsRunReport image trace well output) → Told r.outcome output =
+      λ output r. subst (Told r.outcome) (sym r.lines) (law_told r.outcome r.run) in
       record {
         output = report_of (start_of image) trace.events run.0;
-        report = record { outcome = run.0; run = run.1; ends = ends_well _ _ _ (told run.0 run.1).ending; lines = refl };
-        ends_well = λ ending output r. r.ends ∙ sym (ends_well _ _ _ (told r.outcome r.run).ending);
-        told = λ output r. subst (Told r.outcome) (sym r.lines) (told r.outcome r.run);
+        report = record { outcome = run.0; run = run.1; ends = ends_well _ _ _ (law_told run.0 run.1).ending; lines = refl };
+        ends_well = λ ending output r. r.ends ∙ sym (ends_well _ _ _ (law_told r.outcome r.run).ending);
+        told = told_so;
+        answered = λ output r.
+            let P : List CommittedAttempt → Type 0 =
+            λ attempts. AnswersInOrder (map (λ (a : CommittedAttempt). a.answers) attempts) (accepted_events (Some m) r.outcome.moments) in
+            subst P (sym (told_so output r).attempts_are) (order text p allow image accepted compiled trace words r.outcome r.run);
       }
 
   pub is_told : IsToldOnTraces text p image

@@ -1,14 +1,17 @@
 -- What `try` makes of its texts.
-use Rattle.std.specs.Prelude.{◌≡◌, ℕ, List, [], ◌∷◌, Some, Ok, IsSomeAnd}
+use Rattle.std.specs.Prelude.{◌≡◌, ℕ, List, [], ◌∷◌, map, Some, Ok, IsSomeAnd}
 use Rattle.plain_commands.specs.energy_trace.TraceValue.{TraceValue}
 use Rattle.plain_commands.specs.energy_trace.Reading.{trace_of}
 use Rattle.plain_commands.specs.image_text.ImageValue.{ImageValue}
 use Rattle.plain_commands.specs.fram_board.Board.{fresh}
 use Rattle.plain_commands.specs.board_run.Charges.{charges_of}
+use Rattle.plain_commands.specs.board_run.Events.{accepted_events}
+use Rattle.event_orders.specs.Answers.{AnswersInOrder}
 use Rattle.plain_commands.specs.cost_bound.declared.allowance.Allow.{Allow}
 use Rattle.plain_commands.specs.source_meaning.Acceptance.{IsAcceptedText}
 use Rattle.plain_commands.specs.source_values.Runs.{CheckedProgram}
-use Rattle.source_runs.specs.Tells.{IsToldBySource}
+use Rattle.source_runs.specs.Tells.{at_first, EachChargePays, IsToldBySource}
+use Rattle.task_needs.specs.Needs.{need_of}
 use Rattle.plain_commands.specs.command_answers.Ending.{well}
 use Rattle.plain_commands.specs.RunReport.{IsRunReport}
 use Rattle.plain_commands.specs.command_texts.Sources.{IsSourceText, RefusesSource, SaysSource}
@@ -18,7 +21,9 @@ use Rattle.plain_commands.specs.command_answers.Promises.{Promise, OfTwoTexts}
 use Rattle.compiler_commands.specs.Built.{IsBuilt}
 
 -- The texts are a source and a trace. These bytes are the image text of the source's image, and this is the report of the run of that
--- image on the trace, which ends well. And it is what the source tells of that run.
+-- image on the trace, which ends well. And it is what the source tells of that run, in which the answers of the transitions, joined, are the first of the
+-- events that were accepted, in order and each once. Each charge that is spent is less than what the tasks need whose transitions were completed in it, and
+-- the one that was to come, by the code that is linked, beside what events take
 pub record Tries (source trace file output : List ℕ) : Type 0 where
   pub program : CheckedProgram
   pub allow : Allow
@@ -29,6 +34,9 @@ pub record Tries (source trace file output : List ℕ) : Type 0 where
   pub built : IsBuilt source program allow image file
   pub report : IsRunReport image charges well output
   pub told : IsToldBySource source program built.map (charges_of charges.charges) (fresh image.words charges.readings charges.events) report.outcome output
+  pub needs : let b = fresh image.words charges.readings charges.events in EachChargePays built.map (λ h. need_of program built.compiled.layout h.task)
+      (charges_of charges.charges) b (at_first built.map b) report.outcome
+  pub answered : AnswersInOrder (map (λ a. a.answers) told.attempts) (accepted_events (Some built.map) report.outcome.moments)
 
 -- the text of `try` at this place, from 0, is the first that is refused, and so
 pub data TryRefuses (source trace : List ℕ) : ℕ → Refusal → Type 0 where

@@ -7,7 +7,7 @@ ghost use Rattle.image_laws.specs.Compiled.{IsCompiled};
 ghost use Rattle.compiler_commands.specs.Built.{IsBuilt};
 ghost use Rattle.compiler_commands.specs.ToldRuns.{IsToldOnTraces};
 
-use image_reports::{images_are_mapped, images_are_told};
+use image_reports::{images_answer_in_order, images_are_mapped, images_are_told};
 use link_image::link;
 use plain_commands::answers::Failure;
 use plain_commands::boards::board_has_one_run;
@@ -21,7 +21,7 @@ pub struct Built {
     pub text: Vec<u8>,
 }
 
-// On any trace the run of a source's image ends well and is told by the source.
+// On any trace the run of a source's image ends well and is told by the source, which has the accepted events in order.
 fn image_is_told(source: &Accepted, image: &Image)
     requires accepted { IsAcceptedText source.now.text.items (program_of source.now.checked.source) source.now.allow }
     requires compiled { IsCompiled source.now.text.items (program_of source.now.checked.source) source.now.allow image.now }
@@ -29,6 +29,7 @@ fn image_is_told(source: &Accepted, image: &Image)
 {
     board_has_one_run();
     images_are_told();
+    images_answer_in_order();
 }
 
 /// The image of a source and its text; `Memory` where memory was refused.

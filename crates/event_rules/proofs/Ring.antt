@@ -82,15 +82,15 @@ raises_head first f ws w h stands =
 abbrev RingIs : ℕ → BoardValue → List ℕ → Type 0
 RingIs first b ws = HoldsLast first (fram_of b.fram) ws
 
-abbrev fram_next : BoardValue → Option Stage → ℕ → ℕ
+abbrev pub fram_next : BoardValue → Option Stage → ℕ → ℕ
 fram_next from None = fram_behind from
 fram_next from (Some at) = fram_at from at
 
-next_fram : (from : BoardValue) (o : Option Stage) (b : BoardValue) → IsBehind from o b → fram_of b.fram ≡ fram_next from o
+pub next_fram : (from : BoardValue) (o : Option Stage) (b : BoardValue) → IsBehind from o b → fram_of b.fram ≡ fram_next from o
 next_fram from None b h = h.fram
 next_fram from (Some at) b h = h.fram
 
-either_fram : (from : BoardValue) (c : Bool) → is_ring_full from ≡ c → fram_next from (Some (if c then RestoreR5 else LoadHeadAgain)) ≡ fram_of from.fram
+pub either_fram : (from : BoardValue) (c : Bool) → is_ring_full from ≡ c → fram_next from (Some (if c then RestoreR5 else LoadHeadAgain)) ≡ fram_of from.fram
 either_fram from true e = ap (λ (c : Bool). if c then fram_of from.fram else with_head_raised from) e
 either_fram from false e = refl
 

@@ -1,5 +1,5 @@
 -- What becomes of events in a run of a program with the handler beside it.
-use Rattle.std.specs.Prelude.{◌≡◌, ℕ, ◌+◌, ◌%◌, ◌<◌, ◌≤◌, ◌⊎◌, true, List, [], ◌∷◌, ◌++◌, length, slice_index, Some, None}
+use Rattle.std.specs.Prelude.{◌≡◌, ℕ, ◌<◌, ◌⊎◌, true, List, [], ◌∷◌, ◌++◌, Some, None}
 use Rattle.event_places.specs.Places.{handler_place, head_place, slot_place}
 use Rattle.msp_step.specs.Registers.{registers_of}
 use Rattle.fram_board.specs.Board.{BoardValue}
@@ -8,10 +8,15 @@ use Rattle.board_run.specs.Events.{Hand, no_hand, hand_behind, hand_after}
 use Rattle.machine_effects.specs.Machine.{fram_of}
 use Rattle.machine_effects.specs.Runs.{last_board}
 use Rattle.event_handler.specs.Boundaries.{is_ring_full, head_of}
-use Rattle.crash_rules.specs.Model.{Marks}
-use Rattle.crash_rules.specs.History.{History}
-use Rattle.crash_rules.specs.Runs.{Program}
+use Rattle.machine_effects.specs.World.{World}
+use Rattle.crash_rules.specs.Model.{Marks, Model, ModelLaws}
+use Rattle.crash_rules.specs.History.{History, first_history}
+use Rattle.crash_rules.specs.Runs.{Program, ProgramLaws}
+use Rattle.crash_rules.specs.Laws.{Origin, Begins}
+use Rattle.run_charges.specs.View.{outside_of}
 use Rattle.run_charges.specs.Laws.{IsRunOfWords, StandsIn}
+pub use Rattle.event_rules.specs.Rings.{HoldsLast}
+use Rattle.event_rules.specs.Taking.{Before, ScriptsTakeInOrder, EachFollows}
 
 -- an action that may lose what is in hand on a board: a power-up, or a return where the ring is full
 abbrev pub MayLose : Action → BoardValue → Type 0
@@ -43,14 +48,14 @@ WaitsInTheHandler c = (cs : List BoardCharge) (b : BoardValue) (r : RunOutcome) 
     → (marks : Marks) (h : History) → StandsIn c marks b h → registers_of (last_board b ms).cpu 0 < handler_place
     → (hand_after (Some head_place) ms no_hand).word ≡ None
 
--- HEAD counts the accepted words behind what it was at first, and each of the last 63 of them stands in its slot: the slot behind them may
--- have the next word already, which a handler stored that power was lost in
-pub record HoldsLast (first : ℕ) (fram : ℕ → ℕ) (words : List ℕ) : Type 0 where
-  pub head : fram head_place ≡ (first + length words) % 0x10000
-  pub slots : (j : ℕ) → j < length words → length words ≤ j + 63 → fram (slot_place (first + j)) ≡ slice_index words j
-
 -- behind each front of a run from a board of words
 abbrev pub RingHoldsAccepted : Program → Type 0
 RingHoldsAccepted c = (cs : List BoardCharge) (b : BoardValue) (r : RunOutcome) (ms rest : List Moment) → IsRunOfWords cs b r → r.moments ≡ ms ++ rest
     → (marks : Marks) (h : History) → StandsIn c marks b h
     → HoldsLast (head_of b) (fram_of (last_board b ms).fram) (hand_after (Some head_place) ms no_hand).accepted
+
+-- where recoveries, attempts and commits take words of the ring in order, so do the moments of each front of a run that begins as the model's may
+abbrev pub RunsTakeInOrder : {St : Type 0} → Model St → Program → Type 0
+RunsTakeInOrder {St} m c = ModelLaws m → ProgramLaws m c → ScriptsTakeInOrder m → (readings : List ℕ) (origin : Origin St) (x : World)
+    → (cs : List BoardCharge) (b : BoardValue) (r : RunOutcome) (ms rest : List Moment) → IsRunOfWords cs b r → r.moments ≡ ms ++ rest
+    → StandsIn c m.marks b (first_history m.marks x) → Begins m readings origin x (outside_of b) → EachFollows m.marks.gate Before ms

@@ -1,6 +1,6 @@
 //! Laws of runs with events. The functions do nothing: their contracts are the laws.
 
-ghost use Rattle.event_rules.specs.Laws.{HandsAreKept, WaitsInTheHandler, RingHoldsAccepted};
+ghost use Rattle.event_rules.specs.Laws.{HandsAreKept, WaitsInTheHandler, RingHoldsAccepted, RunsTakeInOrder};
 
 use crash_rules::Compiled;
 
@@ -15,4 +15,10 @@ pub fn hands_are_kept<S: Compiled>()
 /// changes them.
 pub fn ring_holds_accepted<S: Compiled>()
     ensures { RingHoldsAccepted S.program }
+{}
+
+/// Where recoveries, attempts and commits take words of the ring in order, as far as they are shown what the board holds there, so does each
+/// run, cut anywhere: behind each power-up anew.
+pub fn runs_take_in_order<S: Compiled>()
+    ensures { RunsTakeInOrder S.model S.program }
 {}

@@ -4,4 +4,4 @@
 
 mod laws;
 
-pub use laws::{hands_are_kept, ring_holds_accepted};
+pub use laws::{hands_are_kept, ring_holds_accepted, runs_take_in_order};

@@ -5,6 +5,7 @@ mod InFront
 mod Accounted
 mod Cuts
 mod Opens
+mod Answered
 pub mod Told
 pub mod Capacities
 pub mod ImageStart

@@ -1,9 +1,9 @@
 -- The names that the proofs here share, from the rooms below and from this one's specs.
 -- std
-pub use Rattle.std.proofs.Common.{All, Bool, List, None, Option, Some, [], ap, ap₂, append_assoc, arith, cond, drop, eqb-true, false, get_or}
+pub use Rattle.std.proofs.Common.{All, Bool, List, None, Option, Some, [], ap, ap₂, append-nil, append_assoc, arith, cond, drop, eqb-true, false, get_or}
 pub use Rattle.std.proofs.Common.{if◌then◌else◌, length}
 pub use Rattle.std.proofs.Common.{length-append, length-take-le, refl, slice_index, subst, suc, sym, take, true, zero, ℕ, ◌%◌, ◌*◌, ◌++◌, ◌+◌, ◌<◌, ◌==◌, ◌^◌}
-pub use Rattle.std.proofs.Common.{◌∙◌, ◌∷◌, ◌≡◌, ◌≢◌, ◌≤◌}
+pub use Rattle.std.proofs.Common.{◌∙◌, ◌∷◌, ◌≡◌, ◌≢◌, ◌≤◌, ◌⊎◌, inl, inr}
 pub use Rattle.std.proofs.lemmas.Bool.Decides.{nat_tests}
 -- the machine
 pub use Rattle.memory_map.specs.MemoryMap.{MemoryMap, word_place}
@@ -70,7 +70,7 @@ pub use Rattle.image_laws.specs.Compiled.{IsCompiled}
 pub use Rattle.image_laws.specs.Laws.{HasStates, IsFreshImage, fresh_world}
 -- this crate
 pub use Rattle.image_reports.specs.ImageLaw.{FetchesCode, HoldsAt, ImagesKeepTheLaws, IsRaisedSoon, KeepsCode, RaisesVersion, VersionsBelow, known_behind}
-pub use Rattle.image_reports.specs.ImageLaw.{EventsHold, HasRoom, StepsOn, runtime_marks, world_with}
-pub use Rattle.image_reports.specs.Laws.{ImagesAreMapped, ImagesAreTold, ImagesKeepCapacities}
+pub use Rattle.image_reports.specs.ImageLaw.{EventsHold, HasRoom, IsLawfulRun, StepsOn, runtime_marks, world_with}
+pub use Rattle.image_reports.specs.Laws.{ImagesAnswerInOrder, ImagesAreMapped, ImagesAreTold, ImagesKeepCapacities}
 pub use Rattle.image_reports.specs.Resumed.{BelongsTo, HoldsFrom, ImagesBelong, ImagesResume, IsResumedRun, IsToldOnward, ToldAtRest, ToldPending, known_from}
 pub use Rattle.image_reports.specs.Resumed.{origin_of, pending_transition}

@@ -2,8 +2,7 @@
 use Rattle.image_reports.proofs.Names.{◌<◌, ◌≤◌, ◌+◌, ◌*◌, ℕ, zero, suc, refl, ap, ◌≡◌, subst, arith, List, length, Bool, MapValue, BoardValue, BoardCharge}
 use Rattle.image_reports.proofs.Names.{RunOutcome, World, CheckedProgram, State, map_of, MemoryMap, Model, ModelLaws, History, first_history, Program}
 use Rattle.image_reports.proofs.Names.{StandsFor, BearsModel, IsFirstWithin, IsTaskWithin, task_costs, cost_due, at_first, EachChargePays}
-use Rattle.image_reports.proofs.Names.{compiled_program, runtime_marks, IsReadyToRun}
-use Rattle.std.proofs.Common.{cond, lt-ltb}
+use Rattle.image_reports.proofs.Names.{compiled_model, compiled_program, runtime_marks, IsReadyToRun}
 use Rattle.crash_rules.specs.Model.{Marks, Inputs, bound}
 use Rattle.crash_rules.specs.Laws.{TaskCosts, CoversTasks}
 use Rattle.model_runs.specs.Runs.{no_delay, PaysFor, Progresses, AllSpent, SpentOne, StoppedIn}
@@ -11,7 +10,8 @@ use Rattle.model_runs.proofs.Interface.{makes_progress, runs_so}
 use Rattle.source_runs.specs.Transitions.{HasWordsOf}
 use Rattle.source_runs.proofs.Interface.{read_off}
 use Rattle.task_needs.specs.Needs.{need_of}
-use Rattle.task_needs.specs.Lists.{needs_model, pending_need}
+use Rattle.task_needs.specs.Lists.{with_needs}
+use Rattle.task_needs.proofs.Interface.{own_cost}
 use Rattle.compiled_bounds.proofs.Interface.{needs_keep_to_the_bound}
 use Rattle.compiled_runs.proofs.Interface.{needs_keep_the_laws, code_keeps_to_needs}
 use Rattle.image_reports.specs.Sources.{IsSourcesMap}
@@ -44,15 +44,14 @@ progresses_more marks n most costs delay more cs b h r (StoppedIn c ds _ _ ms st
 -- ---- a run of an image
 
 -- the model with the needs, of a source that is ready to run
-pub needs_model_laws : (p : CheckedProgram) (l : MemoryMap) → IsReadyToRun p l → ModelLaws (needs_model p l)
+pub needs_model_laws : (p : CheckedProgram) (l : MemoryMap) → IsReadyToRun p l → ModelLaws (with_needs p l (compiled_model p l))
 needs_model_laws p l ready = needs_keep_the_laws p l ready.code ready.few ready.model
 
 -- a state's task costs what it needs, and the world says so that has the state's words
 pub need_within : (p : CheckedProgram) (l : MemoryMap) (m : MapValue) (s : State) (x : World) → s.task < length p.tasks → HasWordsOf m x s
-    → IsTaskWithin (needs_model p l) s (need_of p l (x.fram m.words.current_task))
+    → IsTaskWithin (with_needs p l (compiled_model p l)) s (need_of p l (x.fram m.words.current_task))
 need_within p l m s x is_task here below =
-    let cost : (needs_model p l).task_cost s.task ≡ need_of p l s.task =
-    ap (λ c. cond c (need_of p l s.task) (pending_need l)) (lt-ltb s.task (length p.tasks) is_task) in
+    let cost = own_cost p l (compiled_model p l) s.task is_task in
     let same : need_of p l (x.fram m.words.current_task) ≡ need_of p l s.task = ap (need_of p l) here.task in
     omega (arith, cost, same)
 
@@ -67,7 +66,7 @@ module _ (onward : Onward) where
   m = map_of text p l allow
 
   abbrev model : Model State
-  model = needs_model p l
+  model = with_needs p l (compiled_model p l)
 
   abbrev program : Program
   program = compiled_program p l

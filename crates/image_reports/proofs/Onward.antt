@@ -58,7 +58,23 @@ use Rattle.image_reports.proofs.Accounted.{moments_account}
 use Rattle.image_reports.proofs.Cuts.{CutAtPower, Uncut, Cut, cut_at_power, none_serves, own_part, ring_stays}
 use Rattle.image_reports.proofs.Cuts.{encoding_has_words, prepared_bounds, handler_is_closed, two_less}
 use Rattle.image_reports.proofs.Opens.{opens as machine_opens}
-use Rattle.image_reports.specs.ImageLaw.{StaysOpen}
+use Rattle.image_reports.specs.ImageLaw.{StaysOpen, RingsHold, AnswersHold}
+use Rattle.image_reports.proofs.Names.{append-nil, laid_out, MapValue, Marks}
+use Rattle.std.specs.Prelude.{map}
+use Rattle.crash_rules.specs.History.{Done}
+use Rattle.run_charges.specs.Charges.{observed}
+use Rattle.source_runs.specs.Tells.{CommittedAttempt, attempts_of, no_answers}
+use Rattle.source_runs.specs.Transitions.{committed_by}
+use Rattle.source_runs.specs.Sources.{IsOfSource}
+use Rattle.source_runs.proofs.Interface.{read_off}
+use Rattle.task_attempts.proofs.Interface.{scripts_in_order}
+use Rattle.event_rules.specs.Rings.{KeepsRing}
+use Rattle.event_rules.specs.Taking.{Before, ScriptsTakeInOrder, EachFollows}
+use Rattle.event_rules.proofs.Interface.{runs_take_in_order, ring_holds_accepted}
+use Rattle.event_orders.specs.Answers.{AnswersInOrder}
+use Rattle.event_orders.specs.Waiting.{words_behind, TakesInOrder}
+use Rattle.event_orders.specs.Laws.{TakesEvents}
+use Rattle.event_orders.proofs.Interface.{rings_keep_order}
 use Rattle.image_reports.proofs.Capacities.{attempts_fit}
 use Rattle.image_reports.proofs.CompiledTold.{models_are_of_sources}
 use Rattle.image_reports.proofs.Told.{source}
@@ -95,6 +111,11 @@ phase_sound p l laws readings origin s h phase =
         })
     under_redo own (DecidedPhase next d t w) = SoundPending (own.decided_committing s next h.world w).pending
     under_redo own (CommittingPhase d k n w) = SoundPending w.pending
+
+-- the answers of dones are those of their attempts
+answers_of_dones : (ds : List Done) → map (λ (d : Done). d.answers) ds ≡ map (λ (a : CommittedAttempt). a.answers) (committed_by ds)
+answers_of_dones [] = refl
+answers_of_dones (d ∷ ds) = ap (λ (rest : List (List ℕ)). d.answers ∷ rest) (answers_of_dones ds)
 
 -- a run of an image from a world that belongs to it
 pub record Onward : Type 0 where
@@ -563,6 +584,62 @@ module _ (onward : Onward) where
       → fram_of (last_board b ms).fram a ≡ fram_of b.fram a
   ringless off ms rest e a of =
       ring_stays b ms (front_moments b r ms rest own.moments e) (none_serves ms rest (subst NoneServes e (alone off))) a of
+
+  -- where it does, each moment takes words of the ring in order
+  in_order : l.runtime.events ≡ true → ScriptsTakeInOrder model
+  in_order events = scripts_in_order text p allow c.plans l (laid_out text p allow image ok c) (source text p allow image ok c).runnable events
+
+  abbrev gate : ℕ
+  gate = word_place l Gate
+
+  pub follows : l.runtime.events ≡ true → EachFollows gate Before r.moments
+  follows events =
+      runs_take_in_order model program ready.model bearing.program (in_order events) readings origin x cs b r r.moments [] run
+      (sym (append-nil r.moments)) bearing.stands bearing.begins
+
+  -- as a run of a program that takes events, where the ring keeps its rule at first
+  pub takes_events : l.runtime.events ≡ true → KeepsRing gate (fram_of b.fram) → TakesEvents program (runtime_marks l) x cs b r
+  takes_events events keeps = record {
+    run = run;
+    stands = bearing.stands;
+    fram = refl;
+    answer = ap (λ e. if e then Some answer_place else None) events;
+    gate = (in_order events).gate;
+    follows = follows events;
+    ring = keeps;
+  }
+
+  -- so the ring holds the accepted words
+  pub rings : l.runtime.events ≡ true → KeepsRing gate (fram_of b.fram) → RingsHold l b r
+  rings events keeps ms rest e = record {
+    keeps = ((rings_keep_order program (runtime_marks l) x cs b r (takes_events events keeps)).fronts ms rest e).ring;
+    last = ring_holds_accepted program cs b r ms rest run e (runtime_marks l) first bearing.stands;
+  }
+
+  -- and the program takes them in order
+  abbrev m : MapValue
+  m = map_of text p l allow
+
+  is : IsOfSource text p m model
+  is = models_are_of_sources text p l m (source text p allow image ok c)
+
+  pub takes : l.runtime.events ≡ true → KeepsRing gate (fram_of b.fram) → TakesInOrder gate b r.moments
+  takes events keeps = (rings_keep_order program (runtime_marks l) x cs b r (takes_events events keeps)).takes
+
+  -- the answers of the attempts are those of the dones
+  answers_read : map (λ (d : Done). d.answers) (observed (runtime_marks l) r.moments first).completed
+      ≡ map (λ (a : CommittedAttempt). a.answers) (attempts_of m (at_first m b) no_answers r.moments)
+  answers_read =
+      let read = (read_off m x cs b r is.is_map is.front starts_with own).attempts in
+      let P : Marks → Type 0 = λ marks. committed_by (observed marks r.moments (first_history marks x)).completed
+      ≡ attempts_of m (at_first m b) no_answers r.moments in
+      answers_of_dones (observed (runtime_marks l) r.moments first).completed
+      ∙ ap (λ (attempts : List CommittedAttempt). map (λ (a : CommittedAttempt). a.answers) attempts) (subst P (sym is.marks) read)
+
+  pub answered : l.runtime.events ≡ true → KeepsRing gate (fram_of b.fram) → AnswersHold l m b r
+  answered events keeps =
+      let order = (rings_keep_order program (runtime_marks l) x cs b r (takes_events events keeps)).fronts r.moments [] (sym (append-nil r.moments)) in
+      subst (λ (answers : List (List ℕ)). AnswersInOrder answers (words_behind gate b r.moments)) answers_read order.answers
 
   -- each charge that is spent pays for its transitions, where the first one costs no more than its world says
   pub pays : (pending : Bool) → IsFirstWithin model origin (task_costs (map_of text p l allow) (cost_of p) pending x).first

@@ -19,10 +19,10 @@ use Rattle.image_reports.proofs.Told.{source}
 use Rattle.image_reports.proofs.Begins.{bears, run_of_words}
 use Rattle.crash_rules.specs.Model.{bound}
 use Rattle.task_needs.specs.Needs.{need_of}
-use Rattle.task_needs.specs.Lists.{needs_model}
+use Rattle.task_needs.specs.Lists.{with_needs}
 use Rattle.image_reports.proofs.Names.{◌≤◌}
 use Rattle.image_reports.proofs.Needs.{needs_model_laws, need_within, needs_bound, needs_pay}
-use Rattle.image_reports.proofs.Onward.{Onward, starts_with, front, unheard, ringless, opens, raises, pays}
+use Rattle.image_reports.proofs.Onward.{Onward, starts_with, front, unheard, ringless, opens, raises, pays, rings, takes, answered}
 
 -- the world of a saved state that belongs to an image
 module _ (text : List ℕ) (p : CheckedProgram) (allow : Allow) (image : ImageValue) (ok : IsAcceptedText text p allow) (c : IsCompiled text p allow image)
@@ -77,7 +77,7 @@ module _ (text : List ℕ) (p : CheckedProgram) (allow : Allow) (image : ImageVa
 
   -- so it is with the needs
   needs : Model State
-  needs = needs_model p l
+  needs = with_needs p l (compiled_model p l)
 
   -- the first task needs what CUR says; a pending commit takes no more than the bound
   first_need : (pending : Bool) → bound needs ≤ m.bound → IsSound (program_places p l) x
@@ -179,6 +179,9 @@ module _ (text : List ℕ) (p : CheckedProgram) (allow : Allow) (image : ImageVa
       unheard = unheard on;
       ringless = ringless on;
       opens = opens on;
+      rings = rings on;
+      takes = takes on;
+      answered = answered on;
       raises = raises on;
       progress = pays on (x.fram (word_place l Gate) == 1) (first_within (x.fram (word_place l Gate) == 1));
       needs = needs_pay on (begun_needs readings belongs.sound) (some_task belongs.sound) (x.fram (word_place l Gate) == 1)

@@ -2,9 +2,9 @@
 -- effects since the last boot or done, what the board stands for, the words accepted, the counts, the code that is fetched, what became of
 -- the events, how it ends, and its report. Where the source takes events a handler runs between any two instructions of the code: it is the
 -- image's, and what holds of the code is said of what happens outside it.
-use Rattle.std.specs.Prelude.{◌≡◌, ◌≢◌, ℕ, ◌+◌, ◌*◌, ◌^◌, ◌%◌, ◌<◌, ◌≤◌, true, false, List, [], ◌∷◌, ◌++◌, length}
+use Rattle.std.specs.Prelude.{◌≡◌, ◌≢◌, ℕ, ◌+◌, ◌*◌, ◌^◌, ◌%◌, ◌<◌, ◌≤◌, true, false, List, [], ◌∷◌, ◌++◌, length, map, Some}
 use Rattle.address_space.specs.Limits.{stack_floor, stack_top}
-use Rattle.event_places.specs.Places.{handler_place}
+use Rattle.event_places.specs.Places.{handler_place, head_place}
 use Rattle.msp_isa.specs.declared.instructions.Instr.{Instr}
 use Rattle.msp_isa.specs.Encoding.{encoding}
 use Rattle.msp_step.specs.Registers.{registers_of}
@@ -12,6 +12,7 @@ use Rattle.msp_step.specs.Step.{is_interruptible}
 use Rattle.msp_step.specs.declared.machine.Stop.{Stop}
 use Rattle.msp_step.specs.declared.machine.Stop.TheVariants as stop
 use Rattle.energy_trace.specs.TraceValue.{Event}
+use Rattle.image_map.specs.MapValue.{MapValue}
 use Rattle.image_text.specs.ImageValue.{ImageValue}
 use Rattle.fram_board.specs.declared.board.NextStep.TheVariants as next_step
 use Rattle.fram_board.specs.Events.{words_in}
@@ -24,12 +25,15 @@ use Rattle.machine_effects.specs.World.{World}
 use Rattle.machine_effects.specs.Machine.{fram_of}
 use Rattle.machine_effects.specs.Runs.{last_board}
 use Rattle.event_handler.specs.Handler.{Stage, HasHandler, instruction_at, place_at}
+use Rattle.event_rules.specs.Rings.{KeepsRing, HoldsLast}
+use Rattle.event_orders.specs.Answers.{AnswersInOrder}
+use Rattle.event_orders.specs.Waiting.{words_behind, TakesInOrder}
 use Rattle.code_forms.specs.Placed.{Holds}
 use Rattle.cost_bound.specs.declared.allowance.Allow.{Allow}
 use Rattle.source_values.specs.Runs.{CheckedProgram, State, first_state}
 use Rattle.source_meaning.specs.Acceptance.{IsAcceptedText}
 use Rattle.source_runs.specs.Traces.{AreInputs}
-use Rattle.source_runs.specs.Tells.{at_first, cost_of, EachChargePays, IsToldBySource}
+use Rattle.source_runs.specs.Tells.{at_first, attempts_of, no_answers, cost_of, EachChargePays, IsToldBySource}
 use Rattle.source_maps.specs.Maps.{map_of}
 use Rattle.memory_map.specs.declared.words.RuntimeWord.TheVariants.{Gate, Version}
 use Rattle.memory_map.specs.MemoryMap.{MemoryMap, word_place}
@@ -117,6 +121,21 @@ pub record EventsHold (l : MemoryMap) (b : BoardValue) (hand : Hand) : Type 0 wh
   pub counted : b.line.arisen ≡ length hand.accepted + (b.line.missed + hand.lost) + (words_in b.line.port + length (word_list hand.word))
   pub none : l.runtime.events ≡ false → b.line.arisen ≡ b.line.missed + words_in b.line.port
 
+-- what the ring holds behind these moments of a run from a board: it keeps its rule; HEAD counts the accepted words, and the last 63 of them stand in
+-- their slots
+pub record RingHolds (l : MemoryMap) (b : BoardValue) (ms : List Moment) : Type 0 where
+  pub keeps : KeepsRing (word_place l Gate) (fram_of (last_board b ms).fram)
+  pub last : HoldsLast (fram_of b.fram head_place) (fram_of (last_board b ms).fram) (hand_after (Some head_place) ms no_hand).accepted
+
+-- so at each board of a run, behind any number of instructions
+abbrev pub RingsHold : MemoryMap → BoardValue → RunOutcome → Type 0
+RingsHold l b r = (ms rest : List Moment) → r.moments ≡ ms ++ rest → RingHolds l b ms
+
+-- the answers of the attempts that were committed in a run from a board are the first of the words that waited at first, and of those accepted since
+abbrev pub AnswersHold : MemoryMap → MapValue → BoardValue → RunOutcome → Type 0
+AnswersHold l m b r =
+    AnswersInOrder (map (λ a. a.answers) (attempts_of m (at_first m b) no_answers r.moments)) (words_behind (word_place l Gate) b r.moments)
+
 -- SP is within the stack wherever the handler may begin
 abbrev pub HasRoom : BoardValue → Type 0
 HasRoom b = is_interruptible (registers_of b.cpu) ≡ true → (stack_floor ≤ registers_of b.cpu 1) × (registers_of b.cpu 1 ≤ stack_top)
@@ -191,6 +210,12 @@ pub record IsLawfulRun (text : List ℕ) (p : CheckedProgram) (allow : Allow) (l
   pub unheard : l.runtime.events ≡ false → NeverReads r
   -- where it does, the handler may begin between any two of a charge's instructions but the first ones
   pub opens : l.runtime.events ≡ true → StaysOpen r.moments
+  -- and the ring holds the accepted words, never more than it has slots
+  pub rings : l.runtime.events ≡ true → RingsHold l (fresh image.words readings events) r
+  -- each answer of `next_event()` is the accepted word whose turn it is, and 0 only where HEAD was TAIL + EC as the program looked
+  pub takes : l.runtime.events ≡ true → TakesInOrder (word_place l Gate) (fresh image.words readings events) r.moments
+  -- and the transitions have the accepted words, in order and each once
+  pub answered : l.runtime.events ≡ true → AnswersHold l (map_of text p l allow) (fresh image.words readings events) r
   -- in a charge that begins with GATE 0 and VER not 65535, VER is raised within the first 40 instructions, if the charge has them
   pub raises : RaisesVersion l r.moments
   -- a charge that is spent has n transitions, if it has n bounds and 100 for each event that arose in it; and it is less than those and the costs of

@@ -2,6 +2,8 @@
 -- fresh board.
 use Rattle.std.specs.Prelude.{◌≡◌, ℕ, ◌^◌, ◌%◌, ◌<◌, ◌≤◌, ◌==◌, true, false, if◌then◌else◌, List, [], ◌++◌, length, All}
 use Rattle.event_places.specs.Places.{is_ring}
+use Rattle.event_rules.specs.Rings.{KeepsRing}
+use Rattle.event_orders.specs.Waiting.{TakesInOrder}
 use Rattle.machine_effects.specs.Machine.{fram_of}
 use Rattle.msp_step.specs.declared.machine.Stop.{Stop}
 use Rattle.msp_step.specs.declared.machine.Stop.TheVariants as stop
@@ -44,6 +46,7 @@ use Rattle.model_runs.specs.Runs.{IsShort, all_amounts}
 use Rattle.task_needs.specs.Needs.{need_of}
 use Rattle.image_laws.specs.Compiled.{IsCompiled}
 use Rattle.image_reports.specs.ImageLaw.{runtime_marks, world_with, VersionsBelow, KeepsCode, StepsOn, EventsHold, HasRoom, RaisesVersion, StaysOpen}
+use Rattle.image_reports.specs.ImageLaw.{RingsHold, AnswersHold}
 
 -- a world from which a run of an image may go on: the code, the vectors and the handler are the image's, the runtime's counts keep to their
 -- capacities, and it is sound
@@ -121,6 +124,12 @@ pub record IsResumedRun (text : List ℕ) (p : CheckedProgram) (allow : Allow) (
       → fram_of (last_board b ms).fram a ≡ fram_of b.fram a
   -- where it does, the handler may begin between any two of a charge's instructions but the first ones
   pub opens : l.runtime.events ≡ true → StaysOpen r.moments
+  -- and the ring holds the accepted words, where it kept its rule at first
+  pub rings : l.runtime.events ≡ true → KeepsRing (word_place l Gate) (fram_of b.fram) → RingsHold l b r
+  -- each answer is the next of the words that waited there at first and of those accepted since, and 0 only where HEAD was TAIL + EC as the program
+  -- looked; and the transitions have these words, in order and each once
+  pub takes : l.runtime.events ≡ true → KeepsRing (word_place l Gate) (fram_of b.fram) → TakesInOrder (word_place l Gate) b r.moments
+  pub answered : l.runtime.events ≡ true → KeepsRing (word_place l Gate) (fram_of b.fram) → AnswersHold l (map_of text p l allow) b r
   -- in a charge that begins with GATE 0 and VER not 65535, VER is raised within the first 40 instructions, if the charge has them
   pub raises : RaisesVersion l r.moments
   -- a charge that is spent has n transitions, if it has n bounds and 100 for each event that arose in it; and it is less than those and the costs of

@@ -4,7 +4,7 @@ use Rattle.task_attempts.proofs.Names.{get_or_from_slice_get, Effect, Store, rea
 use Rattle.task_attempts.proofs.Names.{looks_taken, looks_taken-append, answer_place, answers_in, given_by, nothing_given}
 use Rattle.task_attempts.proofs.Names.{readings_taken-append, each_store-append, emits_of, Attempt, Outcome, to_task, short, run_block, block_emits, State}
 use Rattle.task_attempts.proofs.Names.{Completion, completion_of, attempt_of, fresh_attempt, EndsWell, TransitionComes, readings_left_over_lem}
-use Rattle.task_attempts.proofs.Names.{answered_by, answers_told, StoresBelow, false, ⊎_elim, inr}
+use Rattle.task_attempts.proofs.Names.{answered_by, answers_told, StoresBelow, ⊎_elim, inr}
 use Rattle.task_attempts.proofs.Names.{WordState, End}
 use Rattle.task_attempts.proofs.Names.{GoesOn, Jumps, Broken, behaviour, started, behaves_by_effects, whole_ends_soundly, StoresWords, stores_words, Ends}
 use Rattle.task_attempts.proofs.Names.{program_effects, IsElsewhere, Model, AttemptContract, Comes, Lacks, Decides, RunsShort, TakesAndStores, EndsAs}
@@ -18,13 +18,25 @@ use Rattle.source_values.specs.Statements.{goes_on}
 use Rattle.task_needs.specs.Lists.{ListsWithin, ListsAtEnd}
 use Rattle.array_versions.specs.Laws.{EndsByEffects, IsSound}
 use Rattle.source_meaning.proofs.Interface.{emits_same}
+use Rattle.task_attempts.proofs.Names.{◌%◌, ◌+◌, ◌<◌, NextTask, SentBase, Base, ListLength, sent_place, event_index, where_events, entry_effects, runs_of}
+use Rattle.task_attempts.proofs.Names.{transition_effects, each_store-front, at_variable, at_copy, at_version, in_list, at_list_length, at_emit_count}
+use Rattle.task_attempts.proofs.Names.{in_buffer}
+use Rattle.task_attempts.proofs.Names.{at_answer, scalar, copy, list_of}
+use Rattle.memory_map.specs.Spots.{version}
+use Rattle.memory_map.specs.event_places.Places.{tail_place}
+use Rattle.lower.specs.declared.runs.Run.{Run}
+use Rattle.std.proofs.Common.{◌≢◌}
+use Rattle.event_rules.specs.Taking.{Taking, Before, Open, Advances, FollowsSeeing, IsOffRing, next_index}
+use Rattle.task_attempts.proofs.Asks.{Asks, AsksFrom}
+use Rattle.task_attempts.proofs.Answered.{program_asks}
+use Rattle.task_attempts.proofs.InOrder.{IsNoClosing, statements_advance, closing, task_advances}
 use Rattle.task_attempts.proofs.Rows.{HasRows, block_rows}
 use Rattle.task_attempts.proofs.Quiet.{stores_each, stores_as, quiet_through, answers_seen}
 use Rattle.task_attempts.proofs.Tasks.{body_is, program_is}
 use Rattle.task_attempts.proofs.Stores.{Safe, StoresOf, task_safe, emits_fit}
 use Rattle.task_attempts.proofs.Starts.{held_attempt, held_runs, attempt_stands, readings_and}
 use Rattle.task_attempts.proofs.Started.{Started, scene}
-use Rattle.task_attempts.proofs.Decided.{setting, bounds, Transition, before, effects_are, safe_before, quiet_before, quiet_start, quiet_of, next, decided}
+use Rattle.task_attempts.proofs.Decided.{setting, bounds, Transition, before, effects_are, safe_before, quiet_before, quiet_start, quiet_of, next, decided, few}
 use Rattle.task_attempts.proofs.Decided.{z_behind, lists_within}
 
 module _ (run : Started) where
@@ -254,3 +266,122 @@ module _ (run : Started) where
       let b = behaviour program (started x.fram inputs) in
       subst (λ q. let done = behaviour q (started x.fram inputs) in ListsAtEnd p l s.task (fram_after done.effects x.fram) done.end)
       (sym (program_is p l given s.task i)) (lists b.effects b.end (run_block code attempt) (meets agree small))
+  -- ---- words of the ring
+
+  -- no store of a statement is to SE
+  off_sent : (a w : ℕ) → StoresOf run a w → a ≢ sent_place
+  off_sent a w (at_variable v n h e is) same = let low = facts.apart.below (scalar v n) h in omega (arith, is, same, low)
+  off_sent a w (at_copy y h is) same = let low = facts.apart.below (copy y) h in omega (arith, is, same, low)
+  off_sent a w (at_version y h is e) same = let low = facts.apart.below (version y) h in omega (arith, is, same, low)
+  off_sent a w (in_list lo hi) same = let apart = facts.apart in omega (arith, lo, hi, same, apart)
+  off_sent a w (at_list_length is h) same = let apart = facts.apart in omega (arith, is, same, apart)
+  off_sent a w (at_emit_count is h) same = let apart = facts.apart in omega (arith, is, same, apart)
+  off_sent a w (in_buffer j h is) same = let apart = facts.apart in omega (arith, h, is, same, apart)
+  off_sent a w (at_answer k) same = ⊎_elim {C = ⊥} (λ e. omega (arith, e, same)) (λ e. omega (arith, e, same)) k.1
+
+  abbrev gate : ℕ
+  gate = word_place l Gate
+
+  -- statements neither freeze nor decide
+  no_closing : (es : List Effect) → TakesAndStores (StoresOf run) es → StoresWords es → EachStore (IsNoClosing gate) es
+  no_closing es h words =
+      stores_each (λ a w. StoresOf run a w × (w < 0x10000)) (IsNoClosing gate)
+      (λ a w q. ((λ e. (task_safe run a w q.0 q.1).quiet.gate e), off_sent a w q.0)) es (stores_as (StoresOf run) (λ a w. StoresOf run a w × (w < 0x10000))
+      (λ a w q small. (q, small)) es h words)
+
+  -- of an undecided world GATE isn't 1
+  gate_open : x.fram gate ≢ 1
+  gate_open e = let zero = st.undecided.is_open.gate in omega (arith, zero, e)
+
+  -- a task's effects, as a program of words of the ring
+  abbrev InOrder : List Effect → Taking → Type 0
+  InOrder es u = FollowsSeeing (Advances gate) x.fram inputs.looks Open es u
+
+  -- the stores of a transition but the last two
+  abbrev ordinary_part : ℕ → ℕ → ℕ → List Effect
+  ordinary_part task count base =
+      Store (word_place l NextTask) (task % 65536) ∷ (entry_effects (word_place l ListLength) l.list.address count (runs_of i.layout.privates)
+      ++ Store (word_place l SentBase) base ∷ [])
+
+  -- with SE and GATE behind them
+  closing_is : (task count base index : ℕ) → l.runtime.events ≡ true
+      → transition_effects here task count base index ++ Store gate 1 ∷ [] ≡ ordinary_part task count base ++ (Store sent_place index ∷ Store gate 1 ∷ [])
+  closing_is task count base index on =
+      let first = Store (word_place l NextTask) (task % 65536) in
+      let entries = entry_effects (word_place l ListLength) l.list.address count (runs_of i.layout.privates) in
+      let sent = Store (word_place l SentBase) base in
+      ap (λ b. (first ∷ (entries ++ sent ∷ where_events b (Store sent_place index ∷ []))) ++ Store gate 1 ∷ []) on
+      ∙ ap (λ es. first ∷ es) (together entries sent (Store sent_place index) (Store gate 1))
+    where
+      together : (es : List Effect) (e f g : Effect) → (es ++ e ∷ f ∷ []) ++ g ∷ [] ≡ (es ++ e ∷ []) ++ (f ∷ g ∷ [])
+      together [] e f g = refl
+      together (y ∷ es) e f g = ap (λ fs. y ∷ fs) (together es e f g)
+
+  -- each of them is none to a word that counts events
+  ordinary : (task count base : ℕ) → count + length (runs_of i.layout.privates) ≤ list_of p.shared code
+      → EachStore (IsOffRing gate) (ordinary_part task count base)
+  ordinary task count base few =
+      let apart = facts.apart in
+      let entries = entry_effects (word_place l ListLength) l.list.address count (runs_of i.layout.privates) in (
+        (omega (arith, apart), λ e. omega (arith, e)),
+        each_store-append (IsOffRing gate) entries (Store (word_place l SentBase) base ∷ []) (entries_off (runs_of i.layout.privates) count few)
+            ((omega (arith, apart), λ e. omega (arith, e)), tt),
+      )
+    where
+      entries_off : (rs : List Run) (k : ℕ) → k + length rs ≤ list_of p.shared code
+          → EachStore (IsOffRing gate) (entry_effects (word_place l ListLength) l.list.address k rs)
+      entries_off [] k few = tt
+      entries_off (r ∷ rs) k few =
+          let apart = facts.apart in (
+            (omega (arith, apart, few), λ e. omega (arith, apart, e)),
+            (
+              (omega (arith, apart, few), λ e. omega (arith, apart, e)),
+              (
+                (omega (arith, apart, few), λ e. omega (arith, apart, e)),
+                ((omega (arith, apart), λ e. omega (arith, e)), entries_off rs (k + 1) (omega (arith, few))),
+              ),
+            ),
+          )
+
+  entries_see_none : (rs : List Run) (c list k : ℕ) (es : List Effect) → looks_taken (entry_effects c list k rs ++ es) ≡ looks_taken es
+  entries_see_none [] c list k es = refl
+  entries_see_none (r ∷ rs) c list k es = entries_see_none rs c list (k + 1) es
+
+  task_in_order : (es : List Effect) (e : End) (o : Outcome) → Meets es e o → l.runtime.events ≡ true → AsksFrom (started x.fram inputs) es
+      → (u : Taking) × InOrder es u × (has_jumped e ≡ true → u ≡ Before)
+  task_in_order es (GoesOn t) o h on k = absurd h.sound
+  task_in_order es Broken o h on k = absurd h.sound
+  task_in_order es Starves short h on k =
+      (Open, statements_advance gate k (no_closing es h.agrees h.of_words), λ e. absurd (cc e))
+  task_in_order es (Jumps to end) (to_task task m) h on k =
+      let left = h.agrees in
+      let there = left.there.fram in
+      let count = there (word_place l ListLength) in
+      let base = there (word_place l Base) in
+      let index = event_index there in
+      let apart = facts.apart in
+      let next = word_place l NextTask in
+      let front = ordinary_part task count base in
+      let is_ordinary = ordinary task count base (few run (t es to end task m h)) in
+      let none : looks_taken front ≡ [] =
+      entries_see_none (runs_of i.layout.privates) (word_place l ListLength) l.list.address count (Store (word_place l SentBase) base ∷ []) in
+      let below : gate < tail_place = omega (arith, apart) in
+      let ends = closing gate below front is_ordinary none index in
+      let whole : es ≡ left.body ++ ends = left.effects ∙ ap (λ fs. left.body ++ fs) (closing_is task count base index on) in
+      let words = each_store-front (λ a w. w < 0x10000) left.body ends (subst StoresWords whole h.of_words) in
+      let low : next < tail_place = omega (arith, apart) in
+      let made = task_advances gate below front is_ordinary none index x.fram inputs.looks left.body next (task % 65536) _ refl low
+      (subst (λ l. FollowsSeeing Asks x.fram inputs.looks Open l Open) whole k) (no_closing left.body left.stores words)
+      (ap next_index left.arrived) gate_open in
+      (Before, subst (λ l. InOrder l Before) (sym whole) made, λ e. refl)
+  task_in_order es _ _ h on k = absurd h.agrees
+
+  -- its effects take words of the ring in order, and freeze their count where it comes to a transition
+  pub program_in_order : BlocksAgree → InputsAreWords inputs → l.runtime.events ≡ true → let q = (program_parts p l).body s.task x.fram inputs in
+      (u : Taking) × InOrder q.effects u × (q.ends ≡ true → u ≡ Before)
+  program_in_order agree small on =
+      let w = started x.fram inputs in
+      let b = behaviour program w in
+      subst (λ q. let r = effects_of (behaviour q w) in (u : Taking) × InOrder r.effects u × (r.ends ≡ true → u ≡ Before))
+      (sym (program_is p l given s.task i))
+      (task_in_order b.effects b.end (run_block code attempt) (meets agree small) on (program_asks program w))

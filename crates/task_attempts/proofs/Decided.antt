@@ -100,7 +100,7 @@ module _ (run : Started) where
     few_words : length left.listed + private_words i.layout.privates ≤ list_of p.shared code
     few_words = facts.has_room left.listed left.stands.list.are_listed (λ v. let k = left.few v in omega (arith, k))
 
-    few : count + length (runs_of i.layout.privates) ≤ list_of p.shared code
+    pub few : count + length (runs_of i.layout.privates) ≤ list_of p.shared code
     few =
         let words = few_words in
         let entries = few_entries here left.listed left.there.fram left.stands.list in

@@ -11,6 +11,10 @@ mod Stores
 mod Words
 mod Starts
 mod Decided
+mod Asks
+mod Answered
+mod InOrder
+mod Runtime
 mod Contracts
 mod Theorems
 pub mod Interface

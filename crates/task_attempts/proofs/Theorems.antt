@@ -1,7 +1,7 @@
 -- The laws of compiled tasks.
 use Rattle.task_attempts.proofs.Names.{ℕ, List, sym, subst, inl, inr, ⊎_elim, arith, World, world_after, fram_after, EachStore, Inputs, InputsAreWords}
 use Rattle.task_attempts.proofs.Names.{CopyPair, behaviour}
-use Rattle.task_attempts.proofs.Names.{started, MemoryMap, CheckedProgram, AttemptContract, redo_model, model_by, started_under, whole_task, task_program}
+use Rattle.task_attempts.proofs.Names.{started, MemoryMap, CheckedProgram, AttemptContract, redo_model, model_by, started_under, task_program}
 use Rattle.task_attempts.proofs.Names.{effects_of, AttemptsStore, each_store-append, State, task_entries, privates_in, world_fram, each_weaker, keeps_the_laws}
 use Rattle.task_attempts.proofs.Names.{numbered_starts, blocks_agree, program_places, state_view, Model, ModelLaws, program_parts, TasksKeepTheirContract}
 use Rattle.task_attempts.proofs.Names.{CompiledSourcesKeepTheLaws, IsBelowCode, AttemptsStoreBelowCode, TasksLeaveForTheCommit, word_place, CurrentTask}
@@ -11,10 +11,16 @@ use Rattle.memory_map.specs.declared.runtime.Role.{Role}
 use Rattle.stands_for.specs.Program.{StartContract, TasksContract, IsStartStore}
 use Rattle.compiled_model.specs.Needs.{StoresBelow}
 use Rattle.compiled_model.proofs.Interface.{is_redo, under_map, under_redo}
+use Rattle.task_attempts.proofs.Names.{◌≡◌, ◌++◌, true, ap, ◌∙◌, Gate}
+use Rattle.machine_effects.specs.Inputs.{Look}
+use Rattle.event_rules.specs.Taking.{Taking, Before, Open, Advances, FollowsSeeing, ScriptsTakeInOrder}
+use Rattle.event_rules.proofs.Interface.{looks_after, left_behind, joined}
+use Rattle.task_attempts.specs.Laws.{SourcesTakeInOrder}
 use Rattle.task_attempts.proofs.Given.{IsGiven, given}
 use Rattle.task_attempts.proofs.Started.{attempt_at}
 use Rattle.task_attempts.specs.Laws.{TasksListFewWords}
-use Rattle.task_attempts.proofs.Contracts.{program_keeps, program_stores, program_leaves, program_lists}
+use Rattle.task_attempts.proofs.Contracts.{program_keeps, program_stores, program_leaves, program_lists, program_in_order}
+use Rattle.task_attempts.proofs.Runtime.{start_in_order, commit_in_order}
 
 -- ---- under redo
 
@@ -43,6 +49,34 @@ module _ (p : CheckedProgram) (l : MemoryMap) (g : IsGiven p l) where
       }) es (start.stores x.fram))
       (subst (λ k. EachStore (IsBelowCode l) ((program_parts p l).body k (fram_after es x.fram) inputs).effects) (sym u.is_open.current_task)
       (subst (λ f. EachStore (IsBelowCode l) ((program_parts p l).body s.task f inputs).effects) (world_fram es x) task))
+
+  -- where it takes events, words of the ring in order
+  in_order : l.runtime.events ≡ true → ScriptsTakeInOrder (redo_model p l)
+  in_order on = record {
+    gate = let apart = g.apart in omega (arith, apart);
+    recoveries = λ s x u. tt;
+    attempts = λ s x inputs small u. attempt_in_order s x inputs small u;
+    commits = λ to x inputs committing. commit_in_order (program_places p l) g.apart on x inputs.looks committing.pending;
+  }
+    where
+      attempt_in_order : (s : State) (x : World) (inputs : Inputs) → InputsAreWords inputs → (redo_model p l).Settled s x
+          → let q = (redo_model p l).attempt x.fram inputs in
+          (u : Taking) × FollowsSeeing (Advances (word_place l Gate)) x.fram inputs.looks Before q.effects u × (q.ends ≡ true → u ≡ Before)
+      attempt_in_order s x inputs small u =
+          let es = (program_parts p l).start x.fram in
+          let zero = u.is_open.gate in
+          let begins = start_in_order (program_places p l) g.apart on privates g.privates x.fram inputs.looks (λ e. omega (arith, zero, e)) in
+          let y = world_after es x in
+          let task = program_in_order (attempt_at p l g s y inputs (start.started s x u)) blocks_agree small on in
+          let same : x.fram (word_place l CurrentTask) ≡ s.task = u.is_open.current_task in
+          let P : ℕ → (ℕ → ℕ) → Type 0 = λ k f. let r = (program_parts p l).body k f inputs in
+          (v : Taking) × FollowsSeeing (Advances (word_place l Gate)) f inputs.looks Open r.effects v × (r.ends ≡ true → v ≡ Before) in
+          let there = subst (λ k. P k (fram_after es x.fram)) (sym same) (subst (λ f. P s.task f) (world_fram es x) task) in
+          let quiet : looks_after es inputs.looks ≡ inputs.looks =
+          ap (λ ls. looks_after es (ls ++ inputs.looks)) (sym (ap (λ i. i.looks) (start.takes_none x.fram))) ∙ left_behind es inputs.looks in
+          let rest = (program_parts p l).body (x.fram (word_place l CurrentTask)) (fram_after es x.fram) inputs in
+          let Q : List Look → Type 0 = λ ls. FollowsSeeing (Advances (word_place l Gate)) (fram_after es x.fram) ls Open rest.effects there.0 in
+          (there.0, joined (Advances (word_place l Gate)) begins (subst Q (sym quiet) there.1), there.2)
 
 -- ---- under the runtime of the memory map
 
@@ -77,3 +111,8 @@ tasks_list_few text p allow plans l laid runnable = record {
       let P : Logging → Role → Type 0 = λ logging role. started_under logging p l s x in
       program_lists (attempt_at p l (given text p allow plans l laid runnable) s x inputs (under_redo l P st)) blocks_agree small;
 }
+
+pub scripts_in_order : SourcesTakeInOrder
+scripts_in_order text p allow plans l laid runnable on =
+    let P : Model State → Type 0 = λ m. ScriptsTakeInOrder m in
+    subst P (sym (is_redo p l)) (in_order p l (given text p allow plans l laid runnable) on)

@@ -1,5 +1,5 @@
 -- What the word programs of a source's tasks owe the crash theorem.
-use Rattle.std.specs.Prelude.{◌≡◌, ℕ, ◌<◌, ◌≤◌, List}
+use Rattle.std.specs.Prelude.{◌≡◌, ℕ, ◌≤◌, true, List}
 use Rattle.machine_effects.specs.World.{World}
 use Rattle.machine_effects.specs.Inputs.{Inputs, InputsAreWords}
 use Rattle.cost_bound.specs.declared.allowance.Allow.{Allow}
@@ -15,6 +15,7 @@ use Rattle.compiled_model.specs.Parts.{compiled_model, IsStarted, task_program, 
 use Rattle.compiled_model.specs.Needs.{TasksLeave, AttemptsStore, StoresBelow}
 use Rattle.whole_programs.specs.Laws.{IsLaidOutText}
 use Rattle.task_needs.specs.Lists.{TasksListFew}
+use Rattle.event_rules.specs.Taking.{ScriptsTakeInOrder}
 
 -- what holds of each accepted text with a plan and a layout, whose runs go on
 abbrev OfTexts : (CheckedProgram → MemoryMap → Type 0) → Type 0
@@ -49,3 +50,7 @@ TasksLeaveForTheCommit = OfTexts TasksLeave
 -- and where it leaves, the commit list is within what the task needs cycles for
 abbrev pub TasksListFewWords : Type 0
 TasksListFewWords = OfTexts TasksListFew
+
+-- where a source takes events, its attempts and commits take words of the ring in order
+abbrev pub SourcesTakeInOrder : Type 0
+SourcesTakeInOrder = OfTexts (λ p l. l.runtime.events ≡ true → ScriptsTakeInOrder (compiled_model p l))

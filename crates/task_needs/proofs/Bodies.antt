@@ -1,7 +1,6 @@
 -- The code of a task keeps to its dearest way.
-use Rattle.std.proofs.Common.{ℕ, List, subst, get_or}
+use Rattle.std.proofs.Common.{ℕ, subst, get_or}
 use Rattle.machine_effects.specs.Inputs.{Inputs}
-use Rattle.code_forms.specs.Forms.{Core}
 use Rattle.array_versions.specs.Program.{Program, nothing}
 use Rattle.array_versions.specs.Behaviour.{behaviour, started}
 use Rattle.word_code.specs.Laws.{ComesTo}

@@ -1,3 +1,4 @@
 mod Bodies
 mod Privates
+mod Counted
 pub mod Interface

@@ -11,7 +11,7 @@ use Rattle.memory_map.specs.MemoryMap.{MemoryMap, word_place}
 use Rattle.runtime_effects.specs.Places.{listed}
 use Rattle.commit_runtime.specs.Listing.{commit_cycles}
 use Rattle.crash_rules.specs.Model.{Model}
-use Rattle.compiled_model.specs.Parts.{compiled_model, task_program, program_parts, IsStarted}
+use Rattle.compiled_model.specs.Parts.{task_program, program_parts, IsStarted}
 use Rattle.compiled_model.specs.Needs.{boot_cycles}
 use Rattle.task_needs.specs.Needs.{own_entries, own_words, beside_path, need_of}
 
@@ -55,7 +55,3 @@ with_needs p l m = record m {
   task_cost = λ t. if nat_lt t (length p.tasks) then need_of p l t else pending_need l;
   Decided = DecidedWithin m p l;
 }
-
--- the source under its runtime, with these costs
-abbrev pub needs_model : CheckedProgram → MemoryMap → Model State
-needs_model p l = with_needs p l (compiled_model p l)

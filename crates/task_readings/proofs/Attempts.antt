@@ -1,6 +1,6 @@
 -- An attempt takes no more readings than its text has.
-use Rattle.std.proofs.Common.{◌≡◌, ℕ, zero, suc, ◌+◌, ◌-◌, ◌*◌, ◌/◌, ◌%◌, ◌<◌, ◌≤◌, max, [], ◌∷◌, ◌++◌, List, length, refl, ap, arith, Bool, true, false, if◌then◌else◌}
-use Rattle.std.proofs.Common.{Option, Some, None}
+use Rattle.std.proofs.Common.{ℕ, zero, suc, ◌+◌, ◌-◌, ◌*◌, ◌/◌, ◌%◌, ◌<◌, ◌≤◌, max, [], ◌∷◌, ◌++◌, List, length, arith, Bool, true, false}
+use Rattle.std.proofs.Common.{if◌then◌else◌, Option, Some, None}
 use Rattle.std.proofs.Math.Nat.{suc-mul}
 use Rattle.task_ast.specs.Tree as t
 use Rattle.task_ast.specs.Tree.{Expression, Statement, Choice, Block}

@@ -5,6 +5,8 @@
 #[cfg(test)]
 mod cuts;
 #[cfg(test)]
+mod events;
+#[cfg(test)]
 mod meaning;
 #[cfg(test)]
 mod program;
