@@ -75,7 +75,7 @@ module _ (p : CheckedProgram) (l : MemoryMap) (r : CanRun p l) (few : TasksListF
       own_fits s next x d own =
           let k = fits_commit p l r laws s next x d in record { can = k.can; list = own.entries; named = own.words; sent = k.sent; base = k.base }
 
-  need_costs : Costs p l
+  abbrev need_costs : Costs p l
   need_costs = record {
     cost = need_of p l;
     entries = entries;
