@@ -123,7 +123,8 @@ module _ {St : Type 0} (m : Model St) (c : Program) (laws : ModelLaws m) (code :
         let es = all_outside_effects ms in
         let made : (going c.step n p).effects ≡ es = ap (λ r. r.effects) reached.run in
         let led : (going c.step n p).status ≡ At reached.end.u = ap (λ r. r.status) reached.run in
-        let has_run : HasRun m c readings origin at.end h = record { world = x; start = outside_of b0; begins = begins; charges = at.charges; leads = at.charged } in
+        let has_run : HasRun m c readings origin at.end h =
+        record { world = x; start = outside_of b0; begins = begins; charges = at.charges; leads = at.charged } in
         let lawful = crash_theorem m c laws code readings origin at.end h has_run in
         let fram : p.fram ≡ h.world.fram = sym at.fram ∙ lawful.1.fram in
         let words : InputsAreWords p.inputs = record { readings = (machine_is_of_words start run.words).inputs.readings; looks = see } in

@@ -83,7 +83,8 @@ by_value false t f = f refl
 
 -- fewer steps make the first of the effects
 module _ (step : MachineBoard → MachineOutcome) where
-  part_of : (n k : ℕ) (s t : MachineBoard) → (going step n s).status ≡ At t → (rest : List Effect) × ((going step n s).effects ++ rest ≡ (going step (n + k) s).effects)
+  part_of : (n k : ℕ) (s t : MachineBoard) → (going step n s).status ≡ At t
+      → (rest : List Effect) × ((going step n s).effects ++ rest ≡ (going step (n + k) s).effects)
   part_of n k s t at = ((going step k t).effects, sym (ap (λ r. r.effects) (goes_on step n s t at k)))
 
   -- no steps make nothing
@@ -114,7 +115,8 @@ module _ {St : Type 0} (m : Model St) (c : Program) (laws : ModelLaws m) (code :
     next : p.ends ≡ true → Entry false (world_after p.effects x)
 
   -- behind a commit it rests
-  rested : (Kept : World → Type 0) (to : St) (inputs : Inputs) (x : World) → CommitKeeps m Kept to inputs x → m.Rests to (world_after (m.commit x.fram inputs) x)
+  rested : (Kept : World → Type 0) (to : St) (inputs : Inputs) (x : World) → CommitKeeps m Kept to inputs x
+      → m.Rests to (world_after (m.commit x.fram inputs) x)
   rested Kept to inputs x k =
       let end : List Effect = Store m.marks.gate 0 ∷ [] in
       subst (λ l. m.Rests to (world_after l x)) (sym k.is) (subst (λ y. m.Rests to y) (sym (world_after-append k.before end x)) k.rests)
@@ -175,7 +177,8 @@ module _ {St : Type 0} (m : Model St) (c : Program) (laws : ModelLaws m) (code :
       → AttemptContract m s inputs x p → IsScript x inputs (with_commit m x.fram inputs p)
   task_script x inputs p s follows (Lacks short) =
       let same : (with_commit m x.fram inputs p).effects ≡ p.effects =
-      ap (λ (b : Bool). p.effects ++ (if b then m.commit (fram_after p.effects x.fram) (inputs_behind p.effects inputs) else [])) short.is ∙ append-nil p.effects in
+      ap (λ (b : Bool). p.effects ++ (if b then m.commit (fram_after p.effects x.fram) (inputs_behind p.effects inputs) else [])) short.is
+      ∙ append-nil p.effects in
       record {
         until = follows.0;
         follows = subst (λ l. FollowsSeeing (Advances gate) x.fram inputs.looks Before l follows.0) (sym same) follows.1;
@@ -202,7 +205,8 @@ module _ {St : Type 0} (m : Model St) (c : Program) (laws : ModelLaws m) (code :
       subst (λ u. FollowsSeeing (Advances gate) x.fram inputs.looks Before es u) (follows.2 ends) follows.1 in
       let second : FollowsSeeing (Advances gate) (fram_after es x.fram) (looks_after es inputs.looks) Before commit Before =
       subst (λ (f : ℕ → ℕ). FollowsSeeing (Advances gate) f (looks_after es inputs.looks) Before commit Before) (world_fram es x)
-      (subst (λ (l : List Look). FollowsSeeing (Advances gate) y.fram l Before commit Before) (sym (dropped es inputs.looks)) (scripts.commits next y behind committing)) in
+      (subst (λ (l : List Look). FollowsSeeing (Advances gate) y.fram l Before commit Before) (sym (dropped es inputs.looks))
+      (scripts.commits next y behind committing)) in
       record {
         until = Before;
         follows = subst (λ l. FollowsSeeing (Advances gate) x.fram inputs.looks Before l Before) (sym same) (joined (Advances gate) first second);
@@ -291,9 +295,11 @@ module _ {St : Type 0} (m : Model St) (c : Program) (laws : ModelLaws m) (code :
         let first : FollowsSeeing (Advances gate) b.fram b.inputs.looks Before p.effects Before =
         subst (λ (f : ℕ → ℕ). FollowsSeeing (Advances gate) f b.inputs.looks Before p.effects Before) (sym fram)
         (subst (λ u. FollowsSeeing (Advances gate) x.fram b.inputs.looks Before p.effects u) (script.whole e) script.follows) in
-        let second : FollowsSeeing (Advances gate) (fram_after p.effects b.fram) (looks_after p.effects b.inputs.looks) Before (going c.step k end).effects rest.0 =
-        subst (λ (f : ℕ → ℕ). FollowsSeeing (Advances gate) f (looks_after p.effects b.inputs.looks) Before (going c.step k end).effects rest.0) fram_there
-        (subst (λ (l : List Look). FollowsSeeing (Advances gate) end.fram l Before (going c.step k end).effects rest.0)
+        let looks = looks_after p.effects b.inputs.looks in
+        let more_effects = (going c.step k end).effects in
+        let second : FollowsSeeing (Advances gate) (fram_after p.effects b.fram) looks Before more_effects rest.0 =
+        subst (λ (f : ℕ → ℕ). FollowsSeeing (Advances gate) f looks Before more_effects rest.0) fram_there
+        (subst (λ (l : List Look). FollowsSeeing (Advances gate) end.fram l Before more_effects rest.0)
         (sym (looks_left p.effects b.inputs end.inputs taken)) rest.1) in
         let P : List Effect → Type 0 = λ l. FollowsSeeing (Advances gate) b.fram b.inputs.looks Before l rest.0 in
         (rest.0, subst P (ap (λ q. q.effects) (sym there)) (joined (Advances gate) {v = rest.0} first second)))

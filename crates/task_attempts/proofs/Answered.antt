@@ -10,9 +10,11 @@ use Rattle.array_versions.specs.Program.{Step, Test, Program, number, load, keep
 use Rattle.array_versions.specs.Program.{emit_word, list_entry, versioned_read, versioned_write, versioned_update, sense, next_event, freeze_events}
 use Rattle.array_versions.specs.Program.{truth, choose, repeat, store_number, move_word, jump, holds, compares, both, either, fails, nothing, step}
 use Rattle.machine_effects.specs.fram_board.Effects.{Effect}
-use Rattle.array_versions.specs.Behaviour.{WordState, End, GoesOn, Jumps, Behaviour, behaves, goes_on, strays, broken, behind_effects, is_place, with_top, with_two}
+use Rattle.array_versions.specs.Behaviour.{WordState, End, GoesOn, Jumps, Behaviour, behaves, goes_on, strays, broken, behind_effects, is_place, with_top}
+use Rattle.array_versions.specs.Behaviour.{with_two}
 use Rattle.array_versions.specs.Behaviour.{with_words, with_stack, pushed, with_local, local_pushed, local_updated, reading_pushed, event_index, none_answered}
-use Rattle.array_versions.specs.Behaviour.{word_answered, with_looks, event_pushed, word_stored, element_pushed, word_emitted, versioned_pushed, versioned_stored}
+use Rattle.array_versions.specs.Behaviour.{word_answered, with_looks, event_pushed, word_stored, element_pushed, word_emitted, versioned_pushed}
+use Rattle.array_versions.specs.Behaviour.{versioned_stored}
 use Rattle.array_versions.specs.Behaviour.{versioned_updated, number_pushed, way_by_top, way_by_two, turns, step_behaviour, tested, behaviour}
 use Rattle.event_rules.specs.Taking.{Ended, Next, Blind}
 use Rattle.task_attempts.proofs.Asks.{Takes, Looks, Sees, AnswersNone, AnswersWord, Counts, Freezes, AsksFrom, Reaches, Does, Leads, does_behind, then_does}
@@ -49,7 +51,8 @@ answer_does (first ∷ (second ∷ (third ∷ more))) s true e = record {
   looks = refl;
 }
 answer_does (first ∷ (second ∷ (third ∷ more))) s false e = record {
-  asks = Next (Looks refl) (Next (Sees refl) (Next (AnswersWord refl refl (no_value (event_index s.fram) (first head_place) e)) (Next (Counts refl refl) Ended)));
+  asks = Next (Looks refl) (Next (Sees refl) (Next (AnswersWord refl refl (no_value (event_index s.fram) (first head_place) e))
+      (Next (Counts refl refl) Ended)));
   fram = refl;
   looks = refl;
 }

@@ -12,7 +12,8 @@ use Rattle.array_versions.specs.declared.program.ListPlace.{ListPlace}
 use Rattle.array_versions.specs.declared.operations.PlainOperation.{PlainOperation}
 use Rattle.array_versions.specs.Operations.{plain_word}
 use Rattle.array_versions.specs.Behaviour.{WordState, End, GoesOn, Jumps, Short, Strays, Broken, Behaviour, behaves, goes_on, strays, is_place, at_place}
-use Rattle.array_versions.specs.Behaviour.{pushed, stored, behind_effects, then_on, word_stored, element_pushed, word_emitted, raised, entry_stored, ends_before}
+use Rattle.array_versions.specs.Behaviour.{pushed, stored, behind_effects, then_on, word_stored, element_pushed, word_emitted, raised, entry_stored}
+use Rattle.array_versions.specs.Behaviour.{ends_before}
 use Rattle.array_versions.specs.Behaviour.{listed_behind, own_element, versioned_pushed, first_stored, own_stored, versioned_stored, own_place, own_updated}
 use Rattle.array_versions.specs.Behaviour.{versioned_updated}
 use Rattle.event_rules.specs.Taking.{Taking, Open, SawHead, SawSlot, Took, next_index, looks_behind, FollowsSeeing, Ended, Next}

@@ -16,7 +16,8 @@ use Rattle.array_versions.specs.Behaviour.{Short as Starves}
 use Rattle.array_versions.specs.Laws.{EndsByEffects, IsSound}
 use Rattle.source_meaning.proofs.Interface.{emits_same}
 use Rattle.task_attempts.proofs.Names.{◌%◌, ◌+◌, ◌<◌, NextTask, SentBase, Base, ListLength, sent_place, event_index, where_events, entry_effects, runs_of}
-use Rattle.task_attempts.proofs.Names.{transition_effects, each_store-front, at_variable, at_copy, at_version, in_list, at_list_length, at_emit_count, in_buffer}
+use Rattle.task_attempts.proofs.Names.{transition_effects, each_store-front, at_variable, at_copy, at_version, in_list, at_list_length, at_emit_count}
+use Rattle.task_attempts.proofs.Names.{in_buffer}
 use Rattle.task_attempts.proofs.Names.{at_answer, scalar, copy, list_of}
 use Rattle.memory_map.specs.Spots.{version}
 use Rattle.memory_map.specs.event_places.Places.{tail_place}

@@ -2,7 +2,8 @@
 use Rattle.std.proofs.Common.{◌≡◌, ◌≢◌, ℕ, zero, suc, ◌+◌, ◌*◌, ◌%◌, ◌<◌, ◌≤◌, List, [], ◌∷◌, ◌++◌, refl, sym, ap, ◌∙◌, subst, arith, Bool, true, false}
 use Rattle.std.proofs.Common.{inl, inr, append_assoc}
 use Rattle.task_attempts.proofs.Names.{Effect, Store, EachStore, World, fram_after, each_store-append}
-use Rattle.task_attempts.proofs.Names.{MemoryMap, word_place, CurrentTask, Gate, ListLength, EmitCount, Base, SentBase, NextTask, Version, ProgramPlaces, ArePrivate, IsAmong, CopyPair}
+use Rattle.task_attempts.proofs.Names.{MemoryMap, word_place, CurrentTask, Gate, ListLength, EmitCount, Base, SentBase, NextTask, Version, ProgramPlaces}
+use Rattle.task_attempts.proofs.Names.{ArePrivate, IsAmong, CopyPair}
 use Rattle.task_attempts.proofs.Names.{where_events, listed, put}
 use Rattle.machine_effects.specs.World.{looks_taken}
 use Rattle.machine_effects.specs.Inputs.{Look}
@@ -105,7 +106,8 @@ module _ (l : ProgramPlaces) (apart : memory.AreApart l.map) where
 
   -- ---- the commit
 
-  home_off : (ps : List CopyPair) → ((q : CopyPair) → IsAmong ps q → (m.homes.address ≤ q.home) × (q.home < tail_place)) → (f : ℕ → ℕ) → OffRing (copied_home ps f)
+  home_off : (ps : List CopyPair) → ((q : CopyPair) → IsAmong ps q → (m.homes.address ≤ q.home) × (q.home < tail_place)) → (f : ℕ → ℕ)
+      → OffRing (copied_home ps f)
   home_off [] h f = tt
   home_off (q ∷ ps) h f =
       let k = h q (inl refl) in
@@ -136,7 +138,8 @@ module _ (l : ProgramPlaces) (apart : memory.AreApart l.map) where
       let current = f (word_place m NextTask) in
       let base = (f (word_place m SentBase) + f (word_place m EmitCount)) % 0x10000 in
       let last_is : last ≡ Store tail_place tail ∷ Store (word_place m CurrentTask) current ∷ Store (word_place m Base) base ∷ Store gate 0 ∷ [] =
-      ap (λ b. where_events b (Store tail_place tail ∷ []) ++ (Store (word_place m CurrentTask) current ∷ Store (word_place m Base) base ∷ Store gate 0 ∷ [])) on in
+      ap (λ b. where_events b (Store tail_place tail ∷ [])
+      ++ (Store (word_place m CurrentTask) current ∷ Store (word_place m Base) base ∷ Store gate 0 ∷ [])) on in
       let whole : commit_effects m f ≡ first ++ last = sym (append_assoc copies sent last) in
       let first_off : OffRing first =
       each_store-append Off copies sent
