@@ -392,7 +392,8 @@ module _ (marks : Marks) (low : marks.gate < tail_place) (ans : marks.answer ≡
     moves_leave _ _ (MovesOwn own) v u follows keeps = own_leaves same h told words own v u follows keeps
     moves_leave _ _ (MovesIn done interrupted inside quiet e) v u follows keeps =
         handler_leaves same h told words (ap is_handlers e) []
-        (subst (λ (y : Moment). Brings b y.after []) (sym e) (brings_none b (moment_of b next_step.Acceptance done).after (λ a l. ap (λ (f : ℕ → ℕ). f a) inside.fram))) v u follows keeps
+        (subst (λ (y : Moment). Brings b y.after []) (sym e)
+        (brings_none b (moment_of b next_step.Acceptance done).after (λ a l. ap (λ (f : ℕ → ℕ). f a) inside.fram))) v u follows keeps
     moves_leave _ _ (MovesOn p at done interrupted inside read behind e) v u follows keeps =
         handler_leaves same h told words (handlers_move p at inside) (stored_at p at)
         (subst (λ (y : Moment). Brings b y.after (stored_at p at)) (sym e)

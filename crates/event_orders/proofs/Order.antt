@@ -484,7 +484,8 @@ module _ (marks : Marks) (low : marks.gate < tail_place) (ans : marks.answer ≡
     abbrev a : Account
     a = account_of marks h
 
-    stays : (t : Taking) (e : Effect) → OfStore (IsElsewhere gate) e → (b : Account) → behind marks e a ≡ b → K t b → K t (account_of marks (observe_one marks e h))
+    stays : (t : Taking) (e : Effect) → OfStore (IsElsewhere gate) e → (b : Account) → behind marks e a ≡ b → K t b
+        → K t (account_of marks (observe_one marks e h))
     stays t e elsewhere b is k = subst (K t) (sym (quiet_account marks e h elsewhere ∙ is)) k
 
     above : (v place : ℕ) → v ≡ place → tail_place ≤ place → v ≢ gate

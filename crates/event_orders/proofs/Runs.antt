@@ -1,5 +1,6 @@
 -- The order of a ring's words over whole runs.
-use Rattle.std.proofs.Common.{◌≡◌, ◌≢◌, ◌+◌, ◌%◌, ◌≤◌, ◌<◌, ◌==◌, ◌⊎◌, inl, inr, if◌then◌else◌, arith, ℕ, zero, suc, refl, sym, ap, ap₂, ◌∙◌, subst, Bool, true, false}
+use Rattle.std.proofs.Common.{◌≡◌, ◌≢◌, ◌+◌, ◌%◌, ◌≤◌, ◌<◌, ◌==◌, ◌⊎◌, inl, inr, if◌then◌else◌, arith, ℕ, zero, suc, refl, sym, ap, ap₂, ◌∙◌, subst, Bool}
+use Rattle.std.proofs.Common.{true, false}
 use Rattle.std.proofs.Common.{List, [], ◌∷◌, ◌++◌, append-nil, append_assoc, length, length-append, map, Option, Some, None, eqb-true, eq-eqb}
 use Rattle.std.specs.Prelude.{flat_map, slice_get, Contains}
 use Rattle.event_places.specs.Places.{handler_place, head_place, tail_place, count_place, sent_place, answer_place, ring_slots}
@@ -485,7 +486,8 @@ module _ (c : Program) (marks : Marks) (x : World) (cs : List BoardCharge) (b : 
       let sees = looks_see marks of.gate of.answer from (fram_of c.fram) (words_behind marks.gate b ms) told.looks [] seen tt in
       let sees_all : SeeRing marks of.gate of.answer from (fram_of c.fram) (words_behind marks.gate b ms) es =
       subst (λ l. SeeRing marks of.gate of.answer from (fram_of c.fram) (words_behind marks.gate b ms) l) (append-nil es) sees in
-      let kept = effects_advance marks of.gate of.answer from (fram_of c.fram) (words_behind marks.gate b ms) h f t parts.0 es there.told parts.1 sees_all holds in
+      let kept =
+      effects_advance marks of.gate of.answer from (fram_of c.fram) (words_behind marks.gate b ms) h f t parts.0 es there.told parts.1 sees_all holds in
       by parts.0 parts.1 kept answered
     where
       by : (v : Taking) → Follows marks.gate (outside_of (last_board b ms)).fram t (look_effects (tells m).looks) v
