@@ -1,5 +1,6 @@
 -- Code that is priced by itself.
-use Rattle.std.proofs.Common.{◌≡◌, ℕ, zero, suc, ◌+◌, ◌*◌, ◌/◌, ◌≤◌, Bool, true, false, if◌then◌else◌, Option, Some, None, is_some, List, [], ◌∷◌, ◌++◌, refl, sym, ap, ◌∙◌, arith}
+use Rattle.std.proofs.Common.{◌≡◌, ℕ, zero, suc, ◌+◌, ◌*◌, ◌/◌, ◌==◌, ◌≤◌, Bool, true, false, if◌then◌else◌, Option, Some, None, is_some, List, [], ◌∷◌, ◌++◌, refl, sym, ap, ◌∙◌, arith}
+use Rattle.std.proofs.lemmas.Bool.{eqb-true}
 use Rattle.word_code.specs.code_forms.Forms.{Form}
 use Rattle.word_code.specs.declared.bounds.Bound.{Bound}
 use Rattle.word_code.specs.array_versions.Program.{Test, Program}
@@ -36,8 +37,11 @@ whole_locals p whole = omega (arith, program_least whole.locals p whole.low_loca
 
 -- one bit more of what is left of a number, if any is left
 pub bit_counted : (m n : ℕ) → (n ≡ 0 → ⊥) → bits_in (suc m) n ≡ suc (bits_in m (n / 2))
-bit_counted m zero h = absurd (h refl)
-bit_counted m (suc n) h = refl
+bit_counted m n h = go (n == 0) refl
+  where
+    go : (b : Bool) → (n == 0) ≡ b → (if b then 0 else suc (bits_in m (n / 2))) ≡ suc (bits_in m (n / 2))
+    go true e = absurd (h (eqb-true n 0 e))
+    go false e = refl
 
 pub no_bit : (m : ℕ) → bits_in m 0 ≡ 0
 no_bit zero = refl

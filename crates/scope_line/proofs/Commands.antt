@@ -10,7 +10,7 @@ use Rattle.clap.specs.Words.{Row, Rule, Text, first_of, subcommand_of}
 use Rattle.clap.specs.Walk.{has_row}
 use Rattle.command_line.specs.CommandLine.{AreTexts, Subcommand, all_said, files_of}
 use Rattle.command_line.specs.Commands.{values_of}
-use Rattle.command_line.proofs.Interface.{built_subcommand, files_said, has_name, lent, values_after}
+use Rattle.command_line.proofs.Interface.{built_subcommand, files_said, has_name, lent, rows_for, values_after}
 use Rattle.scope_line.specs.ScopeLine.{IsScopeLine, NamesScopeCommand, bounds_line, line_found, plain_line, scope_app, scope_line_of}
 use Rattle.scope_line.specs.ScopeLine.{subcommand_named, scope_subcommands}
 use Rattle.scope_line.specs.declared.Command.{Command}
