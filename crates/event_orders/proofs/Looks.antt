@@ -1,13 +1,13 @@
 -- By which look an answer came about.
-use Rattle.std.proofs.Common.{◌≡◌, ◌≢◌, ◌+◌, ◌%◌, ◌≤◌, ◌<◌, ◌==◌, ◌⊎◌, inl, inr, if◌then◌else◌, arith, ℕ, zero, suc, refl, sym, ap, ap₂, ◌∙◌, subst, Bool, true, false}
-use Rattle.std.proofs.Common.{List, [], ◌∷◌, ◌++◌, append-nil, append_assoc, length, length-append, Option, Some, None, ne_eqb, eq-eqb, Contains}
+use Rattle.std.proofs.Common.{◌≡◌, ◌≢◌, ◌<◌, ◌⊎◌, inl, inr, if◌then◌else◌, arith, ℕ, zero, suc, refl, sym, ap, ap₂, ◌∙◌, subst, Bool}
+use Rattle.std.proofs.Common.{List, [], ◌∷◌, ◌++◌, append-nil, append_assoc, length, Some, ne_eqb, eq-eqb, Contains}
 use Rattle.std.specs.Prelude.{slice_get, slice_index_or}
-use Rattle.event_places.specs.Places.{head_place, tail_place, count_place, answer_place, ring_slots}
-use Rattle.msp_step.specs.alp_words.Words.{word_sum, word_difference}
+use Rattle.event_places.specs.Places.{head_place, tail_place, count_place, answer_place}
+use Rattle.msp_step.specs.alp_words.Words.{word_sum}
 use Rattle.fram_board.specs.Board.{BoardValue}
-use Rattle.fram_board.specs.Effects.{Effect, Store, Take, Outside, Offered, Looked}
-use Rattle.fram_board.specs.Run.{Action, PowerUp, Execute, Moment}
-use Rattle.machine_effects.specs.World.{Look, fram_after, EachStore}
+use Rattle.fram_board.specs.Effects.{Effect, Store, Take, Outside, Looked}
+use Rattle.fram_board.specs.Run.{Moment}
+use Rattle.machine_effects.specs.World.{Look, fram_after_one, fram_after, EachStore}
 use Rattle.machine_effects.specs.Inputs.{look_effects}
 use Rattle.machine_effects.specs.Machine.{fram_of}
 use Rattle.machine_effects.specs.View.{IsWhole, IsOfWords}
@@ -15,14 +15,12 @@ use Rattle.machine_effects.specs.Runs.{last_board}
 use Rattle.machine_effects.proofs.Interface.{each_store-append, each_store-front, each_store-back}
 use Rattle.program_view.proofs.Interface.{steady_low}
 use Rattle.crash_rules.specs.Model.{words_stored}
-use Rattle.crash_rules.proofs.Interface.{stored-append}
 use Rattle.run_charges.specs.View.{outside_of, outside_effects, all_outside_effects}
 use Rattle.run_charges.specs.Moments.{IsMomentFrom}
 use Rattle.run_charges.specs.Charges.{IsInstruction}
-use Rattle.run_charges.proofs.Interface.{moment_is, IsPower, IsStepped, IsPowerOrStep}
+use Rattle.run_charges.proofs.Interface.{moment_is, IsPower, IsStepped, IsPowerOrStep, no_power_up}
 use Rattle.event_rules.specs.Taking.{Taking, Before, Open, SawHead, SawSlot, Took, Frozen, IsIdle, next_index, Advances, Takes, Sends, Stores, Clears, Looks}
 use Rattle.event_rules.specs.Taking.{Sees, AnswersNone, AnswersWord, Counts, Freezes, Decides, Moves, Ends, Follows, MomentFollows}
-use Rattle.event_rules.proofs.Interface.{no_power_up}
 use Rattle.event_orders.specs.Waiting.{NoneWaited}
 use Rattle.event_orders.proofs.Moments.{NoLook, NoLooks, Tells, tells, step_follows}
 
@@ -62,14 +60,14 @@ plain_closes gate f _ _ _ none (Ends at is one moved) = tt
 all_close : (gate : ℕ) (f : ℕ → ℕ) (t u : Taking) (es : List Effect) → NoLooks es → NotSaw t → Follows gate f t es u → NotSaw u
 all_close gate f t u [] none saw follows = subst NotSaw (sym follows) saw
 all_close gate f t u (e ∷ es) none saw follows =
-    all_close gate _ follows.0 u es none.1 (plain_closes gate f t follows.0 e none.0 follows.1) follows.2
+    all_close gate (fram_after_one e f) follows.0 u es none.1 (plain_closes gate f t follows.0 e none.0 follows.1) follows.2
 
 -- what follows in two parts
 pub follows_split : (gate : ℕ) (f : ℕ → ℕ) (t u : Taking) (es fs : List Effect) → Follows gate f t (es ++ fs) u
     → (v : Taking) × Follows gate f t es v × Follows gate (fram_after es f) v fs u
 follows_split gate f t u [] fs h = (t, refl, h)
 follows_split gate f t u (e ∷ es) fs h =
-    let rest = follows_split gate _ h.0 u es fs h.2 in
+    let rest = follows_split gate (fram_after_one e f) h.0 u es fs h.2 in
     (rest.0, (h.0, h.1, rest.1), rest.2)
 
 -- ---- the look that is open
@@ -273,43 +271,45 @@ module _ (gate : ℕ) (low : gate < tail_place) where
   none_answered f t u [] none saw follows = refl
   none_answered f t u (e ∷ es) none saw follows =
       one_unanswered f t follows.0 e es saw follows.1
-      ∙ none_answered _ follows.0 u es none.1 (plain_closes gate f t follows.0 e none.0 follows.1) follows.2
+      ∙ none_answered (fram_after_one e f) follows.0 u es none.1 (plain_closes gate f t follows.0 e none.0 follows.1) follows.2
 
   -- effects without looks answer at their first, by the look that is open
   pub answered_by : (f : ℕ → ℕ) (t u : Taking) (es : List Effect) → NoLooks es → Follows gate f t es u → (w : ℕ)
       → Contains (words_stored answer_place es) w → IsAnswered t f w
   answered_by f t u [] none follows w h = absurd (nothing_there [] w refl h)
-  answered_by f t u (e ∷ es) none follows w h = by t e none.0 follows.1 h
+  answered_by f t u (e ∷ es) none follows w h = by t e follows.0 none.0 follows.1 rest h
     where
       rest : words_stored answer_place es ≡ []
-      rest = none_answered _ follows.0 u es none.1 (plain_closes gate f t follows.0 e none.0 follows.1) follows.2
+      rest = none_answered (fram_after_one e f) follows.0 u es none.1 (plain_closes gate f t follows.0 e none.0 follows.1) follows.2
 
-      unasked : (t : Taking) (e : Effect) → NotSaw t → Advances gate f t e follows.0 → Contains (words_stored answer_place (e ∷ es)) w → ⊥
-      unasked t e saw adv h = nothing_there _ w (one_unanswered f t follows.0 e es saw adv ∙ rest) h
+      unasked : (t : Taking) (e : Effect) (v : Taking) → NotSaw t → Advances gate f t e v → words_stored answer_place es ≡ []
+          → Contains (words_stored answer_place (e ∷ es)) w → ⊥
+      unasked t e v saw adv rest h = nothing_there (words_stored answer_place (e ∷ es)) w (one_unanswered f t v e es saw adv ∙ rest) h
 
-      by : (t : Taking) (e : Effect) → NoLook e → Advances gate f t e follows.0 → Contains (words_stored answer_place (e ∷ es)) w → IsAnswered t f w
-      by Before e plain adv h = absurd (unasked Before e tt adv h)
-      by Open e plain adv h = absurd (unasked Open e tt adv h)
-      by Took e plain adv h = absurd (unasked Took e tt adv h)
-      by Frozen e plain adv h = absurd (unasked Frozen e tt adv h)
-      by (SawHead head) e plain adv h = absurd (of_head head e plain adv)
-        where
-          of_head : (head : ℕ) (e : Effect) → NoLook e → Advances gate f (SawHead head) e follows.0 → ⊥
-          of_head head _ plain (Takes idle) = idle
-          of_head head _ plain (Sends idle) = idle
-          of_head head _ plain (Stores idle below other) = idle
-          of_head head _ plain (Sees is) = plain
-      by (SawSlot head word) e plain adv h = of_slot head word e adv h
-        where
-          of_slot : (head word : ℕ) (e : Effect) → Advances gate f (SawSlot head word) e follows.0 → Contains (words_stored answer_place (e ∷ es)) w
-              → IsAnswered (SawSlot head word) f w
-          of_slot head word _ (Takes idle) h = absurd idle
-          of_slot head word _ (Sends idle) h = absurd idle
-          of_slot head word _ (Stores idle below other) h = absurd idle
-          of_slot head word (Store a v) (AnswersNone at is same) h =
-              inl (same, only_one _ v w (this_word a v es at ∙ ap (λ l. v ∷ l) rest) h ∙ is)
-          of_slot head word (Store a v) (AnswersWord at is other) h =
-              inr (other, only_one _ v w (this_word a v es at ∙ ap (λ l. v ∷ l) rest) h ∙ is)
+      of_head : (head : ℕ) (e : Effect) (v : Taking) → NoLook e → Advances gate f (SawHead head) e v → ⊥
+      of_head head _ _ plain (Takes idle) = idle
+      of_head head _ _ plain (Sends idle) = idle
+      of_head head _ _ plain (Stores idle below other) = idle
+      of_head head _ _ plain (Sees is) = plain
+
+      of_slot : (head word : ℕ) (e : Effect) (v : Taking) → Advances gate f (SawSlot head word) e v → words_stored answer_place es ≡ []
+          → Contains (words_stored answer_place (e ∷ es)) w → IsAnswered (SawSlot head word) f w
+      of_slot head word _ _ (Takes idle) rest h = absurd idle
+      of_slot head word _ _ (Sends idle) rest h = absurd idle
+      of_slot head word _ _ (Stores idle below other) rest h = absurd idle
+      of_slot head word (Store a x) _ (AnswersNone at is none) rest h =
+          inl (none, only_one (words_stored answer_place (Store a x ∷ es)) x w (this_word a x es at ∙ ap (λ l. x ∷ l) rest) h ∙ is)
+      of_slot head word (Store a x) _ (AnswersWord at is other) rest h =
+          inr (other, only_one (words_stored answer_place (Store a x ∷ es)) x w (this_word a x es at ∙ ap (λ l. x ∷ l) rest) h ∙ is)
+
+      by : (t : Taking) (e : Effect) (v : Taking) → NoLook e → Advances gate f t e v → words_stored answer_place es ≡ []
+          → Contains (words_stored answer_place (e ∷ es)) w → IsAnswered t f w
+      by Before e v plain adv rest h = absurd (unasked Before e v tt adv rest h)
+      by Open e v plain adv rest h = absurd (unasked Open e v tt adv rest h)
+      by Took e v plain adv rest h = absurd (unasked Took e v tt adv rest h)
+      by Frozen e v plain adv rest h = absurd (unasked Frozen e v tt adv rest h)
+      by (SawHead head) e v plain adv rest h = absurd (of_head head e v plain adv)
+      by (SawSlot head word) e v plain adv rest h = of_slot head word e v adv rest h
 
   -- a look stores no answer, and leaves FRAM
   pub look_answers_none : (looks : List Look) (acts : List Effect) → words_stored answer_place (look_effects looks ++ acts) ≡ words_stored answer_place acts

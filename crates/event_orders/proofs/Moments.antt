@@ -1,50 +1,51 @@
 -- The words of the ring over the moments of a charge: the handler's, which bring words, and the program's, which take them.
-use Rattle.std.proofs.Common.{◌≡◌, ◌≢◌, ◌+◌, ◌%◌, ◌≤◌, ◌<◌, ◌==◌, ◌⊎◌, inl, inr, if◌then◌else◌, arith, ℕ, refl, sym, ap, ◌∙◌, subst, Bool, true, false}
-use Rattle.std.proofs.Common.{List, [], ◌∷◌, ◌++◌, append-nil, append_assoc, length, length-append, Option, Some, None, Ok, Err, Result, map, ◌-◌, slice_index}
+use Rattle.std.proofs.Common.{◌≡◌, ◌+◌, ◌≤◌, ◌<◌, ◌==◌, ◌⊎◌, inl, inr, if◌then◌else◌, arith, ℕ, refl, sym, ap, ◌∙◌, subst, Bool, true, false}
+use Rattle.std.proofs.Common.{List, [], ◌∷◌, ◌++◌, append-nil, append_assoc, length, length-append, Option, Some, None, Ok, Err, Result, map}
 use Rattle.event_places.specs.Places.{handler_place, head_place, tail_place, answer_place, ring_slots, slot_place}
 use Rattle.msp_step.specs.alp_words.Words.{word_sum, word_difference}
 use Rattle.msp_step.specs.Registers.{registers_of}
+use Rattle.msp_step.specs.Step.{return_place, status_place}
 use Rattle.msp_step.specs.declared.machine.Stop.{Stop}
 use Rattle.fram_board.specs.declared.board.NextStep.TheVariants as next_step
 use Rattle.fram_board.specs.declared.events.Heard.TheVariants as heard
 use Rattle.fram_board.specs.declared.board.Stepped.{Stepped}
 use Rattle.fram_board.specs.Board.{BoardValue, BoardOutcome, executed, at_boundary}
-use Rattle.fram_board.specs.Effects.{Effect, Store, Take, Outside, Offered, Looked, effects_of, takes_of, stores_of, store_at, sends_of, acceptance_effects}
+use Rattle.fram_board.specs.Effects.{Effect, Store, Take, Outside, Offered, Looked, effects_of, takes_of, stores_of, store_at, sends_of}
 use Rattle.fram_board.specs.Effects.{store_of}
 use Rattle.fram_board.specs.Bus.{is_fram}
 use Rattle.std.specs.List.{slice_range}
-use Rattle.board_run.specs.image_text.ImageValue.{place_of}
 use Rattle.fram_board.specs.Run.{StepKind, Accepting, Returning, Plain, Action, PowerUp, Execute, Moment, moment_of}
 use Rattle.board_run.specs.Events.{Hand}
 use Rattle.machine_effects.specs.World.{World, Look, put, fram_after}
 use Rattle.machine_effects.specs.Inputs.{look_effects}
 use Rattle.machine_effects.specs.Machine.{fram_of}
-use Rattle.machine_effects.specs.View.{IsWhole, IsOfWords, seen_at_pc}
-use Rattle.machine_effects.specs.Runs.{step_effects, action_effects, last_board}
+use Rattle.machine_effects.specs.View.{IsWhole, IsOfWords}
+use Rattle.machine_effects.specs.Runs.{step_effects, action_effects}
 use Rattle.machine_effects.proofs.Interface.{put_other, put_same, machine_is_of_words}
 use Rattle.event_handler.specs.Handler.{Stage, SaveR4, SaveR5, TakeEvent, LoadHead, SubtractTail, CompareRoom, LeaveIfFull, LoadHeadAgain, CutToSlots}
 use Rattle.event_handler.specs.Handler.{DoubleIndex, StoreWord, RaiseHead, RestoreR5, RestoreR4, Return, instruction_at}
-use Rattle.event_handler.specs.Boundaries.{IsInterrupted, IsInHandler, IsBehind, next_stage, is_ring_full, head_of, tail_of, event_of, fram_at, with_event}
+use Rattle.event_handler.specs.Boundaries.{IsInHandler, IsBehind, next_stage, is_ring_full, head_of, tail_of, event_of, fram_at, with_event}
 use Rattle.event_handler.specs.Boundaries.{with_head_raised}
 use Rattle.program_view.proofs.Interface.{handler_is_high}
 use Rattle.crash_rules.specs.Model.{Marks}
 use Rattle.crash_rules.specs.History.{History, observe}
 use Rattle.crash_rules.proofs.Interface.{observed_world, world_fram}
 use Rattle.run_charges.specs.View.{outside_of, is_handlers, looks_by, outside_effects}
-use Rattle.run_charges.specs.Moments.{IsMomentFrom, PowersUp, Instructs, Serves, AreMoments}
-use Rattle.run_charges.specs.Charges.{IsInstruction, AreInstructionMoments, behind_action, behind_moment, observed}
-use Rattle.run_charges.proofs.Interface.{PlacedProgram, Moves, MovesOwn, MovesIn, MovesOn, MoveOn, silent_behind, whole_behind, moment_is, IsPower, IsStepped}
-use Rattle.run_charges.proofs.Interface.{IsPowerOrStep}
-use Rattle.event_rules.specs.Taking.{Taking, Before, Open, SawHead, SawSlot, Took, Frozen, next_index, Follows, MomentFollows, EachFollows}
-use Rattle.event_rules.proofs.Interface.{held, stored_at, stored_by, moves_hand, own_high, event_head, no_power_up, fram_next, next_fram, either_fram, after}
+use Rattle.run_charges.specs.Moments.{IsMomentFrom, PowersUp, Instructs, Serves}
+use Rattle.run_charges.specs.Charges.{IsInstruction, behind_action, behind_moment}
+use Rattle.run_charges.proofs.Interface.{PlacedProgram, Moves, MovesOwn, MovesIn, MovesOn, moment_is, IsPower, IsStepped}
+use Rattle.run_charges.proofs.Interface.{IsPowerOrStep, no_power_up}
+use Rattle.event_rules.specs.Taking.{Taking, Before, Open, SawHead, SawSlot, Took, Frozen, Follows, MomentFollows}
+use Rattle.event_rules.proofs.Interface.{stored_at, stored_by, own_high, event_head, fram_next, next_fram, either_fram, after}
 use Rattle.event_orders.proofs.Window.{Window, window_same, stores_word, raises_head}
-use Rattle.event_orders.proofs.Order.{Account, account_of, Fresh, Pending, Asked, Knows, Keeps, SeesRing, SeeRing, effects_advance}
+use Rattle.event_orders.proofs.Order.{Account, account_of, Fresh, Pending, Asked, Knows, Keeps, SeeRing, effects_advance}
 
 -- ---- what the handler brings
 
 -- from one board to another these words come behind those that wait
 abbrev Brings : BoardValue → BoardValue → List ℕ → Type 0
-Brings b c more = (tail i : ℕ) (ws : List ℕ) → tail ≡ fram_of b.fram tail_place → Window (fram_of b.fram) tail i ws → Window (fram_of c.fram) tail i (ws ++ more)
+Brings b c more = (tail i : ℕ) (ws : List ℕ) → tail ≡ fram_of b.fram tail_place → Window (fram_of b.fram) tail i ws
+    → Window (fram_of c.fram) tail i (ws ++ more)
 
 -- none
 brings_none : (b c : BoardValue) → ((a : ℕ) → handler_place ≤ a → fram_of c.fram a ≡ fram_of b.fram a) → Brings b c []
@@ -136,7 +137,7 @@ module _ (gate first : ℕ) (a : Account) (words more : List ℕ) (f g : ℕ →
     done = h.done;
     left = h.left ++ more;
     words_are = ap (λ l. l ++ more) h.words_are ∙ append_assoc h.done h.left more;
-    open = h.open;
+    unpending = h.unpending;
     committed = h.committed;
     asked = h.asked;
     tail = h.tail;
@@ -160,7 +161,7 @@ module _ (gate first : ℕ) (a : Account) (words more : List ℕ) (f g : ℕ →
     taken = h.taken;
     left = h.left ++ more;
     words_are = ap (λ l. l ++ more) h.words_are ∙ append_assoc h.done (h.taken ++ h.left) more ∙ ap (λ l. h.done ++ l) (append_assoc h.taken h.left more);
-    open = h.open;
+    unpending = h.unpending;
     committed = h.committed;
     asked = h.asked;
     tail = h.tail;
@@ -203,13 +204,13 @@ sends_no_look : (n : ℕ) (o : Option ℕ) → NoLooks (sends_of n o)
 sends_no_look n None = tt
 sends_no_look n (Some w) = (tt, tt)
 
+if_no_look : (c : Bool) (a w : ℕ) → NoLooks (if c then Store a w ∷ [] else [])
+if_no_look true a w = (tt, tt)
+if_no_look false a w = tt
+
 store_no_look : (o : Option ℕ) (fram : List ℕ) → NoLooks (store_at o fram)
 store_no_look None fram = tt
-store_no_look (Some a) fram = by (is_fram a)
-  where
-    by : (c : Bool) → NoLooks (if c then Store (a - a % 2) (slice_index fram (place_of a)) ∷ [] else [])
-    by true = (tt, tt)
-    by false = tt
+store_no_look (Some a) fram = if_no_look (is_fram a) _ _
 
 stored_no_look : (r : Result Stepped Stop) (after : BoardValue) → NoLooks (stores_of r after)
 stored_no_look (Ok done) after = store_no_look done.wrote after.fram
@@ -221,14 +222,12 @@ effects_no_look b x =
     (none-append (stores_of x.answer x.board) (sends_of b.outnum x.offered) (stored_no_look x.answer x.board) (sends_no_look b.outnum x.offered))
 
 one_no_look : (a w : ℕ) → NoLooks (store_of a w)
-one_no_look a w = by (is_fram a)
-  where
-    by : (c : Bool) → NoLooks (if c then Store a w ∷ [] else [])
-    by true = (tt, tt)
-    by false = tt
+one_no_look a w = if_no_look (is_fram a) a w
 
 step_no_look : (kind : StepKind) (b : BoardValue) (x : BoardOutcome) → NoLooks (step_effects kind b x)
-step_no_look Accepting b x = none-append (store_of _ _) _ (one_no_look _ _) (one_no_look _ _)
+step_no_look Accepting b x =
+    let r = registers_of b.cpu in
+    none-append (store_of (return_place r) (r 0)) (store_of (status_place r) (r 2)) (one_no_look (return_place r) (r 0)) (one_no_look (status_place r) (r 2))
 step_no_look Returning b x = effects_no_look b x
 step_no_look Plain b x = effects_no_look b x
 
@@ -394,7 +393,8 @@ module _ (marks : Marks) (low : marks.gate < tail_place) (ans : marks.answer ≡
     moves_leave _ _ (MovesOwn own) v u follows keeps = own_leaves same h told words own v u follows keeps
     moves_leave _ _ (MovesIn done interrupted inside quiet e) v u follows keeps =
         handler_leaves same h told words (ap is_handlers e) []
-        (subst (λ (y : Moment). Brings b y.after []) (sym e) (brings_none b _ (λ a l. ap (λ (f : ℕ → ℕ). f a) inside.fram))) v u follows keeps
+        (subst (λ (y : Moment). Brings b y.after []) (sym e)
+        (brings_none b (moment_of b next_step.Acceptance done).after (λ a l. ap (λ (f : ℕ → ℕ). f a) inside.fram))) v u follows keeps
     moves_leave _ _ (MovesOn p at done interrupted inside read behind e) v u follows keeps =
         handler_leaves same h told words (handlers_move p at inside) (stored_at p at)
         (subst (λ (y : Moment). Brings b y.after (stored_at p at)) (sym e)

@@ -1,23 +1,22 @@
 -- What a program's effects make of the words of the ring: which the committed attempts took, which the current one, and which wait.
-use Rattle.std.proofs.Common.{◌≡◌, ◌≢◌, ◌+◌, ◌%◌, ◌≤◌, ◌<◌, ◌==◌, ◌&&◌, ◌⊎◌, inl, inr, not, arith, ℕ, suc, refl, sym, ap, ap₂, ◌∙◌, subst, cond}
-use Rattle.std.proofs.Common.{Bool, true, false, List, [], ◌∷◌, ◌++◌, append-nil, append_assoc, length, length-append, Option, Some, None}
-use Rattle.std.proofs.Common.{ne_eqb, eq-eqb, if◌then◌else◌}
-use Rattle.std.specs.Prelude.{filter, flat_map}
+use Rattle.std.proofs.Common.{◌≡◌, ◌≢◌, ◌+◌, ◌%◌, ◌≤◌, ◌<◌, ◌==◌, ◌⊎◌, inl, inr, not, arith, ℕ, refl, sym, ap, ap₂, ◌∙◌, subst, cond}
+use Rattle.std.proofs.Common.{Bool, true, List, [], ◌∷◌, ◌++◌, append-nil, append_assoc, length, length-append, Some}
+use Rattle.std.proofs.Common.{ne_eqb, if◌then◌else◌}
+use Rattle.std.specs.Prelude.{flat_map}
 use Rattle.std.proofs.lemmas.List.Elements.{filter-append}
 use Rattle.std.proofs.lemmas.Grind.{flat_map-append}
-use Rattle.event_places.specs.Places.{handler_place, head_place, tail_place, count_place, sent_place, answer_place, ring_slots, slot_place}
-use Rattle.msp_step.specs.alp_words.Words.{word_sum, word_difference}
+use Rattle.event_places.specs.Places.{head_place, tail_place, count_place, sent_place, answer_place, ring_slots, slot_place}
+use Rattle.msp_step.specs.alp_words.Words.{word_sum}
 use Rattle.fram_board.specs.Effects.{Effect, Store, Take, Outside, OutsideEffect, Offered, Looked}
-use Rattle.machine_effects.specs.World.{Look, put, fram_after_one, OfStore}
+use Rattle.machine_effects.specs.World.{put, fram_after_one, OfStore}
 use Rattle.machine_effects.proofs.Interface.{put_other, put_same}
 use Rattle.crash_rules.specs.Model.{Marks, IsElsewhere, words_stored, answers_at, answers_in}
-use Rattle.crash_rules.specs.History.{Done, History, is_done, is_decide, with_effect, behind_gate, behind_decide, behind_done, observe_one, observe, behind_boot}
+use Rattle.crash_rules.specs.History.{Done, History, is_decide, with_effect, behind_gate, behind_decide, behind_done, observe_one, observe}
 use Rattle.crash_rules.proofs.Interface.{world_fram, answers-append, observe_quiet, observed_world}
-use Rattle.event_rules.specs.Rings.{KeepsRing}
-use Rattle.event_rules.specs.Taking.{Taking, Before, Open, SawHead, SawSlot, Took, Frozen, IsIdle, next_index, Advances, Takes, Sends, Stores, Clears, Looks}
+use Rattle.event_rules.specs.Taking.{Taking, Before, Open, SawHead, SawSlot, Took, Frozen, next_index, Advances, Takes, Sends, Stores, Clears, Looks}
 use Rattle.event_rules.specs.Taking.{Sees, AnswersNone, AnswersWord, Counts, Freezes, Decides, Moves, Ends, Follows}
 use Rattle.event_orders.specs.Answers.{not_zeros}
-use Rattle.event_orders.proofs.Window.{Stands, Window, window_same, same_slot, stands_behind, moved_there, given_away}
+use Rattle.event_orders.proofs.Window.{Stands, Window, same_slot, stands_behind, moved_there, given_away}
 
 -- what a history tells of answers: the FRAM, the answers of the dones, those since the last boot or done, and those of the last decide
 pub record Account : Type 0 where
@@ -37,7 +36,7 @@ pub record Fresh (gate first : ℕ) (ring : ℕ → ℕ) (a : Account) (words : 
   pub done : List ℕ
   pub left : List ℕ
   pub words_are : words ≡ done ++ left
-  pub open : a.fram gate ≢ 1
+  pub unpending : a.fram gate ≢ 1
   pub committed : not_zeros a.committed ≡ not_zeros done
   pub asked : not_zeros a.asked ≡ []
   pub tail : a.fram tail_place ≡ (first + length done) % 0x10000
@@ -68,7 +67,7 @@ pub record Asked (gate first : ℕ) (t : Taking) (ring : ℕ → ℕ) (a : Accou
   pub taken : List ℕ
   pub left : List ℕ
   pub words_are : words ≡ done ++ (taken ++ left)
-  pub open : a.fram gate ≢ 1
+  pub unpending : a.fram gate ≢ 1
   pub committed : not_zeros a.committed ≡ not_zeros done
   pub asked : not_zeros a.asked ≡ not_zeros taken
   pub tail : a.fram tail_place ≡ (first + length done) % 0x10000
@@ -102,8 +101,12 @@ quiet_account marks e h elsewhere =
     (world_fram (e ∷ []) h.world) (answers-append marks h.effects (e ∷ []))
 
 abbrev pub decided_behind : Marks → Account → Account
-decided_behind marks a = record { fram = put a.fram marks.gate 1; committed = a.committed; asked = a.asked ++ answers_in marks (Store marks.gate 1 ∷ []);
-    decided = a.asked ++ answers_in marks (Store marks.gate 1 ∷ []) }
+decided_behind marks a = record {
+  fram = put a.fram marks.gate 1;
+  committed = a.committed;
+  asked = a.asked ++ answers_in marks (Store marks.gate 1 ∷ []);
+  decided = a.asked ++ answers_in marks (Store marks.gate 1 ∷ []);
+}
 
 decides_at : (before : ℕ) → before ≢ 1 → is_decide before 1 ≡ true
 decides_at before other = ap (λ (c : Bool). not c) (ne_eqb before 1 other)
@@ -189,7 +192,7 @@ module _ (marks : Marks) (low : marks.gate < tail_place) (ans : marks.answer ≡
     done = h.done;
     left = h.left;
     words_are = h.words_are;
-    open = λ one. h.open (sym e.at_gate ∙ one);
+    unpending = λ one. h.unpending (sym e.at_gate ∙ one);
     committed = h.committed;
     asked = h.asked;
     tail = e.at_tail ∙ h.tail;
@@ -221,7 +224,7 @@ module _ (marks : Marks) (low : marks.gate < tail_place) (ans : marks.answer ≡
     taken = h.taken;
     left = h.left;
     words_are = h.words_are;
-    open = λ one. h.open (sym e.at_gate ∙ one);
+    unpending = λ one. h.unpending (sym e.at_gate ∙ one);
     committed = h.committed;
     asked = h.asked;
     tail = e.at_tail ∙ h.tail;
@@ -258,7 +261,7 @@ module _ (marks : Marks) (low : marks.gate < tail_place) (ans : marks.answer ≡
         taken = [];
         left = h.left;
         words_are = h.words_are;
-        open = λ one. h.open (sym (put_other f count_place 0 gate (λ e. omega (arith, e, low))) ∙ one);
+        unpending = λ one. h.unpending (sym (put_other f count_place 0 gate (λ e. omega (arith, e, low))) ∙ one);
         committed = h.committed;
         asked = h.asked;
         tail = tail ∙ h.tail;
@@ -280,7 +283,7 @@ module _ (marks : Marks) (low : marks.gate < tail_place) (ans : marks.answer ≡
     taken = h.taken;
     left = h.left;
     words_are = h.words_are;
-    open = h.open;
+    unpending = h.unpending;
     committed = h.committed;
     asked = h.asked;
     tail = h.tail;
@@ -304,13 +307,16 @@ module _ (marks : Marks) (low : marks.gate < tail_place) (ans : marks.answer ≡
         taken = h.taken;
         left = h.left;
         words_are = h.words_are;
-        open = h.open;
+        unpending = h.unpending;
         committed = h.committed;
         asked = h.asked;
         tail = h.tail;
         window = h.window;
-        knows = (h.knows.0, λ other. next_word h.left (i + length h.taken) word (h.knows.1 other) (stands_behind ring i h.taken h.left h.window.stands)
-            (is ∙ ap ring (same_slot (i + length h.taken) (next_index a.fram) index)));
+        knows = (
+          h.knows.0,
+          λ other. next_word h.left (i + length h.taken) word (h.knows.1 other) (stands_behind ring i h.taken h.left h.window.stands)
+              (is ∙ ap ring (same_slot (i + length h.taken) (next_index a.fram) index)),
+        );
       }
 
   -- an answer is stored
@@ -337,7 +343,7 @@ module _ (marks : Marks) (low : marks.gate < tail_place) (ans : marks.answer ≡
         taken = h.taken;
         left = h.left;
         words_are = h.words_are;
-        open = λ one. h.open (sym e.at_gate ∙ one);
+        unpending = λ one. h.unpending (sym e.at_gate ∙ one);
         committed = h.committed;
         asked = zeros_joined a.asked (0 ∷ []) ∙ append-nil (not_zeros a.asked) ∙ h.asked;
         tail = e.at_tail ∙ h.tail;
@@ -356,7 +362,7 @@ module _ (marks : Marks) (low : marks.gate < tail_place) (ans : marks.answer ≡
         taken = h.taken ++ word ∷ [];
         left = next.0;
         words_are = h.words_are ∙ ap (λ l. h.done ++ l) moved;
-        open = λ one. h.open (sym e.at_gate ∙ one);
+        unpending = λ one. h.unpending (sym e.at_gate ∙ one);
         committed = h.committed;
         asked = zeros_joined a.asked (word ∷ []) ∙ ap (λ l. l ++ not_zeros (word ∷ [])) h.asked ∙ sym (zeros_joined h.taken (word ∷ []));
         tail = e.at_tail ∙ h.tail;
@@ -381,7 +387,7 @@ module _ (marks : Marks) (low : marks.gate < tail_place) (ans : marks.answer ≡
         taken = h.taken;
         left = h.left;
         words_are = h.words_are;
-        open = λ one. h.open (sym (put_other f count_place w gate (λ e. omega (arith, e, low))) ∙ one);
+        unpending = λ one. h.unpending (sym (put_other f count_place w gate (λ e. omega (arith, e, low))) ∙ one);
         committed = h.committed;
         asked = h.asked;
         tail = tail ∙ h.tail;
@@ -402,7 +408,7 @@ module _ (marks : Marks) (low : marks.gate < tail_place) (ans : marks.answer ≡
         taken = h.taken;
         left = h.left;
         words_are = h.words_are;
-        open = λ one. h.open (sym (put_other f sent_place w gate (λ e. omega (arith, e, low))) ∙ one);
+        unpending = λ one. h.unpending (sym (put_other f sent_place w gate (λ e. omega (arith, e, low))) ∙ one);
         committed = h.committed;
         asked = h.asked;
         tail = tail ∙ h.tail;
@@ -433,7 +439,7 @@ module _ (marks : Marks) (low : marks.gate < tail_place) (ans : marks.answer ≡
 
   -- TAIL is moved
   moves : (a : Account) → a.fram gate ≡ 1 → K Before a → K Before (with_fram (put a.fram tail_place (a.fram sent_place)) a)
-  moves a one (inl h) = absurd (h.open one)
+  moves a one (inl h) = absurd (h.unpending one)
   moves a one (inr h) =
       let f = a.fram in
       let w = f sent_place in
@@ -451,7 +457,7 @@ module _ (marks : Marks) (low : marks.gate < tail_place) (ans : marks.answer ≡
 
   -- GATE becomes 0
   ends : (a : Account) → a.fram gate ≡ 1 → a.fram tail_place ≡ a.fram sent_place → K Before a → K Before (ended_behind marks a)
-  ends a one moved (inl h) = absurd (h.open one)
+  ends a one moved (inl h) = absurd (h.unpending one)
   ends a one moved (inr h) =
       let f = a.fram in
       let tail : put f gate 0 tail_place ≡ f tail_place = put_other f gate 0 tail_place (λ e. omega (arith, e, low)) in
@@ -459,7 +465,7 @@ module _ (marks : Marks) (low : marks.gate < tail_place) (ans : marks.answer ≡
         done = h.done;
         left = h.left;
         words_are = h.words_are;
-        open = λ e. let z = put_same f gate 0 in let no : 0 ≡ 1 = sym z ∙ e in omega (arith, no);
+        unpending = λ e. let z = put_same f gate 0 in let no : 0 ≡ 1 = sym z ∙ e in omega (arith, no);
         committed = zeros_joined a.committed a.decided ∙ h.committed;
         asked = ap not_zeros (answers_are []);
         tail = tail ∙ moved ∙ h.sent;
@@ -478,7 +484,8 @@ module _ (marks : Marks) (low : marks.gate < tail_place) (ans : marks.answer ≡
     abbrev a : Account
     a = account_of marks h
 
-    stays : (t : Taking) (e : Effect) → OfStore (IsElsewhere gate) e → (b : Account) → behind marks e a ≡ b → K t b → K t (account_of marks (observe_one marks e h))
+    stays : (t : Taking) (e : Effect) → OfStore (IsElsewhere gate) e → (b : Account) → behind marks e a ≡ b → K t b
+        → K t (account_of marks (observe_one marks e h))
     stays t e elsewhere b is k = subst (K t) (sym (quiet_account marks e h elsewhere ∙ is)) k
 
     above : (v place : ℕ) → v ≡ place → tail_place ≤ place → v ≢ gate

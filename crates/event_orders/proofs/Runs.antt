@@ -1,8 +1,9 @@
 -- The order of a ring's words over whole runs.
-use Rattle.std.proofs.Common.{◌≡◌, ◌≢◌, ◌+◌, ◌%◌, ◌≤◌, ◌<◌, ◌==◌, ◌⊎◌, inl, inr, if◌then◌else◌, arith, ℕ, zero, suc, refl, sym, ap, ap₂, ◌∙◌, subst, Bool, true, false}
+use Rattle.std.proofs.Common.{◌≡◌, ◌≢◌, ◌+◌, ◌%◌, ◌≤◌, ◌<◌, ◌==◌, ◌⊎◌, inl, inr, if◌then◌else◌, arith, ℕ, zero, suc, refl, sym, ap, ap₂, ◌∙◌, subst, Bool}
+use Rattle.std.proofs.Common.{true, false}
 use Rattle.std.proofs.Common.{List, [], ◌∷◌, ◌++◌, append-nil, append_assoc, length, length-append, map, Option, Some, None, eqb-true, eq-eqb}
 use Rattle.std.specs.Prelude.{flat_map, slice_get, Contains}
-use Rattle.event_places.specs.Places.{head_place, tail_place, count_place, sent_place, answer_place, ring_slots, slot_place, is_ring}
+use Rattle.event_places.specs.Places.{handler_place, head_place, tail_place, count_place, sent_place, answer_place, ring_slots}
 use Rattle.msp_step.specs.alp_words.Words.{word_sum, word_difference}
 use Rattle.fram_board.specs.declared.events.Heard.TheVariants as heard
 use Rattle.fram_board.specs.Board.{BoardValue}
@@ -34,8 +35,8 @@ use Rattle.event_orders.specs.Answers.{not_zeros, AnswersInOrder}
 use Rattle.event_orders.specs.Waiting.{words_from, first_index, waiting_in, words_behind, IsNextWord, IsAnswer, AnswersNone, AnswersNext, TakesInOrder}
 use Rattle.event_orders.specs.Laws.{TakesEvents, IsInOrder, KeepsOrder, RingsKeepOrder}
 use Rattle.event_orders.proofs.Window.{Stands, Window}
-use Rattle.event_orders.proofs.Order.{Account, account_of, answers_of, Fresh, Pending, Asked, Keeps, SeeRing, effects_advance, zeros_joined}
-use Rattle.event_orders.proofs.Moments.{Leaves, tells, looks_see, moves_leave}
+use Rattle.event_orders.proofs.Order.{account_of, answers_of, Fresh, Pending, Asked, Keeps, SeeRing, effects_advance, zeros_joined}
+use Rattle.event_orders.proofs.Moments.{tells, looks_see, moves_leave}
 use Rattle.event_orders.proofs.Looks.{SawAt, IsAnswered, step_saw, follows_split, answered_by, look_leaves, look_answers_none, saw_head, none_waited}
 use Rattle.event_orders.proofs.Looks.{next_there, nothing_there}
 
@@ -115,7 +116,7 @@ module _ (marks : Marks) (low : marks.gate < tail_place) (ans : marks.answer ≡
         done = k.done;
         left = k.taken ++ k.left;
         words_are = k.words_are;
-        open = k.open;
+        unpending = k.unpending;
         committed = k.committed;
         asked = none;
         tail = k.tail;
@@ -128,7 +129,7 @@ module _ (marks : Marks) (low : marks.gate < tail_place) (ans : marks.answer ≡
         done = k.done;
         left = k.left;
         words_are = k.words_are;
-        open = k.open;
+        unpending = k.unpending;
         committed = k.committed;
         asked = none;
         tail = k.tail;
@@ -256,10 +257,10 @@ module _ (marks : Marks) (low : marks.gate < tail_place) (ans : marks.answer ≡
   small a = (machine_is_of_words b words).fram a
 
   -- a word in front of the handler is as the program sees it
-  pub seen_low : (a : ℕ) → a < 0xFF6E → (outside_of b).fram a ≡ f a
+  pub seen_low : (a : ℕ) → a < handler_place → (outside_of b).fram a ≡ f a
   seen_low a l = steady_low f a l
 
-  as_told : (a : ℕ) → a < 0xFF6E → x.fram a ≡ f a
+  as_told : (a : ℕ) → a < handler_place → x.fram a ≡ f a
   as_told a l = ap (λ (g : ℕ → ℕ). g a) fram ∙ seen_low a l
 
   none_asked : not_zeros (answers_in marks []) ≡ []
@@ -298,7 +299,7 @@ module _ (marks : Marks) (low : marks.gate < tail_place) (ans : marks.answer ≡
             done = [];
             left = waiting;
             words_are = append-nil waiting;
-            open = λ one. other (sym from_gate ∙ one);
+            unpending = λ one. other (sym from_gate ∙ one);
             committed = refl;
             asked = none_asked;
             tail = at ∙ (let s : f tail_place ≡ (first + 0) % 0x10000 = omega (arith, is, low_tail) in s);
@@ -315,50 +316,47 @@ joined_answers (d ∷ ds) = ap (λ l. d.answers ++ l) (joined_answers ds)
 
 module _ (marks : Marks) (low : marks.gate < tail_place) (first : ℕ) (b : BoardValue) (h : History) (told : (outside_of b).fram ≡ h.world.fram)
     (words : List ℕ) where
-  abbrev gate : ℕ
-  gate = marks.gate
+  abbrev ring : ℕ → ℕ
+  ring = fram_of b.fram
 
-  abbrev f : ℕ → ℕ
-  f = fram_of b.fram
-
-  tells_low : (a : ℕ) → a < 0xFF6E → h.world.fram a ≡ f a
-  tells_low a l = ap (λ (g : ℕ → ℕ). g a) (sym told) ∙ steady_low f a l
+  tells_low : (a : ℕ) → a < handler_place → h.world.fram a ≡ ring a
+  tells_low a l = ap (λ (g : ℕ → ℕ). g a) (sym told) ∙ steady_low ring a l
 
   abbrev answers : List (List ℕ)
   answers = map (λ (d : Done). d.answers) h.completed
 
-  room_there : (i : ℕ) (ws : List ℕ) → Window f (h.world.fram tail_place) i ws → word_difference (f head_place) (f tail_place) ≤ ring_slots
-  room_there i ws w = subst (λ t. word_difference (f head_place) t ≤ ring_slots) (tells_low tail_place (omega arith)) w.room
+  room_there : (i : ℕ) (ws : List ℕ) → Window ring (h.world.fram tail_place) i ws → word_difference (ring head_place) (ring tail_place) ≤ ring_slots
+  room_there i ws w = subst (λ t. word_difference (ring head_place) t ≤ ring_slots) (tells_low tail_place (omega arith)) w.room
 
-  open_ring : (i : ℕ) (ws : List ℕ) → Window f (h.world.fram tail_place) i ws → (h.world.fram gate ≢ 1) → KeepsRing gate f
-  open_ring i ws w open = record { head = room_there i ws w; sent = λ one. absurd (open (tells_low gate (omega (arith, low)) ∙ one)) }
+  open_ring : (i : ℕ) (ws : List ℕ) → Window ring (h.world.fram tail_place) i ws → (h.world.fram marks.gate ≢ 1) → KeepsRing marks.gate ring
+  open_ring i ws w unpending = record { head = room_there i ws w; sent = λ one. absurd (unpending (tells_low marks.gate (omega (arith, low)) ∙ one)) }
 
   -- where a commit is pending SE is among those that wait
   sent_between : (h0 t s i n : ℕ) → h0 ≡ (i + n) % 0x10000 → s ≡ i % 0x10000 → n ≤ word_difference h0 t → word_difference h0 t ≤ ring_slots
       → word_difference s t ≤ word_difference h0 t
   sent_between h0 t s i n head sent near room = omega (arith, head, sent, near, room)
 
-  closed_ring : Pending gate first f (account_of marks h) words → KeepsRing gate f
+  closed_ring : Pending marks.gate first ring (account_of marks h) words → KeepsRing marks.gate ring
   closed_ring k =
       let i = first + length k.done in
       let w = k.window in
       let tail = tells_low tail_place (omega arith) in
-      let sent : f sent_place ≡ i % 0x10000 = sym (tells_low sent_place (omega arith)) ∙ k.sent in
-      let near : length k.left ≤ word_difference (f head_place) (f tail_place) =
-      subst (λ t. length k.left ≤ word_difference (f head_place) t) tail w.near in
+      let sent : ring sent_place ≡ i % 0x10000 = sym (tells_low sent_place (omega arith)) ∙ k.sent in
+      let near : length k.left ≤ word_difference (ring head_place) (ring tail_place) =
+      subst (λ t. length k.left ≤ word_difference (ring head_place) t) tail w.near in
       record {
         head = room_there i k.left w;
-        sent = λ one. sent_between (f head_place) (f tail_place) (f sent_place) i (length k.left) w.head sent near (room_there i k.left w);
+        sent = λ one. sent_between (ring head_place) (ring tail_place) (ring sent_place) i (length k.left) w.head sent near (room_there i k.left w);
       }
 
-  ring_there : (t : Taking) → Keeps gate first t f (account_of marks h) words → KeepsRing gate f
-  ring_there Before (inl k) = open_ring _ _ k.window k.open
+  ring_there : (t : Taking) → Keeps marks.gate first t ring (account_of marks h) words → KeepsRing marks.gate ring
+  ring_there Before (inl k) = open_ring _ _ k.window k.unpending
   ring_there Before (inr k) = closed_ring k
-  ring_there Open k = open_ring _ _ k.window k.open
-  ring_there (SawHead head) k = open_ring _ _ k.window k.open
-  ring_there (SawSlot head word) k = open_ring _ _ k.window k.open
-  ring_there Took k = open_ring _ _ k.window k.open
-  ring_there Frozen k = open_ring _ _ k.window k.open
+  ring_there Open k = open_ring _ _ k.window k.unpending
+  ring_there (SawHead head) k = open_ring _ _ k.window k.unpending
+  ring_there (SawSlot head word) k = open_ring _ _ k.window k.unpending
+  ring_there Took k = open_ring _ _ k.window k.unpending
+  ring_there Frozen k = open_ring _ _ k.window k.unpending
 
   -- the answers of the dones are the first
   first_of : (done more : List ℕ) → words ≡ done ++ more → not_zeros (answers_of h.completed) ≡ not_zeros done → AnswersInOrder answers words
@@ -368,7 +366,7 @@ module _ (marks : Marks) (low : marks.gate < tail_place) (first : ℕ) (b : Boar
         ∙ sym (zeros_joined done more) ∙ ap not_zeros (sym are);
   }
 
-  closed_answers : Pending gate first f (account_of marks h) words → AnswersInOrder answers words
+  closed_answers : Pending marks.gate first ring (account_of marks h) words → AnswersInOrder answers words
   closed_answers k = record {
     waiting = not_zeros h.answers ++ not_zeros k.left;
     joined = ap (λ l. not_zeros l ++ (not_zeros h.answers ++ not_zeros k.left)) (joined_answers h.completed)
@@ -376,7 +374,7 @@ module _ (marks : Marks) (low : marks.gate < tail_place) (first : ℕ) (b : Boar
         ∙ ap (λ l. l ++ not_zeros k.left) k.committed ∙ sym (zeros_joined k.done k.left) ∙ ap not_zeros (sym k.words_are);
   }
 
-  answers_there : (t : Taking) → Keeps gate first t f (account_of marks h) words → AnswersInOrder answers words
+  answers_there : (t : Taking) → Keeps marks.gate first t ring (account_of marks h) words → AnswersInOrder answers words
   answers_there Before (inl k) = first_of k.done k.left k.words_are k.committed
   answers_there Before (inr k) = closed_answers k
   answers_there Open k = first_of k.done _ k.words_are k.committed
@@ -387,23 +385,19 @@ module _ (marks : Marks) (low : marks.gate < tail_place) (first : ℕ) (b : Boar
 
 -- ---- a run
 
-pub front_follows : (gate : ℕ) (t : Taking) (ms rest : List Moment) → EachFollows gate t (ms ++ rest) → EachFollows gate t ms
-front_follows gate t [] rest h = tt
-front_follows gate t (m ∷ ms) rest h = (h.0, h.1, front_follows gate h.0 ms rest h.2)
-
 module _ (c : Program) (marks : Marks) (x : World) (cs : List BoardCharge) (b : BoardValue) (r : RunOutcome) (of : TakesEvents c marks x cs b r) where
-  abbrev first : ℕ
-  first = first_index marks.gate (fram_of b.fram)
+  abbrev from : ℕ
+  from = first_index marks.gate (fram_of b.fram)
 
-  abbrev waiting : List ℕ
-  waiting = waiting_in marks.gate (fram_of b.fram)
+  abbrev waited : List ℕ
+  waited = waiting_in marks.gate (fram_of b.fram)
 
   abbrev start : History
   start = first_history marks x
 
   record There (ms rest : List Moment) (t : BoardValue) : Type 0 where
     at : Taking
-    holds : Holds marks of.gate of.answer first waiting b at t (observed marks ms start) (after ms no_hand).accepted
+    holds : Holds marks of.gate of.answer from waited b at t (observed marks ms start) (after ms no_hand).accepted
     told : (outside_of t).fram ≡ (observed marks ms start).world.fram
     follows : EachFollows marks.gate at rest
     saw : SawAt b ms at (outside_of t).fram
@@ -417,7 +411,7 @@ module _ (c : Program) (marks : Marks) (x : World) (cs : List BoardCharge) (b : 
       let follows : EachFollows marks.gate Before (moments_of all.charges ++ rest) =
       subst (λ l. EachFollows marks.gate Before (l ++ rest)) all.moments (subst (λ l. EachFollows marks.gate Before l) e of.follows) in
       let begun = at_first marks of.gate of.answer b of.run.words x of.fram of.ring in
-      let end = charges_keep marks of.gate of.answer first waiting b on refl b start all.charges rest ready all.follow no_hand Before []
+      let end = charges_keep marks of.gate of.answer from waited b on refl b start all.charges rest ready all.follow no_hand Before []
       (record { holds = begun; told = sym of.fram; follows = follows; place = refl; saw = tt }) in
       subst (λ t. There ms rest t) (sym place) (subst (λ l. There l rest (board_behind_all b all.charges)) (sym all.moments) (record {
         at = end.at;
@@ -433,15 +427,15 @@ module _ (c : Program) (marks : Marks) (x : World) (cs : List BoardCharge) (b : 
       let k = observed marks ms start in
       let words = words_behind marks.gate b ms in
       record {
-        ring = ring_there marks of.gate first (last_board b ms) k t.told words t.at t.holds;
-        answers = answers_there marks of.gate first (last_board b ms) k t.told words t.at t.holds;
+        ring = ring_there marks of.gate from (last_board b ms) k t.told words t.at t.holds;
+        answers = answers_there marks of.gate from (last_board b ms) k t.told words t.at t.holds;
       }
 
   -- ---- answers
 
   -- the word that an open look at a slot has seen is the next one
   is_next : (ms : List Moment) (h : History) → h.world.fram ≡ (outside_of (last_board b ms)).fram → (head word : ℕ)
-      → Keeps marks.gate first (SawSlot head word) (fram_of (last_board b ms).fram) (account_of marks h) (words_behind marks.gate b ms)
+      → Keeps marks.gate from (SawSlot head word) (fram_of (last_board b ms).fram) (account_of marks h) (words_behind marks.gate b ms)
       → next_index h.world.fram ≢ head → IsNextWord marks.gate b ms word
   is_next ms h told head word k other =
       let f : ℕ → ℕ = fram_of (last_board b ms).fram in
@@ -464,13 +458,13 @@ module _ (c : Program) (marks : Marks) (x : World) (cs : List BoardCharge) (b : 
       record {
         number = length front;
         word = ap (λ l. slice_get l (length front)) are ∙ next_there front next.0 word;
-        index = (let e : (first + length front) % 0x10000 ≡ next_index h.world.fram = omega (arith, long, tail, count) in e) ∙ sym seen;
+        index = (let e : (from + length front) % 0x10000 ≡ next_index h.world.fram = omega (arith, long, tail, count) in e) ∙ sym seen;
         last = omega (arith, all, wait, left, near, room);
       }
 
   -- a step answers so
   step_answers : (ms rest : List Moment) (m : Moment) → There ms (m ∷ rest) (last_board b ms) → m.before ≡ last_board b ms → (t u : Taking)
-      → Holds marks of.gate of.answer first waiting b t (last_board b ms) (observed marks ms start) (after ms no_hand).accepted
+      → Holds marks of.gate of.answer from waited b t (last_board b ms) (observed marks ms start) (after ms no_hand).accepted
       → SawAt b ms t (outside_of (last_board b ms)).fram → Follows marks.gate (outside_of m.before).fram t (outside_effects m) u
       → (w : ℕ) → Contains (words_stored answer_place (outside_effects m)) w → IsAnswer marks.gate b ms w
   step_answers ms rest m there same t u holds saw follows w stored =
@@ -479,24 +473,25 @@ module _ (c : Program) (marks : Marks) (x : World) (cs : List BoardCharge) (b : 
       let f : ℕ → ℕ = (outside_of c).fram in
       let h = observed marks ms start in
       let es = look_effects told.looks in
-      let from : Follows marks.gate f t (es ++ told.acts) u =
+      let all : Follows marks.gate f t (es ++ told.acts) u =
       subst (λ (y : BoardValue). Follows marks.gate (outside_of y).fram t (es ++ told.acts) u) same
       (subst (λ l. Follows marks.gate (outside_of m.before).fram t l u) told.are follows) in
       let seen : (told.looks ≡ []) ⊎ (told.looks ≡ fram_of c.fram ∷ []) =
       subst (λ (y : BoardValue). (told.looks ≡ []) ⊎ (told.looks ≡ fram_of y.fram ∷ [])) same told.seen in
-      let parts = follows_split marks.gate f t u es told.acts from in
+      let parts = follows_split marks.gate f t u es told.acts all in
       let acts : Follows marks.gate f parts.0 told.acts u =
       subst (λ (g : ℕ → ℕ). Follows marks.gate g parts.0 told.acts u) (look_leaves marks.gate of.gate told.looks f) parts.2 in
       let answered = answered_by marks.gate of.gate f parts.0 u told.acts told.none acts w
       (subst (λ l. Contains l w) (ap (words_stored answer_place) told.are ∙ look_answers_none marks.gate of.gate told.looks told.acts) stored) in
-      let sees = looks_see marks of.gate of.answer first (fram_of c.fram) (words_behind marks.gate b ms) told.looks [] seen tt in
-      let sees_all : SeeRing marks of.gate of.answer first (fram_of c.fram) (words_behind marks.gate b ms) es =
-      subst (λ l. SeeRing marks of.gate of.answer first (fram_of c.fram) (words_behind marks.gate b ms) l) (append-nil es) sees in
-      let kept = effects_advance marks of.gate of.answer first (fram_of c.fram) (words_behind marks.gate b ms) h f t parts.0 es there.told parts.1 sees_all holds in
+      let sees = looks_see marks of.gate of.answer from (fram_of c.fram) (words_behind marks.gate b ms) told.looks [] seen tt in
+      let sees_all : SeeRing marks of.gate of.answer from (fram_of c.fram) (words_behind marks.gate b ms) es =
+      subst (λ l. SeeRing marks of.gate of.answer from (fram_of c.fram) (words_behind marks.gate b ms) l) (append-nil es) sees in
+      let kept =
+      effects_advance marks of.gate of.answer from (fram_of c.fram) (words_behind marks.gate b ms) h f t parts.0 es there.told parts.1 sees_all holds in
       by parts.0 parts.1 kept answered
     where
       by : (v : Taking) → Follows marks.gate (outside_of (last_board b ms)).fram t (look_effects (tells m).looks) v
-          → Keeps marks.gate first v (fram_of (last_board b ms).fram) (account_of marks (observe marks (look_effects (tells m).looks) (observed marks ms start)))
+          → Keeps marks.gate from v (fram_of (last_board b ms).fram) (account_of marks (observe marks (look_effects (tells m).looks) (observed marks ms start)))
           (words_behind marks.gate b ms)
           → IsAnswered v (outside_of (last_board b ms)).fram w → IsAnswer marks.gate b ms w
       by Before looks kept a = absurd a

@@ -1,31 +1,29 @@
 -- Moments of a run take words of the ring in order, as its scripts do.
-use Rattle.std.proofs.Common.{◌≡◌, ℕ, suc, ◌+◌, arith, refl, sym, ap, ◌∙◌, subst, List, [], ◌∷◌, ◌++◌, true, false}
+use Rattle.std.proofs.Common.{◌≡◌, ℕ, suc, ◌<◌, arith, refl, sym, ap, ◌∙◌, subst, List, [], ◌∷◌, ◌++◌, true, false, append_assoc}
+use Rattle.std.proofs.lemmas.List.Elements.{All-cons}
 use Rattle.fram_board.specs.Effects.{Effect}
 use Rattle.fram_board.specs.Board.{BoardValue}
-use Rattle.fram_board.specs.Run.{Action, PowerUp, Execute, Moment, BoardCharge, RunOutcome}
+use Rattle.fram_board.specs.Run.{Action, PowerUp, Execute, Moment, BoardCharge, RunOutcome, power_up_of}
 use Rattle.machine_effects.specs.World.{World, fram_after_one, fram_after, looks_taken}
 use Rattle.machine_effects.specs.Inputs.{Look, SeeWords, TakesExactly, InputsAreWords}
-use Rattle.machine_effects.specs.Going.{At, stretch, going}
-use Rattle.machine_effects.specs.Machine.{MachineBoard}
+use Rattle.machine_effects.specs.Going.{At, going}
 use Rattle.machine_effects.specs.View.{IsWhole, IsOfWords}
 use Rattle.machine_effects.specs.Runs.{last_board}
 use Rattle.machine_effects.proofs.Interface.{machine_is_of_words}
 use Rattle.program_view.specs.Stands.{AtCode}
-use Rattle.code_forms.specs.Placed.{words_of}
 use Rattle.crash_rules.specs.Model.{Model, ModelLaws}
-use Rattle.crash_rules.specs.History.{History, first_history, observe, behind_boot}
-use Rattle.crash_rules.specs.Runs.{Program, ProgramLaws, Charge, IsPoweredFrom, Charged}
+use Rattle.crash_rules.specs.History.{History, first_history}
+use Rattle.crash_rules.specs.Runs.{Program, ProgramLaws}
 use Rattle.crash_rules.specs.Laws.{Origin, Begins, HasRun, Phase, UndecidedPhase, DecidedPhase, CommittingPhase}
 use Rattle.crash_rules.proofs.Interface.{crash_theorem, changed}
 use Rattle.run_charges.specs.View.{outside_of, outside_effects, all_outside_effects, looks_in}
-use Rattle.run_charges.specs.Moments.{IsMomentFrom, AreMoments}
+use Rattle.run_charges.specs.Moments.{AreMoments}
 use Rattle.run_charges.specs.Charges.{IsInstruction, AreInstructionMoments, observed, program_steps}
-use Rattle.run_charges.specs.Fronts.{ChargeFront, board_powered, board_behind, moments_of, IsChargeFrom, AreChargesFrom}
+use Rattle.run_charges.specs.Fronts.{ChargeFront, board_powered, moments_of, IsChargeFrom, AreChargesFrom}
 use Rattle.run_charges.specs.Laws.{IsRunOfWords, StandsIn}
-use Rattle.run_charges.proofs.Interface.{Steps, IsPowerOrStep, IsPower, IsStepped, moment_is, whole_behind, looks_see, PlacedProgram, Machine, Reach, instructions_reach}
-use Rattle.run_charges.proofs.Interface.{Ready, ready_behind, running, begun, is_powered, is_powered_from, charged_once, charged_join, end, end_fram, end_readings}
-use Rattle.run_charges.proofs.Interface.{Reached, reached_first, reached_on, powered_there, front_charges, run_front, placed_program, ready_there, programs_run}
-use Rattle.run_charges.proofs.Interface.{first, steps}
+use Rattle.run_charges.proofs.Interface.{IsPowerOrStep, IsPower, IsStepped, moment_is, whole_behind, looks_see, PlacedProgram, Machine, instructions_reach}
+use Rattle.run_charges.proofs.Interface.{running, begun, is_powered, is_powered_from, Reached, front_reached, reached_on, front_charges, run_front}
+use Rattle.run_charges.proofs.Interface.{placed_program, ready_there, programs_run, no_power_up, nothing_seen, last-append}
 use Rattle.event_rules.specs.Taking.{Taking, Before, Advances, Follows, FollowsSeeing, ScriptsTakeInOrder, MomentFollows, EachFollows}
 use Rattle.event_rules.specs.Laws.{RunsTakeInOrder}
 use Rattle.event_rules.proofs.Scripts.{sighted, Entry, AtTask, AtCommit, goes_so}
@@ -42,9 +40,6 @@ module _ (gate : ℕ) where
       → MomentFollows gate a m t u
   step_follows PowerUp m t u is h = absurd is
   step_follows (Execute kind done offered) m t u is h = h
-
-  no_power_up : (m : Moment) → m.action ≡ PowerUp → IsInstruction m.action → ⊥
-  no_power_up m up is = subst (λ (a : Action). IsInstruction a) up is
 
   step_fram : (b : BoardValue) (m : Moment) → IsInstruction m.action → IsPowerOrStep b m
       → (outside_of m.after).fram ≡ fram_after (outside_effects m) (outside_of b).fram
@@ -77,7 +72,7 @@ abbrev no_look : List Look
 no_look = (λ a. 0) ∷ []
 
 none_is_word : SeeWords no_look
-none_is_word = omega arith
+none_is_word = All-cons (λ (look : Look). (a : ℕ) → look a < 0x10000) (λ a. 0) [] (λ a. omega arith) nothing_seen
 
 other_value : false ≡ true → ⊥
 other_value e = absurd cc
@@ -128,7 +123,8 @@ module _ {St : Type 0} (m : Model St) (c : Program) (laws : ModelLaws m) (code :
         let es = all_outside_effects ms in
         let made : (going c.step n p).effects ≡ es = ap (λ r. r.effects) reached.run in
         let led : (going c.step n p).status ≡ At reached.end.u = ap (λ r. r.status) reached.run in
-        let has_run : HasRun m c readings origin at.end h = record { world = x; start = outside_of b0; begins = begins; charges = at.charges; leads = at.charged } in
+        let has_run : HasRun m c readings origin at.end h =
+        record { world = x; start = outside_of b0; begins = begins; charges = at.charges; leads = at.charged } in
         let lawful = crash_theorem m c laws code readings origin at.end h has_run in
         let fram : p.fram ≡ h.world.fram = sym at.fram ∙ lawful.1.fram in
         let words : InputsAreWords p.inputs = record { readings = (machine_is_of_words start run.words).inputs.readings; looks = see } in
@@ -140,56 +136,43 @@ module _ {St : Type 0} (m : Model St) (c : Program) (laws : ModelLaws m) (code :
         let seeing : FollowsSeeing (Advances gate) (outside_of start).fram (looks_in ms ++ no_look) Before es does.0 =
         subst (λ l. FollowsSeeing (Advances gate) (outside_of start).fram (looks_in ms ++ no_look) Before l does.0) made does.1 in
         steps_follow gate start ms run.whole run.words from.moments from.instructions Before does.0
-        (sighted gate (looks_in ms ++ no_look) es (λ a. 0) [] left seeing)
+        (sighted gate {u = does.0} (looks_in ms ++ no_look) es (λ a. 0) [] left seeing)
 
-    -- the board behind a charge is reached by it
-    reached_behind : (f : ChargeFront) (h : History) → (at : Reached on b0 first_known f.before h) → IsChargeFrom f.before f
-        → Reached on b0 first_known (board_behind f) (observed m.marks f.instructions (behind_boot h))
-    reached_behind f h at from =
-        let b = f.before in
-        let ms = f.instructions in
-        let ready = at.ready in
-        let k = observed m.marks ms (behind_boot h) in
-        let one = charged_once on b h ready f.start from.start ms from.instructions from.moments in
-        let p = first on b h ready f.start from.start ms from.instructions from.moments in
-        let e : Charge = record { powered = p; steps = program_steps ms } in
-        let t = end on b h ready f.start from.start ms from.instructions from.moments in
-        let here : Charged c m.marks at.end h (e ∷ []) t k =
-        (one.0, powered_there on b0 first_known b h at p one.1, one.2) in
-        record {
-          charges = at.charges ++ e ∷ [];
-          end = t;
-          charged = charged_join c m.marks at.charges (e ∷ []) (outside_of b0) at.end t first_known h k at.charged here;
-          fram = end_fram on b h ready f.start from.start ms from.instructions from.moments;
-          readings = end_readings on b h ready f.start from.start ms from.instructions from.moments;
-          ready = ready_behind on b h ready f.start from.start ms from.instructions from.moments;
-        }
+    -- the charges of a run behind some moments
+    module _ (cs : List BoardCharge) (r : RunOutcome) (run : IsRunOfWords cs b0 r) where
+      charges_follow : (fs : List ChargeFront) (before rest : List Moment) → r.moments ≡ before ++ (moments_of fs ++ rest)
+          → AreChargesFrom (last_board b0 before) fs → (t : Taking) → EachFollows gate t (moments_of fs)
+      charges_follow [] before rest e all t = tt
+      charges_follow (f ∷ fs) before rest e all t =
+          let own = programs_run c cs b0 r run m.marks first_known stands in
+          let h = observed m.marks before first_known in
+          let from = all.0 in
+          let reached = front_reached on b0 first_known (ready_there c m.marks b0 first_known stands cs r run) before
+          (run_front cs b0 r before (moments_of (f ∷ fs) ++ rest) own e) in
+          let here = reached_on on b0 first_known (last_board b0 before) f.before h from.follows reached in
+          let charge : IsChargeFrom f.before f =
+          record { follows = record { same = refl }; start = from.start; instructions = from.instructions; moments = from.moments } in
+          let up = power_up_of f.before f.start in
+          let next = before ++ (up ∷ f.instructions) in
+          let more = moments_of fs ++ rest in
+          let on_more : r.moments ≡ next ++ more =
+          e ∙ ap (λ ms. before ++ (up ∷ ms)) (append_assoc f.instructions (moments_of fs) rest) ∙ sym (append_assoc before (up ∷ f.instructions) more) in
+          let all_more : AreChargesFrom (last_board b0 next) fs =
+          subst (λ y. AreChargesFrom y fs) (sym (last-append b0 before (up ∷ f.instructions))) all.1 in (
+            Before,
+            refl,
+            both_follow gate f.instructions (moments_of fs) Before (charge_follows f h here charge)
+                (λ u. charges_follow fs next rest on_more all_more u),
+          )
 
-    -- charge by charge
-    charges_follow : (b : BoardValue) (h : History) (fs : List ChargeFront) → Reached on b0 first_known b h → AreChargesFrom b fs → (t : Taking)
-        → EachFollows gate t (moments_of fs)
-    charges_follow b h [] at all t = tt
-    charges_follow b h (f ∷ fs) at all t =
-        let c0 = all.0 in
-        let here = reached_on on b0 first_known b f.before h c0.follows at in
-        let from : IsChargeFrom f.before f = record {
-          follows = record { same = refl };
-          start = c0.start;
-          instructions = c0.instructions;
-          moments = c0.moments;
-        } in
-        (Before, refl, both_follow gate f.instructions (moments_of fs) Before (charge_follows f h here from)
-        (λ u. charges_follow (board_behind f) (observed m.marks f.instructions (behind_boot h)) fs (reached_behind f h here from) all.1 u))
-
-    -- each front
-    pub front_follows : (cs : List BoardCharge) (r : RunOutcome) (ms rest : List Moment) → IsRunOfWords cs b0 r → r.moments ≡ ms ++ rest
-        → EachFollows gate Before ms
-    front_follows cs r ms rest run e =
-        let ready = ready_there c m.marks b0 first_known stands cs r run in
-        let all = front_charges b0 ms (run_front cs b0 r ms rest (programs_run c cs b0 r run m.marks first_known stands) e) in
-        subst (λ (l : List Moment). EachFollows gate Before l) (sym all.moments)
-        (charges_follow b0 first_known all.charges (reached_first on b0 first_known ready) all.follow Before)
+      -- each front
+      pub front_follows : (ms rest : List Moment) → r.moments ≡ ms ++ rest → EachFollows gate Before ms
+      front_follows ms rest e =
+          let own = programs_run c cs b0 r run m.marks first_known stands in
+          let all = front_charges b0 ms (run_front cs b0 r ms rest own e) in
+          subst (λ (l : List Moment). EachFollows gate Before l) (sym all.moments)
+          (charges_follow all.charges [] rest (e ∙ ap (λ l. l ++ rest) all.moments) all.follow Before)
 
 pub runs_take_in_order : {St : Type 0} (m : Model St) (c : Program) → RunsTakeInOrder m c
 runs_take_in_order m c laws code scripts readings origin x cs b r ms rest run e stands begins =
-    front_follows m c laws code scripts readings origin x b stands begins cs r ms rest run e
+    front_follows m c laws code scripts readings origin x b stands begins cs r run ms rest e

@@ -1,17 +1,16 @@
 -- A program that takes words of the ring in order in each script does so over a whole charge.
-use Rattle.std.proofs.Common.{◌≡◌, ◌≢◌, ℕ, zero, suc, ◌+◌, ◌-◌, ◌<◌, ◌≤◌, List, [], ◌∷◌, ◌++◌, refl, sym, ap, ap₂, ◌∙◌, subst, ⊎_elim, arith, Bool}
+use Rattle.std.proofs.Common.{◌≡◌, ℕ, zero, suc, ◌+◌, ◌-◌, ◌<◌, List, [], ◌∷◌, ◌++◌, refl, sym, ap, ◌∙◌, subst, ⊎_elim, arith, Bool}
 use Rattle.std.proofs.Common.{true, false, append-nil, length, drop, if◌then◌else◌}
 use Rattle.std.proofs.Math.Seq.{drop-nil}
 use Rattle.std.proofs.lemmas.Bool.{cases_lt}
-use Rattle.machine_effects.specs.msp_step.declared.machine.Stop.TheVariants as stop
 use Rattle.fram_board.specs.Effects.{Effect, Store, Take, Outside, Offered, Looked}
-use Rattle.machine_effects.specs.World.{World, world_after_one, world_after, fram_after_one, fram_after, looks_taken, EachStore}
-use Rattle.machine_effects.specs.Going.{At, stretch, after_effects, going, Leads, Stalls}
+use Rattle.machine_effects.specs.World.{World, world_after, fram_after_one, fram_after, looks_taken, EachStore}
+use Rattle.machine_effects.specs.Going.{At, after_effects, going, Leads}
 use Rattle.machine_effects.specs.Inputs.{Look, other_looks, TakesExactly}
 use Rattle.machine_effects.specs.Machine.{MachineBoard, MachineOutcome}
 use Rattle.machine_effects.proofs.Interface.{world_after-append, left_are_words}
 use Rattle.crash_rules.specs.Model.{Model, ModelLaws, Inputs, InputsAreWords, inputs_behind, ProgramEffects, program_effects, with_commit, attempt_from, bound}
-use Rattle.crash_rules.specs.Model.{AttemptContract, Comes, Lacks, Decides, CommitKeeps}
+use Rattle.crash_rules.specs.Model.{AttemptContract, Comes, Lacks, CommitKeeps}
 use Rattle.crash_rules.specs.Runs.{Program, AtEntry, Makes, ProgramLaws}
 use Rattle.crash_rules.proofs.Interface.{world_fram, in_front, goes_on, changed}
 use Rattle.event_rules.specs.Taking.{Taking, Before, IsIdle, Advances, Takes, Sends, Stores, Follows, Rule, looks_behind, FollowsSeeing, Ended, Next, Blind}
@@ -84,7 +83,8 @@ by_value false t f = f refl
 
 -- fewer steps make the first of the effects
 module _ (step : MachineBoard → MachineOutcome) where
-  part_of : (n k : ℕ) (s t : MachineBoard) → (going step n s).status ≡ At t → (rest : List Effect) × ((going step n s).effects ++ rest ≡ (going step (n + k) s).effects)
+  part_of : (n k : ℕ) (s t : MachineBoard) → (going step n s).status ≡ At t
+      → (rest : List Effect) × ((going step n s).effects ++ rest ≡ (going step (n + k) s).effects)
   part_of n k s t at = ((going step k t).effects, sym (ap (λ r. r.effects) (goes_on step n s t at k)))
 
   -- no steps make nothing
@@ -115,7 +115,8 @@ module _ {St : Type 0} (m : Model St) (c : Program) (laws : ModelLaws m) (code :
     next : p.ends ≡ true → Entry false (world_after p.effects x)
 
   -- behind a commit it rests
-  rested : (Kept : World → Type 0) (to : St) (inputs : Inputs) (x : World) → CommitKeeps m Kept to inputs x → m.Rests to (world_after (m.commit x.fram inputs) x)
+  rested : (Kept : World → Type 0) (to : St) (inputs : Inputs) (x : World) → CommitKeeps m Kept to inputs x
+      → m.Rests to (world_after (m.commit x.fram inputs) x)
   rested Kept to inputs x k =
       let end : List Effect = Store m.marks.gate 0 ∷ [] in
       subst (λ l. m.Rests to (world_after l x)) (sym k.is) (subst (λ y. m.Rests to y) (sym (world_after-append k.before end x)) k.rests)
@@ -176,7 +177,8 @@ module _ {St : Type 0} (m : Model St) (c : Program) (laws : ModelLaws m) (code :
       → AttemptContract m s inputs x p → IsScript x inputs (with_commit m x.fram inputs p)
   task_script x inputs p s follows (Lacks short) =
       let same : (with_commit m x.fram inputs p).effects ≡ p.effects =
-      ap (λ (b : Bool). p.effects ++ (if b then m.commit (fram_after p.effects x.fram) (inputs_behind p.effects inputs) else [])) short.is ∙ append-nil p.effects in
+      ap (λ (b : Bool). p.effects ++ (if b then m.commit (fram_after p.effects x.fram) (inputs_behind p.effects inputs) else [])) short.is
+      ∙ append-nil p.effects in
       record {
         until = follows.0;
         follows = subst (λ l. FollowsSeeing (Advances gate) x.fram inputs.looks Before l follows.0) (sym same) follows.1;
@@ -203,7 +205,8 @@ module _ {St : Type 0} (m : Model St) (c : Program) (laws : ModelLaws m) (code :
       subst (λ u. FollowsSeeing (Advances gate) x.fram inputs.looks Before es u) (follows.2 ends) follows.1 in
       let second : FollowsSeeing (Advances gate) (fram_after es x.fram) (looks_after es inputs.looks) Before commit Before =
       subst (λ (f : ℕ → ℕ). FollowsSeeing (Advances gate) f (looks_after es inputs.looks) Before commit Before) (world_fram es x)
-      (subst (λ (l : List Look). FollowsSeeing (Advances gate) y.fram l Before commit Before) (sym (dropped es inputs.looks)) (scripts.commits next y behind committing)) in
+      (subst (λ (l : List Look). FollowsSeeing (Advances gate) y.fram l Before commit Before) (sym (dropped es inputs.looks))
+      (scripts.commits next y behind committing)) in
       record {
         until = Before;
         follows = subst (λ l. FollowsSeeing (Advances gate) x.fram inputs.looks Before l Before) (sym same) (joined (Advances gate) first second);
@@ -222,16 +225,22 @@ module _ {St : Type 0} (m : Model St) (c : Program) (laws : ModelLaws m) (code :
       → (p : ProgramEffects) × (most : ℕ) × Makes c m.delay most p b × IsScript x b.inputs p
   due false x b entry fram words (AtTask s undecided settled) =
       let p = with_commit m x.fram b.inputs (attempt_from m false x.fram b.inputs) in
-      let P : (ℕ → ℕ) → Type 0 = λ f. Makes c m.delay (m.task_cost (m.task_number s)) (with_commit m f b.inputs (attempt_from m false f b.inputs)) b in
-      (p, m.task_cost (m.task_number s), subst P fram (code.makes_attempt s x b entry fram words (settled refl)),
-      task_script x b.inputs (attempt_from m false x.fram b.inputs) s (attempt_follows false s x b.inputs words undecided settled)
-      (attempt_owed false s x b.inputs words undecided settled))
+      let P : (ℕ → ℕ) → Type 0 = λ f. Makes c m.delay (m.task_cost (m.task_number s)) (with_commit m f b.inputs (attempt_from m false f b.inputs)) b in (
+        p,
+        m.task_cost (m.task_number s),
+        subst P fram (code.makes_attempt s x b entry fram words (settled refl)),
+        task_script x b.inputs (attempt_from m false x.fram b.inputs) s (attempt_follows false s x b.inputs words undecided settled)
+            (attempt_owed false s x b.inputs words undecided settled),
+      )
   due true x b entry fram words (AtTask s undecided settled) =
       let p = with_commit m x.fram b.inputs (attempt_from m true x.fram b.inputs) in
-      let P : (ℕ → ℕ) → Type 0 = λ f. Makes c m.delay (m.task_cost (m.task_number s)) (with_commit m f b.inputs (attempt_from m true f b.inputs)) b in
-      (p, m.task_cost (m.task_number s), subst P fram (code.makes_boot s x b entry fram words undecided),
-      task_script x b.inputs (attempt_from m true x.fram b.inputs) s (attempt_follows true s x b.inputs words undecided settled)
-      (attempt_owed true s x b.inputs words undecided settled))
+      let P : (ℕ → ℕ) → Type 0 = λ f. Makes c m.delay (m.task_cost (m.task_number s)) (with_commit m f b.inputs (attempt_from m true f b.inputs)) b in (
+        p,
+        m.task_cost (m.task_number s),
+        subst P fram (code.makes_boot s x b entry fram words undecided),
+        task_script x b.inputs (attempt_from m true x.fram b.inputs) s (attempt_follows true s x b.inputs words undecided settled)
+            (attempt_owed true s x b.inputs words undecided settled),
+      )
   due true x b entry fram words (AtCommit to holds) =
       let P : (ℕ → ℕ) → Type 0 = λ f. Makes c m.delay (bound m) (program_effects (m.commit f b.inputs) true) b in
       (program_effects (m.commit x.fram b.inputs) true, bound m, subst P fram (code.makes_commit to x b entry fram holds), commit_script to x b.inputs holds)
@@ -286,9 +295,11 @@ module _ {St : Type 0} (m : Model St) (c : Program) (laws : ModelLaws m) (code :
         let first : FollowsSeeing (Advances gate) b.fram b.inputs.looks Before p.effects Before =
         subst (λ (f : ℕ → ℕ). FollowsSeeing (Advances gate) f b.inputs.looks Before p.effects Before) (sym fram)
         (subst (λ u. FollowsSeeing (Advances gate) x.fram b.inputs.looks Before p.effects u) (script.whole e) script.follows) in
-        let second : FollowsSeeing (Advances gate) (fram_after p.effects b.fram) (looks_after p.effects b.inputs.looks) Before (going c.step k end).effects rest.0 =
-        subst (λ (f : ℕ → ℕ). FollowsSeeing (Advances gate) f (looks_after p.effects b.inputs.looks) Before (going c.step k end).effects rest.0) fram_there
-        (subst (λ (l : List Look). FollowsSeeing (Advances gate) end.fram l Before (going c.step k end).effects rest.0)
+        let looks = looks_after p.effects b.inputs.looks in
+        let more_effects = (going c.step k end).effects in
+        let second : FollowsSeeing (Advances gate) (fram_after p.effects b.fram) looks Before more_effects rest.0 =
+        subst (λ (f : ℕ → ℕ). FollowsSeeing (Advances gate) f looks Before more_effects rest.0) fram_there
+        (subst (λ (l : List Look). FollowsSeeing (Advances gate) end.fram l Before more_effects rest.0)
         (sym (looks_left p.effects b.inputs end.inputs taken)) rest.1) in
         let P : List Effect → Type 0 = λ l. FollowsSeeing (Advances gate) b.fram b.inputs.looks Before l rest.0 in
         (rest.0, subst P (ap (λ q. q.effects) (sym there)) (joined (Advances gate) {v = rest.0} first second)))

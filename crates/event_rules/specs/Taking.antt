@@ -1,11 +1,11 @@
 -- How a program takes words of the ring, told by its effects: EC is cleared as an attempt starts; then each answer comes of two looks, HEAD first; and
 -- where a word waits EC is raised behind it. The transition freezes TAIL + EC in SE, and the commit moves TAIL there.
-use Rattle.std.specs.Prelude.{◌≡◌, ◌≢◌, ℕ, ◌+◌, ◌%◌, ◌<◌, true, false, List, [], ◌∷◌}
+use Rattle.std.specs.Prelude.{◌≡◌, ◌≢◌, ℕ, ◌+◌, ◌%◌, ◌<◌, true, List, [], ◌∷◌}
 use Rattle.msp_step.specs.alp_words.Words.{word_sum}
 use Rattle.event_places.specs.Places.{tail_place, count_place, sent_place, answer_place, head_place, slot_place}
 use Rattle.fram_board.specs.Effects.{Effect, Store, Take, Outside, Offered, Looked}
 use Rattle.fram_board.specs.Run.{Action, PowerUp, Execute, Moment}
-use Rattle.machine_effects.specs.World.{World, fram_after_one, looks_taken, EachStore}
+use Rattle.machine_effects.specs.World.{World, fram_after_one, EachStore}
 use Rattle.machine_effects.specs.Inputs.{Look, other_looks}
 use Rattle.crash_rules.specs.Model.{Model, Inputs, InputsAreWords}
 use Rattle.run_charges.specs.View.{outside_of, outside_effects}

@@ -1,21 +1,23 @@
 -- What each word program does with the words that count events: it asks for words of the ring in order, and freezes their count.
-use Rattle.std.proofs.Common.{◌≡◌, ◌≢◌, ℕ, zero, suc, ◌+◌, ◌-◌, ◌%◌, ◌==◌, List, [], ◌∷◌, ◌++◌, Option, Some, None, Bool, true, false, refl, sym, ap, subst}
+use Rattle.std.proofs.Common.{◌≡◌, ◌≢◌, ℕ, zero, suc, ◌+◌, ◌-◌, ◌%◌, ◌==◌, List, [], ◌∷◌, Option, Some, None, Bool, true, false, refl, sym}
 use Rattle.std.proofs.Common.{if◌then◌else◌, ◌∙◌}
 use Rattle.std.proofs.lemmas.Bool.{eqb-true, eq-eqb}
 use Rattle.machine_effects.specs.Inputs.{Look, first_look, other_looks, look_effects}
 use Rattle.memory_map.specs.event_places.Places.{head_place, slot_place}
 use Rattle.array_versions.specs.declared.operations.PlainOperation.{PlainOperation}
-use Rattle.array_versions.specs.Operations.{unary_word, plain_word, binary_word, shift_word, is_true, compare_words, long_pops, long_result}
+use Rattle.array_versions.specs.Operations.{unary_word, plain_word, binary_word, shift_word, is_true, compare_words, long_pops}
 use Rattle.array_versions.specs.Program.{Step, Test, Program, number, load, keep, update, local, set_local, update_local, unary, binary, shift, long, element}
 use Rattle.array_versions.specs.Program.{emit_word, list_entry, versioned_read, versioned_write, versioned_update, sense, next_event, freeze_events}
 use Rattle.array_versions.specs.Program.{truth, choose, repeat, store_number, move_word, jump, holds, compares, both, either, fails, nothing, step}
 use Rattle.machine_effects.specs.fram_board.Effects.{Effect}
-use Rattle.array_versions.specs.Behaviour.{WordState, End, GoesOn, Jumps, Behaviour, behaves, goes_on, strays, broken, behind_effects, is_place, with_top, with_two}
+use Rattle.array_versions.specs.Behaviour.{WordState, End, GoesOn, Jumps, Behaviour, behaves, goes_on, strays, broken, behind_effects, is_place, with_top}
+use Rattle.array_versions.specs.Behaviour.{with_two}
 use Rattle.array_versions.specs.Behaviour.{with_words, with_stack, pushed, with_local, local_pushed, local_updated, reading_pushed, event_index, none_answered}
-use Rattle.array_versions.specs.Behaviour.{word_answered, with_looks, event_pushed, word_stored, element_pushed, word_emitted, versioned_pushed, versioned_stored}
+use Rattle.array_versions.specs.Behaviour.{word_answered, with_looks, event_pushed, word_stored, element_pushed, word_emitted, versioned_pushed}
+use Rattle.array_versions.specs.Behaviour.{versioned_stored}
 use Rattle.array_versions.specs.Behaviour.{versioned_updated, number_pushed, way_by_top, way_by_two, turns, step_behaviour, tested, behaviour}
 use Rattle.event_rules.specs.Taking.{Ended, Next, Blind}
-use Rattle.task_attempts.proofs.Asks.{Asks, Takes, Looks, Sees, AnswersNone, AnswersWord, Counts, Freezes, AsksFrom, Reaches, Does, Leads, does_behind, then_does}
+use Rattle.task_attempts.proofs.Asks.{Takes, Looks, Sees, AnswersNone, AnswersWord, Counts, Freezes, AsksFrom, Reaches, Does, Leads, does_behind, then_does}
 use Rattle.task_attempts.proofs.Asks.{still, one_does, loads, element_pushes, versioned_pushes, word_stores, emitted_stores, entry_stores, versioned_stores}
 use Rattle.task_attempts.proofs.Asks.{versioned_updates}
 
@@ -49,7 +51,8 @@ answer_does (first ∷ (second ∷ (third ∷ more))) s true e = record {
   looks = refl;
 }
 answer_does (first ∷ (second ∷ (third ∷ more))) s false e = record {
-  asks = Next (Looks refl) (Next (Sees refl) (Next (AnswersWord refl refl (no_value (event_index s.fram) (first head_place) e)) (Next (Counts refl refl) Ended)));
+  asks = Next (Looks refl) (Next (Sees refl) (Next (AnswersWord refl refl (no_value (event_index s.fram) (first head_place) e))
+      (Next (Counts refl refl) Ended)));
   fram = refl;
   looks = refl;
 }

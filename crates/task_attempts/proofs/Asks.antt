@@ -3,7 +3,7 @@ use Rattle.std.proofs.Common.{◌≡◌, ◌≢◌, ℕ, zero, suc, ◌+◌, ◌
 use Rattle.std.proofs.Common.{append-nil, arith, if◌then◌else◌}
 use Rattle.std.proofs.lemmas.Bool.Decides.{nat_tests}
 use Rattle.machine_effects.specs.fram_board.Effects.{Effect, Store, Take, Outside, Looked}
-use Rattle.machine_effects.specs.World.{put, fram_after}
+use Rattle.machine_effects.specs.World.{fram_after}
 use Rattle.machine_effects.specs.Inputs.{Look}
 use Rattle.machine_effects.proofs.Interface.{fram_after-append}
 use Rattle.memory_map.specs.event_places.Places.{tail_place, count_place, sent_place, answer_place, head_place, slot_place}
@@ -12,10 +12,11 @@ use Rattle.array_versions.specs.declared.program.ListPlace.{ListPlace}
 use Rattle.array_versions.specs.declared.operations.PlainOperation.{PlainOperation}
 use Rattle.array_versions.specs.Operations.{plain_word}
 use Rattle.array_versions.specs.Behaviour.{WordState, End, GoesOn, Jumps, Short, Strays, Broken, Behaviour, behaves, goes_on, strays, is_place, at_place}
-use Rattle.array_versions.specs.Behaviour.{pushed, stored, behind_effects, then_on, word_stored, element_pushed, word_emitted, raised, entry_stored, ends_before}
-use Rattle.array_versions.specs.Behaviour.{listed_behind, own_element, versioned_pushed, first_stored, own_stored, versioned_stored, own_place, own_kept, own_updated}
+use Rattle.array_versions.specs.Behaviour.{pushed, stored, behind_effects, then_on, word_stored, element_pushed, word_emitted, raised, entry_stored}
+use Rattle.array_versions.specs.Behaviour.{ends_before}
+use Rattle.array_versions.specs.Behaviour.{listed_behind, own_element, versioned_pushed, first_stored, own_stored, versioned_stored, own_place, own_updated}
 use Rattle.array_versions.specs.Behaviour.{versioned_updated}
-use Rattle.event_rules.specs.Taking.{Taking, Open, SawHead, SawSlot, Took, next_index, looks_behind, FollowsSeeing, Ended, Next, Blind}
+use Rattle.event_rules.specs.Taking.{Taking, Open, SawHead, SawSlot, Took, next_index, looks_behind, FollowsSeeing, Ended, Next}
 use Rattle.event_rules.proofs.Interface.{looks_after, joined}
 
 -- what a word program's effects may be: stores in front of the words that count events, readings, answers, and freezings anywhere between them
@@ -110,16 +111,16 @@ place_low : (a : ℕ) → is_place a ≡ true → a < tail_place
 place_low a e = grind (arith, nat_tests)
 
 -- a store in front
-stores_first : {s : WordState} {es : List Effect} (a v : ℕ) (e : End) → a < tail_place → Reaches (stored a v s) es e → Reaches s (Store a v ∷ es) e
-stores_first a v (GoesOn t) low k = record { asks = Next (Stores low) k.asks; fram = k.fram; looks = k.looks }
-stores_first a v (Jumps to t) low k = Next (Stores low) k
-stores_first a v Short low k = Next (Stores low) k
-stores_first a v Strays low k = Next (Stores low) k
-stores_first a v Broken low k = Next (Stores low) k
+stores_first : (s : WordState) (es : List Effect) (a v : ℕ) (e : End) → a < tail_place → Reaches (stored a v s) es e → Reaches s (Store a v ∷ es) e
+stores_first s es a v (GoesOn t) low k = record { asks = Next (Stores low) k.asks; fram = k.fram; looks = k.looks }
+stores_first s es a v (Jumps to t) low k = Next (Stores low) k
+stores_first s es a v Short low k = Next (Stores low) k
+stores_first s es a v Strays low k = Next (Stores low) k
+stores_first s es a v Broken low k = Next (Stores low) k
 
 -- the last one
 stores_last : (a v : ℕ) (s : WordState) → a < tail_place → Does s (goes_on (Store a v ∷ []) (stored a v s))
-stores_last a v s low = stores_first {s = s} {es = []} a v (GoesOn (stored a v s)) low (still refl refl)
+stores_last a v s low = stores_first s [] a v (GoesOn (stored a v s)) low (still refl refl)
 
 -- the word at a place is pushed
 pub loads : (a : ℕ) (s : WordState) → Does s (at_place a (goes_on [] (pushed (s.fram a) s)))
@@ -145,7 +146,7 @@ emitted_stores count buffer v s =
     let n = s.fram count in
     let a = 2 * n + buffer in
     does_at (is_place count) s _ (λ e. does_at (is_place a) s _ (λ f.
-    stores_first {s = s} {es = Store count (n + 1) ∷ []} a v (GoesOn (stored count (n + 1) (stored a v s))) (place_low a f)
+    stores_first s (Store count (n + 1) ∷ []) a v (GoesOn (stored count (n + 1) (stored a v s))) (place_low a f)
     (stores_last count (n + 1) (stored a v s) (place_low count e))))
 
 raised_stores : (a : ℕ) (s : WordState) → is_place a ≡ true → Does s (raised a s)
@@ -159,9 +160,9 @@ entry_stores count list home copy words s =
     let s3 = stored (a + 4) words s2 in
     let last = raised count s3 in
     does_at (is_place count) s _ (λ e. does_at (is_place a) s _ (λ f. does_at (is_place (a + 2)) s _ (λ g. does_at (is_place (a + 4)) s _ (λ i.
-    stores_first {s = s} {es = Store (a + 2) copy ∷ Store (a + 4) words ∷ last.effects} a home last.end (place_low a f)
-    (stores_first {s = s1} {es = Store (a + 4) words ∷ last.effects} (a + 2) copy last.end (place_low (a + 2) g)
-    (stores_first {s = s2} {es = last.effects} (a + 4) words last.end (place_low (a + 4) i) (raised_stores count s3 e)))))))
+    stores_first s (Store (a + 2) copy ∷ Store (a + 4) words ∷ last.effects) a home last.end (place_low a f)
+    (stores_first s1 (Store (a + 4) words ∷ last.effects) (a + 2) copy last.end (place_low (a + 2) g)
+    (stores_first s2 last.effects (a + 4) words last.end (place_low (a + 4) i) (raised_stores count s3 e)))))))
 
 listed_stores : (n : ℕ) (list : ListPlace) (home copy : ℕ) (s : WordState) → Does s (listed_behind n list home copy s)
 listed_stores zero list home copy s = entry_stores list.cln list.list home copy 1 s
@@ -177,7 +178,7 @@ first_stores place list i s m_place =
     let v = s.fram list.ver in
     let t = stored m v s in
     let last = at_place list.cln (listed_behind (t.fram list.cln) list a (2 * i + place.copies) t) in
-    does_at (is_place a) s _ (λ e. stores_first {s = s} {es = last.effects} m v last.end (place_low m m_place)
+    does_at (is_place a) s _ (λ e. stores_first s last.effects m v last.end (place_low m m_place)
     (does_at (is_place list.cln) t _ (λ f. listed_stores (t.fram list.cln) list a (2 * i + place.copies) t)))
 
 -- a store to an element's copy, the first one or another
@@ -188,7 +189,7 @@ copy_stores true place list i v s c_place m_place = stores_last (2 * i + place.c
 copy_stores false place list i v s c_place m_place =
     let c = 2 * i + place.copies in
     let rest = first_stored place list i (stored c v s) in
-    stores_first {s = s} {es = rest.effects} c v rest.end (place_low c c_place) (first_stores place list i (stored c v s) m_place)
+    stores_first s rest.effects c v rest.end (place_low c c_place) (first_stores place list i (stored c v s) m_place)
 
 own_stores : (place : ArrayPlace) (list : ListPlace) (i v : ℕ) (s : WordState) → Does s (own_stored place list i v s)
 own_stores place list i v s =

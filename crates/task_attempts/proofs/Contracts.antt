@@ -19,7 +19,8 @@ use Rattle.task_needs.specs.Lists.{ListsWithin, ListsAtEnd}
 use Rattle.array_versions.specs.Laws.{EndsByEffects, IsSound}
 use Rattle.source_meaning.proofs.Interface.{emits_same}
 use Rattle.task_attempts.proofs.Names.{◌%◌, ◌+◌, ◌<◌, NextTask, SentBase, Base, ListLength, sent_place, event_index, where_events, entry_effects, runs_of}
-use Rattle.task_attempts.proofs.Names.{transition_effects, each_store-front, at_variable, at_copy, at_version, in_list, at_list_length, at_emit_count, in_buffer}
+use Rattle.task_attempts.proofs.Names.{transition_effects, each_store-front, at_variable, at_copy, at_version, in_list, at_list_length, at_emit_count}
+use Rattle.task_attempts.proofs.Names.{in_buffer}
 use Rattle.task_attempts.proofs.Names.{at_answer, scalar, copy, list_of}
 use Rattle.memory_map.specs.Spots.{version}
 use Rattle.memory_map.specs.event_places.Places.{tail_place}
@@ -321,10 +322,11 @@ module _ (run : Started) where
       → EachStore (IsOffRing gate) (ordinary_part task count base)
   ordinary task count base few =
       let apart = facts.apart in
-      let entries = entry_effects (word_place l ListLength) l.list.address count (runs_of i.layout.privates) in
-      ((omega (arith, apart), λ e. omega (arith, e)),
-      each_store-append (IsOffRing gate) entries (Store (word_place l SentBase) base ∷ []) (entries_off (runs_of i.layout.privates) count few)
-      ((omega (arith, apart), λ e. omega (arith, e)), tt))
+      let entries = entry_effects (word_place l ListLength) l.list.address count (runs_of i.layout.privates) in (
+        (omega (arith, apart), λ e. omega (arith, e)),
+        each_store-append (IsOffRing gate) entries (Store (word_place l SentBase) base ∷ []) (entries_off (runs_of i.layout.privates) count few)
+            ((omega (arith, apart), λ e. omega (arith, e)), tt),
+      )
     where
       entries_off : (rs : List Run) (k : ℕ) → k + length rs ≤ list_of p.shared code
           → EachStore (IsOffRing gate) (entry_effects (word_place l ListLength) l.list.address k rs)

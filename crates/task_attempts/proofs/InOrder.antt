@@ -1,11 +1,11 @@
 -- A task takes words of the ring in order, and its transition freezes their count.
-use Rattle.std.proofs.Common.{◌≡◌, ◌≢◌, ℕ, ◌+◌, ◌<◌, ◌≤◌, List, [], ◌∷◌, ◌++◌, refl, sym, ap, ◌∙◌, subst, arith, ⊎_elim, ◌⊎◌, inl, inr, ap₂}
-use Rattle.task_attempts.proofs.Names.{Effect, Store, Take, Outside, Looked, Offered, EachStore, fram_after, fram_after-append, each_store-append, each_weaker}
-use Rattle.machine_effects.specs.World.{fram_after_one, looks_taken}
-use Rattle.machine_effects.specs.Inputs.{Look, other_looks}
-use Rattle.machine_effects.proofs.Interface.{fram_untouched, put_same, put_other}
+use Rattle.std.proofs.Common.{◌≡◌, ◌≢◌, ℕ, ◌<◌, ◌≤◌, List, [], ◌∷◌, ◌++◌, refl, sym, ◌∙◌, subst, arith, ⊎_elim, ◌⊎◌, inl, inr, ap₂}
+use Rattle.task_attempts.proofs.Names.{Effect, Store, Take, Outside, Looked, Offered, EachStore, fram_after, each_weaker}
+use Rattle.machine_effects.specs.World.{looks_taken}
+use Rattle.machine_effects.specs.Inputs.{Look}
+use Rattle.machine_effects.proofs.Interface.{fram_untouched, put_other}
 use Rattle.machine_effects.specs.alp_words.Words.{word_sum}
-use Rattle.memory_map.specs.event_places.Places.{tail_place, count_place, sent_place, answer_place}
+use Rattle.memory_map.specs.event_places.Places.{tail_place, count_place, sent_place}
 use Rattle.event_rules.specs.Taking.{Taking, Before, Open, SawHead, SawSlot, Took, Frozen, Advances, Freezes, Decides, next_index, Rule, looks_behind}
 use Rattle.event_rules.specs.Taking as taking
 use Rattle.event_rules.specs.Taking.{FollowsSeeing, Ended, Next, Blind, IsOffRing}
@@ -80,34 +80,34 @@ module _ (gate : ℕ) where
 
   -- a transition: ordinary stores, then SE and GATE
   module _ (below : gate < tail_place) (front : List Effect) (ordinary : EachStore (IsOffRing gate) front) (sees_none : looks_taken front ≡ []) (index : ℕ)
-      where
-    abbrev pub closing : List Effect
-    closing = front ++ (Store sent_place index ∷ Store gate 1 ∷ [])
+    where
+      abbrev pub closing : List Effect
+      closing = front ++ (Store sent_place index ∷ Store gate 1 ∷ [])
 
-    closes : (f : ℕ → ℕ) (looks : List Look) → index ≡ next_index f → f gate ≢ 1 → FollowsSeeing (Advances gate) f looks Open closing Before
-    closes f looks is zero =
-        let g = fram_after front f in
-        let frozen : index ≡ next_index g = is ∙ sym (leaves_index front ordinary f) in
-        let open_gate : g gate ≢ 1 = λ e. zero (sym (leaves_gate front ordinary f) ∙ e) in
-        let other : fram_after (Store sent_place index ∷ []) g gate ≡ g gate = put_other g sent_place index gate (λ e. omega (arith, e, below)) in
-        joined (Advances gate) (off_ring gate front f looks Open tt ordinary sees_none)
-        (Next (Freezes refl frozen) (Next (Decides refl refl (λ e. open_gate (sym other ∙ e))) Ended))
+      closes : (f : ℕ → ℕ) (looks : List Look) → index ≡ next_index f → f gate ≢ 1 → FollowsSeeing (Advances gate) f looks Open closing Before
+      closes f looks is zero =
+          let g = fram_after front f in
+          let frozen : index ≡ next_index g = is ∙ sym (leaves_index front ordinary f) in
+          let open_gate : g gate ≢ 1 = λ e. zero (sym (leaves_gate front ordinary f) ∙ e) in
+          let other : fram_after (Store sent_place index ∷ []) g gate ≡ g gate = put_other g sent_place index gate (λ e. omega (arith, e, below)) in
+          joined (Advances gate) (off_ring gate front f looks Open tt ordinary sees_none)
+          (Next (Freezes refl frozen) (Next (Decides refl refl (λ e. open_gate (sym other ∙ e))) Ended))
 
-    -- behind statements that don't close
-    pub task_advances : (f : ℕ → ℕ) (looks : List Look) (body : List Effect) (a w : ℕ) (more : List Effect) → closing ≡ Store a w ∷ more → a < tail_place
-        → FollowsSeeing Asks f looks Open (body ++ closing) Open → EachStore (IsNoClosing gate) body → index ≡ next_index (fram_after body f) → f gate ≢ 1
-        → FollowsSeeing (Advances gate) f looks Open (body ++ closing) Before
-    task_advances f looks body a w more first low k h is zero =
-        let all = parts Asks body closing k in
-        let v = all.0 in
-        let g = fram_after body f in
-        let looks_there = looks_after body looks in
-        let body_advances = asks_advance all.1 h in
-        let same : g gate ≡ f gate = fram_untouched body gate f (each_weaker (IsNoClosing gate) (λ b u. b ≢ gate) (λ b u q. q.0) body h) in
-        let zero_there : g gate ≢ 1 = λ e. zero (sym same ∙ e) in
-        let second : FollowsSeeing Asks g looks_there v (Store a w ∷ more) Open = subst (λ l. FollowsSeeing Asks g looks_there v l Open) first all.2 in
-        ⊎_elim {C = FollowsSeeing (Advances gate) f looks Open (body ++ closing) Before}
-        (λ e. joined (Advances gate) (subst (λ u. FollowsSeeing (Advances gate) f looks Open body u) e body_advances) (closes g looks_there is zero_there))
-        (λ e. joined (Advances gate) body_advances
-        (subst (λ (l : List Look). FollowsSeeing (Advances gate) g l v closing Before) (sym e) Blind))
-        (open_there second low)
+      -- behind statements that don't close
+      pub task_advances : (f : ℕ → ℕ) (looks : List Look) (body : List Effect) (a w : ℕ) (more : List Effect) → closing ≡ Store a w ∷ more → a < tail_place
+          → FollowsSeeing Asks f looks Open (body ++ closing) Open → EachStore (IsNoClosing gate) body → index ≡ next_index (fram_after body f) → f gate ≢ 1
+          → FollowsSeeing (Advances gate) f looks Open (body ++ closing) Before
+      task_advances f looks body a w more first low k h is zero =
+          let all = parts Asks body closing k in
+          let v = all.0 in
+          let g = fram_after body f in
+          let looks_there = looks_after body looks in
+          let body_advances = asks_advance all.1 h in
+          let same : g gate ≡ f gate = fram_untouched body gate f (each_weaker (IsNoClosing gate) (λ b u. b ≢ gate) (λ b u q. q.0) body h) in
+          let zero_there : g gate ≢ 1 = λ e. zero (sym same ∙ e) in
+          let second : FollowsSeeing Asks g looks_there v (Store a w ∷ more) Open = subst (λ l. FollowsSeeing Asks g looks_there v l Open) first all.2 in
+          ⊎_elim {C = FollowsSeeing (Advances gate) f looks Open (body ++ closing) Before}
+          (λ e. joined (Advances gate) (subst (λ u. FollowsSeeing (Advances gate) f looks Open body u) e body_advances) (closes g looks_there is zero_there))
+          (λ e. joined (Advances gate) body_advances
+          (subst (λ (l : List Look). FollowsSeeing (Advances gate) g l v closing Before) (sym e) Blind))
+          (open_there second low)

@@ -1,18 +1,19 @@
 -- An attempt's start clears EC, and a commit moves TAIL.
 use Rattle.std.proofs.Common.{◌≡◌, ◌≢◌, ℕ, zero, suc, ◌+◌, ◌*◌, ◌%◌, ◌<◌, ◌≤◌, List, [], ◌∷◌, ◌++◌, refl, sym, ap, ◌∙◌, subst, arith, Bool, true, false}
-use Rattle.std.proofs.Common.{if◌then◌else◌, inl, inr, append_assoc}
-use Rattle.task_attempts.proofs.Names.{Effect, Store, Take, Outside, Offered, EachStore, World, fram_after, fram_after-append, each_store-append, each_weaker}
-use Rattle.task_attempts.proofs.Names.{MemoryMap, word_place, CurrentTask, Gate, ListLength, EmitCount, Base, SentBase, NextTask, Version, ProgramPlaces, ArePrivate, IsAmong, CopyPair}
+use Rattle.std.proofs.Common.{inl, inr, append_assoc}
+use Rattle.task_attempts.proofs.Names.{Effect, Store, EachStore, World, fram_after, each_store-append}
+use Rattle.task_attempts.proofs.Names.{MemoryMap, word_place, CurrentTask, Gate, ListLength, EmitCount, Base, SentBase, NextTask, Version, ProgramPlaces}
+use Rattle.task_attempts.proofs.Names.{ArePrivate, IsAmong, CopyPair}
 use Rattle.task_attempts.proofs.Names.{where_events, listed, put}
 use Rattle.machine_effects.specs.World.{looks_taken}
 use Rattle.machine_effects.specs.Inputs.{Look}
-use Rattle.machine_effects.proofs.Interface.{fram_untouched, put_same, put_other, looks_taken-append}
+use Rattle.machine_effects.proofs.Interface.{put_same, put_other, looks_taken-append}
 use Rattle.memory_map.specs.Laws as memory
 use Rattle.memory_map.specs.event_places.Places.{tail_place, count_place, sent_place}
 use Rattle.runtime_effects.specs.Stages.{cleared, clearing_if, is_at_end, counting_effects, opening_effects, copied_in, start_effects, copied_home, sends}
 use Rattle.runtime_effects.specs.Stages.{emits_sent, commit_closed, commit_effects}
 use Rattle.stands_for.specs.StandsFor.{IsPendingCommit}
-use Rattle.event_rules.specs.Taking.{Taking, Before, Open, Advances, Clears, Moves, Ends, Stores, FollowsSeeing, Ended, Next, IsOffRing}
+use Rattle.event_rules.specs.Taking.{Before, Open, Advances, Clears, Moves, Ends, Stores, FollowsSeeing, Ended, Next, IsOffRing}
 use Rattle.event_rules.proofs.Interface.{looks_after, joined, off_ring}
 use Rattle.task_attempts.proofs.InOrder.{leaves_high, leaves_gate}
 
@@ -79,7 +80,7 @@ module _ (l : ProgramPlaces) (apart : memory.AreApart l.map) where
 
   module _ (on : m.runtime.events ≡ true) (privates : ℕ → List CopyPair) (are : (t : ℕ) → ArePrivate l t (privates t)) where
     pub start_in_order : (f : ℕ → ℕ) (looks : List Look) → f gate ≢ 1 → FollowsSeeing (Advances gate) f looks Before (start_effects m privates f) Open
-    start_in_order f looks zero =
+    start_in_order f looks undecided =
         let es = clearing_if m (is_at_end m f) in
         let g = fram_after es f in
         let cs = counts g in
@@ -98,14 +99,15 @@ module _ (l : ProgramPlaces) (apart : memory.AreApart l.map) where
         let same = leaves_gate gate front front_off f in
         let opens : FollowsSeeing (Advances gate) f looks Before opened Open =
         subst (λ l. FollowsSeeing (Advances gate) f looks Before l Open) (sym opened_is)
-        (joined (Advances gate) here (Next (Clears refl refl (λ e. zero (sym same ∙ e))) Ended)) in
+        (joined (Advances gate) here (Next (Clears refl refl (λ e. undecided (sym same ∙ e))) Ended)) in
         joined (Advances gate) opens
         (off_ring gate back (fram_after opened f) (looks_after opened looks) Open tt (copied_off task (privates task) (are task) (fram_after opened f))
         (copied_sees_none (privates task) (fram_after opened f)))
 
   -- ---- the commit
 
-  home_off : (ps : List CopyPair) → ((q : CopyPair) → IsAmong ps q → (m.homes.address ≤ q.home) × (q.home < tail_place)) → (f : ℕ → ℕ) → OffRing (copied_home ps f)
+  home_off : (ps : List CopyPair) → ((q : CopyPair) → IsAmong ps q → (m.homes.address ≤ q.home) × (q.home < tail_place)) → (f : ℕ → ℕ)
+      → OffRing (copied_home ps f)
   home_off [] h f = tt
   home_off (q ∷ ps) h f =
       let k = h q (inl refl) in
@@ -136,7 +138,8 @@ module _ (l : ProgramPlaces) (apart : memory.AreApart l.map) where
       let current = f (word_place m NextTask) in
       let base = (f (word_place m SentBase) + f (word_place m EmitCount)) % 0x10000 in
       let last_is : last ≡ Store tail_place tail ∷ Store (word_place m CurrentTask) current ∷ Store (word_place m Base) base ∷ Store gate 0 ∷ [] =
-      ap (λ b. where_events b (Store tail_place tail ∷ []) ++ (Store (word_place m CurrentTask) current ∷ Store (word_place m Base) base ∷ Store gate 0 ∷ [])) on in
+      ap (λ b. where_events b (Store tail_place tail ∷ [])
+      ++ (Store (word_place m CurrentTask) current ∷ Store (word_place m Base) base ∷ Store gate 0 ∷ [])) on in
       let whole : commit_effects m f ≡ first ++ last = sym (append_assoc copies sent last) in
       let first_off : OffRing first =
       each_store-append Off copies sent

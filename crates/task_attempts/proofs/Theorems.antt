@@ -1,7 +1,7 @@
 -- The laws of compiled tasks.
 use Rattle.task_attempts.proofs.Names.{ℕ, List, sym, subst, inl, inr, ⊎_elim, arith, World, world_after, fram_after, EachStore, Inputs, InputsAreWords}
 use Rattle.task_attempts.proofs.Names.{CopyPair, behaviour}
-use Rattle.task_attempts.proofs.Names.{started, MemoryMap, CheckedProgram, AttemptContract, redo_model, model_by, started_under, whole_task, task_program}
+use Rattle.task_attempts.proofs.Names.{started, MemoryMap, CheckedProgram, AttemptContract, redo_model, model_by, started_under, task_program}
 use Rattle.task_attempts.proofs.Names.{effects_of, AttemptsStore, each_store-append, State, task_entries, privates_in, world_fram, each_weaker, keeps_the_laws}
 use Rattle.task_attempts.proofs.Names.{numbered_starts, blocks_agree, program_places, state_view, Model, ModelLaws, program_parts, TasksKeepTheirContract}
 use Rattle.task_attempts.proofs.Names.{CompiledSourcesKeepTheLaws, IsBelowCode, AttemptsStoreBelowCode, TasksLeaveForTheCommit, word_place, CurrentTask}

@@ -1,5 +1,5 @@
 -- What the word programs of a source's tasks owe the crash theorem.
-use Rattle.std.specs.Prelude.{◌≡◌, ℕ, ◌<◌, ◌≤◌, true, List}
+use Rattle.std.specs.Prelude.{◌≡◌, ℕ, ◌≤◌, true, List}
 use Rattle.machine_effects.specs.World.{World}
 use Rattle.machine_effects.specs.Inputs.{Inputs, InputsAreWords}
 use Rattle.cost_bound.specs.declared.allowance.Allow.{Allow}
