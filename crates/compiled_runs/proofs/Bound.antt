@@ -1,5 +1,5 @@
 -- The code keeps to each task's part of the bound.
-use Rattle.std.proofs.Common.{◌≡◌, ◌<◌, ◌≤◌, ◌+◌, ℕ, true, List, length, sym, subst, arith}
+use Rattle.std.proofs.Common.{◌≡◌, ◌<◌, ◌≤◌, ℕ, true, length, sym, subst, arith}
 use Rattle.std.proofs.lemmas.List.Elements.{All-nil}
 use Rattle.machine_effects.specs.World.{World, fram_after}
 use Rattle.machine_effects.specs.Inputs.{Look, Inputs, InputsAreWords, no_inputs}

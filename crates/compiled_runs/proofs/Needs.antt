@@ -1,5 +1,5 @@
 -- The code keeps to each task's need.
-use Rattle.std.proofs.Common.{◌≡◌, ◌<◌, ◌-◌, ◌⊎◌, ⊎_elim, ℕ, true, length, sym, subst, arith}
+use Rattle.std.proofs.Common.{◌≡◌, ◌<◌, ◌-◌, ⊎_elim, ℕ, true, length, sym, subst, arith}
 use Rattle.std.proofs.lemmas.Bool.{cases_lt}
 use Rattle.machine_effects.specs.World.{World, fram_after}
 use Rattle.machine_effects.specs.Inputs.{Inputs, InputsAreWords}

@@ -44,7 +44,8 @@ use Rattle.event_orders.proofs.Order.{Account, account_of, Fresh, Pending, Asked
 
 -- from one board to another these words come behind those that wait
 abbrev Brings : BoardValue → BoardValue → List ℕ → Type 0
-Brings b c more = (tail i : ℕ) (ws : List ℕ) → tail ≡ fram_of b.fram tail_place → Window (fram_of b.fram) tail i ws → Window (fram_of c.fram) tail i (ws ++ more)
+Brings b c more = (tail i : ℕ) (ws : List ℕ) → tail ≡ fram_of b.fram tail_place → Window (fram_of b.fram) tail i ws
+    → Window (fram_of c.fram) tail i (ws ++ more)
 
 -- none
 brings_none : (b c : BoardValue) → ((a : ℕ) → handler_place ≤ a → fram_of c.fram a ≡ fram_of b.fram a) → Brings b c []
