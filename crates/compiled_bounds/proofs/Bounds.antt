@@ -9,7 +9,7 @@ use Rattle.source_values.specs.Runs.{body_of}
 use Rattle.crash_rules.specs.Model.{greatest}
 use Rattle.compiled_bounds.specs.Laws.{BoundIsTheSources}
 
-greater : (a b : ℕ) → cond (nat_lt a b) b a ≡ max a b
+pub greater : (a b : ℕ) → cond (nat_lt a b) b a ≡ max a b
 greater a b = by (nat_lt a b) refl
   where
     by : (t : Bool) → nat_lt a b ≡ t → cond t b a ≡ max a b

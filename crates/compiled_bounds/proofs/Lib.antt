@@ -1,5 +1,6 @@
 mod Bounds
 mod Commits
 mod Costs
+mod Needs
 mod Capacities
 pub mod Interface

@@ -1,5 +1,5 @@
 -- What a compiled source's bound pays for, and what its runtime's words hold at most.
-use Rattle.std.specs.Prelude.{◌≡◌, ℕ, ◌+◌, ◌≤◌, List, ◌++◌}
+use Rattle.std.specs.Prelude.{◌≡◌, ℕ, ◌+◌, ◌<◌, ◌≤◌, List, ◌++◌, length}
 use Rattle.fram_board.specs.Board.{BoardValue}
 use Rattle.fram_board.specs.Run.{BoardCharge, Moment, RunOutcome}
 use Rattle.machine_effects.specs.World.{World}
@@ -20,6 +20,7 @@ use Rattle.run_charges.specs.Laws.{IsRunOfWords}
 use Rattle.memory_map.specs.Laws.{AreApart}
 use Rattle.compiled_model.specs.Parts.{compiled_model}
 use Rattle.compiled_model.specs.Needs.{CostsAreWithin, AttemptsStore}
+use Rattle.task_needs.specs.Lists.{NeedsAreWithin, with_needs}
 use Rattle.model_runs.specs.Bears.{BearsModel}
 use Rattle.compiled_bounds.specs.Capacities.{KeepsCapacities}
 
@@ -32,6 +33,16 @@ BoundIsTheSources = (p : CheckedProgram) (l : MemoryMap) → bound (compiled_mod
 abbrev pub TasksKeepToTheBound : Type 0
 TasksKeepToTheBound = (p : CheckedProgram) (allow : Allow) (plans : List TaskPlanValue) (l : MemoryMap) → IsAllowed p allow → PrivatesAreCounted p l
     → IsLayout p allow plans l → CostsAreWithin p l
+
+-- and its part has the cycles of what the task needs beside its code, so that it needs no more than its part
+abbrev pub TableCoversNeeds : Type 0
+TableCoversNeeds = (p : CheckedProgram) (allow : Allow) (plans : List TaskPlanValue) (l : MemoryMap) → IsAllowed p allow → PrivatesAreCounted p l
+    → IsLayout p allow plans l → NeedsAreWithin p l
+
+-- the bound of the needs is within it too, with a commit that was pending at the start
+abbrev pub NeedsKeepToTheBound : Type 0
+NeedsKeepToTheBound = (p : CheckedProgram) (l : MemoryMap) → 0 < length p.tasks → CostsAreWithin p l → NeedsAreWithin p l
+    → bound (with_needs p l (compiled_model p l)) ≤ bound_of p
 
 -- a store to CLN or EN is within the capacity
 pub record CountsFit (l : MemoryMap) (a w : ℕ) : Type 0 where

@@ -2,7 +2,7 @@
 
 ghost use Rattle.source_values.specs.Runs.{State};
 ghost use Rattle.crash_rules.specs.Runs.{Program};
-ghost use Rattle.compiled_bounds.specs.Laws.{BoundIsTheSources, CapacitiesAreKept, TasksKeepToTheBound};
+ghost use Rattle.compiled_bounds.specs.Laws.{BoundIsTheSources, CapacitiesAreKept, NeedsKeepToTheBound, TableCoversNeeds, TasksKeepToTheBound};
 
 /// The code of a compiled source as the laws see it.
 pub trait Coded {
@@ -19,6 +19,16 @@ pub fn bound_is_the_sources()
 /// the list and the buffer have room for.
 pub fn tasks_keep_to_the_bound()
     ensures { TasksKeepToTheBound }
+{}
+
+/// A task's part of the bound pays for what the task needs beside its code, by the code that is linked.
+pub fn table_covers_needs()
+    ensures { TableCoversNeeds }
+{}
+
+/// The bound pays for what each task needs, and for a commit that was pending at the start.
+pub fn needs_keep_to_the_bound()
+    ensures { NeedsKeepToTheBound }
 {}
 
 /// At each board of a run the commit list and the emit buffer are within their capacities, and no version word is above VER.

@@ -4,4 +4,7 @@
 
 mod laws;
 
-pub use laws::{bound_is_the_sources, capacities_are_kept, tasks_keep_to_the_bound};
+pub use laws::{
+    bound_is_the_sources, capacities_are_kept, needs_keep_to_the_bound, table_covers_needs,
+    tasks_keep_to_the_bound,
+};

@@ -15,9 +15,9 @@ use Rattle.layout_facts.specs.Facts.{HasLayout}
 use Rattle.layout_facts.proofs.Interface.{places_are_apart, tasks_have_room, privates_are_theirs, tasks_match}
 use Rattle.whole_programs.specs.Laws.{IsLaidOutText}
 use Rattle.whole_programs.proofs.Interface.{tasks_are_whole, privates_are_few}
-use Rattle.task_attempts.proofs.Interface.{compiled_laws, stores_below_code, tasks_leave}
+use Rattle.task_attempts.proofs.Interface.{compiled_laws, stores_below_code, tasks_leave, tasks_list_few}
 use Rattle.compiled_model.specs.Parts.{task_program}
-use Rattle.compiled_bounds.proofs.Interface.{tasks_keep_to_the_bound}
+use Rattle.compiled_bounds.proofs.Interface.{tasks_keep_to_the_bound, table_covers_needs}
 use Rattle.compiled_runs.specs.Laws.{CanRun}
 use Rattle.compiled_runs.proofs.Interface.{sources_have_room}
 use Rattle.compiled_model.specs.Needs.{StoresBelow}
@@ -58,4 +58,6 @@ sources_are_ready text p allow plans l t = record {
   code = code text p allow plans l t;
   stores = λ s x inputs words settled. each_weaker _ (StoresBelow l l.boot.address) (λ a w h. h.below) _
       (stores_below_code text p allow plans l t (run text p allow plans l t) s x inputs words settled);
+  few = tasks_list_few text p allow plans l t (run text p allow plans l t);
+  needs = table_covers_needs p allow plans l t.accepted.allowed (privates_are_few text p allow plans l t) t.layout;
 }

@@ -8,13 +8,16 @@ use Rattle.crash_rules.specs.Model.{ModelLaws}
 use Rattle.whole_programs.specs.Laws.{IsLaidOutText}
 use Rattle.compiled_model.specs.Parts.{compiled_model}
 use Rattle.compiled_model.specs.Needs.{AttemptsStoreBelow}
+use Rattle.task_needs.specs.Lists.{TasksListFew, NeedsAreWithin}
 use Rattle.compiled_runs.specs.Laws.{CanRun}
 
--- its tasks and its runtime keep what the crash theorem asks for, its code can run, and no attempt stores on the code
+-- its tasks and its runtime keep what the crash theorem asks for, its code can run, no attempt stores on the code, and its tasks need what they are said to
 pub record IsReadyToRun (p : CheckedProgram) (l : MemoryMap) : Type 0 where
   pub model : ModelLaws (compiled_model p l)
   pub code : CanRun p l
   pub stores : AttemptsStoreBelow p l l.boot.address
+  pub few : TasksListFew p l
+  pub needs : NeedsAreWithin p l
 
 -- each accepted text with a plan and a layout of its source is so
 abbrev pub SourcesAreReady : Type 0

@@ -1,7 +1,10 @@
 -- What the proofs of other crates cite.
 
 -- The code makes each attempt and each commit within the task's bound.
-pub use Rattle.compiled_runs.proofs.Program.{code_keeps_the_laws}
+pub use Rattle.compiled_runs.proofs.Bound.{code_keeps_the_laws}
+-- And within its need, which is a cost of the same tasks.
+pub use Rattle.compiled_runs.proofs.NeedsModel.{needs_keep_the_laws}
+pub use Rattle.compiled_runs.proofs.Needs.{code_keeps_to_needs}
 -- A power-up with GATE 0 raises VER.
 pub use Rattle.compiled_runs.proofs.Raises.{power_ups_raise_version}
 -- A run leaves the code as it is, and stays in it.

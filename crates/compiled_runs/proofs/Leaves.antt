@@ -22,7 +22,7 @@ use Rattle.compiled_model.specs.Needs.{AttemptsStore, StoresBelow, AttemptsStore
 use Rattle.compiled_model.proofs.Interface.{is_redo}
 use Rattle.compiled_runs.specs.Program.{source_code, compiled_program}
 use Rattle.compiled_runs.specs.Laws.{CodeIsPlaced, RunsLeaveTheCode}
-use Rattle.compiled_runs.proofs.Program.{code_keeps_the_laws}
+use Rattle.compiled_runs.proofs.Bound.{code_keeps_the_laws}
 
 pub code_is_placed : CodeIsPlaced
 code_is_placed p l f =

@@ -1,5 +1,9 @@
 mod Steps
+mod Costs
 mod Program
+mod Bound
+mod NeedsModel
+mod Needs
 mod Raises
 mod Leaves
 mod Fits

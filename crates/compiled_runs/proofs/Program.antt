@@ -1,19 +1,17 @@
--- The code makes each attempt and each commit within the task's bound.
+-- The code makes each attempt and each commit within what its task costs.
 use Rattle.msp_step.specs.declared.machine.Stop.TheVariants as stop
-use Rattle.std.proofs.Common.{◌≡◌, ◌<◌, ◌≤◌, ◌+◌, ℕ, Bool, true, List, [], ◌∷◌, ◌++◌, length, refl, sym, ap, ◌∙◌, subst, arith, append-nil}
-use Rattle.std.proofs.lemmas.List.Elements.{All-nil}
-use Rattle.fram_board.specs.Effects.{Effect, Store}
-use Rattle.machine_effects.specs.World.{World, put, fram_after, world_after, world_after_one}
-use Rattle.machine_effects.specs.Inputs.{Look, Inputs, InputsAreWords, no_inputs}
+use Rattle.std.proofs.Common.{◌≡◌, ◌<◌, ◌≤◌, ◌+◌, ℕ, Bool, true, List, [], ◌++◌, length, refl, sym, ap, ◌∙◌, subst, arith, append-nil}
+use Rattle.fram_board.specs.Effects.{Effect}
+use Rattle.machine_effects.specs.World.{World, fram_after, world_after}
+use Rattle.machine_effects.specs.Inputs.{InputsAreWords}
 use Rattle.machine_effects.specs.Going.{Stalls}
 use Rattle.machine_effects.specs.Machine.{Code, MachineBoard, exec}
-use Rattle.machine_effects.proofs.Interface.{join, join_stall, code_changes_by_effects, fram_after-append}
+use Rattle.machine_effects.proofs.Interface.{join, join_stall, fram_after-append}
 use Rattle.code_forms.specs.Forms.{Core, board_of}
 use Rattle.code_forms.specs.Code.{Runs, Starves}
 use Rattle.crash_rules.proofs.Interface.{world_fram}
 use Rattle.source_values.specs.Runs.{CheckedProgram, State}
 use Rattle.array_versions.specs.Behaviour.{WordState, Behaviour, End, GoesOn, Jumps, Short as Starving, Strays, Broken, behaviour, started}
-use Rattle.word_code.specs.Code.{code_spent}
 use Rattle.array_versions.specs.Laws.{EndsByEffects}
 use Rattle.array_versions.proofs.Interface.{behaves_by_effects}
 use Rattle.word_code.specs.Laws.{HasJumped, ComesTo}
@@ -21,7 +19,6 @@ use Rattle.memory_map.specs.declared.words.RuntimeWord.TheVariants.{CurrentTask,
 use Rattle.memory_map.specs.MemoryMap.{MemoryMap, word_place, with_events}
 use Rattle.runtime_effects.specs.Places.{CopyPair, listed}
 use Rattle.runtime_effects.specs.Stages.{is_at_end, start_effects, commit_effects}
-use Rattle.runtime_effects.specs.Needs.{CanCommit}
 use Rattle.runtime_code.specs.Addresses.{start_address, stack_origin}
 use Rattle.runtime_code.specs.Comes.{Comes, IsAt, Enters}
 use Rattle.runtime_code.proofs.Interface.{nothing as no_steps}
@@ -31,8 +28,8 @@ use Rattle.boot_runtime.specs.Laws.{NamesHandler}
 use Rattle.boot_runtime.proofs.Interface.{clearing_is_dearest}
 use Rattle.commit_runtime.specs.Listing.{commit_steps, commit_cycles}
 use Rattle.lower.specs.Lowered.{lowered}
-use Rattle.crash_rules.specs.Model.{Model, ProgramEffects, program_effects, bound, ModelLaws, AttemptContract, Comes as Decides, Lacks, with_commit}
-use Rattle.crash_rules.specs.Runs.{Program, ProgramLaws, Makes}
+use Rattle.crash_rules.specs.Model.{Model, ProgramEffects, program_effects, ModelLaws, with_commit}
+use Rattle.crash_rules.specs.Runs.{Program, Makes}
 use Rattle.stands_for.specs.Program.{StartContract}
 use Rattle.stands_for.specs.StandsFor.{HoldsWords, StartedAt}
 use Rattle.stands_for.proofs.Interface.{numbered_starts, pending_can_commit}
@@ -41,24 +38,27 @@ use Rattle.compiled_model.specs.View.{state_view}
 use Rattle.memory_map.specs.declared.runtime.Logging.{Logging}
 use Rattle.memory_map.specs.declared.runtime.Role.{Role}
 use Rattle.compiled_model.specs.Parts.{has_jumped, task_program, redo_model, started_under}
-use Rattle.compiled_model.proofs.Interface.{is_redo, under_map}
-use Rattle.compiled_model.specs.Needs.{boot_cycles, whole_cycles, LeavesFor}
+use Rattle.compiled_model.proofs.Interface.{under_map}
+use Rattle.compiled_model.specs.Needs.{boot_cycles, LeavesFor}
 use Rattle.linked_code.specs.Linked.{ProgramsAreWhole}
 use Rattle.commit_runtime.proofs.Interface.{commit_grows}
-use Rattle.linked_code.proofs.Interface.{programs_count, to_start, to_task, DoesBody, body_there, commit_there, to_commit}
+use Rattle.linked_code.proofs.Interface.{to_start, to_task, commit_there, to_commit}
 use Rattle.compiled_runs.specs.Program.{placed_code, IsBooting, IsStarting, compiled_program}
-use Rattle.compiled_runs.specs.Laws.{CanRun, CodeKeepsTheLaws}
-use Rattle.compiled_runs.proofs.Steps.{code_takes}
+use Rattle.compiled_runs.specs.Laws.{CanRun}
+use Rattle.cost_bound.specs.Counts.{emits_of}
+use Rattle.source_values.specs.Runs.{task_body}
+use Rattle.compiled_runs.proofs.Costs.{FitsCommit, BodyWithin, Costs, programs_are, are_whole}
 
--- a source with its layout, whose code can run and which keeps the laws of redo's model
+-- a source with its layout, whose code can run and which keeps the laws of redo's model, and what its tasks cost
 record Source : Type 0 where
   program : CheckedProgram
   map : MemoryMap
   can : CanRun program map
   laws : ModelLaws (redo_model program map)
+  costs : Costs program map
 
 module _ (source : Source) where
-  open source use {program as p, map as l, can as r, laws}
+  open source use {program as p, map as l, can as r, laws, costs}
 
   abbrev m : Model State
   m = redo_model p l
@@ -78,14 +78,8 @@ module _ (source : Source) where
   abbrev privates : ℕ → List CopyPair
   privates = privates_in tasks
 
-  -- as many programs as tasks
-  programs_are : length (lowered l p) ≡ length p.tasks
-  programs_are = let a = programs_count l.tasks (lowered l p) r.fits.tasks in a ∙ r.count
-
-  are_whole : ProgramsAreWhole (lowered l p)
-  are_whole =
-      let n = programs_are in
-      record { whole = λ k h. r.programs.whole k (omega (arith, h, n)); of_words = λ k h. r.programs.of_words k (omega (arith, h, n)) }
+  whole : ProgramsAreWhole (lowered l p)
+  whole = are_whole p l r
 
   -- a board, and the start of an attempt behind it
   record ReachesStart (b : MachineBoard) : Type 0 where
@@ -105,7 +99,7 @@ module _ (source : Source) where
         steps = with_events l.runtime.events 2 + 2;
         cycles = with_events l.runtime.events 3 + 6;
         within = omega arith;
-        comes = to_start l (lowered l p) r.fits are_whole k.core k.pc k.named zero;
+        comes = to_start l (lowered l p) r.fits whole k.core k.pc k.named zero;
       }
 
   from_start : (b : MachineBoard) → IsStarting l b → ReachesStart b
@@ -115,30 +109,11 @@ module _ (source : Source) where
       record { core = u; is = k.is; steps = 0; cycles = 0; within = omega arith; comes = no_steps code u (IsAt start_at u.fram u.inputs) here }
 
   abbrev cost : ℕ → ℕ
-  cost k = m.task_cost k
+  cost k = costs.cost k
 
   -- what the start of an attempt keeps
   start_keeps : StartContract (program_places p l) (state_view p l) privates (start_effects l privates)
   start_keeps = numbered_starts State (program_places p l) (state_view p l) privates r.apart r.privates
-
-  -- the room of the list and of the words to send, and the number of the first
-  record FitsCommit (k : ℕ) (f : ℕ → ℕ) : Type 0 where
-    pub can : CanCommit l f
-    pub list : f (word_place l ListLength) ≤ (program_places p l).list_capacity k
-    pub words : length (listed l f) ≤ (program_places p l).list_capacity k
-    pub emits : f (word_place l EmitCount) ≤ (program_places p l).emit_capacity k
-    pub base : f (word_place l SentBase) < 0x10000
-
-  fits_commit : (s next : State) (x : World) → m.Decided s next x → FitsCommit s.task x.fram
-  fits_commit s next x d =
-      let e = d.decided.sends.emit_count in let k = d.decided.sends.within_emits in
-      record {
-        can = pending_can_commit (program_places p l) x r.apart (laws.decided_committing s next x d).pending;
-        list = d.decided.home.within_list;
-        words = d.decided.home.within_words;
-        emits = omega (arith, e, k);
-        base = d.decided.sends.words (word_place l SentBase);
-      }
 
   -- what a commit takes behind a boot, at most
   abbrev CommitWithin : (ℕ → ℕ) → ℕ → Type 0
@@ -152,7 +127,7 @@ module _ (source : Source) where
   commit_from_boot to accepted u e named d most within =
       let x : World = record { fram = u.fram; accepted = accepted } in
       let q = d.pending in
-      let a = to_commit l (lowered l p) r.fits are_whole u e named q.gate (pending_can_commit (program_places p l) x r.apart q)
+      let a = to_commit l (lowered l p) r.fits whole u e named q.gate (pending_can_commit (program_places p l) x r.apart q)
       (q.words (word_place l SentBase)) in
       let n = u.fram (word_place l ListLength) in let ws = length (listed l u.fram) in let k = u.fram (word_place l EmitCount) in
       record {
@@ -177,54 +152,27 @@ module _ (source : Source) where
       subst (λ q. Makes c m.delay most (program_effects (m.commit q.fram q.inputs) true) q) (sym k.is)
       (commit_from_boot to x.accepted u k.pc k.named d' most (subst (λ g. CommitWithin g most) f within))
 
-  -- any commit: the list and the words to send have room, and the bound has the cycles for all that has
-  makes_commit : (to : State) (x : World) (b : MachineBoard) → IsBooting l b → b.fram ≡ x.fram → m.Committing to x
-      → Makes c m.delay (bound m) (program_effects (m.commit b.fram b.inputs) true) b
-  makes_commit to x b k e d =
+  -- any commit: the list and the words to send have room
+  makes_commit : (to : State) (x : World) (b : MachineBoard) → IsBooting l b → b.fram ≡ x.fram → m.Committing to x → (most : ℕ)
+      → boot_cycles l + commit_cycles l.runtime.events l.entries l.entries l.emits.words ≤ most
+      → Makes c m.delay most (program_effects (m.commit b.fram b.inputs) true) b
+  makes_commit to x b k e d most room =
       let q = d.pending in
       let list = q.list_length in let words = q.list_words in let emits = q.emit_count in
-      let most = r.costs.commits to.task d.rests.is_open.is_task in
       let n = x.fram (word_place l ListLength) in let ws = length (listed l x.fram) in let o = x.fram (word_place l EmitCount) in
       let dearest = commit_grows l.runtime.events n l.entries ws l.entries o l.emits.words list words emits in
-      commit_within to x b k e d (bound m) (omega (arith, dearest, most))
+      commit_within to x b k e d most (omega (arith, dearest, room))
 
-  -- one that a task decided: it lists no more words and has no more to send than the task may, for which the task's own cost has the cycles
+  -- one that a task decided: its list has no more entries and words, and it has no more to send, than what the task's own cost has the cycles for
   makes_decided : (s next : State) (x : World) (b : MachineBoard) → IsBooting l b → b.fram ≡ x.fram → m.Decided s next x
+      → FitsCommit l (costs.entries s.task) (costs.words s.task) (emits_of (task_body p s.task)) x.fram
       → Makes c m.delay (cost s.task) (program_effects (m.commit b.fram b.inputs) true) b
-  makes_decided s next x b k e d =
-      let fits = fits_commit s next x d in
-      let list = fits.list in let words = fits.words in let emits = fits.emits in
-      let most : whole_cycles p l s.task x.fram no_inputs ≤ cost s.task =
-      r.costs.within s.task x.fram no_inputs d.decided.sends.is_task d.decided.sends.words (record {
-        readings = All-nil (λ w. w < 0x10000);
-        looks = All-nil (λ (look : Look). (n : ℕ) → look n < 0x10000);
-      }) in
+  makes_decided s next x b k e d fits =
+      let list = fits.list in let words = fits.named in let emits = fits.sent in
+      let most = costs.commits s.task d.decided.sends.is_task in
       let n = x.fram (word_place l ListLength) in let ws = length (listed l x.fram) in let o = x.fram (word_place l EmitCount) in
-      let entries = (program_places p l).list_capacity s.task in
-      let dearest = commit_grows l.runtime.events n entries ws entries o ((program_places p l).emit_capacity s.task) list words emits in
+      let dearest = commit_grows l.runtime.events n (costs.entries s.task) ws (costs.words s.task) o (emits_of (task_body p s.task)) list words emits in
       commit_within next x b k e (laws.decided_committing s next x d) (cost s.task) (omega (arith, dearest, most))
-
-  -- an attempt that comes to its end is decided
-  record IsDecidedBehind (s : State) (f : ℕ → ℕ) (es : List Effect) : Type 0 where
-    pub next : State
-    pub world : World
-    pub decided : m.Decided s next world
-    pub fram : world.fram ≡ fram_after es f
-
-  decided_behind : (s : State) (x : World) (inputs : Inputs) (q : ProgramEffects) → AttemptContract m s inputs x q → q.ends ≡ true
-      → IsDecidedBehind s x.fram q.effects
-  decided_behind s x inputs q (Decides next d) t =
-      let before = d.before in
-      let es : List Effect = Store (word_place l Gate) 1 ∷ [] in
-      record {
-        next = next;
-        world = world_after_one (Store (word_place l Gate) 1) (world_after before x);
-        decided = d.decided;
-        fram = ap (λ g. put g (word_place l Gate) 1) (world_fram before x)
-            ∙ sym (fram_after-append before es x.fram)
-            ∙ ap (λ k. fram_after k.effects x.fram) (sym d.is);
-      }
-  decided_behind s x inputs q (Lacks d) t = absurd (let e = d.is in cc (t, e))
 
   -- an undecided world, and a machine with its FRAM from which the start of an attempt is reached
   record Attempting : Type 0 where
@@ -266,7 +214,7 @@ module _ (source : Source) where
     named = let e = is_current in let t = und.is_open.is_task in omega (arith, e, t)
 
     program_named : k < length (lowered l p)
-    program_named = let h = named in let n = programs_are in omega (arith, h, n)
+    program_named = let h = named in let n = programs_are p l r in omega (arith, h, n)
 
     is_started : StartedAt (program_places p l) (state_view p l) s (privates s.task) (world_after es x)
     is_started = start_keeps.started s x und
@@ -284,11 +232,16 @@ module _ (source : Source) where
         subst (λ t. LeavesFor l.commit.address (behaviour (task_program p l t) (started g u.inputs)).end) (sym is_current)
         (subst (λ h. LeavesFor l.commit.address (behaviour (task_program p l s.task) (started h u.inputs)).end) started_fram a)
 
-    within : whole_cycles p l k g u.inputs ≤ cost k
-    within = r.costs.within k g u.inputs named start_words words
+    -- the cycles of its body, and that its cost has room for them
+    abbrev paid : BodyWithin p l (cost k) (costs.entries k) (costs.words k) k g u.inputs
+    paid = costs.body k g u.inputs named start_words words
 
-    contract : AttemptContract m s u.inputs x (m.attempt u.fram u.inputs)
-    contract = laws.attempts s x u.inputs words und
+    -- what it lists where it decides
+    abbrev FitsAt : ℕ → (ℕ → ℕ) → Type 0
+    FitsAt t h = FitsCommit l (costs.entries t) (costs.words t) (emits_of (task_body p t)) h
+
+    fits_there : has_jumped b.end ≡ true → FitsAt k f
+    fits_there ends = subst (λ t. FitsAt t f) (sym is_current) (costs.lists s x u.inputs words und ends)
 
     -- the attempt's effects with its commit, by how its program ends
     abbrev script_by : End → ProgramEffects
@@ -303,39 +256,35 @@ module _ (source : Source) where
     abbrev to_cycles : ℕ
     to_cycles = cycles + start_cycles l.runtime.events clears l.versions.words (length (privates k))
 
-    -- the bound has room for the clearing in each attempt
+    -- the cost has room for the clearing in each attempt
     at_most : start_cycles l.runtime.events clears l.versions.words (length (privates k))
         ≤ start_cycles l.runtime.events true l.versions.words (length (privates k))
     at_most = clearing_is_dearest l.runtime.events clears l.versions.words (length (privates k))
 
     there : Comes code es to_steps to_cycles u (Enters (entry_at tasks k).code (stack_origin l.runtime.events) g u.inputs)
-    there = to_task l (lowered l p) r.fits are_whole u steps cycles comes program_named (und.is_open.words (word_place l Version))
+    there = to_task l (lowered l p) r.fits whole u steps cycles comes program_named (und.is_open.words (word_place l Version))
 
-    body : DoesBody l (lowered l p) r.fits are_whole there.end k g u.inputs
-    body = body_there l (lowered l p) r.fits are_whole there.end k g u.inputs there.holds program_named start_words words
+    body : ComesTo code paid.most there.end b.effects b.end
+    body = paid.comes there.end there.holds
 
     jumps_on : (to : ℕ) (w : WordState) → b.end ≡ Jumps to w → to ≡ l.commit.address
-        → Runs code b.effects (code_spent (task_program p l k) (started g u.inputs)) there.end (HasJumped to w)
-        → IsDecidedBehind s u.fram (es ++ b.effects) → Makes c m.delay (cost k) (script_by (Jumps to w)) (board_of u)
-    jumps_on to w e t q d =
+        → Runs code b.effects paid.most there.end (HasJumped to w) → Makes c m.delay (cost k) (script_by (Jumps to w)) (board_of u)
+    jumps_on to w e t q =
         let by = subst (EndsByEffects (started g u.inputs) b.effects) e (behaves_by_effects (task_program p l k) (started g u.inputs)) in
         let same : w.fram ≡ f = by.0 ∙ sym (fram_after-append es b.effects u.fram) in
         let v = q.end in
-        let fits : FitsCommit s.task f = subst (FitsCommit s.task) d.fram (fits_commit s d.next d.world d.decided) in
+        let fits : FitsAt k f = fits_there (ap has_jumped e) in
         let arrived : IsAt l.commit.address f v.inputs v = record { pc = q.holds.pc ∙ t; fram = q.holds.fram ∙ same; inputs = refl } in
-        let h = commit_there l (lowered l p) r.fits are_whole v f v.inputs arrived fits.can fits.base in
+        let h = commit_there l (lowered l p) r.fits whole v f v.inputs arrived fits.can fits.base in
         let n = f (word_place l ListLength) in let ws = length (listed l f) in let o = f (word_place l EmitCount) in
         let one = join (exec code) to_steps q.steps es b.effects to_cycles q.cycles (board_of u) (board_of there.end) (board_of v) there.leads q.leads in
         let commit_count = commit_steps l.runtime.events n ws o in
         let commit_time = commit_cycles l.runtime.events n ws o in
         let all = join (exec code) (to_steps + q.steps) commit_count (es ++ b.effects) (commit_effects l f)
         (to_cycles + q.cycles) commit_time (board_of u) (board_of v) (board_of h.end) one h.leads in
-        let list : n ≤ (program_places p l).list_capacity k = subst (λ j. n ≤ (program_places p l).list_capacity j) (sym is_current) fits.list in
-        let words : ws ≤ (program_places p l).list_capacity k = subst (λ j. ws ≤ (program_places p l).list_capacity j) (sym is_current) fits.words in
-        let emits : o ≤ (program_places p l).emit_capacity k = subst (λ j. o ≤ (program_places p l).emit_capacity j) (sym is_current) fits.emits in
-        let most = within in let start_most = at_most in let body_most = q.within in
-        let dearest = commit_grows l.runtime.events n ((program_places p l).list_capacity k) ws ((program_places p l).list_capacity k) o
-        ((program_places p l).emit_capacity k) list words emits in
+        let list = fits.list in let words = fits.named in let emits = fits.sent in
+        let most = paid.within in let start_most = at_most in let body_most = q.within in
+        let dearest = commit_grows l.runtime.events n (costs.entries k) ws (costs.words k) o (emits_of (task_body p k)) list words emits in
         record {
           steps = to_steps + q.steps + commit_count;
           cycles = to_cycles + q.cycles + commit_time;
@@ -348,12 +297,12 @@ module _ (source : Source) where
           lacks = λ z. absurd (cc (z));
         }
 
-    lacks_on : Starves code b.effects (code_spent (task_program p l k) (started g u.inputs)) there.end
+    lacks_on : Starves code b.effects paid.most there.end
         → Makes c m.delay (cost k) (script_by Starving) (board_of u)
     lacks_on q =
         let all = join_stall (exec code) to_steps q.steps es b.effects to_cycles q.cycles (board_of u) (board_of there.end) q.price stop.NoReading
         there.leads q.stalls in
-        let most = within in let start_most = at_most in let body_most = q.within in
+        let most = paid.within in let start_most = at_most in let body_most = q.within in
         let all' : Stalls (exec code) (to_steps + q.steps) ((es ++ b.effects) ++ []) (to_cycles + q.cycles) (board_of u) q.price stop.NoReading =
         subst (λ y. Stalls (exec code) (to_steps + q.steps) y (to_cycles + q.cycles) (board_of u) q.price stop.NoReading)
         (sym (append-nil (es ++ b.effects))) all in
@@ -365,9 +314,8 @@ module _ (source : Source) where
         }
 
     by_end : (e : End) → b.end ≡ e → LeavesFor l.commit.address e
-        → ComesTo code (code_spent (task_program p l k) (started g u.inputs)) there.end b.effects e → Makes c m.delay (cost k) (script_by e) (board_of u)
-    by_end (Jumps to w) e t q =
-        jumps_on to w e t q (decided_behind s x u.inputs (m.attempt u.fram u.inputs) contract (ap has_jumped e))
+        → ComesTo code paid.most there.end b.effects e → Makes c m.delay (cost k) (script_by e) (board_of u)
+    by_end (Jumps to w) e t q = jumps_on to w e t q
     by_end Starving e t q = lacks_on q
     by_end (GoesOn w) e t q = absurd t
     by_end Strays e t q = absurd t
@@ -403,16 +351,27 @@ module _ (source : Source) where
       let zero : b.fram (word_place l Gate) ≡ 0 = ap (λ f. f (word_place l Gate)) same ∙ laws.undecided_gate s x und in
       makes_from s x b (from_boot b k zero) same words und
 
-pub code_keeps_the_laws : CodeKeepsTheLaws
-code_keeps_the_laws p l r laws =
-    let L : Model State → Type 0 = λ m. ModelLaws m in
-    let P : Model State → Type 0 = λ m. ProgramLaws m (compiled_program p l) in
-    let source : Source = record { program = p; map = l; can = r; laws = subst L (is_redo p l) laws } in
-    subst P (sym (is_redo p l)) (record {
-      changes = λ s. code_changes_by_effects (placed_code p l) s;
-      takes_cycles = λ s. code_takes (placed_code p l) s;
-      makes_boot = makes_boot source;
-      makes_attempt = λ s x b k. makes_from source s x b (from_start source b k);
-      makes_decided = makes_decided source;
-      makes_commit = makes_commit source;
-    })
+-- what the code owes a model that has redo's runtime and worlds, in which these are the costs
+pub record CodeMakes (p : CheckedProgram) (l : MemoryMap) (costs : Costs p l) : Type 0 where
+  pub boot : (s : State) (x : World) (b : MachineBoard) → IsBooting l b → b.fram ≡ x.fram → InputsAreWords b.inputs → (redo_model p l).Undecided s x
+      → Makes (compiled_program p l) (redo_model p l).delay (costs.cost s.task)
+      (with_commit (redo_model p l) b.fram b.inputs ((redo_model p l).attempt b.fram b.inputs)) b
+  pub attempt : (s : State) (x : World) (b : MachineBoard) → IsStarting l b → b.fram ≡ x.fram → InputsAreWords b.inputs → (redo_model p l).Undecided s x
+      → Makes (compiled_program p l) (redo_model p l).delay (costs.cost s.task)
+      (with_commit (redo_model p l) b.fram b.inputs ((redo_model p l).attempt b.fram b.inputs)) b
+  pub decided : (s next : State) (x : World) (b : MachineBoard) → IsBooting l b → b.fram ≡ x.fram → (redo_model p l).Decided s next x
+      → FitsCommit l (costs.entries s.task) (costs.words s.task) (emits_of (task_body p s.task)) x.fram
+      → Makes (compiled_program p l) (redo_model p l).delay (costs.cost s.task) (program_effects ((redo_model p l).commit b.fram b.inputs) true) b
+  pub commit : (to : State) (x : World) (b : MachineBoard) → IsBooting l b → b.fram ≡ x.fram → (redo_model p l).Committing to x → (most : ℕ)
+      → boot_cycles l + commit_cycles l.runtime.events l.entries l.entries l.emits.words ≤ most
+      → Makes (compiled_program p l) (redo_model p l).delay most (program_effects ((redo_model p l).commit b.fram b.inputs) true) b
+
+pub code_makes : (p : CheckedProgram) (l : MemoryMap) → CanRun p l → ModelLaws (redo_model p l) → (costs : Costs p l) → CodeMakes p l costs
+code_makes p l r laws costs =
+    let source : Source = record { program = p; map = l; can = r; laws = laws; costs = costs } in
+    record {
+      boot = makes_boot source;
+      attempt = λ s x b k. makes_from source s x b (from_start source b k);
+      decided = makes_decided source;
+      commit = makes_commit source;
+    }

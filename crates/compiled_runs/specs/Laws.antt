@@ -26,6 +26,7 @@ use Rattle.linked_code.specs.Rooms.{PrivatesAreCounted}
 use Rattle.compiled_model.specs.Places.{program_places}
 use Rattle.compiled_model.specs.Parts.{compiled_model}
 use Rattle.compiled_model.specs.Needs.{CostsAreWithin, TasksLeave, ProgramsAreWhole, AttemptsStoreBelow}
+use Rattle.task_needs.specs.Lists.{TasksListFew, NeedsAreWithin, with_needs}
 use Rattle.compiled_runs.specs.Program.{source_code, IsBooting, compiled_program}
 
 -- what is asked of a source and its layout
@@ -43,6 +44,16 @@ pub record CanRun (p : CheckedProgram) (l : MemoryMap) : Type 0 where
 abbrev pub CodeKeepsTheLaws : Type 0
 CodeKeepsTheLaws = (p : CheckedProgram) (l : MemoryMap) → CanRun p l → ModelLaws (compiled_model p l)
     → ProgramLaws (compiled_model p l) (compiled_program p l)
+
+-- a source with its tasks' needs as their costs is a model as before, where each task lists few words
+abbrev pub NeedsKeepTheLaws : Type 0
+NeedsKeepTheLaws = (p : CheckedProgram) (l : MemoryMap) → CanRun p l → TasksListFew p l → ModelLaws (compiled_model p l)
+    → ModelLaws (with_needs p l (compiled_model p l))
+
+-- and the code makes each attempt and each commit within the task's need, whatever else was pending at the start
+abbrev pub CodeKeepsToNeeds : Type 0
+CodeKeepsToNeeds = (p : CheckedProgram) (l : MemoryMap) → CanRun p l → TasksListFew p l → NeedsAreWithin p l → ModelLaws (compiled_model p l)
+    → ProgramLaws (with_needs p l (compiled_model p l)) (compiled_program p l)
 
 -- it is instructions placed in FRAM in front of the handler, and a power-up with the boot's address in the reset vector comes to its entry
 abbrev pub CodeIsPlaced : Type 0

@@ -1,12 +1,23 @@
 //! Laws of compiled code that runs. The functions do nothing: their contracts are the laws.
 
-ghost use Rattle.compiled_runs.specs.Laws.{CodeKeepsTheLaws, CodeIsPlaced, PowerUpsRaiseVersion, RunsLeaveTheCode, SourcesHaveRoom};
+ghost use Rattle.compiled_runs.specs.Laws.{CodeKeepsTheLaws, CodeKeepsToNeeds, CodeIsPlaced, NeedsKeepTheLaws, PowerUpsRaiseVersion, RunsLeaveTheCode};
+ghost use Rattle.compiled_runs.specs.Laws.{SourcesHaveRoom};
 
 /// From a power-up on, and from the end of a commit on, the code makes the attempt or the commit that is due, within the bound of
 /// the state's task.
-#[tactic(auto, using(crate::proofs::Program::code_keeps_the_laws))]
+#[tactic(auto, using(crate::proofs::Bound::code_keeps_the_laws))]
 pub fn code_keeps_the_laws()
     ensures { CodeKeepsTheLaws }
+{}
+
+/// With what its tasks need as their costs a source keeps what the crash theorem asks of a model.
+pub fn needs_keep_the_laws()
+    ensures { NeedsKeepTheLaws }
+{}
+
+/// From a power-up on, and from the end of a commit on, the code makes the attempt or the commit that is due within what the state's task needs.
+pub fn code_keeps_to_needs()
+    ensures { CodeKeepsToNeeds }
 {}
 
 /// The code stands in FRAM, and a power-up comes to the boot where the reset vector says so.

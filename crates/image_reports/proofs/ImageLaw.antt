@@ -1,11 +1,13 @@
 -- Each run of an image of an accepted text keeps the laws.
+use Rattle.image_reports.proofs.Names.{◌<◌, length, runs_may_begin}
 use Rattle.image_reports.proofs.Names.{ℕ, subst, arith, List, ImageValue, BoardValue, fresh, Moment, last_board, CheckedProgram, State, first_state}
 use Rattle.image_reports.proofs.Names.{MemoryMap, Model, History, Resting, trace_inputs, traces_are_few, stops_where_short, SoundAtRest, compiled_model}
 use Rattle.image_reports.proofs.Names.{is_redo, false, map_of, word_place, CurrentTask, Allow, IsCompiled, IsAcceptedText, IsTaskWithin, cost_of, state_within}
 use Rattle.image_reports.proofs.Names.{KeepsCapacities, compiled_program, sources_are_ready, [], world_with, laid_out, images_are_fresh, known_behind}
 use Rattle.image_reports.proofs.Names.{KeepsCode}
 use Rattle.image_reports.proofs.Names.{HoldsAt, ImagesKeepTheLaws, ImagesAreTold, ImagesKeepCapacities, HoldsFrom, ImagesBelong}
-use Rattle.image_reports.proofs.Names.{◌≡◌, ◌<◌, ◌≤◌, ◌⊎◌, ◌∙◌, ◌++◌, true, refl, sym, ap, inl, inr, fram_of, Gate, Bool, Option, Some, None, MapValue}
+use Rattle.image_reports.specs.Laws.{ImagesKeepToNeeds}
+use Rattle.image_reports.proofs.Names.{◌≡◌, ◌≤◌, ◌⊎◌, ◌∙◌, ◌++◌, true, refl, sym, ap, inl, inr, fram_of, Gate, Bool, Option, Some, None, MapValue}
 use Rattle.image_reports.proofs.Names.{RunOutcome, Run, if◌then◌else◌, ImagesAnswerInOrder, IsLawfulRun}
 use Rattle.std.specs.Prelude.{map}
 use Rattle.energy_trace.specs.TraceValue.{TraceValue}
@@ -21,11 +23,14 @@ use Rattle.event_places.specs.Places.{handler_place, head_place, tail_place, sen
 use Rattle.machine_effects.specs.Machine.{IsFram}
 use Rattle.event_rules.specs.Rings.{KeepsRing}
 use Rattle.board_run.specs.Charges.{charges_of}
-use Rattle.image_reports.proofs.Begins.{at_first, bears, fram_is, own_code, rests, run_of_words}
+use Rattle.task_needs.specs.Needs.{need_of}
+use Rattle.task_needs.specs.Lists.{with_needs}
+use Rattle.image_reports.proofs.Begins.{at_first, bears, fram_is, own_code, rests, undecided, run_of_words}
 use Rattle.image_reports.proofs.Capacities.{fresh_capacities}
 use Rattle.image_reports.proofs.CompiledTold.{models_are_of_sources}
 use Rattle.image_reports.proofs.Told.{source, runs_are_told}
-use Rattle.image_reports.proofs.Onward.{Onward, front, unheard, opens, rings, takes, answered, raises, pays}
+use Rattle.image_reports.proofs.Onward.{Onward, front, unheard, opens, raises, pays, rings, takes, answered}
+use Rattle.image_reports.proofs.Needs.{needs_model_laws, need_within, needs_pay}
 
 -- the fresh image belongs to itself
 pub images_belong : ImagesBelong
@@ -74,6 +79,30 @@ first_within text p allow image ok c =
     state_within text p m (compiled_model p l) is (first_state p) x
     (is.rests (first_state p) x (rests text p allow image c ready (images_are_fresh text p allow image ok c)))
 
+-- a source has a task: the first one
+some_task : (text : List ℕ) (p : CheckedProgram) (allow : Allow) (image : ImageValue) (ok : IsAcceptedText text p allow)
+    → (c : IsCompiled text p allow image) → 0 < length p.tasks
+some_task text p allow image ok c =
+    let s = first_state p in
+    let x = world_with image.words [] in
+    let ready = sources_are_ready text p allow c.plans c.layout (laid_out text p allow image ok c) in
+    let below = ready.model.undecided_task s x (undecided text p allow image c ready (images_are_fresh text p allow image ok c)) in
+    omega (arith, below)
+
+-- the first task needs what the fresh world says
+first_need : (text : List ℕ) (p : CheckedProgram) (allow : Allow) (image : ImageValue) (ok : IsAcceptedText text p allow)
+    → (c : IsCompiled text p allow image)
+    → IsTaskWithin (with_needs p c.layout (compiled_model p c.layout)) (first_state p)
+    (need_of p c.layout ((world_with image.words []).fram (word_place c.layout CurrentTask)))
+first_need text p allow image ok c =
+    let l = c.layout in
+    let m = map_of text p l allow in
+    let is = models_are_of_sources text p l m (source text p allow image ok c) in
+    let s = first_state p in
+    let x = world_with image.words [] in
+    let ready = sources_are_ready text p allow c.plans l (laid_out text p allow image ok c) in
+    let new = images_are_fresh text p allow image ok c in
+    need_within p l m s x (ready.model.undecided_task s x (undecided text p allow image c ready new)) (is.rests s x (rests text p allow image c ready new))
 -- the words that count its events, and HEAD, are 0
 record HasEmptyRing (f : ℕ → ℕ) : Type 0 where
   head : f head_place ≡ 0
@@ -128,6 +157,10 @@ images_keep_the_laws text p allow image ok c cs starts readings events inputs r 
       answered = λ events. answered on events (fresh_keeps_ring text p allow image ok c);
       raises = raises on;
       progress = pays on false (first_within text p allow image ok c);
+      needs = needs_pay on
+          ((runs_may_begin (with_needs p l (compiled_model p l)) (needs_model_laws p l on.start.ready) readings).resting (first_state p)
+          (world_with image.words []) (undecided text p allow image c on.start.ready on.start.new)) (some_task text p allow image ok c) false
+          (first_need text p allow image ok c);
       told = runs_are_told text p allow image ok c cs readings events inputs r on.run;
     }
 
@@ -184,3 +217,8 @@ images_keep_capacities text p allow image ok c trace t r run ms rest e =
     let few = traces_are_few trace t in
     ((images_keep_the_laws text p allow image ok c (charges_of trace.charges) few.0 trace.readings trace.events (trace_inputs trace t) r run).fronts ms
     rest e).capacities
+
+pub images_keep_to_needs : ImagesKeepToNeeds
+images_keep_to_needs text p allow image ok c trace t r run =
+    let few = traces_are_few trace t in
+    (images_keep_the_laws text p allow image ok c (charges_of trace.charges) few.0 trace.readings trace.events (trace_inputs trace t) r run).needs

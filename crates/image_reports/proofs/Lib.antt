@@ -12,7 +12,8 @@ pub mod ImageStart
 pub mod ImageCode
 pub mod Untouched
 pub mod Onward
-pub mod ImageLaw
+pub mod Needs
+mod ImageLaw
 pub mod Resumed
 pub mod Tasks
 pub mod CompiledTold

@@ -17,7 +17,12 @@ use Rattle.compiled_model.specs.View.{state_in, state_left}
 use Rattle.image_reports.proofs.CompiledTold.{models_are_of_sources}
 use Rattle.image_reports.proofs.Told.{source}
 use Rattle.image_reports.proofs.Begins.{bears, run_of_words}
-use Rattle.image_reports.proofs.Onward.{Onward, starts_with, front, unheard, ringless, opens, rings, takes, answered, raises, pays}
+use Rattle.crash_rules.specs.Model.{bound}
+use Rattle.task_needs.specs.Needs.{need_of}
+use Rattle.task_needs.specs.Lists.{with_needs}
+use Rattle.image_reports.proofs.Names.{◌≤◌}
+use Rattle.image_reports.proofs.Needs.{needs_model_laws, need_within, needs_bound, needs_pay}
+use Rattle.image_reports.proofs.Onward.{Onward, starts_with, front, unheard, ringless, opens, raises, pays, rings, takes, answered}
 
 -- the world of a saved state that belongs to an image
 module _ (text : List ℕ) (p : CheckedProgram) (allow : Allow) (image : ImageValue) (ok : IsAcceptedText text p allow) (c : IsCompiled text p allow image)
@@ -69,6 +74,31 @@ module _ (text : List ℕ) (p : CheckedProgram) (allow : Allow) (image : ImageVa
   begun_by readings (SoundPending q) =
       subst (λ o. StandsFor model readings o (first_history (runtime_marks l) x)) (in_commit q.gate)
       ((runs_may_begin model ready.model readings).pending (state_left l x) x (states.commit x q))
+
+  -- so it is with the needs
+  needs : Model State
+  needs = with_needs p l (compiled_model p l)
+
+  -- the first task needs what CUR says; a pending commit takes no more than the bound
+  first_need : (pending : Bool) → bound needs ≤ m.bound → IsSound (program_places p l) x
+      → IsFirstWithin needs (if pending then Pending (state_left l x) else Resting (state_in l x)) (task_costs m (need_of p l) pending x).first
+  first_need true within sound = within
+  first_need false within (SoundAtRest q) =
+      need_within p l m (state_in l x) x (ready.model.undecided_task (state_in l x) x (undecided_there q)) (states.words x q.words)
+  first_need false within (SoundPending q) = need_within p l m (state_in l x) x q.current_task (states.words x q.words)
+
+  begun_needs : (readings : List ℕ) → IsSound (program_places p l) x → StandsFor needs readings origin (first_history (runtime_marks l) x)
+  begun_needs readings (SoundAtRest q) =
+      subst (λ o. StandsFor needs readings o (first_history (runtime_marks l) x)) (at_rest q.gate)
+      ((runs_may_begin needs (needs_model_laws p l ready) readings).resting (state_in l x) x (undecided_there q))
+  begun_needs readings (SoundPending q) =
+      subst (λ o. StandsFor needs readings o (first_history (runtime_marks l) x)) (in_commit q.gate)
+      ((runs_may_begin needs (needs_model_laws p l ready) readings).pending (state_left l x) x (states.commit x q))
+
+  -- the world's CUR names a task
+  some_task : IsSound (program_places p l) x → 0 < length p.tasks
+  some_task (SoundAtRest q) = let below = q.current_task in omega (arith, below)
+  some_task (SoundPending q) = let below = q.current_task in omega (arith, below)
 
   -- the pending commit makes its transition from the state that the world has
   transition : IsPendingCommit (program_places p l) x → HasTransition m x (state_in l x) (state_left l x) (pending_transition l x)
@@ -154,6 +184,8 @@ module _ (text : List ℕ) (p : CheckedProgram) (allow : Allow) (image : ImageVa
       answered = answered on;
       raises = raises on;
       progress = pays on (x.fram (word_place l Gate) == 1) (first_within (x.fram (word_place l Gate) == 1));
+      needs = needs_pay on (begun_needs readings belongs.sound) (some_task belongs.sound) (x.fram (word_place l Gate) == 1)
+          (first_need (x.fram (word_place l Gate) == 1) (needs_bound on (some_task belongs.sound)) belongs.sound);
       told = onward;
     }
 

@@ -47,6 +47,7 @@ use Rattle.compiled_model.specs.Parts.{compiled_model, start_of as start_due}
 use Rattle.stands_for.specs.Program.{answer_word}
 use Rattle.compiled_bounds.specs.Capacities.{KeepsCapacities}
 use Rattle.model_runs.specs.Runs.{IsShort, all_amounts}
+use Rattle.task_needs.specs.Needs.{need_of}
 use Rattle.image_laws.specs.Words.{code_words}
 use Rattle.image_laws.specs.Compiled.{IsCompiled}
 use Rattle.image_laws.specs.Laws.{fresh_world}
@@ -221,6 +222,10 @@ pub record IsLawfulRun (text : List ℕ) (p : CheckedProgram) (allow : Allow) (l
   -- the tasks that were completed in it, and of the one that was to come
   pub progress : let m = map_of text p l allow in let b = fresh image.words readings events in
       EachChargePays m (λ h. cost_of p h.task) cs b (at_first m b) r
+  -- and each is less than those and what the tasks need by the code that is linked, of which none needs more than its part of the bound: so one that
+  -- holds what the next n tasks need has n transitions
+  pub needs : let m = map_of text p l allow in let b = fresh image.words readings events in
+      EachChargePays m (λ h. need_of p l h.task) cs b (at_first m b) r
   -- its report is told by the source, where the charges have fewer than 2^64 cycles and instructions in all
   pub told : all_amounts cs < 2 ^ 64
       → IsToldBySource text p (map_of text p l allow) cs (fresh image.words readings events) r (report_of (start_of image) events r)

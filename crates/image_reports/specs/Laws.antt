@@ -15,10 +15,11 @@ use Rattle.source_values.specs.Runs.{CheckedProgram}
 use Rattle.source_meaning.specs.Acceptance.{IsAcceptedText}
 use Rattle.source_runs.specs.Naming.{IsMapOf}
 use Rattle.source_runs.specs.Traces.{IsTraceOfWords}
-use Rattle.source_runs.specs.Tells.{at_first, attempts_of, no_answers, IsToldBySource}
+use Rattle.source_runs.specs.Tells.{at_first, EachChargePays, IsToldBySource, attempts_of, no_answers}
 use Rattle.event_orders.specs.Answers.{AnswersInOrder}
 use Rattle.compiled_bounds.specs.Capacities.{KeepsCapacities}
 use Rattle.source_maps.specs.Maps.{map_of}
+use Rattle.task_needs.specs.Needs.{need_of}
 use Rattle.image_laws.specs.Compiled.{IsCompiled}
 
 -- on any trace of words, the report of the one run of its fresh board is told by the source
@@ -50,3 +51,12 @@ ImagesKeepCapacities = (text : List ℕ) (p : CheckedProgram) (allow : Allow) (i
     → Run (charges_of trace.charges) (fresh image.words trace.readings trace.events) r
     → (ms rest : List Moment) → r.moments ≡ ms ++ rest
     → KeepsCapacities c.layout (outside_of (last_board (fresh image.words trace.readings trace.events) ms)).fram
+
+-- and each charge that is spent is less than what the tasks need whose transitions were completed in it, and the one that was to come, beside what events
+-- take
+abbrev pub ImagesKeepToNeeds : Type 0
+ImagesKeepToNeeds = (text : List ℕ) (p : CheckedProgram) (allow : Allow) (image : ImageValue) → IsAcceptedText text p allow
+    → (c : IsCompiled text p allow image) → (trace : TraceValue) → IsTraceOfWords trace → (r : RunOutcome)
+    → Run (charges_of trace.charges) (fresh image.words trace.readings trace.events) r
+    → let m = map_of text p c.layout allow in let b = fresh image.words trace.readings trace.events in
+    EachChargePays m (λ h. need_of p c.layout h.task) (charges_of trace.charges) b (at_first m b) r

@@ -43,6 +43,7 @@ use Rattle.compiled_model.specs.Parts.{compiled_model, start_of as start_due}
 use Rattle.compiled_bounds.specs.Capacities.{KeepsCapacities}
 use Rattle.model_runs.specs.Events.{words_between}
 use Rattle.model_runs.specs.Runs.{IsShort, all_amounts}
+use Rattle.task_needs.specs.Needs.{need_of}
 use Rattle.image_laws.specs.Compiled.{IsCompiled}
 use Rattle.image_reports.specs.ImageLaw.{runtime_marks, world_with, VersionsBelow, KeepsCode, StepsOn, EventsHold, HasRoom, RaisesVersion, StaysOpen}
 use Rattle.image_reports.specs.ImageLaw.{RingsHold, AnswersHold}
@@ -134,6 +135,8 @@ pub record IsResumedRun (text : List ℕ) (p : CheckedProgram) (allow : Allow) (
   -- a charge that is spent has n transitions, if it has n bounds and 100 for each event that arose in it; and it is less than those and the costs of
   -- the tasks that were completed in it, and of the one that was to come; a commit that was pending at the start costs the bound
   pub progress : let m = map_of text p l allow in EachChargePays m (cost_due m (cost_of p) (x.fram (word_place l Gate) == 1)) cs b (at_first m b) r
+  -- and so with what the tasks need by the code that is linked
+  pub needs : let m = map_of text p l allow in EachChargePays m (cost_due m (need_of p l) (x.fram (word_place l Gate) == 1)) cs b (at_first m b) r
   -- its report is told by the source, where the charges have fewer than 2^64 cycles and instructions in all
   pub told : all_amounts cs < 2 ^ 64
       → IsToldOnward text p (map_of text p l allow) l x cs b r (report_of (start_of (record image { words = b.fram })) b.line.coming r)

@@ -1,6 +1,6 @@
 //! The headline, and the capacities of a run. The functions do nothing: their contracts are the laws.
 
-ghost use Rattle.image_reports.specs.Laws.{ImagesAnswerInOrder, ImagesAreMapped, ImagesAreTold, ImagesKeepCapacities};
+ghost use Rattle.image_reports.specs.Laws.{ImagesAreMapped, ImagesAreTold, ImagesKeepCapacities, ImagesKeepToNeeds, ImagesAnswerInOrder};
 ghost use Rattle.crash_rules.specs.Runs.{Program};
 ghost use Rattle.image_reports.specs.CompiledLaws.{CompiledRunsAreTold, ModelsAreOfSources};
 
@@ -44,4 +44,10 @@ pub fn images_are_mapped()
 /// At each board of such a run the commit list and the emit buffer are within their capacities, and no version word is above VER.
 pub fn images_keep_capacities()
     ensures { ImagesKeepCapacities }
+{}
+
+/// Each charge of such a run that is spent is less than what the tasks need whose transitions were completed in it, and the one that was to come, by the
+/// code that is linked, and 100 cycles for each event that arose in it. So one that holds what the next n tasks need has n transitions.
+pub fn images_keep_to_needs()
+    ensures { ImagesKeepToNeeds }
 {}

@@ -21,7 +21,7 @@ pub use Rattle.layout_facts.proofs.Planned.{scalar_declared, places_are_declared
 -- What a task assigns, and where it has that.
 pub use Rattle.layout_facts.proofs.Assigned.{tasks_match, addresses_are}
 -- The commit list has room for all that a task may list.
-pub use Rattle.layout_facts.proofs.Listed.{lists_have_room}
+pub use Rattle.layout_facts.proofs.Listed.{elements_are_stores, lists_have_room}
 -- A task's places have what its source declares.
 pub use Rattle.layout_facts.proofs.Declared.{places_are_as_declared, written_arrays_have_copies}
 -- What a task sees of a memory map stands in the whole map.

@@ -1,11 +1,11 @@
 -- The commit list has room for all that a task may list.
 use Rattle.layout_facts.proofs.Names.{◌≡◌, ℕ, ◌+◌, ◌<◌, ◌≤◌, true, List, length, arith, ap, sym, ◌∙◌, Some, slice_get, All-weaker, slice_get_within}
 use Rattle.layout_facts.proofs.Names.{SharedDeclaration, Allow, stores_of, CheckedProgram, list_part, TaskPlanValue, is_scalar, Scalar, Array, MemoryMap}
-use Rattle.layout_facts.proofs.Names.{TaskPlace, places_of, Element, IsCopied, AreListed, listed_of, HasLayout, task_room, ListsHaveRoom}
+use Rattle.layout_facts.proofs.Names.{TaskPlace, places_of, Element, IsCopied, AreListed, listed_of, HasLayout, ElementsAreStores, ListsHaveRoom}
 use Rattle.task_ast.specs.declared.Extent.TheVariants as extent
 use Rattle.layout_facts.proofs.Planned.{array_has_place, scalar_has_place, scalar_at}
 use Rattle.layout_facts.proofs.Room.{all_counted, sum_at_most, part_at_most, listed_none, listed_most}
-use Rattle.layout_facts.proofs.Seen.{room_seen}
+use Rattle.layout_facts.proofs.Seen.{listed_seen}
 use Rattle.layout_facts.proofs.Assigned.{task_matches}
 
 module _ (p : CheckedProgram) (allow : Allow) (plans : List TaskPlanValue) (l : MemoryMap) (h : HasLayout p allow plans l) (layout : TaskPlace) where
@@ -47,13 +47,19 @@ module _ (p : CheckedProgram) (allow : Allow) (plans : List TaskPlanValue) (l : 
       found : slice_get p.shared j ≡ Some d
       found = ap (slice_get p.shared) same ∙ e
 
-pub lists_have_room : ListsHaveRoom
-lists_have_room p allow plans l h t task layout k = room_seen task.body l layout (λ v. stores_of v task.body) (task_room p task) (λ xs listed few.
+pub elements_are_stores : ElementsAreStores
+elements_are_stores p allow plans l h t task layout k xs seen few =
+    let listed = listed_seen task.body l layout xs seen in
     let sum =
     all_counted p.shared xs
     (All-weaker (IsCopied (places_of l layout)) (λ x. x.array < length p.shared) (within p allow plans l h layout) xs listed.copied) in
     let most =
     sum_at_most (λ i e. listed_of i xs) (λ i e. list_part (stores_of i task.body) e) 0 p.shared
     (part p allow plans l h layout (λ v. stores_of v task.body) xs listed few) in
+    omega (arith, sum, most)
+
+pub lists_have_room : ListsHaveRoom
+lists_have_room p allow plans l h t task layout k xs listed few =
+    let elements = elements_are_stores p allow plans l h t task layout k xs listed few in
     let count = (task_matches p allow plans l h t task layout k).count in
-    omega (arith, sum, most, count))
+    omega (arith, elements, count)

@@ -46,13 +46,13 @@ pub use Rattle.source_values.specs.Runs.{State, body_of, initial_words, is_long_
 pub use Rattle.lower.proofs.Interface.{SeenFrom, array, array_read, array_seen, privates_seen, read, scalar, scalar_seen, seen_from, seen_laid_out}
 pub use Rattle.lower.specs.Agreement.{IsArray, place_length}
 pub use Rattle.lower.specs.Seen.{map_seen, places_seen, some_path_writes}
-pub use Rattle.lower.specs.Spots.{AreDifferent, AreListed, HasRoom, Room, listed_of}
+pub use Rattle.lower.specs.Spots.{AreDifferent, AreListed, listed_of}
 -- compiled sources
 pub use Rattle.compiled_model.specs.Places.{has_word_at, is_private_in, program_places, some_scalar_at, stays_in_place}
 pub use Rattle.compiled_model.specs.View.{are_rows, are_words, is_within, row_in, shared_word, state_in, state_left, state_view, word_of_row}
 -- this crate
 pub use Rattle.layout_facts.specs.Facts.{HasLayout, IsTaskAt, task_places, task_room}
-pub use Rattle.layout_facts.specs.Laws.{AddressIs, AddressesAre, EachIsOneWord, ElementsStand, InPlaceByPaths, ListsHaveRoom, PlacesAreApart}
+pub use Rattle.layout_facts.specs.Laws.{AddressIs, AddressesAre, EachIsOneWord, ElementsAreStores, ElementsStand, InPlaceByPaths, ListsHaveRoom, PlacesAreApart}
 pub use Rattle.layout_facts.specs.Laws.{PlacesAreAsDeclared, PlacesAreDeclared, PlacesMatch, PrivatesAreTheirs, RowsFitPlaces, ScalarsStand}
 pub use Rattle.layout_facts.specs.Laws.{SharedWordsAreOfVariables, TaskMatches, TaskPlacesAreApart, TaskPlacesAreEven, TasksHaveRoom, TasksMatch}
 pub use Rattle.layout_facts.specs.Laws.{ViewHasTheirWords, WordsOfVariablesAreShared, WorldsHaveStates, WrittenArraysHaveCopies}

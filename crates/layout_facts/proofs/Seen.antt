@@ -1,5 +1,6 @@
 -- What a task sees of a memory map stands in the whole map.
-use Rattle.layout_facts.proofs.Names.{◌≡◌, ℕ, ◌+◌, ◌*◌, ◌<◌, Some, refl, ap, ◌∙◌, slice_get, All-weaker, some_path_writes, places_seen, map_seen, Room, HasRoom}
+use Rattle.layout_facts.proofs.Names.{◌≡◌, ℕ, ◌+◌, ◌*◌, ◌<◌, Some, List, refl, ap, ◌∙◌, slice_get, All-weaker, AreListed}
+use Rattle.layout_facts.proofs.Names.{some_path_writes, places_seen, map_seen}
 use Rattle.layout_facts.proofs.Names.{SeenFrom, scalar, array, read, seen_from, CheckedBlock, ArrayCopies, ScalarWidth, VariablePlace, Scalar, Array, MemoryMap}
 use Rattle.layout_facts.proofs.Names.{TaskPlace, home_region, places_of, Element, IsCopied, IsWordOf}
 
@@ -46,10 +47,9 @@ module _ (body : CheckedBlock) (l : MemoryMap) where
     below = m.below;
   }
 
-  pub room_seen : (layout : TaskPlace) (stores : ℕ → ℕ) (room : Room) → HasRoom (places_of l layout) stores room
-      → HasRoom (places_of (map_seen body l) layout) stores room
-  room_seen layout stores room h xs listed few =
-      h xs (record {
-        copied = All-weaker (IsCopied (places_of (map_seen body l) layout)) (IsCopied (places_of l layout)) (is_copied layout) xs listed.copied;
-        different = listed.different;
-      }) few
+  -- elements that are listed there are listed in the whole map
+  pub listed_seen : (layout : TaskPlace) (xs : List Element) → AreListed (places_of (map_seen body l) layout) xs → AreListed (places_of l layout) xs
+  listed_seen layout xs listed = record {
+    copied = All-weaker (IsCopied (places_of (map_seen body l) layout)) (IsCopied (places_of l layout)) (is_copied layout) xs listed.copied;
+    different = listed.different;
+  }

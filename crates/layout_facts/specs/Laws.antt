@@ -5,7 +5,7 @@ use Rattle.task_ast.specs.declared.Extent.TheVariants as extent
 use Rattle.task_ast.specs.declared.SharedDeclaration.{SharedDeclaration}
 use Rattle.cost_bound.specs.declared.allowance.Allow.{Allow}
 use Rattle.cost_bound.specs.Counts.{stores_of, block_assigns}
-use Rattle.cost_bound.specs.Allowance.{CheckedProgram, CheckedTask, is_written, scalars_of}
+use Rattle.cost_bound.specs.Allowance.{CheckedProgram, CheckedTask, is_written, list_of, scalars_of}
 use Rattle.war_analysis.specs.PlanValue.{TaskPlanValue}
 use Rattle.war_analysis.specs.Plans.{IsPrivateIn}
 use Rattle.war_analysis.specs.Plans as plan
@@ -69,6 +69,11 @@ TaskPlacesAreApart = OfTasks (λ p l task layout. spots.AreApart (task_places l 
 -- all at even addresses
 abbrev pub TaskPlacesAreEven : Type 0
 TaskPlacesAreEven = OfTasks (λ p l task layout. spots.AreEven (task_places l task layout))
+
+-- different elements, of each array no more than there are stores to it, are no more than a task's list has beside the scalars that it assigns
+abbrev pub ElementsAreStores : Type 0
+ElementsAreStores = OfTasks (λ p l task layout. (xs : List Element) → spots.AreListed (task_places l task layout) xs
+    → ((v : ℕ) → spots.listed_of v xs ≤ stores_of v task.body) → length xs + scalars_of p.shared task.body ≤ list_of p.shared task.body)
 
 -- the list has room for the private scalars and for as many different elements of each array as there are stores to it
 abbrev pub ListsHaveRoom : Type 0

@@ -1,5 +1,5 @@
 //! What holds of the layout of a source, as contracts of functions that do nothing.
-ghost use Rattle.layout_facts.specs.Laws.{AddressesAre, EachIsOneWord, ElementsStand, InPlaceByPaths, ListsHaveRoom, PlacesAreApart};
+ghost use Rattle.layout_facts.specs.Laws.{AddressesAre, EachIsOneWord, ElementsAreStores, ElementsStand, InPlaceByPaths, ListsHaveRoom, PlacesAreApart};
 ghost use Rattle.layout_facts.specs.Laws.{PlacesAreAsDeclared, PlacesAreDeclared, PrivatesAreTheirs, RowsFitPlaces, ScalarsStand};
 ghost use Rattle.layout_facts.specs.Laws.{SharedWordsAreOfVariables, TaskPlacesAreApart, TaskPlacesAreEven, TasksHaveRoom};
 ghost use Rattle.layout_facts.specs.Laws.{TasksMatch, ViewHasTheirWords, WordsOfVariablesAreShared, WorldsHaveStates, WrittenArraysHaveCopies};
@@ -27,6 +27,11 @@ pub fn task_places_are_apart()
 /// They stand at even addresses.
 pub fn task_places_are_even()
     ensures { TaskPlacesAreEven }
+{}
+
+/// Different elements, of each array no more than there are stores to it, are no more than a task's list has beside its scalars.
+pub fn elements_are_stores()
+    ensures { ElementsAreStores }
 {}
 
 /// The commit list has room for the private scalars and for each element that a task may list.

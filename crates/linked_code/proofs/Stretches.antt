@@ -133,7 +133,7 @@ module _ (l : MemoryMap) (programs : List Program) (fits : CodeFits l programs) 
       comes_on a (λ v h. start_there v u.fram u.inputs h (omega (arith, named, count, e)) word)
 
   -- the code of a task stands where the boot comes to it
-  task_stands : (k : ℕ) → k < length programs → Stands code (entry_at tasks k).code (code_of l.runtime.events (program k))
+  pub task_stands : (k : ℕ) → k < length programs → Stands code (entry_at tasks k).code (code_of l.runtime.events (program k))
   task_stands k h =
       let t = get_or l.tasks k no_task in
       let count = programs_count l.tasks programs fits.tasks in
@@ -142,6 +142,17 @@ module _ (l : MemoryMap) (programs : List Program) (fits : CodeFits l programs) 
       let s : Stands code t.code.address (code_of l.runtime.events (program k)) = parts.tasks k t (program k) a b in
       let d : t.code.address ≡ (entry_at tasks k).code = ap (λ x. x.code) (sym (entry_is l.tasks k)) in
       subst (λ q. Stands code q (code_of l.runtime.events (program k))) d s
+
+  -- where a task is entered on words, a program's code begins
+  pub entry_there : (v : Core) (k : ℕ) (g : ℕ → ℕ) (inputs : Inputs)
+      → Enters (entry_at tasks k).code (stack_origin l.runtime.events) g inputs v → ((a : ℕ) → g a < 0x10000) → InputsAreWords inputs
+      → IsEntry l.runtime.events (entry_at tasks k).code v
+  entry_there v k g inputs h words ready = record {
+    pc = h.pc;
+    sp = h.sp ∙ origin_is_entry l.runtime.events;
+    fram = subst (λ f. (a : ℕ) → f a < 0x10000) (sym h.fram) words;
+    inputs = subst InputsAreWords (sym h.inputs) ready;
+  }
 
   -- what a task's body does on FRAM and inputs
   abbrev pub DoesBody : Core → ℕ → (ℕ → ℕ) → Inputs → Type 0
@@ -153,15 +164,9 @@ module _ (l : MemoryMap) (programs : List Program) (fits : CodeFits l programs) 
       → Enters (entry_at tasks k).code (stack_origin l.runtime.events) g inputs v → k < length programs → ((a : ℕ) → g a < 0x10000)
       → InputsAreWords inputs → DoesBody v k g inputs
   body_there v k g inputs h named words ready =
-      let i : IsEntry l.runtime.events (entry_at tasks k).code v = record {
-        pc = h.pc;
-        sp = h.sp ∙ origin_is_entry l.runtime.events;
-        fram = subst (λ f. (a : ℕ) → f a < 0x10000) (sym h.fram) words;
-        inputs = subst InputsAreWords (sym h.inputs) ready;
-      } in
       let fit = whole.whole k named in
       let a : DoesBody v k v.fram v.inputs = code_does_as_program code (entry_at tasks k).code (program k) v is_linked.tidy
-      (task_stands k named) fit.whole (λ e. fit.fits) (whole.of_words k named) i in
+      (task_stands k named) fit.whole (λ e. fit.fits) (whole.of_words k named) (entry_there v k g inputs h words ready) in
       subst (λ q. DoesBody v k g q) h.inputs (subst (λ f. DoesBody v k f v.inputs) h.fram a)
 
   -- the commit on FRAM

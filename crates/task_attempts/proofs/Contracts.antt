@@ -4,7 +4,7 @@ use Rattle.task_attempts.proofs.Names.{get_or_from_slice_get, Effect, Store, rea
 use Rattle.task_attempts.proofs.Names.{looks_taken, looks_taken-append, answer_place, answers_in, given_by, nothing_given}
 use Rattle.task_attempts.proofs.Names.{readings_taken-append, each_store-append, emits_of, Attempt, Outcome, to_task, short, run_block, block_emits, State}
 use Rattle.task_attempts.proofs.Names.{Completion, completion_of, attempt_of, fresh_attempt, EndsWell, TransitionComes, readings_left_over_lem}
-use Rattle.task_attempts.proofs.Names.{answered_by, answers_told, StoresBelow, false, ⊎_elim, inr}
+use Rattle.task_attempts.proofs.Names.{answered_by, answers_told, StoresBelow, ⊎_elim, inr}
 use Rattle.task_attempts.proofs.Names.{WordState, End}
 use Rattle.task_attempts.proofs.Names.{GoesOn, Jumps, Broken, behaviour, started, behaves_by_effects, whole_ends_soundly, StoresWords, stores_words, Ends}
 use Rattle.task_attempts.proofs.Names.{program_effects, IsElsewhere, Model, AttemptContract, Comes, Lacks, Decides, RunsShort, TakesAndStores, EndsAs}
@@ -12,7 +12,10 @@ use Rattle.task_attempts.proofs.Names.{BlocksAgree}
 use Rattle.task_attempts.proofs.Names.{lowered_block, task_program, outcome_of, whole_task, has_jumped, effects_of, program_parts, redo_model, LeavesFor}
 use Rattle.task_attempts.proofs.Names.{inl, IsBelowCode, Gate, word_place}
 use Rattle.array_versions.specs.Program.{Program}
-use Rattle.array_versions.specs.Behaviour.{Short as Starves}
+use Rattle.array_versions.specs.Behaviour.{Short as Starves, Strays}
+use Rattle.machine_effects.specs.World.{fram_after}
+use Rattle.source_values.specs.Statements.{goes_on}
+use Rattle.task_needs.specs.Lists.{ListsWithin, ListsAtEnd}
 use Rattle.array_versions.specs.Laws.{EndsByEffects, IsSound}
 use Rattle.source_meaning.proofs.Interface.{emits_same}
 use Rattle.task_attempts.proofs.Names.{◌%◌, ◌+◌, ◌<◌, NextTask, SentBase, Base, ListLength, sent_place, event_index, where_events, entry_effects, runs_of}
@@ -34,6 +37,7 @@ use Rattle.task_attempts.proofs.Stores.{Safe, StoresOf, task_safe, emits_fit}
 use Rattle.task_attempts.proofs.Starts.{held_attempt, held_runs, attempt_stands, readings_and}
 use Rattle.task_attempts.proofs.Started.{Started, scene}
 use Rattle.task_attempts.proofs.Decided.{setting, bounds, Transition, before, effects_are, safe_before, quiet_before, quiet_start, quiet_of, next, decided, few}
+use Rattle.task_attempts.proofs.Decided.{z_behind, lists_within}
 
 module _ (run : Started) where
   open run use {program as p, map as l, given, state as s, is_task, task as i, world as x, inputs, start as st}
@@ -187,6 +191,16 @@ module _ (run : Started) where
   leaves es Starves o h = tt
   leaves es _ _ h = absurd h.agrees
 
+  lists : (es : List Effect) (e : End) (o : Outcome) → Meets es e o → ListsAtEnd p l s.task (fram_after es x.fram) e
+  lists es (Jumps to end) (to_task task m) h =
+      subst (ListsWithin p l s.task) (z_behind run (t es to end task m h)) (lists_within run (t es to end task m h))
+  lists es (Jumps to end) (goes_on m) h = absurd h.agrees
+  lists es (Jumps to end) short h = absurd h.agrees
+  lists es (GoesOn end) o h = tt
+  lists es Starves o h = tt
+  lists es Strays o h = tt
+  lists es Broken o h = tt
+
   -- ---- the program
 
   abbrev program : Program
@@ -246,6 +260,12 @@ module _ (run : Started) where
       subst (λ q. LeavesFor l.commit.address (behaviour q (started x.fram inputs)).end) (sym (program_is p l given s.task i))
       (leaves b.effects b.end (run_block code attempt) (meets agree small))
 
+  pub program_lists : BlocksAgree → InputsAreWords inputs → let b = behaviour (task_program p l s.task) (started x.fram inputs) in
+      ListsAtEnd p l s.task (fram_after b.effects x.fram) b.end
+  program_lists agree small =
+      let b = behaviour program (started x.fram inputs) in
+      subst (λ q. let done = behaviour q (started x.fram inputs) in ListsAtEnd p l s.task (fram_after done.effects x.fram) done.end)
+      (sym (program_is p l given s.task i)) (lists b.effects b.end (run_block code attempt) (meets agree small))
   -- ---- words of the ring
 
   -- no store of a statement is to SE

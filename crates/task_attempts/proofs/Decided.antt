@@ -11,7 +11,7 @@ use Rattle.task_attempts.proofs.Names.{place_length, listed_of, stays_in_place, 
 use Rattle.task_attempts.proofs.Names.{among_either, among_front, among_back, word_pair, among_scalars, scalars_among, StoresWords, CurrentTask, NextTask, Gate}
 use Rattle.task_attempts.proofs.Names.{ListLength, EmitCount, Base, SentBase, Version, VariablePlace, Scalar, Array, PrivateScalar, word_place, scalar_words}
 use Rattle.task_attempts.proofs.Names.{scalar_address, private_words, IsScalarWord, Element, IsElement, IsCopied, Spot, IsSpot, scalar, copy, spot_address}
-use Rattle.task_attempts.proofs.Names.{element_address, copy_address, IsWordOf}
+use Rattle.task_attempts.proofs.Names.{element_address, copy_address, IsWordOf, scalars_of}
 use Rattle.lower.specs.Agreement as agreement
 use Rattle.war_analysis.proofs.Interface.{element as item_at}
 use Rattle.memory_map.specs.Spots.{element}
@@ -19,6 +19,8 @@ use Rattle.task_attempts.proofs.Rows.{rows_are, rows_count, declared_length}
 use Rattle.task_attempts.proofs.Quiet.{IsQuiet, IsQuietAt, quiet_behind, stores_as, stays_within}
 use Rattle.task_attempts.proofs.Entries.{IsTransitionStore, transition_stores, closing, closed, closed_sent, closed_next, closed_count, closed_pairs}
 use Rattle.task_attempts.proofs.Entries.{closed_entries, IsLeft, closed_left, Closing}
+use Rattle.task_needs.specs.Needs.{privates_of, own_privates, elements_of}
+use Rattle.task_needs.specs.Lists.{ListsWithin}
 use Rattle.task_attempts.proofs.Listed.{among_map, map_among}
 use Rattle.task_attempts.proofs.Tasks.{body_is, private_copy, private_not_in_place}
 use Rattle.task_attempts.proofs.Started.{Started, scene}
@@ -106,6 +108,10 @@ module _ (run : Started) where
         let scalars = privates_few i.layout.privates in
         omega (arith, words, entries, runs, scalars)
 
+    -- the elements alone
+    few_elements : length left.listed + scalars_of p.shared code ≤ list_of p.shared code
+    few_elements = facts.elements left.listed left.stands.list.are_listed (λ v. let k = left.few v in omega (arith, k))
+
     words_before : StoresWords before
     words_before = each_store-front (λ a w. w < 0x10000) before (Store (word_place l Gate) 1 ∷ []) (subst StoresWords effects_are stored)
 
@@ -140,6 +146,13 @@ module _ (run : Started) where
         ∙ ap (λ e. fram_after e x.fram) (append_assoc left.body transition (Store (word_place l Gate) 1 ∷ []))
         ∙ fram_after-append left.body (closing leaving) x.fram
         ∙ ap (fram_after (closing leaving)) (sym left.arrived)
+
+    -- what all effects leave
+    pub z_behind : z.fram ≡ fram_after es x.fram
+    z_behind =
+        ap (λ w. w.fram) (sym (world_after-append before (Store (word_place l Gate) 1 ∷ []) x))
+        ∙ world_fram (before ++ Store (word_place l Gate) 1 ∷ []) x
+        ∙ ap (λ e. fram_after e x.fram) (sym effects_are)
 
     z_before : (a : ℕ) → (a ≡ word_place l Gate → ⊥) → z.fram a ≡ y.fram a
     z_before a ne = put_other y.fram (word_place l Gate) 1 a ne
@@ -272,6 +285,19 @@ module _ (run : Started) where
         let elements = length-map left.listed (element_pair here) in
         let scalars = scalar_pairs_count i.layout.privates in
         omega (arith, same, both, elements, scalars)
+
+    -- the list is within the task's
+    pub lists_within : ListsWithin p l s.task z.fram
+    lists_within =
+        let own : own_privates l s.task ≡ i.layout.privates = ap privates_of i.layout_is in
+        let same : elements_of p.shared (task_body p s.task) ≡ elements_of p.shared code = ap (elements_of p.shared) (body_is p l given s.task i) in
+        let elements = few_elements in
+        let entries = few_entries here left.listed left.there.fram left.stands.list in
+        let runs = ap (λ ps. length (runs_of ps)) own in
+        let words = ap private_words own in
+        let counted = z_count in
+        let named = list_words in
+        record { entries = omega (arith, same, elements, entries, runs, counted); words = omega (arith, same, elements, words, named) }
 
     -- each entry has a word
     entries_have_words : EntriesHaveWords sites z.fram

@@ -7,6 +7,7 @@ use Rattle.task_attempts.proofs.Names.{version_address, IsWordOf, AreApart, AreE
 use Rattle.task_attempts.proofs.Names.{AsDeclared, HasCopies, is_private_in, program_places, shared_word, are_rows, HasLayout, IsTaskAt, task_room, task_places}
 use Rattle.task_attempts.proofs.Names.{each_is_one_word, scalar_declared, places_are_declared, addresses_are, tasks_match, places_are_apart, tasks_have_room}
 use Rattle.task_attempts.proofs.Names.{places_are_as_declared, written_arrays_have_copies, shared_words_are_of_variables, words_of_variables_are_shared}
+use Rattle.task_attempts.proofs.Names.{AreListed, listed_of, list_of, scalars_of, elements_are_stores}
 use Rattle.task_attempts.proofs.Names.{lists_have_room, privates_are_theirs, elements_stand, task_places_are_apart, task_places_are_even, view_has_their_words}
 use Rattle.task_attempts.proofs.Names.{rows_fit_places, WellFormedBlock, AdmitsBlock, ap, tasks_are_admitted}
 use Rattle.memory_map.specs.Laws as memory
@@ -54,6 +55,8 @@ pub record IsTaskGiven (p : CheckedProgram) (l : MemoryMap) (task : CheckedTask)
   pub apart : AreApart (task_places l task t) (task_room p task)
   pub even : AreEven (task_places l task t)
   pub has_room : HasRoom (task_places l task t) (λ v. stores_of v task.body) (task_room p task)
+  pub elements : (xs : List Element) → AreListed (task_places l task t) xs → ((v : ℕ) → listed_of v xs ≤ stores_of v task.body)
+      → length xs + scalars_of p.shared task.body ≤ list_of p.shared task.body
   pub privates : ArePrivates l task.body t
   pub copies : (x : Element) → IsCopied (task_places l task t) x → IsCopyWord (program_places p l) (copy_address (task_places l task t) x)
   pub versions : (x : Element) → IsCopied (task_places l task t) x → IsVersionWord l (version_address (task_places l task t) x)
@@ -104,6 +107,7 @@ module _ (text : List ℕ) (p : CheckedProgram) (allow : Allow) (plans : List Ta
         apart = task_places_are_apart p allow plans l has k task t at;
         even = task_places_are_even p allow plans l has k task t at;
         has_room = lists_have_room p allow plans l has k task t at;
+        elements = elements_are_stores p allow plans l has k task t at;
         privates = privates_of k task t at;
         copies = e.copy;
         versions = λ x c. let v = e.version x c in record { number = v.0; below = v.1; is = v.2 };

@@ -47,7 +47,7 @@ pub use Rattle.task_ast.specs.declared.WordType.TheVariants.{Int, Long, Unsigned
 pub use Rattle.task_ast.specs.declared.names.Variable.{Variable}
 pub use Rattle.task_ast.specs.declared.names.Variable.TheVariants.{Local, Shared}
 pub use Rattle.path_sums.proofs.Interface.{is_private_of}
-pub use Rattle.cost_bound.specs.Allowance.{CheckedTask, is_written, list_of}
+pub use Rattle.cost_bound.specs.Allowance.{CheckedTask, is_written, list_of, scalars_of}
 pub use Rattle.cost_bound.specs.Counts.{CheckedBlock, emits_of, stores_of}
 pub use Rattle.privatise.specs.Layouts.{AreVariables, IsPlaceOf}
 pub use Rattle.source_values.proofs.Interface.{for_value, readings_left_over_lem}
@@ -71,7 +71,7 @@ pub use Rattle.lower.specs.Events.{AdmitsBlock}
 pub use Rattle.lower.specs.Lowered.{lowered_block, lowered_task}
 pub use Rattle.lower.specs.Runs.{runs_of}
 pub use Rattle.lower.specs.Seen.{map_seen, some_path_writes}
-pub use Rattle.lower.specs.Spots.{AreApart, AreEven, HasRoom, Room, listed_of}
+pub use Rattle.lower.specs.Spots.{AreApart, AreEven, AreListed, HasRoom, Room, listed_of}
 -- the runtime of compiled programs
 pub use Rattle.boot_runtime.specs.Entries.{entry_of, task_entries}
 pub use Rattle.boot_runtime.specs.Listing.{privates_in}
@@ -81,7 +81,8 @@ pub use Rattle.compiled_model.specs.Parts.{effects_of, has_jumped, model_by, out
 pub use Rattle.compiled_model.specs.Places.{is_private_in, program_places, stays_in_place}
 pub use Rattle.compiled_model.specs.View.{are_rows, are_words, shared_word, state_view}
 pub use Rattle.layout_facts.proofs.Interface.{addresses_are, among_back, among_either, among_front, among_scalars, contains_at, each_is_one_word}
-pub use Rattle.layout_facts.proofs.Interface.{elements_stand, found_word, in_place_not_private, in_place_written, lists_have_room, places_are_apart}
+pub use Rattle.layout_facts.proofs.Interface.{elements_are_stores, elements_stand, found_word, in_place_not_private, in_place_written, lists_have_room}
+pub use Rattle.layout_facts.proofs.Interface.{places_are_apart}
 pub use Rattle.layout_facts.proofs.Interface.{places_are_as_declared, places_are_declared, privates_are_theirs, rows_fit_places, scalar_declared, scalar_found}
 pub use Rattle.layout_facts.proofs.Interface.{scalar_is, scalar_of_seen, scalars_among, shared_words_are_of_variables, task_places_are_apart}
 pub use Rattle.layout_facts.proofs.Interface.{task_places_are_even, tasks_have_room, tasks_match, view_has_their_words, word_of_seen, word_pair}

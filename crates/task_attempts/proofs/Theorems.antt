@@ -18,7 +18,8 @@ use Rattle.event_rules.proofs.Interface.{looks_after, left_behind, joined}
 use Rattle.task_attempts.specs.Laws.{SourcesTakeInOrder}
 use Rattle.task_attempts.proofs.Given.{IsGiven, given}
 use Rattle.task_attempts.proofs.Started.{attempt_at}
-use Rattle.task_attempts.proofs.Contracts.{program_keeps, program_stores, program_leaves, program_in_order}
+use Rattle.task_attempts.specs.Laws.{TasksListFewWords}
+use Rattle.task_attempts.proofs.Contracts.{program_keeps, program_stores, program_leaves, program_lists, program_in_order}
 use Rattle.task_attempts.proofs.Runtime.{start_in_order, commit_in_order}
 
 -- ---- under redo
@@ -102,6 +103,13 @@ tasks_leave text p allow plans l laid runnable = record {
   leave = λ s x inputs small st.
       let P : Logging → Role → Type 0 = λ logging role. started_under logging p l s x in
       program_leaves (attempt_at p l (given text p allow plans l laid runnable) s x inputs (under_redo l P st)) blocks_agree small;
+}
+
+pub tasks_list_few : TasksListFewWords
+tasks_list_few text p allow plans l laid runnable = record {
+  few = λ s x inputs small st.
+      let P : Logging → Role → Type 0 = λ logging role. started_under logging p l s x in
+      program_lists (attempt_at p l (given text p allow plans l laid runnable) s x inputs (under_redo l P st)) blocks_agree small;
 }
 
 pub scripts_in_order : SourcesTakeInOrder

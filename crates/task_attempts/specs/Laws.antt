@@ -14,6 +14,7 @@ use Rattle.crash_rules.specs.Model.{ModelLaws, AttemptContract}
 use Rattle.compiled_model.specs.Parts.{compiled_model, IsStarted, task_program, effects_of}
 use Rattle.compiled_model.specs.Needs.{TasksLeave, AttemptsStore, StoresBelow}
 use Rattle.whole_programs.specs.Laws.{IsLaidOutText}
+use Rattle.task_needs.specs.Lists.{TasksListFew}
 use Rattle.event_rules.specs.Taking.{ScriptsTakeInOrder}
 
 -- what holds of each accepted text with a plan and a layout, whose runs go on
@@ -45,6 +46,10 @@ AttemptsStoreBelowCode = OfTexts (λ p l. AttemptsStore (compiled_model p l) (Is
 -- from a started attempt on each task leaves for the commit, or is short of readings
 abbrev pub TasksLeaveForTheCommit : Type 0
 TasksLeaveForTheCommit = OfTexts TasksLeave
+
+-- and where it leaves, the commit list is within what the task needs cycles for
+abbrev pub TasksListFewWords : Type 0
+TasksListFewWords = OfTexts TasksListFew
 
 -- where a source takes events, its attempts and commits take words of the ring in order
 abbrev pub SourcesTakeInOrder : Type 0

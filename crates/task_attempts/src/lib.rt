@@ -5,5 +5,5 @@ mod laws;
 
 pub use laws::{
     attempts_store_below_code, compiled_sources_keep_the_laws, sources_take_in_order,
-    tasks_keep_their_contract, tasks_leave_for_the_commit,
+    tasks_keep_their_contract, tasks_leave_for_the_commit, tasks_list_few_words,
 };

@@ -1,0 +1,4 @@
+mod Bodies
+mod Privates
+mod Counted
+pub mod Interface

@@ -1,0 +1,48 @@
+-- What the code of a task spends, and that its need has all of it.
+use Rattle.std.specs.Prelude.{ℕ, ◌+◌, ◌<◌, ◌≤◌, true, List, length, get_or}
+use Rattle.alp_words.specs.Words.{HoldsWords}
+use Rattle.machine_effects.specs.Inputs.{Inputs, InputsAreWords}
+use Rattle.code_forms.specs.Forms.{Core}
+use Rattle.cost_bound.specs.Counts.{emits_of}
+use Rattle.source_values.specs.Runs.{CheckedProgram, task_body}
+use Rattle.array_versions.specs.Program.{Program, nothing}
+use Rattle.array_versions.specs.Behaviour.{behaviour, started}
+use Rattle.word_code.specs.Laws.{ComesTo}
+use Rattle.code_costs.specs.Dearest.{most_spent}
+use Rattle.memory_map.specs.MemoryMap.{MemoryMap, with_events}
+use Rattle.runtime_code.specs.Addresses.{stack_origin}
+use Rattle.runtime_code.specs.Comes.{Enters}
+use Rattle.boot_runtime.specs.Entries.{task_entries}
+use Rattle.boot_runtime.specs.Listing.{entry_at, privates_in, start_cycles}
+use Rattle.commit_runtime.specs.Listing.{commit_cycles}
+use Rattle.crash_rules.specs.Model.{bound}
+use Rattle.compiled_model.specs.Parts.{compiled_model}
+use Rattle.compiled_model.specs.Needs.{boot_cycles}
+use Rattle.linked_code.specs.Linked.{linked_code, CodeFits, ProgramsAreWhole}
+use Rattle.task_needs.specs.Needs.{own_entries, own_words, path_need, need_of}
+use Rattle.task_needs.specs.Lists.{with_needs}
+
+-- where a task of linked code is entered, its code does as its word program within the cycles of its dearest way
+abbrev pub TasksKeepToTheirWays : Type 0
+TasksKeepToTheirWays = (l : MemoryMap) (programs : List Program) → CodeFits l programs → ProgramsAreWhole programs → (v : Core) (k : ℕ) (g : ℕ → ℕ)
+    (inputs : Inputs) → Enters (entry_at (task_entries l) k).code (stack_origin l.runtime.events) g inputs v → k < length programs → HoldsWords g
+    → InputsAreWords inputs
+    → let b = behaviour (get_or programs k nothing) (started g inputs) in
+    ComesTo (linked_code l programs) (most_spent l.runtime.events (get_or programs k nothing)) v b.effects b.end
+
+-- a need has the cycles of a boot, of a start that clears the version words and copies the task's private scalars, of its code as far as its path goes, and
+-- of a commit of all that the task lists and emits
+abbrev pub AttemptsAreCounted : Type 0
+AttemptsAreCounted = (p : CheckedProgram) (l : MemoryMap) (t spent : ℕ) → spent ≤ path_need p l t
+    → with_events l.runtime.events 3 + 6 + start_cycles l.runtime.events true l.versions.words (length (privates_in (task_entries l) t)) + spent
+    + commit_cycles l.runtime.events (own_entries p l t) (own_words p l t) (emits_of (task_body p t)) ≤ need_of p l t
+
+-- and those of a boot that finds this commit pending
+abbrev pub OwnCommitsAreCounted : Type 0
+OwnCommitsAreCounted = (p : CheckedProgram) (l : MemoryMap) (t : ℕ)
+    → boot_cycles l + commit_cycles l.runtime.events (own_entries p l t) (own_words p l t) (emits_of (task_body p t)) ≤ need_of p l t
+
+-- the greatest of the needs has those of a boot that finds a commit pending of whatever tasks, where it is one of the costs
+abbrev pub PendingCommitsAreCounted : Type 0
+PendingCommitsAreCounted = (p : CheckedProgram) (l : MemoryMap)
+    → boot_cycles l + commit_cycles l.runtime.events l.entries l.entries l.emits.words ≤ bound (with_needs p l (compiled_model p l))

@@ -1,0 +1,3 @@
+mod Attempts
+mod Transitions
+pub mod Interface
