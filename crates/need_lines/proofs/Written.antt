@@ -1,5 +1,6 @@
 -- The lines of needs as they are written.
-use Rattle.std.proofs.Common.{◌≡◌, ◌∙◌, ℕ, suc, ◌+◌, ◌<◌, ◌++◌, ◌∷◌, [], List, length, map, drop, get_or, drop-cons, append_assoc, append-nil, refl, sym, ap, arith}
+use Rattle.std.proofs.Common.{◌≡◌, ◌∙◌, ℕ, suc, ◌+◌, ◌<◌, ◌++◌, ◌∷◌, [], List}
+use Rattle.std.proofs.Common.{length, map, drop, get_or, drop-cons, append_assoc, append-nil, refl, sym, ap, arith}
 use Rattle.text_parts.specs.Printed.{spaced, printed}
 use Rattle.text_parts.proofs.Interface.{printed_append}
 use Rattle.need_lines.specs.declared.needs.TaskNeed.{TaskNeed}

@@ -49,7 +49,12 @@ record OfLine (name : Text) (files : List Text) : Type 0 where
 of_line : (c : Command) (name : Text) (files : List Text) → plain_line c ≡ name ∷ files → OfLine name files
 of_line (Bounds source) name files e =
     let named : name ≡ codes "bounds" = ap (λ l. unwrap_or (slice_get l 0) []) (sym e) in
-    record { command = bounds_line; named = ap subcommand_named named; count = let all = ap length (sym e) in omega arith; says = files_said bounds_line.files files refl }
+    record {
+      command = bounds_line;
+      named = ap subcommand_named named;
+      count = let all = ap length (sym e) in omega arith;
+      says = files_said bounds_line.files files refl;
+    }
 
 pub command_is_line : (words : List Text) → AreTexts words → NamesScopeCommand words → IsScopeLine words
 command_is_line [] texts n = cc

@@ -16,7 +16,8 @@ use Rattle.clap.specs.declared.error.kind.ErrorKind.{ErrorKind}
 use Rattle.clap.specs.declared.error.kind.ErrorKind.TheVariants.{UnknownArgument, MissingSubcommand, InvalidSubcommand}
 use Rattle.command_line.specs.CommandLine.{AreTexts, Subcommand, all_said, files_of}
 use Rattle.command_line.proofs.Interface.{IsInOrder, IsJudged, Kind, built_subcommand, command_judged, ends, kind_of_word, long, no_kind, plain, rows_for}
-use Rattle.command_line.proofs.Interface.{entered_by_name, first_none, has_name, met_by_name, named, names_in, or_nothing, short, some_char, stopped_at, walk_at}
+use Rattle.command_line.proofs.Interface.{entered_by_name, first_none, has_name, met_by_name, named}
+use Rattle.command_line.proofs.Interface.{names_in, or_nothing, short, some_char, stopped_at, walk_at}
 use Rattle.scope_line.specs.ScopeLine.{IsScopeLine, bounds_line, scope_app, scope_line_of, subcommand_named, scope_subcommands}
 
 -- ---- the program after building

@@ -4,7 +4,7 @@ ghost use Rattle.std.specs.Prelude.{◌≡◌, ◌+◌, ◌*◌, ◌^◌, ◌<�
 ghost use Rattle.task_ast.specs.View.{block_view, program_of};
 ghost use Rattle.task_ast.specs.Paths.{CheckedTask};
 ghost use Rattle.cost_bound.specs.Counts.{emits_of};
-ghost use Rattle.cost_bound.specs.Allowance.{task_bound, task_words};
+ghost use Rattle.cost_bound.specs.Allowance.{scalars_of, task_bound, task_words};
 ghost use Rattle.source_meaning.specs.Acceptance.{IsAcceptedText};
 ghost use Rattle.whole_programs.specs.Laws.{IsLaidOutText};
 ghost use Rattle.array_versions.specs.View as word_program;
@@ -28,7 +28,7 @@ use source_report::spelled;
 use std::alloc::{AllocError, Global};
 use task_ast::{SharedDeclaration, Stmt, TaskName, VariableName};
 use war_analysis::{Plan, analyse, one_plan};
-use whole_programs::programs_are_whole;
+use whole_programs::{privates_are_few, tasks_are_whole};
 
 // What the table of allowances says of a task: its bound, its words, the elements that it lists and the words that it emits.
 #[derive(Clone, Copy)]
@@ -54,6 +54,7 @@ fn table_of(
     ensures elements { result.elements ≡ elements_of shared.now (block_view body.now) }
     ensures emits { result.emits ≡ emits_of (block_view body.now) }
     ensures few { 12 * versions + 40 * result.elements + 40 * result.emits < 2 ^ 32 }
+    ensures scalars { scalars_of shared.now (block_view body.now) ≤ 512 }
 {
     let needs = task_needs(shared, events, versions, body);
     let scalars = assigned_scalars(shared, body);
@@ -120,14 +121,21 @@ fn task_need<'a>(
         → row_of n ≡ need_row accepted.now.text.items (program_of accepted.now.checked.source) layout.now number task) }
 {
     let _ = plan;
-    programs_are_whole();
+    tasks_are_whole();
+    privates_are_few();
     let source = accepted.checked().source();
     let task = &source.tasks[number];
     let events = layout.runtime().events;
     let versions = accepted.allow().versions as u64;
     let table = table_of(&source.shared, events, versions, &task.body);
     let most = most_spent(alloc, events, program)?;
-    let parts = parts_of(events, versions, layout.tasks()[number].privates(), table, most);
+    let parts = parts_of(
+        events,
+        versions,
+        layout.tasks()[number].privates(),
+        table,
+        most,
+    );
     Ok(TaskNeed {
         name: spelled(accepted.source(), task.name),
         boot: parts.boot as u32,
@@ -160,10 +168,7 @@ fn tasks_need<'a>(
 }
 
 /// What each task of an accepted source needs, in order of declaration; or no memory is left.
-pub fn needs_of<'a>(
-    alloc: Global,
-    accepted: &'a Accepted,
-) -> Result<Vec<TaskNeed<'a>>, AllocError>
+pub fn needs_of<'a>(alloc: Global, accepted: &'a Accepted) -> Result<Vec<TaskNeed<'a>>, AllocError>
     requires { IsAcceptedText accepted.now.text.items (program_of accepted.now.checked.source) accepted.now.allow }
     ensures { IfOk result (λ needs. AreNeedsOf accepted.now.text.items (program_of accepted.now.checked.source) accepted.now.allow
         (map row_of needs.items)) }

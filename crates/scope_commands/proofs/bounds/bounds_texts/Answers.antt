@@ -5,7 +5,8 @@ use Rattle.scope_commands.proofs.bounds.bounds_texts.Goals as goal
 
 pub returns-in_err-source-clause-failure : goal.returns-in_err-source-clause-failure
 returns-in_err-source-clause-failure g c =
-    handed_on _ _ _ c.from_residual.ensures (λ shelf stands. refusal_fails _ _ _ _ _ 0 _ _ refl (λ r no. (no, refl)) stands refl c.in_err-source.ensures.refused)
+    handed_on _ _ _ c.from_residual.ensures
+    (λ shelf stands. refusal_fails _ _ _ _ _ 0 _ _ refl (λ r no. (no, refl)) stands refl c.in_err-source.ensures.refused)
 
 pub returns-in_err-text-clause-failure : goal.returns-in_err-text-clause-failure
 returns-in_err-text-clause-failure g c =
