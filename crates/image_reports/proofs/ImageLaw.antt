@@ -103,6 +103,7 @@ first_need text p allow image ok c =
     let ready = sources_are_ready text p allow c.plans l (laid_out text p allow image ok c) in
     let new = images_are_fresh text p allow image ok c in
     need_within p l m s x (ready.model.undecided_task s x (undecided text p allow image c ready new)) (is.rests s x (rests text p allow image c ready new))
+
 -- the words that count its events, and HEAD, are 0
 record HasEmptyRing (f : ℕ → ℕ) : Type 0 where
   head : f head_place ≡ 0
