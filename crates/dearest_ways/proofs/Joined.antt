@@ -216,7 +216,7 @@ chosen_are f g k t v w a b c n =
     let other = behind_by t.failed w.goes 0 w.leaves n (k n) (c n) in
     let both = chosen_by (2 ^ 64 - 1) _ _ _ _ one other in
     let split : max (max (goes_cost t.held (g n)) (goes_cost t.failed (k n))) t.leaves
-        ≡ max (max (goes_cost t.held (g n)) t.leaves) (max (goes_cost t.failed (k n)) 0) = omega arith in
+    ≡ max (max (goes_cost t.held (g n)) t.leaves) (max (goes_cost t.failed (k n)) 0) = omega arith in
     let joined = either_is (behind_of held v).goes (behind_of failed w).goes (behind_of held v).leaves (behind_of failed w).leaves n in
     a (g n) (k n) ∙ ap capped split ∙ both ∙ ap capped (sym joined)
 

@@ -1,5 +1,6 @@
 -- Code that is priced by itself.
-use Rattle.std.proofs.Common.{◌≡◌, ℕ, zero, suc, ◌+◌, ◌*◌, ◌/◌, ◌==◌, ◌≤◌, Bool, true, false, if◌then◌else◌, Option, Some, None, is_some, List, [], ◌∷◌, ◌++◌, refl, sym, ap, ◌∙◌, arith}
+use Rattle.std.proofs.Common.{◌≡◌, ℕ, zero, suc, ◌+◌, ◌-◌, ◌*◌, ◌/◌, ◌==◌, ◌<◌, ◌≤◌, Bool, true, false}
+use Rattle.std.proofs.Common.{if◌then◌else◌, Option, Some, None, is_some, List, [], ◌∷◌, ◌++◌, refl, sym, ap, ◌∙◌, arith}
 use Rattle.std.proofs.lemmas.Bool.{eqb-true}
 use Rattle.word_code.specs.code_forms.Forms.{Form}
 use Rattle.word_code.specs.declared.bounds.Bound.{Bound}
@@ -35,17 +36,34 @@ words_at_most false n = omega arith
 pub whole_locals : (p : Program) → IsWhole p → locals_of p ≤ 1016
 whole_locals p whole = omega (arith, program_least whole.locals p whole.low_locals, whole.fits.fits)
 
--- one bit more of what is left of a number, if any is left
-pub bit_counted : (m n : ℕ) → (n ≡ 0 → ⊥) → bits_in (suc m) n ≡ suc (bits_in m (n / 2))
-bit_counted m n h = go (n == 0) refl
-  where
-    go : (b : Bool) → (n == 0) ≡ b → (if b then 0 else suc (bits_in m (n / 2))) ≡ suc (bits_in m (n / 2))
-    go true e = absurd (h (eqb-true n 0 e))
-    go false e = refl
-
-pub no_bit : (m : ℕ) → bits_in m 0 ≡ 0
+no_bit : (m : ℕ) → bits_in m 0 ≡ 0
 no_bit zero = refl
 no_bit (suc m) = refl
+
+-- the bits of a number, one by one
+bit_more : (m n : ℕ) → bits_in (suc m) n ≡ (if n == 0 then 0 else 1) + bits_in m (n / 2)
+bit_more m n = go (n == 0) refl
+  where
+    go : (b : Bool) → (n == 0) ≡ b → (if b then 0 else suc (bits_in m (n / 2))) ≡ (if b then 0 else 1) + bits_in m (n / 2)
+    go true e = let none = ap (λ x. bits_in m (x / 2)) (eqb-true n 0 e) ∙ no_bit m in omega (arith, none)
+    go false e = omega arith
+
+pub bit_turned : (turn bits left more : ℕ) → turn < 15 → more ≡ bits + (if left == 0 then 0 else 1)
+    → more + bits_in (15 - (turn + 1)) (left / 2) ≡ bits + bits_in (15 - turn) left
+bit_turned turn bits left more h e =
+    let next : 15 - turn ≡ suc (15 - (turn + 1)) = omega (arith, h) in
+    let one = ap (λ k. bits_in k left) next ∙ bit_more (15 - (turn + 1)) left in
+    omega (arith, e, one)
+
+pub bit_small : (n : ℕ) → (if n == 0 then 0 else 1) ≤ 1
+bit_small n = go (n == 0)
+  where
+    go : (b : Bool) → (if b then 0 else 1) ≤ 1
+    go true = omega arith
+    go false = omega arith
+
+pub bits_ended : (turn bits left : ℕ) → 15 ≤ turn → bits + bits_in (15 - turn) left ≡ bits
+bits_ended turn bits left h = let none : 15 - turn ≡ 0 = omega (arith, h) in let zero = ap (λ k. bits_in k left) none in omega (arith, zero)
 
 -- a product by a number
 pub by_its_bits : (o : Option ℕ) (n : ℕ) → is_some o ≡ false → by_number_most o n ≡ 8 + suc (bits_in 15 (n / 2)) * 9

@@ -1,13 +1,15 @@
 //! The dearest way of a program's code.
 
-ghost use Rattle.std.specs.Prelude.{◌≡◌, ◌+◌, ◌*◌, ◌<◌, ◌≤◌, ◌∷◌, ◌++◌, ◌-◌, [], ℕ, None, not, if◌then◌else◌, is_some, max, IfOk, OnOk};
+ghost use Rattle.std.specs.Prelude.{◌≡◌, ◌==◌, ◌+◌, ◌*◌, ◌<◌, ◌≤◌, ◌∷◌, ◌++◌, ◌-◌, [], ℕ, None, not, if◌then◌else◌, is_some, max, IfOk, OnOk};
 ghost use Rattle.word_code.specs.array_versions.Program.{truth, repeat};
 ghost use Rattle.word_code.specs.array_versions.View.{program_of, steps_of, step_of, test_of};
 ghost use Rattle.word_code.specs.array_versions.Form.{IsWhole, LocalsBelow, StepLocalsBelow, TestLocalsBelow};
 ghost use Rattle.word_code.specs.array_versions.Cost.{words_of, step_words, test_words};
-ghost use Rattle.word_code.specs.Code.{owed_by, owed, power, size, holds_code, compares_code, number_code, turn_end, pass_over, test_code, block_code, waiting_behind, waiting_after, bound_of};
+ghost use Rattle.word_code.specs.Code.{owed_by, owed, power, size, holds_code, compares_code, number_code, turn_end, pass_over, test_code};
+ghost use Rattle.word_code.specs.Code.{block_code, waiting_behind, waiting_after, bound_of};
 ghost use Rattle.code_paths.specs.Paths.{capped, forward_most};
-ghost use Rattle.code_costs.specs.Dearest.{any_most, bits_in, by_number_most, product_most, flush_most, leaf_most, back_cycles, turn_most, turns_most, step_most};
+ghost use Rattle.code_costs.specs.Dearest.{any_most, bits_in, by_number_most, product_most, flush_most, leaf_most};
+ghost use Rattle.code_costs.specs.Dearest.{back_cycles, turn_most, turns_most, step_most};
 ghost use Rattle.code_costs.specs.Dearest.{test_most, steps_most, block_most, most_spent};
 ghost use Rattle.dearest_ways.specs.Ways.{straight_of, ways_cost, AreWaysOf, AreForksOf};
 
@@ -72,18 +74,24 @@ fn is_power(number: u16) -> bool
     count < 16 && number == 1 << count
 }
 
+// Whether anything is left of a number.
+fn bit_left(number: u16) -> u64
+    ensures { result ≡ (if number == 0 then 0 else 1) }
+{
+    if number == 0 { 0 } else { 1 }
+}
+
 // How many bits a number has, 15 at most.
+#[tactic(auto, using(crate::proofs::Priced::bits_ended, crate::proofs::Priced::bit_small))]
 fn bits_in(number: u16) -> u64
     ensures value { result ≡ bits_in 15 number }
     ensures low { result ≤ 15 }
 {
     let mut left = number;
-    let mut bits = 0;
-    for turn in 0..15 {
-        if left != 0 {
-            bits += 1;
-            left = left / 2;
-        }
+    let mut bits = 0u64;
+    for turn in 0..15u16 {
+        bits += bit_left(left);
+        left = left / 2;
     }
     bits
 }
@@ -420,11 +428,7 @@ fn steps_ways(
 
 // Steps with no word waiting in front of them or behind them.
 #[cycle(ways)]
-fn block_ways(
-    alloc: Global,
-    bounds: &[Bound],
-    steps: &[WordStep],
-) -> Result<Ways, AllocError>
+fn block_ways(alloc: Global, bounds: &[Bound], steps: &[WordStep]) -> Result<Ways, AllocError>
     requires room { words_of (steps_of steps.now) ≤ 0x7FFF }
     requires locals { LocalsBelow 1016 (steps_of steps.now) }
     ensures { IfOk result (AreWaysOf (block_most bounds.now (steps_of steps.now))) }
@@ -435,7 +439,8 @@ fn block_ways(
     Ok(behind(ways, end))
 }
 
-/// The cycles that the code of a whole program, which takes events or not, takes at most, whatever the words are that decide its ways; 2^64 - 1 where they are more.
+/// The cycles that the code of a whole program, which takes events or not, takes at most, whatever the words are that decide its ways; 2^64 - 1
+/// where they are more.
 pub fn most_spent(alloc: Global, events: bool, program: &WordProgram) -> Result<u64, AllocError>
     requires room { words_of (program_of program.now) ≤ 0x7FFF }
     requires whole { IsWhole (program_of program.now) }

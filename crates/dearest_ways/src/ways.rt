@@ -2,7 +2,8 @@
 
 ghost use Rattle.std.specs.Prelude.{◌≡◌, ◌*◌, ◌<◌, suc};
 ghost use Rattle.code_paths.specs.Paths.{capped};
-ghost use Rattle.dearest_ways.specs.Ways.{sum_of, left_behind, more_of, straight_of, behind_of, either_of, more_turns, turns_of, forks_of, both_of, one_of, turned_of, chosen_of};
+ghost use Rattle.dearest_ways.specs.Ways.{sum_of, left_behind, more_of, straight_of, behind_of, either_of, more_turns};
+ghost use Rattle.dearest_ways.specs.Ways.{turns_of, forks_of, both_of, one_of, turned_of, chosen_of};
 
 use code_paths::{dearer, plus};
 
