@@ -12,7 +12,7 @@ use Rattle.war_analysis.specs.PlanValue.{TaskPlanValue}
 use Rattle.source_values.specs.Runs.{body_of, task_body}
 use Rattle.privatise.specs.Layouts.{IsLayout}
 use Rattle.linked_code.specs.Rooms.{PrivatesAreCounted}
-use Rattle.memory_map.specs.MemoryMap.{MemoryMap, TaskPlace, with_events}
+use Rattle.memory_map.specs.MemoryMap.{MemoryMap, TaskPlace}
 use Rattle.memory_map.specs.Spots.{private_words}
 use Rattle.memory_map.proofs.Interface.{privates_few}
 use Rattle.lower.proofs.Interface.{runs_are_few}
@@ -24,7 +24,7 @@ use Rattle.stands_for.specs.StandsFor.{HoldsWords}
 use Rattle.array_versions.specs.Behaviour.{started}
 use Rattle.word_code.specs.Code.{code_spent}
 use Rattle.compiled_model.specs.Parts.{program_parts, task_program, compiled_model}
-use Rattle.compiled_model.specs.Needs.{boot_cycles, whole_cycles}
+use Rattle.compiled_model.specs.Needs.{whole_cycles}
 use Rattle.task_needs.specs.Needs.{privates_of, own_privates, own_entries, own_words, start_need, commit_need, beside_path, need_of}
 use Rattle.task_needs.specs.Lists.{pending_need, with_needs}
 use Rattle.task_needs.proofs.Interface.{privates_count, own_cost, pending_cost}

@@ -1,5 +1,5 @@
 -- What a compiled source's bound pays for, and what its runtime's words hold at most.
-use Rattle.std.specs.Prelude.{◌≡◌, ℕ, ◌+◌, ◌<◌, ◌≤◌, List, ◌++◌, length}
+use Rattle.std.specs.Prelude.{◌≡◌, ℕ, ◌<◌, ◌≤◌, List, ◌++◌, length}
 use Rattle.fram_board.specs.Board.{BoardValue}
 use Rattle.fram_board.specs.Run.{BoardCharge, Moment, RunOutcome}
 use Rattle.machine_effects.specs.World.{World}

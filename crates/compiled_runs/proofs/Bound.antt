@@ -1,5 +1,5 @@
 -- The code keeps to each task's part of the bound.
-use Rattle.std.proofs.Common.{◌≡◌, ◌<◌, ◌≤◌, ◌+◌, ℕ, true, List, length, sym, subst, arith}
+use Rattle.std.proofs.Common.{◌≡◌, ◌<◌, ◌≤◌, ℕ, true, length, sym, subst, arith}
 use Rattle.std.proofs.lemmas.List.Elements.{All-nil}
 use Rattle.machine_effects.specs.World.{World, fram_after}
 use Rattle.machine_effects.specs.Inputs.{Look, Inputs, InputsAreWords, no_inputs}
@@ -48,7 +48,7 @@ module _ (p : CheckedProgram) (l : MemoryMap) (r : CanRun p l) (laws : ModelLaws
       let d = decided_behind m s x inputs (m.attempt x.fram inputs) (laws.attempts s x inputs ready und) ends in
       subst (FitsCommit l (list s.task) (list s.task) (emits_of (task_body p s.task))) d.fram (fits_commit p l r laws s d.next d.world d.decided)
 
-  bound_costs : Costs p l
+  abbrev bound_costs : Costs p l
   bound_costs = record {
     cost = m.task_cost;
     entries = list;

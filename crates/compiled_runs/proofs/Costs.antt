@@ -1,5 +1,5 @@
 -- What tasks cost, as the code's laws take it: for each any number that has its cycles, so that the same proof has the bound and the need.
-use Rattle.std.proofs.Common.{◌≡◌, ◌<◌, ◌≤◌, ◌+◌, ℕ, true, List, [], ◌∷◌, ◌++◌, length, sym, ap, ◌∙◌, arith}
+use Rattle.std.proofs.Common.{◌≡◌, ◌<◌, ◌≤◌, ◌+◌, ℕ, true, List, [], ◌∷◌, length, sym, ap, ◌∙◌, arith}
 use Rattle.fram_board.specs.Effects.{Effect, Store}
 use Rattle.machine_effects.specs.World.{World, put, fram_after, world_after, world_after_one}
 use Rattle.machine_effects.specs.Inputs.{Inputs, InputsAreWords}

@@ -1,5 +1,5 @@
 -- The code keeps to each task's need.
-use Rattle.std.proofs.Common.{◌≡◌, ◌<◌, ◌-◌, ◌⊎◌, ⊎_elim, ℕ, true, length, sym, subst, arith}
+use Rattle.std.proofs.Common.{◌≡◌, ◌<◌, ◌-◌, ⊎_elim, ℕ, true, length, sym, subst, arith}
 use Rattle.std.proofs.lemmas.Bool.{cases_lt}
 use Rattle.machine_effects.specs.World.{World, fram_after}
 use Rattle.machine_effects.specs.Inputs.{Inputs, InputsAreWords}
@@ -75,7 +75,7 @@ module _ (p : CheckedProgram) (l : MemoryMap) (r : CanRun p l) (few : TasksListF
       own_fits s next x d own =
           let k = fits_commit p l r laws s next x d in record { can = k.can; list = own.entries; named = own.words; sent = k.sent; base = k.base }
 
-  need_costs : Costs p l
+  abbrev need_costs : Costs p l
   need_costs = record {
     cost = need_of p l;
     entries = entries;

@@ -1,8 +1,8 @@
 -- A source with its tasks' needs as their costs keeps what the crash theorem asks of a model: where an attempt decides, its commit list is within the
 -- task's, and the commit leaves the list as it is.
-use Rattle.std.proofs.Common.{◌≡◌, ◌≢◌, ◌<◌, ◌≤◌, ◌+◌, ◌⊎◌, inl, inr, ⊎_elim, ℕ, true, List, [], ◌∷◌, ◌++◌, length, refl, sym, ap, ◌∙◌, subst, arith}
+use Rattle.std.proofs.Common.{◌≡◌, ◌≢◌, ◌<◌, ◌≤◌, ◌⊎◌, inl, inr, ⊎_elim, ℕ, true, List, [], ◌∷◌, length, refl, sym, ap, ◌∙◌, subst, arith}
 use Rattle.fram_board.specs.Effects.{Effect, Store, Take, Outside}
-use Rattle.machine_effects.specs.World.{World, put, fram_after, world_after, world_after_one, EachStore}
+use Rattle.machine_effects.specs.World.{World, fram_after, world_after, world_after_one, EachStore}
 use Rattle.machine_effects.specs.Inputs.{Inputs, InputsAreWords}
 use Rattle.machine_effects.proofs.Interface.{fram_after-append, each_store-front, put_other}
 use Rattle.crash_rules.proofs.Interface.{world_fram}

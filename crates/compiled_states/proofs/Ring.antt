@@ -1,5 +1,5 @@
 -- Where the ring of an image is, and that it keeps its rule before anything was done.
-use Rattle.compiled_states.proofs.Names.{◌≡◌, ℕ, ◌+◌, ◌-◌, ◌*◌, ◌%◌, ◌<◌, ◌≤◌, ◌&&◌, nat_le, nat_lt, Bool, true, false, if◌then◌else◌, List, [], ◌∷◌}
+use Rattle.compiled_states.proofs.Names.{◌≡◌, ℕ, ◌+◌, ◌-◌, ◌*◌, ◌%◌, ◌<◌, ◌≤◌, ◌&&◌, nat_le, Bool, true, false, if◌then◌else◌, List, [], ◌∷◌}
 use Rattle.compiled_states.proofs.Names.{Option, Some, None, refl, sym, ap}
 use Rattle.compiled_states.proofs.Names.{◌==◌, ap₂, ne_eqb, or_parts, holds}
 use Rattle.compiled_states.proofs.Names.{◌∙◌, subst, arith, inl, inr, IfSome, MemoryMap, MapValue, ImageValue, IsImageOf, IsFreshImage, images_are_fresh}
@@ -22,7 +22,6 @@ use Rattle.fram_state.specs.Migrated.{kept_ring_word}
 use Rattle.fram_state.specs.Stretch.{words_at}
 use Rattle.compiled_states.proofs.Held.{within}
 use Rattle.fram_state.specs.Sound as sound
-use Rattle.fram_state.specs.declared.runtime.Ring.{Ring}
 use Rattle.compiled_states.proofs.Words.{fram_at}
 
 -- the parts of a ring, from one on
@@ -179,31 +178,34 @@ module _ (words : List ℕ) (gate : ℕ) (is_gate : IsFram gate) (small : word_i
   sent_there : fram_of words sent_place ≡ word_in words sent_place
   sent_there = there sent_place refl (omega arith) (omega arith)
 
+  -- how far HEAD and SE are ahead of TAIL
+  waiting : word_difference (fram_of words head_place) (fram_of words tail_place) ≡ word_difference (word_in words head_place) (word_in words tail_place)
+  waiting = ap₂ word_difference head_there tail_there
+
+  taken : word_difference (fram_of words sent_place) (fram_of words tail_place) ≡ word_difference (word_in words sent_place) (word_in words tail_place)
+  taken = ap₂ word_difference sent_there tail_there
+
   -- a ring that keeps the rule on the board
   pub rule_of_ring : rings.KeepsRing gate (fram_of words) → is_ring_at (Some event_ring) words (word_in words gate == 1) ≡ true
   rule_of_ring k =
-      let waiting : word_difference (word_in words head_place) (word_in words tail_place) ≡ word_difference (fram_of words head_place) (fram_of words tail_place) =
-      ap₂ word_difference (sym head_there) (sym tail_there) in
-      let taken : word_difference (word_in words sent_place) (word_in words tail_place) ≡ word_difference (fram_of words sent_place) (fram_of words tail_place) =
-      ap₂ word_difference (sym sent_there) (sym tail_there) in
       let most = k.head in
-      is_kept (word_in words head_place) (word_in words tail_place) (word_in words sent_place) (word_in words gate == 1) small (omega (arith, waiting, most))
-      (λ e. let ahead = k.sent (fram_at words gate is_gate ∙ eqb-true (word_in words gate) 1 e) in omega (arith, waiting, taken, ahead))
+      let ahead_of = waiting in
+      let taken_of = taken in
+      is_kept (word_in words head_place) (word_in words tail_place) (word_in words sent_place) (word_in words gate == 1) small (omega (arith, ahead_of, most))
+      (λ e. let ahead = k.sent (fram_at words gate is_gate ∙ eqb-true (word_in words gate) 1 e) in omega (arith, ahead_of, taken_of, ahead))
 
   -- and back
   pub ring_of_rule : is_ring_at (Some event_ring) words (word_in words gate == 1) ≡ true → rings.KeepsRing gate (fram_of words)
   ring_of_rule keeps =
       let k = kept_so (word_in words head_place) (word_in words tail_place) (word_in words sent_place) (word_in words gate == 1) small keeps in
-      let waiting : word_difference (fram_of words head_place) (fram_of words tail_place) ≡ word_difference (word_in words head_place) (word_in words tail_place) =
-      ap₂ word_difference head_there tail_there in
-      let taken : word_difference (fram_of words sent_place) (fram_of words tail_place) ≡ word_difference (word_in words sent_place) (word_in words tail_place) =
-      ap₂ word_difference sent_there tail_there in
       let most = k.waiting in
+      let ahead_of = waiting in
+      let taken_of = taken in
       record {
-        head = omega (arith, waiting, most);
+        head = omega (arith, ahead_of, most);
         sent = λ e.
             let ahead = k.taken (eq-eqb (word_in words gate) 1 (sym (fram_at words gate is_gate) ∙ e)) in
-            omega (arith, waiting, taken, ahead);
+            omega (arith, ahead_of, taken_of, ahead);
       }
 
 module _ (text : List ℕ) (image : ImageValue) (of : IsImageOf text image) where

@@ -177,9 +177,9 @@ fresh_states_belong text image of =
 -- ---- runs
 
 -- a sound world holds words
-sound_words : {p : CheckedProgram} {l : MemoryMap} {x : World} → IsSound (program_places p l) x → (a : ℕ) → x.fram a < 0x10000
-sound_words (SoundAtRest q) = q.words
-sound_words (SoundPending q) = q.words
+sound_words : (p : CheckedProgram) (map : MemoryMap) (x : World) → IsSound (program_places p map) x → (a : ℕ) → x.fram a < 0x10000
+sound_words p map x (SoundAtRest q) = q.words
+sound_words p map x (SoundPending q) = q.words
 
 -- a run from a state that belongs to an image
 record StateRun : Type 0 where
@@ -234,6 +234,9 @@ module _ (on : StateRun) where
   abbrev IsKept : List ℕ → Type 0
   IsKept words = is_ring_at (map_ring c.layout) words (word_in words gate == 1) ≡ true
 
+  abbrev IsKeptBy : Bool → List ℕ → Type 0
+  IsKeptBy events words = is_ring_at (if events then Some event_ring else None) words (word_in words gate == 1) ≡ true
+
   -- so does the state's
   keeps_at_first : IsKept s.image.words
   keeps_at_first =
@@ -248,26 +251,23 @@ module _ (on : StateRun) where
       words : List ℕ
       words = (last_board first ms).fram
 
-      abbrev KeptBy : Bool → List ℕ → Type 0
-      KeptBy events fram = is_ring_at (if events then Some event_ring else None) fram (word_in fram gate == 1) ≡ true
-
       small : (fram : List ℕ) → fram_of fram tail_place < 0x10000 → word_in fram tail_place < 0x10000
-      small fram l =
-          let same = fram_at fram tail_place (record { even = refl; low = omega arith; high = omega arith }) in omega (arith, l, same)
+      small fram below =
+          let same = fram_at fram tail_place (record { even = refl; low = omega arith; high = omega arith }) in omega (arith, below, same)
 
       last_small : fram_of words tail_place < 0x10000
       last_small =
           let k = lawful.fronts ms rest e in
           let P : (ℕ → ℕ) → Type 0 = λ f. f tail_place < 0x10000 in
-          subst P k.fram (sound_words k.belongs.sound tail_place)
+          subst P k.fram (sound_words p c.layout (known_from c.layout x ms).world k.belongs.sound tail_place)
 
       by : (events : Bool) → c.layout.runtime.events ≡ events → IsKept words
       by false off = ap (λ o. is_ring_at (if o then Some event_ring else None) words (word_in words gate == 1)) off
       by true on =
-          let at_first : KeptBy true s.image.words = subst (λ o. KeptBy o s.image.words) on keeps_at_first in
+          let at_first : IsKeptBy true s.image.words = subst (λ o. IsKeptBy o s.image.words) on keeps_at_first in
           let first_keeps = ring_of_rule s.image.words gate is_gate (small s.image.words (fram_small s.image.words whole.are_words tail_place)) at_first in
           let keeps = (lawful.rings on first_keeps ms rest e).keeps in
-          subst (λ o. KeptBy o words) (sym on) (rule_of_ring words gate is_gate (small words last_small) keeps)
+          subst (λ o. IsKeptBy o words) (sym on) (rule_of_ring words gate is_gate (small words last_small) keeps)
 
   board_belongs : (ms rest : List Moment) → r.moments ≡ ms ++ rest → Belongs image (saved (last_board first ms) s.image.map)
   board_belongs ms rest e =

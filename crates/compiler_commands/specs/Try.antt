@@ -10,8 +10,7 @@ use Rattle.event_orders.specs.Answers.{AnswersInOrder}
 use Rattle.plain_commands.specs.cost_bound.declared.allowance.Allow.{Allow}
 use Rattle.plain_commands.specs.source_meaning.Acceptance.{IsAcceptedText}
 use Rattle.plain_commands.specs.source_values.Runs.{CheckedProgram}
-use Rattle.source_runs.specs.Tells.{at_first, EachChargePays, IsToldBySource}
-use Rattle.task_needs.specs.Needs.{need_of}
+use Rattle.source_runs.specs.Tells.{IsToldBySource}
 use Rattle.plain_commands.specs.command_answers.Ending.{well}
 use Rattle.plain_commands.specs.RunReport.{IsRunReport}
 use Rattle.plain_commands.specs.command_texts.Sources.{IsSourceText, RefusesSource, SaysSource}
@@ -22,8 +21,7 @@ use Rattle.compiler_commands.specs.Built.{IsBuilt}
 
 -- The texts are a source and a trace. These bytes are the image text of the source's image, and this is the report of the run of that
 -- image on the trace, which ends well. And it is what the source tells of that run, in which the answers of the transitions, joined, are the first of the
--- events that were accepted, in order and each once. Each charge that is spent is less than what the tasks need whose transitions were completed in it, and
--- the one that was to come, by the code that is linked, beside what events take
+-- events that were accepted, in order and each once.
 pub record Tries (source trace file output : List ℕ) : Type 0 where
   pub program : CheckedProgram
   pub allow : Allow
@@ -34,8 +32,6 @@ pub record Tries (source trace file output : List ℕ) : Type 0 where
   pub built : IsBuilt source program allow image file
   pub report : IsRunReport image charges well output
   pub told : IsToldBySource source program built.map (charges_of charges.charges) (fresh image.words charges.readings charges.events) report.outcome output
-  pub needs : let b = fresh image.words charges.readings charges.events in EachChargePays built.map (λ h. need_of program built.compiled.layout h.task)
-      (charges_of charges.charges) b (at_first built.map b) report.outcome
   pub answered : AnswersInOrder (map (λ a. a.answers) told.attempts) (accepted_events (Some built.map) report.outcome.moments)
 
 -- the text of `try` at this place, from 0, is the first that is refused, and so

@@ -8,7 +8,6 @@ ghost use Rattle.plain_commands.specs.command_answers.CommandAnswers.{CommandAns
 ghost use Rattle.plain_commands.specs.command_answers.Outcomes.{Breaks, FailsBy, Gains};
 
 use crate::built::built_of;
-use image_reports::images_keep_to_needs;
 use plain_commands::answers::{
     Failure, Status, answer_failure, answer_unread, put_file, read_texts,
 };
@@ -89,7 +88,6 @@ pub fn try_texts<'t, H: Shelf, O: Sink>(
         (record { old = H.files shelf.old; new = H.files shelf.new; counts_old = H.counts shelf.old; counts_new = H.counts shelf.new })
         (record { old = O.contents out.old; new = O.contents out.new; faults_old = O.faults out.old; faults_new = O.faults out.new })) }
 {
-    images_keep_to_needs();
     let source = source_of(alloc, names.source, texts.source)?;
     let trace = trace_of(alloc, names.trace, texts.trace)?;
     let built = built_of(alloc, &source)?;

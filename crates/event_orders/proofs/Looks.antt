@@ -1,12 +1,12 @@
 -- By which look an answer came about.
-use Rattle.std.proofs.Common.{◌≡◌, ◌≢◌, ◌+◌, ◌%◌, ◌≤◌, ◌<◌, ◌==◌, ◌⊎◌, inl, inr, if◌then◌else◌, arith, ℕ, zero, suc, refl, sym, ap, ap₂, ◌∙◌, subst, Bool, true, false}
-use Rattle.std.proofs.Common.{List, [], ◌∷◌, ◌++◌, append-nil, append_assoc, length, length-append, Option, Some, None, ne_eqb, eq-eqb, Contains}
+use Rattle.std.proofs.Common.{◌≡◌, ◌≢◌, ◌<◌, ◌⊎◌, inl, inr, if◌then◌else◌, arith, ℕ, zero, suc, refl, sym, ap, ap₂, ◌∙◌, subst, Bool}
+use Rattle.std.proofs.Common.{List, [], ◌∷◌, ◌++◌, append-nil, append_assoc, length, Some, ne_eqb, eq-eqb, Contains}
 use Rattle.std.specs.Prelude.{slice_get, slice_index_or}
-use Rattle.event_places.specs.Places.{head_place, tail_place, count_place, answer_place, ring_slots}
-use Rattle.msp_step.specs.alp_words.Words.{word_sum, word_difference}
+use Rattle.event_places.specs.Places.{head_place, tail_place, count_place, answer_place}
+use Rattle.msp_step.specs.alp_words.Words.{word_sum}
 use Rattle.fram_board.specs.Board.{BoardValue}
-use Rattle.fram_board.specs.Effects.{Effect, Store, Take, Outside, Offered, Looked}
-use Rattle.fram_board.specs.Run.{Action, PowerUp, Execute, Moment}
+use Rattle.fram_board.specs.Effects.{Effect, Store, Take, Outside, Looked}
+use Rattle.fram_board.specs.Run.{Moment}
 use Rattle.machine_effects.specs.World.{Look, fram_after_one, fram_after, EachStore}
 use Rattle.machine_effects.specs.Inputs.{look_effects}
 use Rattle.machine_effects.specs.Machine.{fram_of}
@@ -15,7 +15,6 @@ use Rattle.machine_effects.specs.Runs.{last_board}
 use Rattle.machine_effects.proofs.Interface.{each_store-append, each_store-front, each_store-back}
 use Rattle.program_view.proofs.Interface.{steady_low}
 use Rattle.crash_rules.specs.Model.{words_stored}
-use Rattle.crash_rules.proofs.Interface.{stored-append}
 use Rattle.run_charges.specs.View.{outside_of, outside_effects, all_outside_effects}
 use Rattle.run_charges.specs.Moments.{IsMomentFrom}
 use Rattle.run_charges.specs.Charges.{IsInstruction}

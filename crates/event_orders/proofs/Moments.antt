@@ -1,5 +1,5 @@
 -- The words of the ring over the moments of a charge: the handler's, which bring words, and the program's, which take them.
-use Rattle.std.proofs.Common.{◌≡◌, ◌≢◌, ◌+◌, ◌%◌, ◌≤◌, ◌<◌, ◌==◌, ◌⊎◌, inl, inr, if◌then◌else◌, arith, ℕ, refl, sym, ap, ◌∙◌, subst, Bool, true, false}
+use Rattle.std.proofs.Common.{◌≡◌, ◌+◌, ◌≤◌, ◌<◌, ◌==◌, ◌⊎◌, inl, inr, if◌then◌else◌, arith, ℕ, refl, sym, ap, ◌∙◌, subst, Bool, true, false}
 use Rattle.std.proofs.Common.{List, [], ◌∷◌, ◌++◌, append-nil, append_assoc, length, length-append, Option, Some, None, Ok, Err, Result, map}
 use Rattle.event_places.specs.Places.{handler_place, head_place, tail_place, answer_place, ring_slots, slot_place}
 use Rattle.msp_step.specs.alp_words.Words.{word_sum, word_difference}
@@ -10,7 +10,7 @@ use Rattle.fram_board.specs.declared.board.NextStep.TheVariants as next_step
 use Rattle.fram_board.specs.declared.events.Heard.TheVariants as heard
 use Rattle.fram_board.specs.declared.board.Stepped.{Stepped}
 use Rattle.fram_board.specs.Board.{BoardValue, BoardOutcome, executed, at_boundary}
-use Rattle.fram_board.specs.Effects.{Effect, Store, Take, Outside, Offered, Looked, effects_of, takes_of, stores_of, store_at, sends_of, acceptance_effects}
+use Rattle.fram_board.specs.Effects.{Effect, Store, Take, Outside, Offered, Looked, effects_of, takes_of, stores_of, store_at, sends_of}
 use Rattle.fram_board.specs.Effects.{store_of}
 use Rattle.fram_board.specs.Bus.{is_fram}
 use Rattle.std.specs.List.{slice_range}
@@ -19,32 +19,33 @@ use Rattle.board_run.specs.Events.{Hand}
 use Rattle.machine_effects.specs.World.{World, Look, put, fram_after}
 use Rattle.machine_effects.specs.Inputs.{look_effects}
 use Rattle.machine_effects.specs.Machine.{fram_of}
-use Rattle.machine_effects.specs.View.{IsWhole, IsOfWords, seen_at_pc}
-use Rattle.machine_effects.specs.Runs.{step_effects, action_effects, last_board}
+use Rattle.machine_effects.specs.View.{IsWhole, IsOfWords}
+use Rattle.machine_effects.specs.Runs.{step_effects, action_effects}
 use Rattle.machine_effects.proofs.Interface.{put_other, put_same, machine_is_of_words}
 use Rattle.event_handler.specs.Handler.{Stage, SaveR4, SaveR5, TakeEvent, LoadHead, SubtractTail, CompareRoom, LeaveIfFull, LoadHeadAgain, CutToSlots}
 use Rattle.event_handler.specs.Handler.{DoubleIndex, StoreWord, RaiseHead, RestoreR5, RestoreR4, Return, instruction_at}
-use Rattle.event_handler.specs.Boundaries.{IsInterrupted, IsInHandler, IsBehind, next_stage, is_ring_full, head_of, tail_of, event_of, fram_at, with_event}
+use Rattle.event_handler.specs.Boundaries.{IsInHandler, IsBehind, next_stage, is_ring_full, head_of, tail_of, event_of, fram_at, with_event}
 use Rattle.event_handler.specs.Boundaries.{with_head_raised}
 use Rattle.program_view.proofs.Interface.{handler_is_high}
 use Rattle.crash_rules.specs.Model.{Marks}
 use Rattle.crash_rules.specs.History.{History, observe}
 use Rattle.crash_rules.proofs.Interface.{observed_world, world_fram}
 use Rattle.run_charges.specs.View.{outside_of, is_handlers, looks_by, outside_effects}
-use Rattle.run_charges.specs.Moments.{IsMomentFrom, PowersUp, Instructs, Serves, AreMoments}
-use Rattle.run_charges.specs.Charges.{IsInstruction, AreInstructionMoments, behind_action, behind_moment, observed}
-use Rattle.run_charges.proofs.Interface.{PlacedProgram, Moves, MovesOwn, MovesIn, MovesOn, MoveOn, silent_behind, whole_behind, moment_is, IsPower, IsStepped}
+use Rattle.run_charges.specs.Moments.{IsMomentFrom, PowersUp, Instructs, Serves}
+use Rattle.run_charges.specs.Charges.{IsInstruction, behind_action, behind_moment}
+use Rattle.run_charges.proofs.Interface.{PlacedProgram, Moves, MovesOwn, MovesIn, MovesOn, moment_is, IsPower, IsStepped}
 use Rattle.run_charges.proofs.Interface.{IsPowerOrStep, no_power_up}
-use Rattle.event_rules.specs.Taking.{Taking, Before, Open, SawHead, SawSlot, Took, Frozen, next_index, Follows, MomentFollows, EachFollows}
-use Rattle.event_rules.proofs.Interface.{held, stored_at, stored_by, moves_hand, own_high, event_head, fram_next, next_fram, either_fram, after}
+use Rattle.event_rules.specs.Taking.{Taking, Before, Open, SawHead, SawSlot, Took, Frozen, Follows, MomentFollows}
+use Rattle.event_rules.proofs.Interface.{stored_at, stored_by, own_high, event_head, fram_next, next_fram, either_fram, after}
 use Rattle.event_orders.proofs.Window.{Window, window_same, stores_word, raises_head}
-use Rattle.event_orders.proofs.Order.{Account, account_of, Fresh, Pending, Asked, Knows, Keeps, SeesRing, SeeRing, effects_advance}
+use Rattle.event_orders.proofs.Order.{Account, account_of, Fresh, Pending, Asked, Knows, Keeps, SeeRing, effects_advance}
 
 -- ---- what the handler brings
 
 -- from one board to another these words come behind those that wait
 abbrev Brings : BoardValue → BoardValue → List ℕ → Type 0
-Brings b c more = (tail i : ℕ) (ws : List ℕ) → tail ≡ fram_of b.fram tail_place → Window (fram_of b.fram) tail i ws → Window (fram_of c.fram) tail i (ws ++ more)
+Brings b c more = (tail i : ℕ) (ws : List ℕ) → tail ≡ fram_of b.fram tail_place → Window (fram_of b.fram) tail i ws
+    → Window (fram_of c.fram) tail i (ws ++ more)
 
 -- none
 brings_none : (b c : BoardValue) → ((a : ℕ) → handler_place ≤ a → fram_of c.fram a ≡ fram_of b.fram a) → Brings b c []
@@ -392,7 +393,8 @@ module _ (marks : Marks) (low : marks.gate < tail_place) (ans : marks.answer ≡
     moves_leave _ _ (MovesOwn own) v u follows keeps = own_leaves same h told words own v u follows keeps
     moves_leave _ _ (MovesIn done interrupted inside quiet e) v u follows keeps =
         handler_leaves same h told words (ap is_handlers e) []
-        (subst (λ (y : Moment). Brings b y.after []) (sym e) (brings_none b (moment_of b next_step.Acceptance done).after (λ a l. ap (λ (f : ℕ → ℕ). f a) inside.fram))) v u follows keeps
+        (subst (λ (y : Moment). Brings b y.after []) (sym e)
+        (brings_none b (moment_of b next_step.Acceptance done).after (λ a l. ap (λ (f : ℕ → ℕ). f a) inside.fram))) v u follows keeps
     moves_leave _ _ (MovesOn p at done interrupted inside read behind e) v u follows keeps =
         handler_leaves same h told words (handlers_move p at inside) (stored_at p at)
         (subst (λ (y : Moment). Brings b y.after (stored_at p at)) (sym e)

@@ -1,23 +1,22 @@
 -- What a program's effects make of the words of the ring: which the committed attempts took, which the current one, and which wait.
-use Rattle.std.proofs.Common.{◌≡◌, ◌≢◌, ◌+◌, ◌%◌, ◌≤◌, ◌<◌, ◌==◌, ◌&&◌, ◌⊎◌, inl, inr, not, arith, ℕ, suc, refl, sym, ap, ap₂, ◌∙◌, subst, cond}
-use Rattle.std.proofs.Common.{Bool, true, false, List, [], ◌∷◌, ◌++◌, append-nil, append_assoc, length, length-append, Option, Some, None}
-use Rattle.std.proofs.Common.{ne_eqb, eq-eqb, if◌then◌else◌}
-use Rattle.std.specs.Prelude.{filter, flat_map}
+use Rattle.std.proofs.Common.{◌≡◌, ◌≢◌, ◌+◌, ◌%◌, ◌≤◌, ◌<◌, ◌==◌, ◌⊎◌, inl, inr, not, arith, ℕ, refl, sym, ap, ap₂, ◌∙◌, subst, cond}
+use Rattle.std.proofs.Common.{Bool, true, List, [], ◌∷◌, ◌++◌, append-nil, append_assoc, length, length-append, Some}
+use Rattle.std.proofs.Common.{ne_eqb, if◌then◌else◌}
+use Rattle.std.specs.Prelude.{flat_map}
 use Rattle.std.proofs.lemmas.List.Elements.{filter-append}
 use Rattle.std.proofs.lemmas.Grind.{flat_map-append}
-use Rattle.event_places.specs.Places.{handler_place, head_place, tail_place, count_place, sent_place, answer_place, ring_slots, slot_place}
-use Rattle.msp_step.specs.alp_words.Words.{word_sum, word_difference}
+use Rattle.event_places.specs.Places.{head_place, tail_place, count_place, sent_place, answer_place, ring_slots, slot_place}
+use Rattle.msp_step.specs.alp_words.Words.{word_sum}
 use Rattle.fram_board.specs.Effects.{Effect, Store, Take, Outside, OutsideEffect, Offered, Looked}
-use Rattle.machine_effects.specs.World.{Look, put, fram_after_one, OfStore}
+use Rattle.machine_effects.specs.World.{put, fram_after_one, OfStore}
 use Rattle.machine_effects.proofs.Interface.{put_other, put_same}
 use Rattle.crash_rules.specs.Model.{Marks, IsElsewhere, words_stored, answers_at, answers_in}
-use Rattle.crash_rules.specs.History.{Done, History, is_done, is_decide, with_effect, behind_gate, behind_decide, behind_done, observe_one, observe, behind_boot}
+use Rattle.crash_rules.specs.History.{Done, History, is_decide, with_effect, behind_gate, behind_decide, behind_done, observe_one, observe}
 use Rattle.crash_rules.proofs.Interface.{world_fram, answers-append, observe_quiet, observed_world}
-use Rattle.event_rules.specs.Rings.{KeepsRing}
-use Rattle.event_rules.specs.Taking.{Taking, Before, Open, SawHead, SawSlot, Took, Frozen, IsIdle, next_index, Advances, Takes, Sends, Stores, Clears, Looks}
+use Rattle.event_rules.specs.Taking.{Taking, Before, Open, SawHead, SawSlot, Took, Frozen, next_index, Advances, Takes, Sends, Stores, Clears, Looks}
 use Rattle.event_rules.specs.Taking.{Sees, AnswersNone, AnswersWord, Counts, Freezes, Decides, Moves, Ends, Follows}
 use Rattle.event_orders.specs.Answers.{not_zeros}
-use Rattle.event_orders.proofs.Window.{Stands, Window, window_same, same_slot, stands_behind, moved_there, given_away}
+use Rattle.event_orders.proofs.Window.{Stands, Window, same_slot, stands_behind, moved_there, given_away}
 
 -- what a history tells of answers: the FRAM, the answers of the dones, those since the last boot or done, and those of the last decide
 pub record Account : Type 0 where
@@ -102,8 +101,12 @@ quiet_account marks e h elsewhere =
     (world_fram (e ∷ []) h.world) (answers-append marks h.effects (e ∷ []))
 
 abbrev pub decided_behind : Marks → Account → Account
-decided_behind marks a = record { fram = put a.fram marks.gate 1; committed = a.committed; asked = a.asked ++ answers_in marks (Store marks.gate 1 ∷ []);
-    decided = a.asked ++ answers_in marks (Store marks.gate 1 ∷ []) }
+decided_behind marks a = record {
+  fram = put a.fram marks.gate 1;
+  committed = a.committed;
+  asked = a.asked ++ answers_in marks (Store marks.gate 1 ∷ []);
+  decided = a.asked ++ answers_in marks (Store marks.gate 1 ∷ []);
+}
 
 decides_at : (before : ℕ) → before ≢ 1 → is_decide before 1 ≡ true
 decides_at before other = ap (λ (c : Bool). not c) (ne_eqb before 1 other)
@@ -309,8 +312,11 @@ module _ (marks : Marks) (low : marks.gate < tail_place) (ans : marks.answer ≡
         asked = h.asked;
         tail = h.tail;
         window = h.window;
-        knows = (h.knows.0, λ other. next_word h.left (i + length h.taken) word (h.knows.1 other) (stands_behind ring i h.taken h.left h.window.stands)
-            (is ∙ ap ring (same_slot (i + length h.taken) (next_index a.fram) index)));
+        knows = (
+          h.knows.0,
+          λ other. next_word h.left (i + length h.taken) word (h.knows.1 other) (stands_behind ring i h.taken h.left h.window.stands)
+              (is ∙ ap ring (same_slot (i + length h.taken) (next_index a.fram) index)),
+        );
       }
 
   -- an answer is stored
@@ -478,7 +484,8 @@ module _ (marks : Marks) (low : marks.gate < tail_place) (ans : marks.answer ≡
     abbrev a : Account
     a = account_of marks h
 
-    stays : (t : Taking) (e : Effect) → OfStore (IsElsewhere gate) e → (b : Account) → behind marks e a ≡ b → K t b → K t (account_of marks (observe_one marks e h))
+    stays : (t : Taking) (e : Effect) → OfStore (IsElsewhere gate) e → (b : Account) → behind marks e a ≡ b → K t b
+        → K t (account_of marks (observe_one marks e h))
     stays t e elsewhere b is k = subst (K t) (sym (quiet_account marks e h elsewhere ∙ is)) k
 
     above : (v place : ℕ) → v ≡ place → tail_place ≤ place → v ≢ gate

@@ -1,8 +1,9 @@
 -- The order of a ring's words over whole runs.
-use Rattle.std.proofs.Common.{◌≡◌, ◌≢◌, ◌+◌, ◌%◌, ◌≤◌, ◌<◌, ◌==◌, ◌⊎◌, inl, inr, if◌then◌else◌, arith, ℕ, zero, suc, refl, sym, ap, ap₂, ◌∙◌, subst, Bool, true, false}
+use Rattle.std.proofs.Common.{◌≡◌, ◌≢◌, ◌+◌, ◌%◌, ◌≤◌, ◌<◌, ◌==◌, ◌⊎◌, inl, inr, if◌then◌else◌, arith, ℕ, zero, suc, refl, sym, ap, ap₂, ◌∙◌, subst, Bool}
+use Rattle.std.proofs.Common.{true, false}
 use Rattle.std.proofs.Common.{List, [], ◌∷◌, ◌++◌, append-nil, append_assoc, length, length-append, map, Option, Some, None, eqb-true, eq-eqb}
 use Rattle.std.specs.Prelude.{flat_map, slice_get, Contains}
-use Rattle.event_places.specs.Places.{handler_place, head_place, tail_place, count_place, sent_place, answer_place, ring_slots, slot_place, is_ring}
+use Rattle.event_places.specs.Places.{handler_place, head_place, tail_place, count_place, sent_place, answer_place, ring_slots}
 use Rattle.msp_step.specs.alp_words.Words.{word_sum, word_difference}
 use Rattle.fram_board.specs.declared.events.Heard.TheVariants as heard
 use Rattle.fram_board.specs.Board.{BoardValue}
@@ -34,8 +35,8 @@ use Rattle.event_orders.specs.Answers.{not_zeros, AnswersInOrder}
 use Rattle.event_orders.specs.Waiting.{words_from, first_index, waiting_in, words_behind, IsNextWord, IsAnswer, AnswersNone, AnswersNext, TakesInOrder}
 use Rattle.event_orders.specs.Laws.{TakesEvents, IsInOrder, KeepsOrder, RingsKeepOrder}
 use Rattle.event_orders.proofs.Window.{Stands, Window}
-use Rattle.event_orders.proofs.Order.{Account, account_of, answers_of, Fresh, Pending, Asked, Keeps, SeeRing, effects_advance, zeros_joined}
-use Rattle.event_orders.proofs.Moments.{Leaves, tells, looks_see, moves_leave}
+use Rattle.event_orders.proofs.Order.{account_of, answers_of, Fresh, Pending, Asked, Keeps, SeeRing, effects_advance, zeros_joined}
+use Rattle.event_orders.proofs.Moments.{tells, looks_see, moves_leave}
 use Rattle.event_orders.proofs.Looks.{SawAt, IsAnswered, step_saw, follows_split, answered_by, look_leaves, look_answers_none, saw_head, none_waited}
 use Rattle.event_orders.proofs.Looks.{next_there, nothing_there}
 
@@ -485,7 +486,8 @@ module _ (c : Program) (marks : Marks) (x : World) (cs : List BoardCharge) (b : 
       let sees = looks_see marks of.gate of.answer from (fram_of c.fram) (words_behind marks.gate b ms) told.looks [] seen tt in
       let sees_all : SeeRing marks of.gate of.answer from (fram_of c.fram) (words_behind marks.gate b ms) es =
       subst (λ l. SeeRing marks of.gate of.answer from (fram_of c.fram) (words_behind marks.gate b ms) l) (append-nil es) sees in
-      let kept = effects_advance marks of.gate of.answer from (fram_of c.fram) (words_behind marks.gate b ms) h f t parts.0 es there.told parts.1 sees_all holds in
+      let kept =
+      effects_advance marks of.gate of.answer from (fram_of c.fram) (words_behind marks.gate b ms) h f t parts.0 es there.told parts.1 sees_all holds in
       by parts.0 parts.1 kept answered
     where
       by : (v : Taking) → Follows marks.gate (outside_of (last_board b ms)).fram t (look_effects (tells m).looks) v

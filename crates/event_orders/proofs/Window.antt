@@ -1,5 +1,5 @@
 -- The words of a ring that wait, each in its slot.
-use Rattle.std.proofs.Common.{◌≡◌, ◌+◌, ◌%◌, ◌≤◌, ◌<◌, ◌==◌, arith, ℕ, refl, sym, ap, ◌∙◌, subst, Bool, true, false, List, [], ◌∷◌, ◌++◌, append-nil}
+use Rattle.std.proofs.Common.{◌≡◌, ◌+◌, ◌%◌, ◌≤◌, ◌<◌, ◌==◌, arith, ℕ, sym, ap, ◌∙◌, subst, false, List, [], ◌∷◌, ◌++◌}
 use Rattle.std.proofs.Common.{length, length-append, eq-eqb}
 use Rattle.event_places.specs.Places.{handler_place, head_place, ring_slots, slot_place}
 use Rattle.msp_step.specs.alp_words.Words.{word_sum, word_difference}
@@ -46,9 +46,10 @@ stands_put f i n v [] e l h = tt
 stands_put f i n v (w ∷ ws) e l h =
     let here : i < i + length (w ∷ ws) = omega arith in
     let near : i + length (w ∷ ws) ≤ i + 63 = omega (arith, l) in
-    let next : n ≡ ((i + 1) + length ws) % 0x10000 = e ∙ (let s : i + length (w ∷ ws) ≡ (i + 1) + length ws = omega arith in ap (λ k. k % 0x10000) s) in
-    (put_other f (slot_place n) v (slot_place i) (other_slot i (i + length (w ∷ ws)) n e here near) ∙ h.0,
-    stands_put f (i + 1) n v ws next (omega (arith, l)) h.1)
+    let next : n ≡ ((i + 1) + length ws) % 0x10000 = e ∙ (let s : i + length (w ∷ ws) ≡ (i + 1) + length ws = omega arith in ap (λ k. k % 0x10000) s) in (
+      put_other f (slot_place n) v (slot_place i) (other_slot i (i + length (w ∷ ws)) n e here near) ∙ h.0,
+      stands_put f (i + 1) n v ws next (omega (arith, l)) h.1,
+    )
 
 -- a store to HEAD
 stands_head : (f : ℕ → ℕ) (i v : ℕ) (ws : List ℕ) → Stands f i ws → Stands (put f head_place v) i ws

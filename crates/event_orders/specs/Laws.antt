@@ -1,5 +1,5 @@
 -- What holds of the ring in a run whose program takes its words in order.
-use Rattle.std.specs.Prelude.{◌≡◌, ℕ, ◌<◌, List, ◌++◌, map, Some}
+use Rattle.std.specs.Prelude.{◌≡◌, ◌<◌, List, ◌++◌, map, Some}
 use Rattle.event_places.specs.Places.{tail_place, answer_place}
 use Rattle.fram_board.specs.Board.{BoardValue}
 use Rattle.fram_board.specs.Run.{Moment, BoardCharge, RunOutcome}

@@ -103,6 +103,7 @@ first_need text p allow image ok c =
     let ready = sources_are_ready text p allow c.plans l (laid_out text p allow image ok c) in
     let new = images_are_fresh text p allow image ok c in
     need_within p l m s x (ready.model.undecided_task s x (undecided text p allow image c ready new)) (is.rests s x (rests text p allow image c ready new))
+
 -- the words that count its events, and HEAD, are 0
 record HasEmptyRing (f : ℕ → ℕ) : Type 0 where
   head : f head_place ≡ 0
@@ -173,7 +174,8 @@ images_are_told text p allow image ok c trace t r run =
 
 -- where the source takes events its answers are in order by the law, else it has none
 module _ (text : List ℕ) (p : CheckedProgram) (allow : Allow) (image : ImageValue) (ok : IsAcceptedText text p allow) (c : IsCompiled text p allow image)
-    (trace : TraceValue) (t : IsTraceOfWords trace) (r : RunOutcome) (run : Run (charges_of trace.charges) (fresh image.words trace.readings trace.events) r) where
+    (trace : TraceValue) (t : IsTraceOfWords trace) (r : RunOutcome)
+    (run : Run (charges_of trace.charges) (fresh image.words trace.readings trace.events) r) where
   abbrev l : MemoryMap
   l = c.layout
 
@@ -188,7 +190,8 @@ module _ (text : List ℕ) (p : CheckedProgram) (allow : Allow) (image : ImageVa
 
   lawful : IsLawfulRun text p allow l image (charges_of trace.charges) trace.readings trace.events r
   lawful =
-      images_keep_the_laws text p allow image ok c (charges_of trace.charges) (traces_are_few trace t).0 trace.readings trace.events (trace_inputs trace t) r run
+      let few = traces_are_few trace t in
+      images_keep_the_laws text p allow image ok c (charges_of trace.charges) few.0 trace.readings trace.events (trace_inputs trace t) r run
 
   in_order : AnswersInOrder answers (accepted_events (Some m) r.moments)
   in_order = by l.runtime.events refl

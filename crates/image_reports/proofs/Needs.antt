@@ -1,5 +1,6 @@
 -- Each charge of a run pays for its transitions by what their tasks need.
-use Rattle.image_reports.proofs.Names.{◌<◌, ◌≤◌, ◌+◌, ◌*◌, ℕ, zero, suc, refl, ap, ◌≡◌, subst, arith, List, length, Bool, MapValue, BoardValue, BoardCharge}
+use Rattle.image_reports.proofs.Names.{◌<◌, ◌≤◌, ◌+◌, ◌*◌, ℕ, zero, suc, refl, ap, ◌≡◌, ◌∙◌, subst, arith, List, length, Bool, MapValue, BoardValue}
+use Rattle.image_reports.proofs.Names.{BoardCharge}
 use Rattle.image_reports.proofs.Names.{RunOutcome, World, CheckedProgram, State, map_of, MemoryMap, Model, ModelLaws, History, first_history, Program}
 use Rattle.image_reports.proofs.Names.{StandsFor, BearsModel, IsFirstWithin, IsTaskWithin, task_costs, cost_due, at_first, EachChargePays}
 use Rattle.image_reports.proofs.Names.{compiled_model, compiled_program, runtime_marks, IsReadyToRun}
@@ -53,7 +54,7 @@ pub need_within : (p : CheckedProgram) (l : MemoryMap) (m : MapValue) (s : State
 need_within p l m s x is_task here below =
     let cost = own_cost p l (compiled_model p l) s.task is_task in
     let same : need_of p l (x.fram m.words.current_task) ≡ need_of p l s.task = ap (need_of p l) here.task in
-    omega (arith, cost, same)
+    subst (λ n. n ≤ need_of p l (x.fram m.words.current_task)) (same ∙ cost) (omega arith)
 
 module _ (onward : Onward) where
   open onward use {start as beginning, accepted as ok, charges as cs, outcome as r, run}

@@ -598,8 +598,8 @@ module _ (onward : Onward) where
       (sym (append-nil r.moments)) bearing.stands bearing.begins
 
   -- as a run of a program that takes events, where the ring keeps its rule at first
-  pub takes_events : l.runtime.events ≡ true → KeepsRing gate (fram_of b.fram) → TakesEvents program (runtime_marks l) x cs b r
-  takes_events events keeps = record {
+  taking : l.runtime.events ≡ true → KeepsRing gate (fram_of b.fram) → TakesEvents program (runtime_marks l) x cs b r
+  taking events keeps = record {
     run = run;
     stands = bearing.stands;
     fram = refl;
@@ -612,7 +612,7 @@ module _ (onward : Onward) where
   -- so the ring holds the accepted words
   pub rings : l.runtime.events ≡ true → KeepsRing gate (fram_of b.fram) → RingsHold l b r
   rings events keeps ms rest e = record {
-    keeps = ((rings_keep_order program (runtime_marks l) x cs b r (takes_events events keeps)).fronts ms rest e).ring;
+    keeps = ((rings_keep_order program (runtime_marks l) x cs b r (taking events keeps)).fronts ms rest e).ring;
     last = ring_holds_accepted program cs b r ms rest run e (runtime_marks l) first bearing.stands;
   }
 
@@ -624,7 +624,7 @@ module _ (onward : Onward) where
   is = models_are_of_sources text p l m (source text p allow image ok c)
 
   pub takes : l.runtime.events ≡ true → KeepsRing gate (fram_of b.fram) → TakesInOrder gate b r.moments
-  takes events keeps = (rings_keep_order program (runtime_marks l) x cs b r (takes_events events keeps)).takes
+  takes events keeps = (rings_keep_order program (runtime_marks l) x cs b r (taking events keeps)).takes
 
   -- the answers of the attempts are those of the dones
   answers_read : map (λ (d : Done). d.answers) (observed (runtime_marks l) r.moments first).completed
@@ -638,7 +638,7 @@ module _ (onward : Onward) where
 
   pub answered : l.runtime.events ≡ true → KeepsRing gate (fram_of b.fram) → AnswersHold l m b r
   answered events keeps =
-      let order = (rings_keep_order program (runtime_marks l) x cs b r (takes_events events keeps)).fronts r.moments [] (sym (append-nil r.moments)) in
+      let order = (rings_keep_order program (runtime_marks l) x cs b r (taking events keeps)).fronts r.moments [] (sym (append-nil r.moments)) in
       subst (λ (answers : List (List ℕ)). AnswersInOrder answers (words_behind gate b r.moments)) answers_read order.answers
 
   -- each charge that is spent pays for its transitions, where the first one costs no more than its world says

@@ -75,25 +75,25 @@ module _ (text : List ℕ) (p : CheckedProgram) (allow : Allow) (image : ImageVa
       subst (λ o. StandsFor model readings o (first_history (runtime_marks l) x)) (in_commit q.gate)
       ((runs_may_begin model ready.model readings).pending (state_left l x) x (states.commit x q))
 
-  -- so it is with the needs
-  needs : Model State
-  needs = with_needs p l (compiled_model p l)
+  -- the same with what its tasks need
+  abbrev costed : Model State
+  costed = with_needs p l model
 
   -- the first task needs what CUR says; a pending commit takes no more than the bound
-  first_need : (pending : Bool) → bound needs ≤ m.bound → IsSound (program_places p l) x
-      → IsFirstWithin needs (if pending then Pending (state_left l x) else Resting (state_in l x)) (task_costs m (need_of p l) pending x).first
+  first_need : (pending : Bool) → bound costed ≤ m.bound → IsSound (program_places p l) x
+      → IsFirstWithin costed (if pending then Pending (state_left l x) else Resting (state_in l x)) (task_costs m (need_of p l) pending x).first
   first_need true within sound = within
   first_need false within (SoundAtRest q) =
       need_within p l m (state_in l x) x (ready.model.undecided_task (state_in l x) x (undecided_there q)) (states.words x q.words)
   first_need false within (SoundPending q) = need_within p l m (state_in l x) x q.current_task (states.words x q.words)
 
-  begun_needs : (readings : List ℕ) → IsSound (program_places p l) x → StandsFor needs readings origin (first_history (runtime_marks l) x)
+  begun_needs : (readings : List ℕ) → IsSound (program_places p l) x → StandsFor costed readings origin (first_history (runtime_marks l) x)
   begun_needs readings (SoundAtRest q) =
-      subst (λ o. StandsFor needs readings o (first_history (runtime_marks l) x)) (at_rest q.gate)
-      ((runs_may_begin needs (needs_model_laws p l ready) readings).resting (state_in l x) x (undecided_there q))
+      subst (λ o. StandsFor costed readings o (first_history (runtime_marks l) x)) (at_rest q.gate)
+      ((runs_may_begin costed (needs_model_laws p l ready) readings).resting (state_in l x) x (undecided_there q))
   begun_needs readings (SoundPending q) =
-      subst (λ o. StandsFor needs readings o (first_history (runtime_marks l) x)) (in_commit q.gate)
-      ((runs_may_begin needs (needs_model_laws p l ready) readings).pending (state_left l x) x (states.commit x q))
+      subst (λ o. StandsFor costed readings o (first_history (runtime_marks l) x)) (in_commit q.gate)
+      ((runs_may_begin costed (needs_model_laws p l ready) readings).pending (state_left l x) x (states.commit x q))
 
   -- the world's CUR names a task
   some_task : IsSound (program_places p l) x → 0 < length p.tasks

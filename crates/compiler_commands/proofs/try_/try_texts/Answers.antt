@@ -30,8 +30,7 @@ returns-in_err-put_file-clause-failure g c =
     let built = c.in_ok-built.ensures.built in
     let told = c.in_ok-built.ensures.told built.map built.mapped _ c.in_ok-trace.ensures.words in
     let source = c.in_ok-source.ensures in
-    let tried = tries c.images_keep_to_needs.ensures _ _ _ _ _ _ _ _ source.text source.accepted c.in_ok-trace.ensures.said
-    c.in_ok-trace.ensures.words built told in
+    let tried = tries _ _ _ _ _ _ _ _ source.text source.accepted c.in_ok-trace.ensures.said built told in
     handed_on _ _ _ c.from_residual-in_err-put_file.ensures
     (put_fails _ _ _ _ _ _ _ _ refl (tried told.output told.report, refl) refl c.in_err-put_file.ensures.failure)
 
@@ -47,8 +46,7 @@ returns-in_err-write_trial-clause-failure g c =
     let built = c.in_ok-built.ensures.built in
     let told = c.in_ok-built.ensures.told built.map built.mapped _ c.in_ok-trace.ensures.words in
     let source = c.in_ok-source.ensures in
-    let tried = tries c.images_keep_to_needs.ensures _ _ _ _ _ _ _ _ source.text source.accepted c.in_ok-trace.ensures.said
-    c.in_ok-trace.ensures.words built told in
+    let tried = tries _ _ _ _ _ _ _ _ source.text source.accepted c.in_ok-trace.ensures.said built told in
     let is_board = c.in_ok-board.ensures ∙ ap₂ (fresh c.in_ok-built.built.image.words) c.readings.ensures.value c.events.ensures.value in
     handed_on _ _ _ c.from_residual-in_err-write_trial.ensures
     (put_breaks _ _ _ _ _ _ _ _ refl (λ output report. (tried output (told_from _ _ _ _ _ is_board c.in_ok-watch.ensures _ _ report), refl))
@@ -59,8 +57,7 @@ returns-clause-whole g c =
     let built = c.in_ok-built.ensures.built in
     let told = c.in_ok-built.ensures.told built.map built.mapped _ c.in_ok-trace.ensures.words in
     let source = c.in_ok-source.ensures in
-    let tried = tries c.images_keep_to_needs.ensures _ _ _ _ _ _ _ _ source.text source.accepted c.in_ok-trace.ensures.said
-    c.in_ok-trace.ensures.words built told in
+    let tried = tries _ _ _ _ _ _ _ _ source.text source.accepted c.in_ok-trace.ensures.said built told in
     let is_board = c.in_ok-board.ensures ∙ ap₂ (fresh c.in_ok-built.built.image.words) c.readings.ensures.value c.events.ensures.value in
     put_whole _ _ _ _ _ _ _ _ refl (λ output report. (tried output (told_from _ _ _ _ _ is_board c.in_ok-watch.ensures _ _ report), refl))
     c.as_slice.ensures.value c.in_ok-put_file.ensures.put c.in_ok-write_trial.ensures.whole
