@@ -1,4 +1,4 @@
-use Rattle.std.proofs.Common.{◌≡◌, ◌∙◌, ◌+◌, ◌-◌, ◌^◌, ◌<◌, ℕ, length, get_or, sym, ap, subst, arith}
+use Rattle.std.proofs.Common.{◌≡◌, ◌∙◌, ◌-◌, ◌^◌, ◌<◌, ℕ, min, length, get_or, sym, ap, subst, arith}
 use Rattle.std.proofs.lemmas.Option.{get_or_from_slice_get, same_Some}
 use Rattle.task_ast.specs.View.{block_view, program_of}
 use Rattle.source_report.specs.SourceReport.{spelled}
@@ -177,7 +177,8 @@ returns c = λ task there.
     let commit : c.parts_of-parts.result.commit ≡ n.commit = rw (at_runtime, privates, elements, emits) at c.parts_of-parts.ensures.commit in
     let cut = path_cut c.in_ok-most.most (most_spent l.runtime.events (task_program p l k)) table.bound (beside_path p l k) small most in
     let path : c.parts_of-parts.result.path ≡ n.path =
-    (rw (at_runtime, cleared, privates, elements, emits) at c.parts_of-parts.ensures.path) ∙ (rw bound at cut) in
+    (rw (at_runtime, cleared, privates, elements, emits) at c.parts_of-parts.ensures.path) ∙ cut
+    ∙ ap (λ b. min (most_spent l.runtime.events (task_program p l k)) (b - beside_path p l k)) bound in
     let words : table.words ≡ task_words p.shared h.task.body = rw (shared, body) at c.table_of-table.ensures.words in
     let same : h.task ≡ task = same_Some h.task task (sym h.there ∙ there) in
     let P : CheckedTask → Type 0 = λ t. row_of (record {

@@ -1,0 +1,41 @@
+use Rattle.std.proofs.Common.{◌≡◌, ◌∙◌, ◌<◌, ◌≤◌, ◌∷◌, [], length, length-map, map, sym, ap, arith}
+use Rattle.std.proofs.lemmas.List.{map-append}
+use Rattle.task_ast.specs.View.{program_of}
+use Rattle.array_versions.specs.View as word_program
+use Rattle.war_analysis.proofs.Interface.{element}
+use Rattle.need_lines.specs.Rows.{row_of}
+use Rattle.source_needs.proofs.Rows.{as_many, row_more, rows_end}
+use Rattle.source_needs.proofs.needs.tasks_need.Goals as goal
+
+pub task_need-requires-clause-task : goal.task_need-requires-clause-task
+task_need-requires-clause-task c =
+    let p = program_of c.args.accepted.now.checked.source in
+    let l = c.args.layout.now in
+    let made = as_many l p.tasks l.tasks c.requires.laid_out.layout.tasks.count in
+    let count = length-map c.args.programs.now word_program.program_of in
+    omega (arith, c.loop-i-test.true, made, count, ap length c.requires.programs)
+
+pub loop-i-preserved : goal.loop-i-preserved
+loop-i-preserved c =
+    let text = c.args.accepted.now.text.items in
+    let p = program_of c.args.accepted.now.checked.source in
+    let l = c.args.layout.now in
+    let made = as_many l p.tasks l.tasks c.requires.laid_out.layout.tasks.count in
+    let count = length-map c.args.programs.now word_program.program_of in
+    let inside : c.loop-i.i < length p.tasks = omega (arith, c.loop-i-test.true, made, count, ap length c.requires.programs) in
+    let t = element p.tasks c.loop-i.i inside in
+    let one = c.in_ok-task_need.field-0 in
+    let more = ap (map row_of) c.in_ok-push.ensures.items ∙ map-append row_of c.loop-i.needs.items (one ∷ []) in
+    row_more text p l c.loop-i.i t.0 (map row_of c.loop-i.needs.items) (map row_of c.push.new.self.items) (row_of one) t.1
+    (c.in_ok-task_need.ensures t.0 t.1) more
+    ∙ c.loop-i.invariant
+
+pub returns : goal.returns
+returns c =
+    let text = c.args.accepted.now.text.items in
+    let p = program_of c.args.accepted.now.checked.source in
+    let l = c.args.layout.now in
+    let made = as_many l p.tasks l.tasks c.requires.laid_out.layout.tasks.count in
+    let count = length-map c.args.programs.now word_program.program_of in
+    let all : length p.tasks ≤ c.loop-i.i = omega (arith, c.loop-i-test.false, made, count, ap length c.requires.programs) in
+    sym (rows_end text p l c.loop-i.i (map row_of c.loop-i.needs.items) all) ∙ c.loop-i.invariant
