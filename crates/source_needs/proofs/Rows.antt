@@ -1,6 +1,6 @@
 -- What one task of an accepted source needs, from what its table and its layout say.
-use Rattle.std.proofs.Common.{◌≡◌, ◌∙◌, ℕ, zero, suc, ◌+◌, ◌-◌, ◌*◌, ◌^◌, ◌<◌, ◌≤◌}
-use Rattle.std.proofs.Common.{◌++◌, ◌∷◌, [], min, List, Bool, length, map, drop, get_or, drop-cons, add-one}
+use Rattle.std.proofs.Common.{◌≡◌, ◌∙◌, ℕ, zero, suc, ◌+◌, ◌-◌, ◌^◌, ◌<◌, ◌≤◌}
+use Rattle.std.proofs.Common.{◌++◌, ◌∷◌, [], min, List, length, map, drop, get_or, add-one}
 use Rattle.std.proofs.Common.{Some, append_assoc, append-nil, refl, sym, ap, subst, arith}
 use Rattle.std.proofs.lemmas.List.{drop_all}
 use Rattle.std.proofs.Math.ListN.{get_or-map}
@@ -22,12 +22,10 @@ use Rattle.privatise.specs.Laws.{OneLayout}
 use Rattle.war_analysis.proofs.Interface.{element}
 use Rattle.memory_map.specs.MemoryMap.{MemoryMap, TaskPlace}
 use Rattle.memory_map.specs.Spots.{places_of, private_words}
-use Rattle.memory_map.proofs.Interface.{privates_few}
-use Rattle.array_versions.specs.Program.{nothing}
 use Rattle.array_versions.specs.Form.{IsWhole}
 use Rattle.array_versions.specs.Cost.{words_of}
 use Rattle.lower.specs.Seen.{map_seen}
-use Rattle.lower.specs.Lowered.{lowered, lowered_tasks}
+use Rattle.lower.specs.Lowered.{lowered_tasks}
 use Rattle.lower.proofs.Interface.{blocks_keep_to_words, program_at}
 use Rattle.whole_programs.specs.Laws.{IsLaidOutText, TasksAreWhole, PrivatesAreFew}
 use Rattle.compiled_model.specs.Parts.{task_program}

@@ -1,5 +1,5 @@
 -- Runs of private scalars as they are counted.
-use Rattle.std.proofs.Common.{◌≡◌, ◌∙◌, ℕ, suc, ◌+◌, ◌<◌, ◌≤◌, ◌∷◌, [], List, length, drop, get_or, drop-cons, add-one, Bool, true, false}
+use Rattle.std.proofs.Common.{◌≡◌, ◌∙◌, ℕ, suc, ◌+◌, ◌<◌, ◌≤◌, ◌∷◌, List, length, drop, get_or, drop-cons, add-one, true, false}
 use Rattle.std.proofs.Common.{if◌then◌else◌, sym, ap, arith}
 use Rattle.std.proofs.lemmas.List.{drop_all}
 use Rattle.memory_map.specs.declared.place.PrivateScalar.{PrivateScalar}

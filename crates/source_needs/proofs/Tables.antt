@@ -1,10 +1,8 @@
 -- What the table says of one task of an accepted source.
-use Rattle.std.proofs.Common.{◌≡◌, ℕ, zero, suc, ◌+◌, ◌*◌, ◌<◌, ◌≤◌, List, [], ◌∷◌, Some, ap, arith}
+use Rattle.std.proofs.Common.{◌≡◌, ℕ, zero, suc, ◌≤◌, List, [], ◌∷◌, Some, ap, arith}
 use Rattle.std.specs.Prelude.{slice_get, unwrap_or}
-use Rattle.cost_bound.specs.Counts.{CheckedBlock, emits_of}
-use Rattle.cost_bound.specs.Allowance.{CheckedTask, greatest, list_of, scalars_of, task_bound, task_words, total}
-use Rattle.task_ast.specs.declared.SharedDeclaration.{SharedDeclaration}
-use Rattle.task_needs.specs.Needs.{elements_of}
+use Rattle.cost_bound.specs.Counts.{CheckedBlock}
+use Rattle.cost_bound.specs.Allowance.{CheckedTask, greatest, total}
 
 -- one task is no more than the greatest
 pub at_most_greatest : (f : CheckedBlock → ℕ) (ts : List CheckedTask) (k : ℕ) (t : CheckedTask) → slice_get ts k ≡ Some t → f t.body ≤ greatest f ts

@@ -1,7 +1,6 @@
-use Rattle.std.proofs.Common.{◌≡◌, ◌∙◌, map, sym, ap, subst}
+use Rattle.std.proofs.Common.{◌≡◌, map}
 use Rattle.std.proofs.lemmas.Result.{IfOk-weaker}
 use Rattle.task_ast.specs.View.{program_of}
-use Rattle.source_values.specs.Runs.{CheckedProgram}
 use Rattle.war_analysis.specs.Plans.{IsPlan}
 use Rattle.privatise.specs.Layouts.{IsLayout}
 use Rattle.need_lines.specs.Rows.{row_of}

@@ -1,5 +1,5 @@
-use Rattle.std.proofs.Common.{◌≡◌, ◌∙◌, ◌<◌, ◌≤◌, ◌∷◌, [], length, length-map, map, sym, ap, arith}
-use Rattle.std.proofs.lemmas.List.{map-append}
+use Rattle.std.proofs.Common.{◌∙◌, ◌<◌, ◌≤◌, ◌∷◌, [], length, map, sym, ap, arith}
+use Rattle.std.proofs.lemmas.List.{length-map, map-append}
 use Rattle.task_ast.specs.View.{program_of}
 use Rattle.array_versions.specs.View as word_program
 use Rattle.war_analysis.proofs.Interface.{element}
