@@ -1,7 +1,8 @@
 -- What one task of an accepted source needs, from what its table and its layout say.
 use Rattle.std.proofs.Common.{◌≡◌, ◌∙◌, ℕ, zero, suc, ◌+◌, ◌-◌, ◌*◌, ◌^◌, ◌<◌, ◌≤◌}
 use Rattle.std.proofs.Common.{◌++◌, ◌∷◌, [], min, List, Bool, length, map, drop, get_or, drop-cons, add-one}
-use Rattle.std.proofs.Common.{Some, append_assoc, append-nil, drop_all, refl, sym, ap, subst, arith}
+use Rattle.std.proofs.Common.{Some, append_assoc, append-nil, refl, sym, ap, subst, arith}
+use Rattle.std.proofs.lemmas.List.{drop_all}
 use Rattle.std.specs.Prelude.{slice_get}
 use Rattle.cost_bound.specs.declared.allowance.Allow.{Allow}
 use Rattle.cost_bound.specs.Allowance.{CheckedTask, scalars_of, task_bound, task_words, uses_events, versions_of}

@@ -1,6 +1,7 @@
 -- Runs of private scalars as they are counted.
-use Rattle.std.proofs.Common.{◌≡◌, ◌∙◌, ℕ, suc, ◌+◌, ◌<◌, ◌≤◌, ◌∷◌, [], List, length, drop, get_or, drop-cons, drop_all, add-one, Bool, true, false}
+use Rattle.std.proofs.Common.{◌≡◌, ◌∙◌, ℕ, suc, ◌+◌, ◌<◌, ◌≤◌, ◌∷◌, [], List, length, drop, get_or, drop-cons, add-one, Bool, true, false}
 use Rattle.std.proofs.Common.{if◌then◌else◌, sym, ap, arith}
+use Rattle.std.proofs.lemmas.List.{drop_all}
 use Rattle.memory_map.specs.declared.place.PrivateScalar.{PrivateScalar}
 use Rattle.memory_map.specs.declared.place.ScalarWidth.{ScalarWidth}
 use Rattle.memory_map.specs.declared.place.ScalarWidth.TheVariants.{OneWord, TwoWords}

@@ -6,7 +6,7 @@ use Rattle.source_needs.proofs.runs.runs_behind.Given as goal
 abbrev pub invariant-loop-scalar : goal.invariant-loop-scalar
 invariant-loop-scalar l = record {
   owed : l.count + length (runs_from (run_of l.stretch) (drop l.scalar-index l.privates))
-      ≡ suc (length (runs_from (run_of l.first) l.privates));
+      ≡ suc (length (runs_from (run_of l.fn.first) l.privates));
   short : l.stretch.words ≤ 2 * l.scalar-index + 2;
   low : l.count ≤ l.scalar-index + 1;
 }
