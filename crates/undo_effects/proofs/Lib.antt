@@ -1,0 +1,4 @@
+mod Undone
+pub mod Interface
+pub use Rattle.runtime_effects.proofs.machine_effects as machine_effects
+pub use Rattle.runtime_effects.proofs as runtime_effects
