@@ -1,10 +1,13 @@
 -- What putting entries back makes of FRAM.
 use Rattle.std.proofs.Common.{◌≡◌, ℕ, zero, suc, ◌+◌, ◌*◌, ◌<◌, ◌≤◌, ◌⊎◌, ⊎_elim, inl, inr, List, [], ◌∷◌, ◌++◌, refl, sym, ap, ◌∙◌, subst, arith}
+use Rattle.std.specs.Prelude.{All}
 use Rattle.std.proofs.lemmas.Bool.{cases_eq}
+use Rattle.std.proofs.lemmas.List.Elements.{All-nil, All-cons}
 use mathlib.Core.Path.{fun_ext}
 use Rattle.runtime_effects.specs.fram_board.Effects.{Effect, Store}
-use Rattle.runtime_effects.specs.machine_effects.World.{put, fram_after}
-use Rattle.runtime_effects.proofs.machine_effects.Interface.{fram_after-append, put_same, put_other}
+use Rattle.runtime_effects.specs.machine_effects.World.{World, put, fram_after, world_after_one, world_after, EachStore}
+use Rattle.runtime_effects.specs.machine_effects.Inputs.{inputs_taken, no_inputs}
+use Rattle.runtime_effects.proofs.machine_effects.Interface.{fram_after-append, world_after-append, each_store-append, none_taken_through, put_same, put_other}
 use Rattle.undo_effects.specs.Entries.{Logged, logged_from, IsLogged, undone}
 use Rattle.undo_effects.specs.Stages.{put_back}
 
@@ -96,7 +99,29 @@ put_back_undoes [] f = refl
 put_back_undoes (e ∷ es) f =
     fram_after-append (put_back es) (Store e.address e.word ∷ []) f ∙ ap (λ g. put g e.address e.word) (put_back_undoes es f)
 
+-- the world behind them
+pub put_back_restores : (es : List Logged) (x : World) → world_after (put_back es) x ≡ record x { fram = undone es x.fram }
+put_back_restores [] x = refl
+put_back_restores (e ∷ es) x =
+    world_after-append (put_back es) (Store e.address e.word ∷ []) x ∙ ap (λ y. world_after_one (Store e.address e.word) y) (put_back_restores es x)
+
+-- they take nothing of what is ready, and store at logged addresses alone
+pub put_back_takes : (es : List Logged) → inputs_taken (put_back es) ≡ no_inputs
+put_back_takes [] = refl
+put_back_takes (e ∷ es) = none_taken_through (put_back es) (Store e.address e.word ∷ []) (put_back_takes es) refl
+
+pub put_back_stores : (P : ℕ → ℕ → Type 0) (es : List Logged) → ((a w : ℕ) → IsLogged es a → P a w) → EachStore P (put_back es)
+put_back_stores P [] h = tt
+put_back_stores P (e ∷ es) h =
+    each_store-append P (put_back es) (Store e.address e.word ∷ []) (put_back_stores P es (λ a w k. h a w (inr k))) (h e.address e.word (inl refl), tt)
+
 -- ---- entries in FRAM
+
+-- their words are words
+pub logged_words : (n p : ℕ) (f : ℕ → ℕ) → ((a : ℕ) → f a < 0x10000) → All (λ e. e.word < 0x10000) (logged_from n p f)
+logged_words zero p f h = All-nil (λ e. e.word < 0x10000)
+logged_words (suc n) p f h =
+    All-cons (λ e. e.word < 0x10000) (record { address = f p; word = f (p + 2) }) (logged_from n (p + 4) f) (h (p + 2)) (logged_words n (p + 4) f h)
 
 -- the entries in front of the last, and the last
 pub last_logged : (n p : ℕ) (f : ℕ → ℕ)
