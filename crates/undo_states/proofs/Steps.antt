@@ -29,9 +29,11 @@ stays_through a w (Outside o ∷ es) x h e = (e, stays_through a w es (world_aft
 -- a word to which nothing else is stored than what it is
 pub same_through : (a w : ℕ) (es : List Effect) (x : World) → EachStore (λ b u. b ≡ a → u ≡ w) es → x.fram a ≡ w → HoldsThroughout (λ y. y.fram a ≡ w) es x
 same_through a w [] x h e = e
-same_through a w (Store b u ∷ es) x h e =
-    (e, same_through a w es (world_after_one (Store b u) x) h.1
-    (⊎_elim {C = put x.fram b u a ≡ w} (λ q. ap (put x.fram b u) q ∙ put_same x.fram b u ∙ h.0 (sym q)) (λ n. put_other x.fram b u a n ∙ e) (cases_eq a b)))
+same_through a w (Store b u ∷ es) x h e = (
+  e,
+  same_through a w es (world_after_one (Store b u) x) h.1
+      (⊎_elim {C = put x.fram b u a ≡ w} (λ q. ap (put x.fram b u) q ∙ put_same x.fram b u ∙ h.0 (sym q)) (λ n. put_other x.fram b u a n ∙ e) (cases_eq a b)),
+)
 same_through a w (Take u ∷ es) x h e = (e, same_through a w es x h.1 e)
 same_through a w (Outside o ∷ es) x h e = (e, same_through a w es (world_after_one (Outside o) x) h.1 e)
 
@@ -59,9 +61,11 @@ module _ (a w : ℕ) (P : World → Type 0) where
   pub through_with : (es : List Effect) (x : World) → EachStore (IsElsewhere a) es → HoldsThroughout P es (world_with a w x)
       → HoldsThroughout (λ y. P (world_with a w y)) es x
   through_with [] x h k = k
-  through_with (Store b u ∷ es) x h k =
-      (k.0, through_with es (world_after_one (Store b u) x) h.1
-      (subst (λ f. HoldsThroughout P es (record x { fram = f })) (put_apart x.fram a w b u (λ q. h.0 (sym q))) k.1))
+  through_with (Store b u ∷ es) x h k = (
+    k.0,
+    through_with es (world_after_one (Store b u) x) h.1
+        (subst (λ f. HoldsThroughout P es (record x { fram = f })) (put_apart x.fram a w b u (λ q. h.0 (sym q))) k.1),
+  )
   through_with (Take u ∷ es) x h k = (k.0, through_with es x h.1 k.1)
   through_with (Outside o ∷ es) x h k = (k.0, through_with es (world_after_one (Outside o) x) h.1 k.1)
 

@@ -76,6 +76,9 @@ module _ {St : Type 0} (l : ProgramPlaces) (apart : AreApart l.map) (v : StateVi
       ap (λ n. logged_from n p (put f a w)) (put_other f a w (word_place l.map ListLength) (λ q. length (sym q)))
       ∙ logged_alike (list_length l x) p f (put f a w) (λ b lo hi. put_other f a w b (out_of p (logged_bytes * list_length l x) a b out lo hi))
 
+  pub beside_entries : (x : World) (a w : ℕ) → IsBeside x a → logged l.map (put x.fram a w) ≡ logged l.map x.fram
+  beside_entries x a w is = entries_stay x a w is.length is.list
+
   -- a store beside
   pub beside_keeps : (x : World) (a w : ℕ) → w < 0x10000 → IsBeside x a → VersionsWithin l (put (restored l x).fram a w) → UndoneAt l v s x
       → UndoneAt l v s (world_after_one (Store a w) x)
@@ -101,6 +104,10 @@ module _ {St : Type 0} (l : ProgramPlaces) (apart : AreApart l.map) (v : StateVi
     shared_out : (x : World) (a : ℕ) → UndoneAt l v s x → IsSharedWord l a → IsOutOf l.map.list.address (logged_bytes * list_length l x) a
     shared_out x a u sh = let few = list_within x u in inr (omega (arith, apart, sh, few))
 
+    -- the entries stay behind a store to a logged word
+    pub over_entries : (x : World) (a w : ℕ) → IsLogged (logged l.map x.fram) a → UndoneAt l v s x → logged l.map (put x.fram a w) ≡ logged l.map x.fram
+    over_entries x a w h u = let sh = u.shared a h in entries_stay x a w (λ q. omega (arith, apart, sh, q)) (shared_out x a u sh)
+
     -- a store to a logged word
     pub over_keeps : (x : World) (a w : ℕ) → w < 0x10000 → IsLogged (logged l.map x.fram) a → UndoneAt l v s x
         → UndoneAt l v s (world_after_one (Store a w) x)
@@ -109,7 +116,7 @@ module _ {St : Type 0} (l : ProgramPlaces) (apart : AreApart l.map) (v : StateVi
         let es = logged l.map f in
         let sh = u.shared a h in
         let length : a ≡ word_place l.map ListLength → ⊥ = λ q. omega (arith, apart, sh, q) in
-        let same = entries_stay x a w length (shared_out x a u sh) in
+        let same = over_entries x a w h u in
         let there : undone (logged l.map (put f a w)) (put f a w) ≡ undone es f =
         ap (λ z. undone z (put f a w)) same ∙ undone_over es f a w h in
         record {
@@ -143,6 +150,9 @@ module _ {St : Type 0} (l : ProgramPlaces) (apart : AreApart l.map) (v : StateVi
       pub below : a < l.map.versions.address
       pub base : a ≡ word_place l.map Base → ⊥
       pub version : a ≡ word_place l.map Version → ⊥
+
+    pub length_is : IsScratch (word_place l.map ListLength)
+    length_is = record { from = omega arith; below = omega (arith, apart); base = λ q. omega (arith, q); version = λ q. omega (arith, q) }
 
     pub scratch_leaves : (a : ℕ) → IsScratch a → LeavesOpen a
     scratch_leaves a is =
@@ -213,14 +223,6 @@ module _ {St : Type 0} (l : ProgramPlaces) (apart : AreApart l.map) (v : StateVi
         below = omega (arith, apart, lt);
         base = λ q. omega (arith, apart, q);
         version = λ q. omega (arith, apart, q);
-      }
-
-      length_is : IsScratch (word_place l.map ListLength)
-      length_is = record {
-        from = omega arith;
-        below = omega (arith, apart);
-        base = λ q. omega (arith, q);
-        version = λ q. omega (arith, q);
       }
 
       same1 : list_length l x1 ≡ n
