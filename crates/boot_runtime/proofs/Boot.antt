@@ -31,11 +31,11 @@ use Rattle.memory_map.specs.declared.words.RuntimeWord.TheVariants.{CurrentTask,
 use Rattle.memory_map.specs.MemoryMap.{MemoryMap, word_place, where_events, with_events}
 
 -- GATE isn't 1
-gate_is_not_one : (n : ℕ) → n < 0x10000 → n ≢ 1 → ((n + 65534 + 1) % 65536 == 0) ≡ false
+pub gate_is_not_one : (n : ℕ) → n < 0x10000 → n ≢ 1 → ((n + 65534 + 1) % 65536 == 0) ≡ false
 gate_is_not_one n l h = grind (arith, nat_tests, l, h)
 
 -- SP is set, and the CPU accepts interrupts, where there are events
-enables : (code : Code) → IsTidy code → (events : Bool) (p : ℕ) (f : ℕ → ℕ) (l : Inputs) (u : Core) → code.events ≡ events
+pub enables : (code : Code) → IsTidy code → (events : Bool) (p : ℕ) (f : ℕ → ℕ) (l : Inputs) (u : Core) → code.events ≡ events
     → (events ≡ true → f event_vector ≡ handler_place) → Stands code p (where_events events interrupts_set) → IsAt p f l u
     → Comes code [] (with_events events 2) (with_events events 3) u (IsAt (gate_address events p) f l)
 enables code tidy true p f l u taken named h at =

@@ -84,7 +84,7 @@ module _ (code : Code) (tidy : IsTidy code) (m : MemoryMap) (places : AreInFram 
       (end_flag (f (word_place m Version)) word ∙ z) at
 
   -- the clearing, of 26 bytes
-  clears : (p : ℕ) (f : ℕ → ℕ) (l : Inputs) (u : Core) → p + 34 < 0x10000 → Stands code p (clearing m) → IsAt p f l u
+  pub clears : (p : ℕ) (f : ℕ → ℕ) (l : Inputs) (u : Core) → p + 34 < 0x10000 → Stands code p (clearing m) → IsAt p f l u
       → let n = m.versions.words in let es = clearing_if m true in
       Comes code es (4 + (if_any n 1 + 4 * n)) (9 + (if_any n 2 + 8 * n)) u (IsAt (p + 26) (fram_after es f) l)
   clears p f l u high h at =
@@ -132,7 +132,7 @@ module _ (code : Code) (tidy : IsTidy code) (m : MemoryMap) (places : AreInFram 
       (record { pc = omega arith; fram = refl; inputs = refl })))
 
   -- EC, where there are events
-  counts_events : (p : ℕ) (f : ℕ → ℕ) (l : Inputs) (u : Core) → Stands code p (events_counted m) → IsAt p f l u
+  pub counts_events : (p : ℕ) (f : ℕ → ℕ) (l : Inputs) (u : Core) → Stands code p (events_counted m) → IsAt p f l u
       → let events = m.runtime.events in let es = count_cleared m in
       Comes code es (with_events events 1) (with_events events 4) u (IsAt (p + with_events events 4) (fram_after es f) l)
   counts_events p f l u h at =

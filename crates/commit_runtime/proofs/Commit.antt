@@ -140,7 +140,7 @@ module _ (code : Code) (tidy : IsTidy code) (m : MemoryMap) (places : AreInFram 
       (record { entries = all_left (6 * n) places.list (omega (arith, few)); few = omega (arith, words, last); copied = can.copies })))
 
   -- TAIL, where there are events
-  tail_part : (p number : ℕ) (f : ℕ → ℕ) (l : Inputs) (u : Core) → Stands code p (events_taken m) → BehindSends p number f l u
+  pub tail_part : (p number : ℕ) (f : ℕ → ℕ) (l : Inputs) (u : Core) → Stands code p (events_taken m) → BehindSends p number f l u
       → let events = m.runtime.events in let es = tail_moved m f in
       Comes code es (with_events events 1) (with_events events 6) u (BehindSends (p + with_events events 6) number (fram_after es f) l)
   tail_part p number f l u h at =
