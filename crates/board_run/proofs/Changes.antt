@@ -1,6 +1,7 @@
 -- Lines of accepted words and of shared numbers that have changed, one after another.
 use Rattle.std.proofs.Common.{◌≡◌, ◌≤◌, ◌<◌, ℕ, zero, suc, ◌+◌, List, [], ◌∷◌, ◌++◌, length, drop, drop-cons, get_or, flat_map, arith, refl, ap, sym}
-use Rattle.std.proofs.Common.{subst, ◌∙◌, ◌*◌, ◌-◌, ◌%◌, ◌==◌, true, false, if◌then◌else◌, Option, Some, None, append_assoc, All, slice_index, append-nil, nat_lt, nat_le, Ok}
+use Rattle.std.proofs.Common.{subst, ◌∙◌, ◌*◌, ◌-◌, ◌%◌, ◌==◌, true, false, if◌then◌else◌, Option, Some, None, append_assoc, All, slice_index, append-nil}
+use Rattle.std.proofs.Common.{nat_lt, nat_le, Ok}
 use Rattle.std.proofs.lemmas.Bool.Decides.{nat_tests}
 use Rattle.alp_io.specs.Report.{accepted_line, value_line}
 use Rattle.std.specs.Io.KnownBytes.{Appends}
@@ -94,7 +95,8 @@ pub word_named : (before fram name other : List ℕ) (a n i : ℕ) → other ≡
     → told_lines before fram (words_left name a n i)
     ≡ changed_line (word_of other a i) (word_in before (a + 2 * i)) (word_in fram (a + 2 * i)) ++ told_lines before fram (words_left name a n (i + 1))
 word_named before fram name other a n i e h = word_next before fram name a n i h
-    ∙ ap (λ x. changed_line (word_of x a i) (word_in before (a + 2 * i)) (word_in fram (a + 2 * i)) ++ told_lines before fram (words_left name a n (i + 1))) (sym e)
+    ∙ ap (λ x. changed_line (word_of x a i) (word_in before (a + 2 * i)) (word_in fram (a + 2 * i)) ++ told_lines before fram (words_left name a n (i + 1)))
+    (sym e)
 
 same_word : (x y : ℕ) → x ≡ y → (y == x) ≡ true
 same_word x y e = grind (arith, nat_tests, e)

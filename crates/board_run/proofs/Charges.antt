@@ -420,7 +420,8 @@ place_behind h events b after r old mid new text first (InLastLines is p) =
     InLastLines is (breaks_behind old mid new text (lines_from h r.moments) (last_lines h events r) first p)
 
 -- behind the line of the bound
-pub bound_first : (h now : History) (cs : List BoardCharge) (events : List Event) (b after : BoardValue) (old mid new : Option (List ℕ)) (result : Result RunEnd RunFault)
+pub bound_first : (h now : History) (cs : List BoardCharge) (events : List Event) (b after : BoardValue) (old mid new : Option (List ℕ))
+    (result : Result RunEnd RunFault)
     → Appends old mid (bound_lines h.map)
     → IsRestOf h cs events b mid new result after now → IsRunOf h cs events b old new result after now
 bound_first h now cs events b after old mid new (Ok end) first (r, run, w) = (

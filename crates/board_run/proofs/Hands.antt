@@ -64,7 +64,8 @@ end_silent (Stopped stop) b none = ap (λ r. handed_all (reads_of r) no_hand) no
 pub silent_runs_accept_nothing : SilentRunsAcceptNothing
 silent_runs_accept_nothing m r never =
     let line = r.board.line in
-    let silent : run_hand m r ≡ no_hand = ap (hand_at r.ending r.board) (moments_silent (head_of m) r.moments never.moments) ∙ end_silent r.ending r.board never.stop in
+    let silent : run_hand m r ≡ no_hand = ap (hand_at r.ending r.board) (moments_silent (head_of m) r.moments never.moments)
+    ∙ end_silent r.ending r.board never.stop in
     ap (counts_of line.arisen line.missed) silent
     ∙ ap (λ n. record { arisen = line.arisen; accepted = 0; lost = n }) (let e : line.missed + 0 ≡ line.missed = omega arith in e)
 
@@ -81,7 +82,8 @@ reads_accept_none (heard.Again took) es h rest = rest (handed (Reads None) (hand
 
 ringless_action : (a : Action) (before after : List ℕ) (h : Hand) → (handed_all (action_ends None a before after) h).accepted ≡ h.accepted
 ringless_action PowerUp before after h = refl
-ringless_action (Execute kind done offered) before after h = reads_accept_none done.heard (return_ends (is_return kind)) h (return_accepts_none (is_return kind))
+ringless_action (Execute kind done offered) before after h =
+    reads_accept_none done.heard (return_ends (is_return kind)) h (return_accepts_none (is_return kind))
 
 ringless_moments : (ms : List Moment) (h : Hand) → (hand_after None ms h).accepted ≡ h.accepted
 unfolding hand_behind

@@ -24,7 +24,8 @@ held (Some w) = refl
 pub tally_handed : (e : HandEnd) (h : Hand) → tally_of (handed e h) ≡ tallied e (tally_of h)
 tally_handed (Reads took) h = ap (λ n. record { in_hand = is_some took; accepted = length h.accepted; lost = h.lost + n }) (held h.word)
 tally_handed ChangesHead h =
-    ap (λ n. record { in_hand = false; accepted = n; lost = h.lost }) (length-append h.accepted (word_list h.word) ∙ ap (λ n. length h.accepted + n) (held h.word))
+    ap (λ n. record { in_hand = false; accepted = n; lost = h.lost }) (length-append h.accepted (word_list h.word)
+    ∙ ap (λ n. length h.accepted + n) (held h.word))
 tally_handed Returns h = ap (λ n. record { in_hand = false; accepted = length h.accepted; lost = h.lost + n }) (held h.word)
 tally_handed PowersUp h = ap (λ n. record { in_hand = false; accepted = length h.accepted; lost = h.lost + n }) (held h.word)
 

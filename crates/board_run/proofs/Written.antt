@@ -84,7 +84,8 @@ kept_by_instruction : (b : BoardValue) (i : Instr) (done : Stepped) (k : ℕ) �
 kept_by_instruction b i done k is next answer h =
     let x = executed b i in
     let effects = step_makes_its_effects b x is (_, Executed i next, refl) in
-    let none = both (takes_of b x) (stores_of x.answer x.board ++ sends_of b.outnum x.offered) k (takes_store_nothing (slice_range b.readings b.taken x.board.taken) k)
+    let none = both (takes_of b x) (stores_of x.answer x.board ++ sends_of b.outnum x.offered) k
+    (takes_store_nothing (slice_range b.readings b.taken x.board.taken) k)
     (both (stores_of x.answer x.board) (sends_of b.outnum x.offered) k (stores_elsewhere x.answer done x.board k answer h)
     (sends_store_nothing b.outnum x.offered k)) in
     ap (λ f. slice_index f k) effects.fram ∙ stays (effects_of b x) b.fram k none

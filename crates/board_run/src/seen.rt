@@ -104,7 +104,8 @@ impl<'a> Seen<'a> {
         requires follows { FollowsBut stores self.old board.now.fram }
         requires words { words_of (counted self.old.tally) < 2 ^ 64 - 1 }
         ensures same_sink { report.new.sink.ghost_name ≡ report.old.sink.ghost_name }
-        ensures history { OnOk result (seen_so self.new ≡ behind_instruction (seen_so self.old).map (seen_so self.old) (word_list done.now.accepted) board.now) }
+        ensures history { OnOk result (seen_so self.new ≡ behind_instruction (seen_so self.old).map (seen_so self.old) (word_list done.now.accepted)
+            board.now) }
         ensures tally { counted self.new.tally ≡ tallied_all
             (step_ends done.now.heard self.old.head.place self.old.head.word board.now.fram is_return) (counted self.old.tally) }
         ensures few { words_of (counted self.new.tally) ≤ words_of (counted self.old.tally) + 1 }

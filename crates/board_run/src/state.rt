@@ -121,7 +121,8 @@ fn write_place<S: Sink>(
     requires { StandsInFram (placed place) }
     ensures same_sink { report.new.sink.ghost_name ≡ report.old.sink.ghost_name }
     ensures bytes { Writes (S.contents report.old.sink.now) (S.contents report.new.sink.now) result
-        (changed_line (placed place.entry) (number_of (word_in shadow.now.words) (placed place.entry)) (number_of (word_in board.now.fram) (placed place.entry))) }
+        (changed_line (placed place.entry) (number_of (word_in shadow.now.words) (placed place.entry))
+        (number_of (word_in board.now.fram) (placed place.entry))) }
     ensures cause { HasCause (S.faults report.old.sink.now) (S.faults report.new.sink.now) result }
 {
     let was = shadow.number(place.address, place.is_long);

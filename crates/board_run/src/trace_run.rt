@@ -270,9 +270,9 @@ pub fn run_charges<S: Sink>(
 /// the last (the first 256, then how many more), and one for each shared word that has changed since.
 ///
 /// For each charge in order power comes up with its fill word; then the board makes steps while the charge pays for the next
-/// one, in cycles or in steps; a charge that can't pay is spent. A step is an instruction or the acceptance of an event. The run ends with `Charges` where all are
-/// spent, `Off` where CPUOFF is set, and `Readings` where a reading is wanted and none is left. `Illegal` and `Bus` are the
-/// board's faults, which the report's last line says. No memory is taken.
+/// one, in cycles or in steps; a charge that can't pay is spent. A step is an instruction or the acceptance of an event. The run ends with `Charges` where
+/// all are spent, `Off` where CPUOFF is set, and `Readings` where a reading is wanted and none is left. `Illegal` and `Bus` are the board's faults, which
+/// the report's last line says. No memory is taken.
 ///
 /// After `Write` the sink's count of faults rose, and it has a proper prefix of the report more. The board stands right behind
 /// the step whose lines broke off, and those of all steps before it are whole; where the bound's line broke off it is as it was

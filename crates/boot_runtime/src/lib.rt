@@ -174,9 +174,9 @@ fn fixed_code(alloc: Global, layout: &Layout) -> Result<Vec<Form>, AllocError>
 /// The instructions of the boot for a layout, to stand at an address; or no memory is left.
 ///
 /// Where there are events SP is set first, and GIE. Then GATE is looked at: where it is 1 a branch leads to the commit. Else, and after a commit
-/// from 10 bytes behind that look on, an attempt starts. Where VER is 65535, every version word := 0, then VER := 0. Then VER := VER + 1, CLN := 0, EN := 0, and EC := 0, where there
-/// are events; and SP is set, and by CUR the private scalars of the task are copied, and a branch leads to its code. They take 34 words, 5 more
-/// where there are events, and for each task 2, and where it has private scalars 2 more and 3 for each of their words.
+/// from 10 bytes behind that look on, an attempt starts. Where VER is 65535, every version word := 0, then VER := 0. Then VER := VER + 1, CLN := 0, EN := 0,
+/// and EC := 0, where there are events; and SP is set, and by CUR the private scalars of the task are copied, and a branch leads to its code. They take
+/// 34 words, 5 more where there are events, and for each task 2, and where it has private scalars 2 more and 3 for each of their words.
 pub fn boot_code(alloc: Global, layout: &Layout, at: u16) -> Result<Vec<Form>, AllocError>
     requires { at + boot_bytes layout.now (task_entries layout.now) < 65536 }
     ensures { IfOk result (λ code. code.items ≡ boot_forms layout.now layout.now.commit.address (task_entries layout.now) at) }

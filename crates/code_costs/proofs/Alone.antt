@@ -1,21 +1,7 @@
 -- Code by itself, in a setting of its own: what it comes to there, it comes to where it stands, within the cycles of its dearest path.
-use Rattle.code_costs.proofs.Names.{◌≡◌, ℕ, ◌+◌, ◌≤◌, List, [], ◌∷◌, refl, arith, Effect, Core, Form, Stands, Runs, placed, instructions, WordState}
+use Rattle.code_costs.proofs.Names.{◌≡◌, ℕ, ◌+◌, ◌≤◌, List, arith, Effect, Core, Form, Stands, Runs, placed, instructions, WordState}
 use Rattle.code_costs.proofs.Names.{End, GoesOn, Jumps, Short, Waiting, Setting, so_runs, dearer, dearer_stall, StandsFor, Reaches}
-use Rattle.code_costs.proofs.Names.{owed_by, owed, Describes, forward_most, runs_so, starves_so, stands_alone, tidy_alone}
-use Rattle.code_costs.proofs.Names.{push_most, pushes_most}
-use Rattle.word_code.specs.declared.waiting.Waiting.TheVariants as waiting
-
-push_is : (o : Waiting) → owed_by o ≡ push_most o
-push_is (waiting.Number n) = refl
-push_is (waiting.Fram a) = refl
-push_is (waiting.Local n) = refl
-push_is waiting.R4 = refl
-push_is waiting.R6 = refl
-
--- words that wait have paid for their pushes
-pub owed_is : (os : List Waiting) → owed os ≡ pushes_most os
-owed_is [] = refl
-owed_is (o ∷ os) = let rest = owed_is os in let one = push_is o in omega (arith, rest, one)
+use Rattle.code_costs.proofs.Names.{Describes, forward_most, runs_so, starves_so, stands_alone, tidy_alone}
 
 module _ (z : Setting) (pc : ℕ) (ms : List Form) (h : Stands z.code pc ms) where
   abbrev pub alone : Setting

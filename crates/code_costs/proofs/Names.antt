@@ -47,6 +47,6 @@ pub use Rattle.word_code.specs.array_versions.machine_effects.address_space.Limi
 pub use Rattle.word_code.specs.Laws.{IsEntry, HasJumped, ComesTo}
 pub use Rattle.code_paths.specs.Paths.{forward_most}
 pub use Rattle.code_paths.proofs.Interface.{runs_so, starves_so, stands_alone, tidy_alone}
-pub use Rattle.code_costs.specs.Dearest.{any_most, push_most, pushes_most, flush_most, leaf_most, back_cycles, turn_most, turns_most, step_most, test_most}
+pub use Rattle.code_costs.specs.Dearest.{any_most, flush_most, leaf_most, back_cycles, turn_most, turns_most, step_most, test_most}
 pub use Rattle.code_costs.specs.Dearest.{steps_most}
 pub use Rattle.code_costs.specs.Dearest.{block_most, most_spent}

@@ -2,9 +2,8 @@
 use Rattle.code_costs.proofs.Names.{◌≡◌, ℕ, ◌+◌, List, [], ◌++◌, sym, subst, arith, append-nil, forms_bytes-append, Effect, Core, Form, Stands, forms_bytes}
 use Rattle.code_costs.proofs.Names.{Runs, Starves, WordState, End, GoesOn, Jumps, Short, Behaviour, behind_effects, on_end, Waiting, Setting, runs_on}
 use Rattle.code_costs.proofs.Names.{stands_front, stands_back, StandsFor, OnGoesOn, Reaches, reach_more, then_reach, Describes, dressed, flush_part, HasJumped}
-use Rattle.code_costs.proofs.Names.{flushed, owed, flush_most}
-use Rattle.code_costs.proofs.Alone.{owed_is, alone, stand, stands_out, describes_in, runs_there}
-use Rattle.code_costs.proofs.Names.{dearer}
+use Rattle.code_costs.proofs.Names.{flushed, flush_most}
+use Rattle.code_costs.proofs.Alone.{alone, stand, stands_out, describes_in, runs_there}
 
 module _ (z : Setting) where
   -- where it comes to, said otherwise
@@ -60,9 +59,8 @@ module _ (z : Setting) where
   flushes os pc w u h d =
       let ms = flushed os in
       let y = alone z pc ms h in
-      let paid = owed_is os in
       runs_there z pc ms h d.is.at
-      (dearer y {most = owed os} (omega (arith, paid)) (flush_part y os pc w u (describes_in z pc ms h os pc w u d) (stand z pc ms h)))
+      (flush_part y os pc w u (describes_in z pc ms h os pc w u d) (stand z pc ms h))
       (λ t i. stands_out z pc ms h (pc + forms_bytes ms) w t i)
 
   -- in front of code behind which no word waits

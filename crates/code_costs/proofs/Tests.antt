@@ -8,10 +8,10 @@ use Rattle.code_costs.proofs.Names.{reach_more, then_reach, Has, Holds, owed, ow
 use Rattle.code_costs.proofs.Names.{compare_stays, reading_cycles, side_owed, gathered, Decided, Fork, Forked, forked_behind, decision_part, zero_test}
 use Rattle.code_costs.proofs.Names.{holds_part}
 use Rattle.code_costs.proofs.Names.{compares_part, Ready, ready_popped, top_of, below_top, kept, top_to_four, flushed, compare_form, is_turned, compare_sides}
-use Rattle.code_costs.proofs.Names.{compare_source, holding, failing, decision, holds_code, compares_code, forward_most, pushes_most, stands_front}
+use Rattle.code_costs.proofs.Names.{compare_source, holding, failing, decision, holds_code, compares_code, forward_most, owed, stands_front}
 use Rattle.word_code.specs.msp_isa.declared.instructions.Condition.{Condition}
 use Rattle.word_code.specs.msp_isa.declared.instructions.Condition.TheVariants as condition
-use Rattle.code_costs.proofs.Alone.{owed_is, alone, stand, stands_out, describes_in, runs_there}
+use Rattle.code_costs.proofs.Alone.{alone, stand, stands_out, describes_in, runs_there}
 
 -- one way on from a test: where it leads to, the places that it fits, what is spent there and what is done
 pub record Way : Type 1 where
@@ -91,27 +91,25 @@ module _ (z : Setting) where
 module _ (z : Setting) where
   asked_top_alone : (when : Bool) (d : ℕ) (os : List Waiting) (pc held failed v : ℕ) (us : List ℕ) (w : WordState) (u : Core) → v < 0x10000 → w.stack ≡ v ∷ us
       → Forked z when d pc (holds_code os when d) held failed → Describes z os pc w u
-      → Runs z.code [] (forward_most (holds_code os when d) (8 + pushes_most os)) u (StandsFor z (if is_true v then held else failed) (with_stack us w))
+      → Runs z.code [] (forward_most (holds_code os when d) (8 + owed os)) u (StandsFor z (if is_true v then held else failed) (with_stack us w))
   asked_top_alone when d os pc held failed v us w u small e k i =
       let all = holds_code os when d in
       let y = alone z pc all k.stands in
-      let paid = owed_is os in
       runs_there z pc all k.stands i.is.at
-      (dearer y {most = 8 + owed os} (omega (arith, paid)) (asked_top y when d os pc held failed v us w u small e
-      (record { stands = stand z pc all k.stands; fork = k.fork }) (describes_in z pc all k.stands os pc w u i)))
+      (asked_top y when d os pc held failed v us w u small e
+      (record { stands = stand z pc all k.stands; fork = k.fork }) (describes_in z pc all k.stands os pc w u i))
       (λ t j. stands_out z pc all k.stands (if is_true v then held else failed) (with_stack us w) t j)
 
   asked_two_alone : (when : Bool) (d : ℕ) (c : Comparison) (os : List Waiting) (pc held failed x y : ℕ) (us : List ℕ) (w : WordState) (u : Core) → x < 0x10000
       → y < 0x10000 → w.stack ≡ y ∷ (x ∷ us) → Forked z when d pc (compares_code os c when d) held failed → Describes z os pc w u
-      → Runs z.code [] (forward_most (compares_code os c when d) (10 + pushes_most os)) u
+      → Runs z.code [] (forward_most (compares_code os c when d) (10 + owed os)) u
       (StandsFor z (if compare_words c x y then held else failed) (with_stack us w))
   asked_two_alone when d c os pc held failed x y us w u lx ly e k i =
       let all = compares_code os c when d in
       let there = alone z pc all k.stands in
-      let paid = owed_is os in
       runs_there z pc all k.stands i.is.at
-      (dearer there {most = 10 + owed os} (omega (arith, paid)) (asked_two there when d c os pc held failed x y us w u lx ly e
-      (record { stands = stand z pc all k.stands; fork = k.fork }) (describes_in z pc all k.stands os pc w u i)))
+      (asked_two there when d c os pc held failed x y us w u lx ly e
+      (record { stands = stand z pc all k.stands; fork = k.fork }) (describes_in z pc all k.stands os pc w u i))
       (λ t j. stands_out z pc all k.stands (if compare_words c x y then held else failed) (with_stack us w) t j)
 
   -- ---- and what follows there
@@ -148,7 +146,7 @@ module _ (z : Setting) where
           → Forked z when d pc (holds_code os when d) ways.held.at ways.failed.at
           → Ready bs (Moves z.room 1 0 (λ r. ways.held.fits r × ways.failed.fits r)) w → w.stack ≡ vs → Describes z os pc w u
           → (let x : Behaviour = with_top vs (λ v us. if is_true v then ways.held.does (with_stack us w) else ways.failed.does (with_stack us w)) in
-          Reaches z next Q (forward_most (holds_code os when d) (8 + pushes_most os) + max ways.held.cost ways.failed.cost) u x.effects x.end)
+          Reaches z next Q (forward_most (holds_code os when d) (8 + owed os) + max ways.held.cost ways.failed.cost) u x.effects x.end)
       by_top when d os pc w u [] k r e i = tt
       by_top when d os pc w u (v ∷ us) k r e i =
           let t = with_stack us w in
@@ -158,14 +156,14 @@ module _ (z : Setting) where
           let popped : (fits : Place → Type 0) → fits (record r.place { depth = r.place.depth - 1 + 0 }) → Ready bs fits t =
           λ fits f. ready_popped bs fits r.place 1 w us f r.matches r.words_in r.bounded left words.1 in
           let run = asked_top_alone when d os pc ways.held.at ways.failed.at v us w u words.0 e k i in
-          by_answer (is_true v) (forward_most all (8 + pushes_most os)) t u run (popped ways.held.fits r.fit.2.0) (popped ways.failed.fits r.fit.2.1)
+          by_answer (is_true v) (forward_most all (8 + owed os)) t u run (popped ways.held.fits r.fit.2.0) (popped ways.failed.fits r.fit.2.1)
 
       -- by whether two words compare so
       pub by_two : (when : Bool) (d : ℕ) (c : Comparison) (os : List Waiting) (pc : ℕ) (w : WordState) (u : Core) (vs : List ℕ)
           → Forked z when d pc (compares_code os c when d) ways.held.at ways.failed.at
           → Ready bs (Moves z.room 2 0 (λ r. ways.held.fits r × ways.failed.fits r)) w → w.stack ≡ vs → Describes z os pc w u
           → (let x : Behaviour = with_two vs (λ x y us. if compare_words c x y then ways.held.does (with_stack us w) else ways.failed.does (with_stack us w)) in
-          Reaches z next Q (forward_most (compares_code os c when d) (10 + pushes_most os) + max ways.held.cost ways.failed.cost) u x.effects x.end)
+          Reaches z next Q (forward_most (compares_code os c when d) (10 + owed os) + max ways.held.cost ways.failed.cost) u x.effects x.end)
       by_two when d c os pc w u [] k r e i = tt
       by_two when d c os pc w u (y ∷ []) k r e i = tt
       by_two when d c os pc w u (y ∷ (x ∷ us)) k r e i =
@@ -176,5 +174,5 @@ module _ (z : Setting) where
           let popped : (fits : Place → Type 0) → fits (record r.place { depth = r.place.depth - 2 + 0 }) → Ready bs fits t =
           λ fits f. ready_popped bs fits r.place 2 w us f r.matches r.words_in r.bounded left words.1.1 in
           let run = asked_two_alone when d c os pc ways.held.at ways.failed.at x y us w u words.1.0 words.0 e k i in
-          by_answer (compare_words c x y) (forward_most all (10 + pushes_most os)) t u run (popped ways.held.fits r.fit.2.0)
+          by_answer (compare_words c x y) (forward_most all (10 + owed os)) t u run (popped ways.held.fits r.fit.2.0)
           (popped ways.failed.fits r.fit.2.1)

@@ -15,7 +15,7 @@ use Rattle.code_costs.proofs.Names.{OfWords}
 use Rattle.code_costs.proofs.Names.{locals_of, step_spent, IsSound, Bound, Waiting, flushed, holds_code, compares_code}
 use Rattle.code_costs.proofs.Names.{truth_code, number_code, turn_end, turns_code, pass_over, size, bound_of, stack_base, stack_set, waiting_behind}
 use Rattle.code_costs.proofs.Names.{waiting_after}
-use Rattle.code_costs.proofs.Names.{step_code, test_code, steps_code, block_code, code_of, ComesTo, forward_most, pushes_most, flush_most, leaf_most}
+use Rattle.code_costs.proofs.Names.{step_code, test_code, steps_code, block_code, code_of, ComesTo, forward_most, owed, flush_most, leaf_most}
 use Rattle.code_costs.proofs.Names.{turn_most, turns_most, step_most, test_most, steps_most, block_most, most_spent}
 use Rattle.code_costs.proofs.Names.{unary, binary, long, unary_cycles, binary_cycles, long_cycles, UnaryOperation, Negate, Complement, BinaryOperation}
 use Rattle.code_costs.proofs.Names.{Multiply}
@@ -24,7 +24,7 @@ use Rattle.word_code.specs.array_versions.declared.operations.LongOperation.TheV
 use Rattle.code_costs.proofs.Names.{begun, LocalsBelow, FitsEvents, IsEntry, stack_start}
 use Rattle.code_costs.proofs.Names.{behaves, broken, FollowsEnd, ◌==◌, ◌%◌}
 use Rattle.code_costs.specs.Laws.{CodeKeepsToItsWays}
-use Rattle.code_costs.proofs.Alone.{owed_is, alone, stand, stands_in, stands_out, describes_in, describes_out, runs_there, reaches_there}
+use Rattle.code_costs.proofs.Alone.{alone, stand, stands_in, stands_out, describes_in, describes_out, runs_there, reaches_there}
 use Rattle.code_costs.proofs.Reaching.{then_more, on_way, flushes, behind_flushed}
 use Rattle.code_costs.proofs.Tests.{Way, Ways, by_top, by_two}
 use Rattle.code_costs.proofs.Turns.{loop_reach}
@@ -56,13 +56,13 @@ module _ (z : Setting) where
       let end = pc + forms_bytes ms in
       let y = alone z pc ms h in
       let b = step_behaviour first w in
-      let paid = owed_is os in
-      reaches_there z pc ms h (owed after) next (step_spent first w + owed os) (any_most first + pushes_most os) u (λ v. Describes y after end v)
-      (λ v. Describes z after end v) b.effects b.end d.is.at (omega (arith, least, paid)) (λ v t j. describes_out z pc ms h after end v t j)
+      reaches_there z pc ms h (owed after) next (step_spent first w + owed os) (any_most first + owed os) u (λ v. Describes y after end v)
+      (λ v. Describes z after end v) b.effects b.end d.is.at (omega (arith, least)) (λ v t j. describes_out z pc ms h after end v t j)
       (step_follows y bs first fits os pc w u r known (stand z pc ms h) (describes_in z pc ms h os pc w u d))
 
   -- behind steps with no word waiting in front of them, code that takes those that wait behind them
-  leaf_reach : (bs : List Bound) (p : Program) (fits : Place → Type 0) (c next pc : ℕ) (Q : WordState → Core → Type 0) (go : WordState → Behaviour) (w : WordState)
+  leaf_reach : (bs : List Bound) (p : Program) (fits : Place → Type 0) (c next pc : ℕ) (Q : WordState → Core → Type 0) (go : WordState → Behaviour)
+      (w : WordState)
       (u : Core) (most : ℕ) → (let os = waiting_after [] p in let at = pc + forms_bytes (steps_code bs [] p) in let b = behaviour p w in
       Reaches z c (Describes z os at) most u b.effects b.end → OnGoesOn (Ready bs fits) b.end
       → ((x : Core) (v : WordState) → Ready bs fits v → Describes z os at v x → Reaches z next Q c x (go v).effects (go v).end)
@@ -85,7 +85,8 @@ module _ (z : Setting) where
       let b = behaviour p w in
       let there : mid + forms_bytes (flushed os) ≡ pc + forms_bytes (block_code bs p) = omega (arith, forms_bytes-append a (flushed os)) in
       subst (λ q. Reaches z next (StandsFor z q) (block_most bs p next) u b.effects b.end) there
-      (then_more z (flush_most os) next (block_most bs p next) u (λ v. Describes z os mid v) (λ v. StandsFor z (mid + forms_bytes (flushed os)) v) b.effects b.end
+      (then_more z (flush_most os) next (block_most bs p next) u (λ v. Describes z os mid v) (λ v. StandsFor z (mid + forms_bytes (flushed os)) v) b.effects
+      b.end
       (f (stands_front z.code pc a (flushed os) h)) (λ t v d. flushes z os mid v t (stands_back z.code pc a (flushed os) h) d))
 
   -- over so many words in any case
@@ -130,7 +131,8 @@ module _ (z : Setting) where
         (test_reach bs next Q t false 2 at ways w x r known (record { stands = stands_front z.code at a truth_code s; fork = fork }) i))
     step_reach bs (choose t taken otherwise) fits os pc w u r known h d next =
         let taken_spares = spared_so bs (λ m. StepSpares m (choose t taken otherwise)) (λ m. Spares m taken) (λ m k. k.1) known.spares in
-        let taken_known : KnownProgram z bs taken = record { of_words = known.of_words.1; below = known.below.1; count = known.count.1; spares = taken_spares } in
+        let taken_known : KnownProgram z bs taken =
+        record { of_words = known.of_words.1; below = known.below.1; count = known.count.1; spares = taken_spares } in
         let other_spares = spared_so bs (λ m. StepSpares m (choose t taken otherwise)) (λ m. Spares m otherwise) (λ m k. k.2) known.spares in
         let other_known : KnownProgram z bs otherwise = record {
           of_words = known.of_words.2;
@@ -216,7 +218,8 @@ module _ (z : Setting) where
     step_reach bs (long op) fits os pc w u r known h d next = leaf bs (long op) fits os pc w u (omega (arith, long_few op)) r known h d next
     step_reach bs first fits os pc w u r known h d next = leaf bs first fits os pc w u (omega arith) r known h d next
 
-    test_reach : (bs : List Bound) (next : ℕ) (Q : WordState → Core → Type 0) (t : Test) (when : Bool) (d pc : ℕ) (ways : Ways z bs next Q) (w : WordState) (u : Core)
+    test_reach : (bs : List Bound) (next : ℕ) (Q : WordState → Core → Type 0) (t : Test) (when : Bool) (d pc : ℕ) (ways : Ways z bs next Q) (w : WordState)
+        (u : Core)
         → Ready bs (EachTestWay z.room t ways.held.fits ways.failed.fits) w
         → KnownTest z bs t → Forked z when d pc (test_code bs t when d) ways.held.at ways.failed.at → StandsFor z pc w u
         → (let x = tested t ways.held.does ways.failed.does w in
@@ -225,7 +228,7 @@ module _ (z : Setting) where
         let a = steps_code bs [] p in
         let os = waiting_after [] p in
         let last = holds_code os when d in
-        let c = forward_most last (8 + pushes_most os) + max ways.held.cost ways.failed.cost in
+        let c = forward_most last (8 + owed os) + max ways.held.cost ways.failed.cost in
         let fits = Moves z.room 1 0 (λ s. ways.held.fits s × ways.failed.fits s) in
         leaf_reach bs p fits c next pc Q (way_by_top ways.held.does ways.failed.does) w u (steps_most bs [] p c)
         (steps_reach bs p fits [] pc w u r known (stands_front z.code pc a last k.stands) (dressed z pc w u i) c)
@@ -237,7 +240,7 @@ module _ (z : Setting) where
         let a = steps_code bs [] p in
         let os = waiting_after [] p in
         let last = compares_code os e when d in
-        let c = forward_most last (10 + pushes_most os) + max ways.held.cost ways.failed.cost in
+        let c = forward_most last (10 + owed os) + max ways.held.cost ways.failed.cost in
         let fits = Moves z.room 2 0 (λ s. ways.held.fits s × ways.failed.fits s) in
         leaf_reach bs p fits c next pc Q (way_by_two e ways.held.does ways.failed.does) w u (steps_most bs [] p c)
         (steps_reach bs p fits [] pc w u r known (stands_front z.code pc a last k.stands) (dressed z pc w u i) c)
@@ -250,7 +253,8 @@ module _ (z : Setting) where
         let first = test_code bs t false (size second + (if not when then d else 0)) in
         let middle = pc + forms_bytes first in
         let back = forked_behind z when d pc first second ways.held.at ways.failed.at k in
-        let counted = fork_at when d ways.held.at ways.failed.at (middle + forms_bytes second) (middle + 2 * size second) (omega (arith, whole_size second)) back.fork in
+        let counted = fork_at when d ways.held.at ways.failed.at (middle + forms_bytes second) (middle + 2 * size second) (omega (arith, whole_size second))
+        back.fork in
         let low : middle < 0x10000 → middle + 2 * size second < 0x10000 =
         λ less. omega (arith, stands_low z middle second back.stands less, whole_size second) in
         let inner : Way = record {
@@ -267,13 +271,17 @@ module _ (z : Setting) where
           if_held = λ v x q j. test_reach bs next Q e when d middle ways v x q inner_known back j;
           if_failed = ways.if_failed;
         }) w u r first_known
-        (record { stands = stands_front z.code pc first second k.stands; fork = fork_both when d (size second) ways.held.at ways.failed.at middle low counted }) i
+        (record {
+          stands = stands_front z.code pc first second k.stands;
+          fork = fork_both when d (size second) ways.held.at ways.failed.at middle low counted;
+        }) i
     test_reach bs next Q (either t e) when d pc ways w u r known k i =
         let second = test_code bs e when d in
         let first = test_code bs t true (size second + (if when then d else 0)) in
         let middle = pc + forms_bytes first in
         let back = forked_behind z when d pc first second ways.held.at ways.failed.at k in
-        let counted = fork_at when d ways.held.at ways.failed.at (middle + forms_bytes second) (middle + 2 * size second) (omega (arith, whole_size second)) back.fork in
+        let counted = fork_at when d ways.held.at ways.failed.at (middle + forms_bytes second) (middle + 2 * size second) (omega (arith, whole_size second))
+        back.fork in
         let low : middle < 0x10000 → middle + 2 * size second < 0x10000 =
         λ less. omega (arith, stands_low z middle second back.stands less, whole_size second) in
         let inner : Way = record {
@@ -290,7 +298,10 @@ module _ (z : Setting) where
           if_held = ways.if_held;
           if_failed = λ v x q j. test_reach bs next Q e when d middle ways v x q inner_known back j;
         }) w u r first_known
-        (record { stands = stands_front z.code pc first second k.stands; fork = fork_either when d (size second) ways.held.at ways.failed.at middle low counted }) i
+        (record {
+          stands = stands_front z.code pc first second k.stands;
+          fork = fork_either when d (size second) ways.held.at ways.failed.at middle low counted;
+        }) i
     test_reach bs next Q (fails t) when d pc ways w u r known k i =
         test_reach bs next Q t (not when) d pc
         (record { held = ways.failed; failed = ways.held; if_held = ways.if_failed; if_failed = ways.if_held }) w u r known
@@ -351,7 +362,8 @@ module _ (z : Setting) (p : Program) (whole : IsWhole p) (of_words : OfWords p) 
       by_end end (front + block_most [] p 0) u b.effects b.end
       (then_reach z 0 (λ v. StandsFor z end v) front (block_most [] p 0) u (HasStack mid z.base u) [] b.effects b.end set (λ t k. block_reach z [] p mid 0 s t h
       (λ hs. steps_reach z [] p (λ q. ⊥) [] mid s t r
-      (record { of_words = of_words; below = below; count = whole.loops_count; spares = tt }) hs (dressed z mid s t (begun z p whole of_words below room mid u t k))
+      (record { of_words = of_words; below = below; count = whole.loops_count; spares = tt }) hs
+      (dressed z mid s t (begun z p whole of_words below room mid u t k))
       (flush_most (waiting_after [] p) + 0))))
       (whole_ends_soundly p u.fram u.inputs whole)
 

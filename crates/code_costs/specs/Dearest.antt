@@ -3,31 +3,18 @@
 use Rattle.std.specs.Prelude.{ℕ, zero, suc, ◌+◌, ◌-◌, max, Bool, true, false, not, nat_le, if◌then◌else◌, List, [], ◌∷◌, ◌++◌}
 use Rattle.word_code.specs.declared.bounds.Bound.{Bound}
 use Rattle.word_code.specs.declared.waiting.Waiting.{Waiting}
-use Rattle.word_code.specs.declared.waiting.Waiting.TheVariants as waiting
 use Rattle.word_code.specs.array_versions.Program.{Step, Test, Program, binary, truth, choose, repeat, jump, holds, compares, both, either, fails, nothing}
 use Rattle.word_code.specs.array_versions.Program.{step}
 use Rattle.word_code.specs.array_versions.Form.{locals_of}
 use Rattle.word_code.specs.array_versions.declared.operations.BinaryOperation.TheVariants.{Multiply}
-use Rattle.word_code.specs.Code.{flushed, holds_code, compares_code, number_code, turn_end, pass_over, size, bound_of, stack_set, waiting_behind, waiting_after}
+use Rattle.word_code.specs.Code.{owed, flushed, holds_code, compares_code, number_code, turn_end, pass_over, size, bound_of, stack_set, waiting_behind}
+use Rattle.word_code.specs.Code.{waiting_after}
 use Rattle.word_code.specs.Code.{step_code, test_code, block_code}
 use Rattle.code_paths.specs.Paths.{forward_most}
 
--- the cycles of the push of a word that waits, at most
-abbrev pub push_most : Waiting → ℕ
-push_most (waiting.Number n) = 4
-push_most (waiting.Fram a) = 5
-push_most (waiting.Local n) = 5
-push_most waiting.R4 = 3
-push_most waiting.R6 = 3
-
--- of all of them
-abbrev pub pushes_most : List Waiting → ℕ
-pushes_most [] = 0
-pushes_most (o ∷ os) = pushes_most os + push_most o
-
--- and by their code
+-- the pushes of the words that wait, by their code
 abbrev pub flush_most : List Waiting → ℕ
-flush_most os = forward_most (flushed os) (pushes_most os)
+flush_most os = forward_most (flushed os) (owed os)
 
 -- a step that is no test, no choice, no loop and no jump, whatever its code is: products and quotients, which go by the bits of a word, have the most
 abbrev pub any_most : Step → ℕ
@@ -36,7 +23,7 @@ any_most _ = 202
 
 -- and by its code
 abbrev pub leaf_most : List Bound → List Waiting → Step → ℕ
-leaf_most bs os s = forward_most (step_code bs os s) (any_most s + pushes_most os)
+leaf_most bs os s = forward_most (step_code bs os s) (any_most s + owed os)
 
 -- what goes back over so many words: a jump of one word, or further
 abbrev pub back_cycles : ℕ → ℕ
@@ -72,9 +59,9 @@ abbrev mutual
   -- the code of a test that goes over so many words where its truth is this one, by what follows where it holds and where it fails
   pub test_most : List Bound → Test → Bool → ℕ → ℕ → ℕ → ℕ
   test_most bs (holds p) when d held failed =
-      let os = waiting_after [] p in steps_most bs [] p (forward_most (holds_code os when d) (8 + pushes_most os) + max held failed)
+      let os = waiting_after [] p in steps_most bs [] p (forward_most (holds_code os when d) (8 + owed os) + max held failed)
   test_most bs (compares c p) when d held failed =
-      let os = waiting_after [] p in steps_most bs [] p (forward_most (compares_code os c when d) (10 + pushes_most os) + max held failed)
+      let os = waiting_after [] p in steps_most bs [] p (forward_most (compares_code os c when d) (10 + owed os) + max held failed)
   test_most bs (both t u) when d held failed =
       test_most bs t false (size (test_code bs u when d) + (if not when then d else 0)) (test_most bs u when d held failed) failed
   test_most bs (either t u) when d held failed =

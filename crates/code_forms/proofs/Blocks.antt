@@ -148,7 +148,8 @@ comes_on a f = comes_then a (f a.end a.holds)
 
 module _ (code : Code) (tidy : IsTidy code) where
   -- one form
-  pub does : (m : Form) (u : Core) → code.at u.pc ≡ Some (instruction_of m) → FormNeeds code.events m u → exec code (board_of u) ≡ outcome_of_core (form_step m u)
+  pub does : (m : Form) (u : Core) → code.at u.pc ≡ Some (instruction_of m) → FormNeeds code.events m u
+      → exec code (board_of u) ≡ outcome_of_core (form_step m u)
   does m u h k =
       ap (λ o. undisturbed code.events o (board_of u) (step_with o (board_of u))) h
       ∙ ap (undisturbed code.events (Some (instruction_of m)) (board_of u)) (form_does code.events m u (tidy u.pc (instruction_of m) h) k)
@@ -215,7 +216,8 @@ module _ (code : Code) (tidy : IsTidy code) where
     holds = p;
   }
 
-  pub hop : (m : Form) (most : ℕ) (u t : Core) (es : List Effect) (c : ℕ) (P : Core → Type 0) → code.at u.pc ≡ Some (instruction_of m) → FormNeeds code.events m u
+  pub hop : (m : Form) (most : ℕ) (u t : Core) (es : List Effect) (c : ℕ) (P : Core → Type 0) → code.at u.pc ≡ Some (instruction_of m)
+      → FormNeeds code.events m u
       → form_step m u ≡ Goes es c t → c ≤ most → P t → Runs code es most u P
   hop m most u t es c P h w e l p = runs_within most (form_comes m u t es c P h w e p) l
 
@@ -271,7 +273,14 @@ module _ (code : Code) (tidy : IsTidy code) where
       }
 
   pub dearer_starves : (es : List Effect) (most more : ℕ) (u : Core) → most ≤ more → Starves code es most u → Starves code es more u
-  dearer_starves es most more u l a = record { steps = a.steps; cycles = a.cycles; price = a.price; within = omega (arith, a.within, l); stalls = a.stalls; forms = a.forms }
+  dearer_starves es most more u l a = record {
+    steps = a.steps;
+    cycles = a.cycles;
+    price = a.price;
+    within = omega (arith, a.within, l);
+    stalls = a.stalls;
+    forms = a.forms;
+  }
 
 pub straight_code_leads : StraightCodeLeads
 straight_code_leads code ms u t es c tidy st h w e = block code tidy ms u t es c st h w e

@@ -159,7 +159,8 @@ module _ (u : Core) (p : ℕ) where
   got : (b : WorkRegister) → regs_in u p (index_number (index_of b)) ≡ u.work (work_number b)
   got b = ap (regs_in u p) (number b) ∙ get_work p u.sp (work_number b) u.enabled u.flags u.work (high b)
 
-  up : (b : WorkRegister) (v : ℕ) → with_register (regs_in u p) (index_number (index_of b)) v ≡ register_file p u.sp u.enabled u.flags (put u.work (work_number b) v)
+  up : (b : WorkRegister) (v : ℕ) → with_register (regs_in u p) (index_number (index_of b)) v
+      ≡ register_file p u.sp u.enabled u.flags (put u.work (work_number b) v)
   up b v = ap (λ n. with_register (regs_in u p) n v) (number b) ∙ set_work p u.sp (work_number b) v u.enabled u.flags u.work (high b)
 
   -- a word of the ring

@@ -7,7 +7,7 @@ pub use Rattle.code_forms.proofs.Blocks.{stands_front, stands_back, forms_behind
 pub use Rattle.code_forms.proofs.Blocks.{dearer}
 pub use Rattle.code_forms.proofs.Blocks.{nothing, starve, starves_on, dearer_starves, end_of, no_steps, comes_on, straight_comes, form_comes}
 -- The rules of interrupts, in code that stays.
-pub use Rattle.code_forms.proofs.Rules.{vector_stays, code_goes_undisturbed, code_stays_prepared, code_stays_open}
+pub use Rattle.code_forms.proofs.Rules.{vector_stays, goes_kept, code_goes_undisturbed, code_stays_prepared, code_stays_open}
 -- What they read stands at SP or above.
 pub use Rattle.code_forms.proofs.FromSp.{forms_read_from_sp}
 -- Instructions that stand one after another in FRAM, untouched, are what a machine fetches.

@@ -230,7 +230,7 @@ goes_by : (events b : Bool) (i : Option Instr) (s t u : MachineBoard) (es fs : L
 goes_by events true i s t u es fs c d e h = absurd cc
 goes_by events false i s t u es fs c d e h = let same : t ≡ u = cc in ap (λ v. is_exposed events i s v) (sym same) ∙ e
 
-goes_kept : (events : Bool) (i : Option Instr) (s u : MachineBoard) (o : MachineOutcome) (fs : List Effect) (d : ℕ)
+pub goes_kept : (events : Bool) (i : Option Instr) (s u : MachineBoard) (o : MachineOutcome) (fs : List Effect) (d : ℕ)
     → undisturbed events i s o ≡ Goes fs d u → is_exposed events i s u ≡ false
 goes_kept events i s u (Goes es c t) fs d h = goes_by events (is_exposed events i s t) i s t u es fs c d refl h
 goes_kept events i s u (Stops es price e) fs d h = absurd cc

@@ -153,7 +153,8 @@ module _ (events : Bool) (p : ℕ) (all : List Form) (tidy : IsTidy (placed even
 
   module _ (n : ℕ) (m : Form) (ms : List Form) (q : ℕ) (low : p ≤ q) (high : q + 2 < 0x10000) (far : q < p + 0x8000) (rest : Rest ms (q + form_bytes m) n) where
     -- a step at a form with the instruction of this one
-    one_straight : (k : Form) (u : Core) → IsStraight m → instruction_of k ≡ instruction_of m → u.pc ≡ q → exec alone (board_of u) ≡ outcome_of_core (form_step k u)
+    one_straight : (k : Form) (u : Core) → IsStraight m → instruction_of k ≡ instruction_of m → u.pc ≡ q
+        → exec alone (board_of u) ≡ outcome_of_core (form_step k u)
         → AtForms alone (suc n) (board_of u)
         → outcome_cost (outcome_of_core (form_step k u)) (steps_cost (exec alone) n) ≤ form_cycles m + dearest_from ms 0
     one_straight k u straight same at e forms =
@@ -179,7 +180,8 @@ module _ (events : Bool) (p : ℕ) (all : List Form) (tidy : IsTidy (placed even
       let e' : exec alone (board_of u) ≡ Goes [] 2 (board_of t) = e ∙ ap (λ x. outcome_of_core (form_step x u)) is in
       let behind = jump_on n c o ms q u t (is_met c u.flags) refl few low high far there rest
       (forms_behind_step alone n (board_of u) (board_of t) [] 2 e' forms) in
-      subst (λ x. outcome_cost (outcome_of_core (form_step x u)) (steps_cost (exec alone) n) ≤ form_cycles (Jump c o) + behind_form (Jump c o) (dearest_from ms))
+      subst (λ x. outcome_cost (outcome_of_core (form_step x u)) (steps_cost (exec alone) n) ≤ form_cycles (Jump c o) + behind_form (Jump c o)
+      (dearest_from ms))
       (sym is) (omega (arith, behind))
   one_step n (Move x y) ms q low high far rest forward k u same at e forms = one_straight n (Move x y) ms q low high far rest k u tt same at e forms
   one_step n (Calculate op x b) ms q low high far rest forward k u same at e forms =

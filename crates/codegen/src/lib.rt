@@ -1,4 +1,4 @@
-//! Code for word programs: the that do what a program does, on a stack in RAM, and locals in registers and RAM.
+//! Code for word programs: the forms that do what a program does, on a stack in RAM, and locals in registers and RAM.
 #![tactic(auto)]
 
 mod bounds;
@@ -8,6 +8,7 @@ mod in_place;
 mod locals;
 mod longs;
 mod operations;
+pub mod parts;
 mod program;
 mod shifts;
 mod steps;

@@ -39,16 +39,16 @@ fn emit_truth_code(code: &mut Vec<Form>) -> Result<(), AllocError>
     ])
 }
 
-// So many words where the flag is set, else none.
-fn words_if(flag: bool, words: u16) -> u16
+/// So many words where the flag is set, else none.
+pub fn words_if(flag: bool, words: u16) -> u16
     ensures { result ≡ (if flag then words else 0) }
 {
     if flag { words } else { 0 }
 }
 
-// A test, whose code goes over so many words behind it where the test's truth is the flag.
+/// Appends the code of a test, which goes over so many words behind it where the test's truth is the flag.
 #[cycle(emit)]
-fn emit_test(
+pub fn emit_test(
     alloc: Global,
     bounds: &[Bound],
     test: &WordTest,
@@ -144,9 +144,9 @@ fn emit_loop(
     }
 }
 
-// A step; the words that wait in front of it become those that wait behind it.
+/// Appends the code of a step; the words that wait in front of it become those that wait behind it.
 #[cycle(emit)]
-fn emit_step(
+pub fn emit_step(
     alloc: Global,
     bounds: &[Bound],
     step: &WordStep,
@@ -243,9 +243,9 @@ fn emit_steps(
     Ok(())
 }
 
-// Steps with no word waiting in front of them or behind them.
+/// Appends the code of steps with no word waiting in front of them or behind them.
 #[cycle(emit)]
-fn emit_block(
+pub fn emit_block(
     alloc: Global,
     bounds: &[Bound],
     steps: &[WordStep],

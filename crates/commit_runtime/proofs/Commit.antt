@@ -214,7 +214,8 @@ module _ (code : Code) (tidy : IsTidy code) (m : MemoryMap) (places : AreInFram 
       Comes code es (2 + (2 + if_any n 1 + 5 * n)) (6 + (3 + if_any n 2 + 13 * n)) v (BehindSends (p + 34 + 30) ((b + n) % 0x10000) g l) in
       let sent : (v : Core) → IsAt (p + 4 + 30) g l v → Sent (emits_sent m f) base k v = λ v j.
       subst (λ es. Sent es base k v) same (subst (λ n. Sent (emits_sent m g) base n v) en
-      (subst (λ b. Sent (emits_sent m g) b (g (word_place m EmitCount)) v) sb (sends_are_made code tidy m places (p + 34) g l v (omega (arith, high)) (forms_at code p 14 10 (commit_forms m start) h) (omega (arith, en, few))
+      (subst (λ b. Sent (emits_sent m g) b (g (word_place m EmitCount)) v) sb
+      (sends_are_made code tidy m places (p + 34) g l v (omega (arith, high)) (forms_at code p 14 10 (commit_forms m start) h) (omega (arith, en, few))
       (omega (arith, sb, word)) (record { pc = j.pc ∙ omega arith; fram = j.fram; inputs = j.inputs })))) in
       let ls = commit_closed m f in
       let events = m.runtime.events in

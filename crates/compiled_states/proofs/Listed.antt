@@ -195,7 +195,8 @@ module _ (words : List ℕ) (all : length words ≡ 24064) where
 
     pub pairs_split : run_pairs (f (a + 4)) (f a) (f (a + 2)) ≡ pairs_of (entry_at a)
     pairs_split =
-        ap (λ k. run_pairs k (f a) (f (a + 2))) count_is ∙ ap (λ h. run_pairs (word_in words (a + 4)) h (f (a + 2))) (steady_at words a is_here (omega (arith, high)))
+        ap (λ k. run_pairs k (f a) (f (a + 2))) count_is ∙ ap (λ h. run_pairs (word_in words (a + 4)) h (f (a + 2)))
+        (steady_at words a is_here (omega (arith, high)))
         ∙ ap (λ c. run_pairs (word_in words (a + 4)) (word_in words a) c) (steady_at words (a + 2) is_copy (omega (arith, high)))
 
   -- the pairs that entries name are those of the entries

@@ -126,7 +126,8 @@ module _ (text : List ℕ) (image : ImageValue) (of : IsImageOf text image) (old
   base : f (word_place l Base) ≡ number
   base =
       let a = word_place l Base in
-      low_word Base ∙ put_at a (is_word Base) ∙ ap₂ (λ b c. put_by b c a) (ne_eqb a (word_place l CurrentTask) (λ e. omega (arith, e))) (eq-eqb a a refl) ∙ old_base
+      low_word Base ∙ put_at a (is_word Base) ∙ ap₂ (λ b c. put_by b c a) (ne_eqb a (word_place l CurrentTask) (λ e. omega (arith, e))) (eq-eqb a a refl)
+      ∙ old_base
 
   -- a version word is the new image's
   version_word : (i : ℕ) → i < l.versions.words → f (l.versions.address + 2 * i) ≡ fram_of image.words (l.versions.address + 2 * i)
@@ -288,5 +289,6 @@ migrated_states_belong s t old_whole rules whole text p allow image ok c old_tex
     let Law : MapValue → Type 0 = λ k. (h : IsMigrated old (edition_with text p k image.words) s.receiver t)
     → BelongsAt p c.layout image (rows_of old (edition_with text p k image.words)) h.migrates.can.number t in
     subst Law (sym (one_map text image (image_of text p allow image ok c) n has))
-    (λ h. belongs_at text image (image_of text p allow image ok c) old is_old s.receiver t whole h (old_base_is old_text old_p s m is mapped h.migrates.can.at_rest)
+    (λ h. belongs_at text image (image_of text p allow image ok c) old is_old s.receiver t whole h
+    (old_base_is old_text old_p s m is mapped h.migrates.can.at_rest)
     (old_ring_is old_text old_p s m is mapped h.migrates.can.at_rest)) g

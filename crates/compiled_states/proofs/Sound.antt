@@ -166,7 +166,8 @@ module _ (own : Mapped) (saved : Saved) where
     pub versions_within : VersionsWithin places f
     versions_within i lt =
         let a = l.versions.address + 2 * i in
-        let both = and_parts (fits_fram (place_words m.versions)) (are_at_most (words_from words l.versions.address l.versions.words) r.version) rules.versions in
+        let both = and_parts (fits_fram (place_words m.versions)) (are_at_most (words_from words l.versions.address l.versions.words) r.version)
+        rules.versions in
         let v = parts.versions in
         let even = v.even in let low = v.from in let high = v.end in
         let most = each_at_most l.versions.words words l.versions.address r.version whole even low (omega (arith, high)) both.1 i lt in

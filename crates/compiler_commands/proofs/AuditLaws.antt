@@ -24,7 +24,7 @@ use Rattle.plain_commands.specs.source_report.SourceReport.{given_of, readings_o
 use Rattle.source_runs.specs.Tells.{Answers, no_answers, answer_by, answers_behind, CommittedAttempt, attempts_by, attempts_of, spans_in, given_to}
 use Rattle.source_runs.specs.Tells.{at_first, IsEndOf}
 use Rattle.source_maps.specs.Maps.{event_ring, map_of}
-use Rattle.compiler_commands.specs.Build.{IsBuilt}
+use Rattle.compiler_commands.specs.Built.{IsBuilt}
 use Rattle.compiler_commands.specs.Audited.{TriedReportsAreGood, TriedReportsAreAnsweredYes}
 use Rattle.plain_commands.proofs.Interface.{of_same}
 
@@ -67,7 +67,8 @@ module _ (m : MapValue) (ring : m.ring ≡ None) where
   by_none : (h : History) (action : Action) (b : BoardValue) (a : Answers) → HasNone a → All IsUnanswered (attempts_by m h a action b)
   by_none h PowerUp b a none = All-nil IsUnanswered
   by_none h (Execute kind done offered) b a none =
-      one_or_none (is_done h.gate (word_in b.fram m.words.gate)) (record { span = record { from = h.span_from; to = h.span_to }; answers = a.decided }) none.decided
+      one_or_none (is_done h.gate (word_in b.fram m.words.gate)) (record { span = record { from = h.span_from; to = h.span_to }; answers = a.decided })
+      none.decided
 
   -- where a map has no ring no attempt has answers
   none_answered : (h : History) (a : Answers) → HasNone a → (ms : List Moment) → All IsUnanswered (attempts_of m h a ms)

@@ -25,7 +25,7 @@ use Rattle.plain_commands.specs.source_meaning.Acceptance.{IsAcceptedText}
 use Rattle.source_runs.specs.Traces.{IsTraceOfWords}
 use Rattle.plain_commands.specs.command_answers.Ending.{Ending, well, at_fault}
 use Rattle.compiler_commands.specs.Generated.{RanSo, ended_line, four_lines, generated_lines}
-use Rattle.compiler_commands.specs.Build.{IsBuilt}
+use Rattle.compiler_commands.specs.Built.{IsBuilt}
 use Rattle.compiler_commands.specs.Gen.{Generates}
 use Rattle.plain_commands.specs.RunReport.{ending_of, IsRunReport}
 use Rattle.compiler_commands.specs.ToldRuns.{IsTold, IsToldOnTraces}
@@ -81,7 +81,8 @@ no_fault image trace old new x board after watch now is_board is_watch ends r ca
     faulty : at_fault ≡ well → ⊥
     faulty e = cc
 
-    go : (y : RunFault) → IsRunOf (start_of image) (charges_of trace.charges) trace.events (fresh image.words trace.readings trace.events) old new (Err y) after now
+    go : (y : RunFault) → IsRunOf (start_of image) (charges_of trace.charges) trace.events (fresh image.words trace.readings trace.events) old new (Err y)
+        after now
         → HasWriteCause 0 0 (Err y) → ⊥
     go (fault.Illegal pc word) q w = let f = is_written _ _ trace old new (Err (fault.Illegal pc word)) after now q in faulty (ends at_fault f.0 f.1)
     go (fault.Bus pc address) q w = let f = is_written _ _ trace old new (Err (fault.Bus pc address)) after now q in faulty (ends at_fault f.0 f.1)

@@ -8,7 +8,8 @@ use Rattle.plain_commands.specs.image_text.ImageValue.{ImageValue}
 use Rattle.plain_commands.specs.source_values.Runs.{CheckedProgram}
 use Rattle.plain_commands.specs.source_meaning.Acceptance.{IsAcceptedText}
 use Rattle.plain_commands.specs.command_answers.Ending.{well}
-use Rattle.compiler_commands.specs.Build.{IsBuilt, Builds}
+use Rattle.compiler_commands.specs.Build.{Builds}
+use Rattle.compiler_commands.specs.Built.{IsBuilt}
 use Rattle.compiler_commands.specs.Try.{Tries}
 use Rattle.source_runs.specs.Traces.{IsTraceOfWords}
 use Rattle.image_reports.specs.ImageLaw.{ImagesKeepTheLaws}

@@ -16,7 +16,7 @@ use Rattle.plain_commands.specs.command_answers.Ending.{well}
 use Rattle.compiler_commands.specs.Generated.{generated_lines}
 use Rattle.plain_commands.specs.command_texts.Sources.{RefusesSource, SaysSource}
 use Rattle.plain_commands.specs.command_answers.Promises.{Promise, OfNoText}
-use Rattle.compiler_commands.specs.Build.{IsBuilt}
+use Rattle.compiler_commands.specs.Built.{IsBuilt}
 
 -- These bytes are the image text of the image of the source that is generated from the number. It has one run on the number's trace for
 -- its bound, of which the source tells, and these are the four lines of that run.

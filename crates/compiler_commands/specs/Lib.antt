@@ -1,5 +1,6 @@
 pub mod Audited
 pub mod Build
+pub mod Built
 pub mod Gen
 pub mod Generated
 pub mod ToldRuns

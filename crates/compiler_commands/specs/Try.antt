@@ -15,7 +15,7 @@ use Rattle.plain_commands.specs.command_texts.Sources.{IsSourceText, RefusesSour
 use Rattle.plain_commands.specs.command_texts.Texts.{RefusesTrace, SaysTrace}
 use Rattle.plain_commands.specs.command_answers.Refusals.{Refusal}
 use Rattle.plain_commands.specs.command_answers.Promises.{Promise, OfTwoTexts}
-use Rattle.compiler_commands.specs.Build.{IsBuilt}
+use Rattle.compiler_commands.specs.Built.{IsBuilt}
 
 -- The texts are a source and a trace. These bytes are the image text of the source's image, and this is the report of the run of that
 -- image on the trace, which ends well. And it is what the source tells of that run.

@@ -4,7 +4,7 @@ ghost use Rattle.task_ast.specs.View.{program_of};
 ghost use Rattle.plain_commands.specs.source_meaning.Acceptance.{IsAcceptedText};
 ghost use Rattle.plain_commands.specs.command_answers.declared.failure.Failure.TheVariants.{Memory};
 ghost use Rattle.image_laws.specs.Compiled.{IsCompiled};
-ghost use Rattle.compiler_commands.specs.Build.{IsBuilt};
+ghost use Rattle.compiler_commands.specs.Built.{IsBuilt};
 ghost use Rattle.compiler_commands.specs.ToldRuns.{IsToldOnTraces};
 
 use image_reports::{images_are_mapped, images_are_told};

@@ -11,7 +11,7 @@ ghost use Rattle.source_runs.specs.Traces.{IsTraceOfWords};
 ghost use Rattle.plain_commands.specs.command_answers.declared.failure.Failure.TheVariants.{Memory};
 ghost use Rattle.plain_commands.specs.command_answers.Ending.{Ending, well};
 ghost use Rattle.compiler_commands.specs.Generated.{RanSo};
-ghost use Rattle.compiler_commands.specs.Build.{IsBuilt};
+ghost use Rattle.compiler_commands.specs.Built.{IsBuilt};
 ghost use Rattle.plain_commands.specs.RunReport.{IsRunReport};
 ghost use Rattle.compiler_commands.specs.ToldRuns.{IsToldOnTraces};
 ghost use Rattle.plain_commands.specs.command_answers.CommandAnswers.{CommandAnswers, IsWhole, TextAnswers};

@@ -107,16 +107,21 @@ fn list_entries(
     plus(scalars, array_entries(shared, &stores))
 }
 
-// What tasks need: the bound of each, the words of all, the list entries and emits of each; 2^64 - 1 where it is more.
+/// What tasks need by the table, 2^64 - 1 where it is more.
 #[derive(Clone, Copy)]
-struct Needs {
-    bound: u64,
-    words: u64,
-    list: u64,
-    emits: u64,
+pub struct Needs {
+    /// The cycles of each task at most, from a power-up to the end of its commit.
+    pub bound: u64,
+    /// The words of all of them.
+    pub words: u64,
+    /// The list entries of each at most.
+    pub list: u64,
+    /// The emits of each at most.
+    pub emits: u64,
 }
 
-fn task_needs(
+/// What a task needs by the table, in a source that takes events or not, with so many version words.
+pub fn task_needs(
     shared: &[SharedDeclaration],
     events: bool,
     versions: u64,

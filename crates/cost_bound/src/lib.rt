@@ -14,7 +14,8 @@ mod shared;
 mod stores;
 
 pub use allowance::{
-    Allow, assigned_scalars, assigned_variables, code_words, uses_events, written_variables,
+    Allow, Needs, assigned_scalars, assigned_variables, code_words, task_needs, uses_events,
+    written_variables,
 };
 pub use fault::Over;
 pub use laws::{allowance_rows, allowed_is_small, long_price_rows, one_answer, price_rows};

@@ -30,7 +30,8 @@ pub record Setting (St : Type 0) : Type 1 where
 module _ {St : Type 0} (given : Setting St) where
   open given use {model as m, laws, readings, words, origin}
 
-  run_more : (s t u : St) (ds : List Done) (d : Done) → SourceRun m readings s ds t → m.task t (done_given readings d) ≡ Ends u nothing_given → m.Rests u d.world
+  run_more : (s t u : St) (ds : List Done) (d : Done) → SourceRun m readings s ds t → m.task t (done_given readings d) ≡ Ends u nothing_given
+      → m.Rests u d.world
       → SourceRun m readings s (ds ++ d ∷ []) u
   run_more s t u [] d h e r = (u, ap (λ x. m.task x (done_given readings d)) (sym h) ∙ e, r, refl)
   run_more s t u (c ∷ ds) d h e r = (h.0, h.1, h.2, run_more h.0 t u ds d h.3 e r)
@@ -55,7 +56,8 @@ module _ {St : Type 0} (given : Setting St) where
   settled_more (Pending a) (c ∷ ds) d = tt
 
   -- where nothing is pending, transitions are the task's
-  transits_task : (o : Origin St) (ds : List Done) (rs : Given) (s next : St) → IsSettled o ds → m.task s rs ≡ Ends next nothing_given → Transits m o ds rs s next
+  transits_task : (o : Origin St) (ds : List Done) (rs : Given) (s next : St) → IsSettled o ds → m.task s rs ≡ Ends next nothing_given
+      → Transits m o ds rs s next
   transits_task (Resting a) ds rs s next k e = e
   transits_task (Pending a) [] rs s next k e = absurd k
   transits_task (Pending a) (c ∷ ds) rs s next k e = e

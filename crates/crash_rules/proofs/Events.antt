@@ -113,7 +113,8 @@ module _ (marks : Marks) (us : List Effect) (off : EachStore (IsElsewhere marks.
       let more : (with_effect (Store a w) k).taken ≡ k.taken = omega arith in
       let same : one.taken ≡ k.taken = observed_taken marks (Store a w ∷ []) k ∙ omega arith in
       record {
-        positions = ap positions_of (observe_quiet marks us one off) ∙ gate_positions marks (k.world.fram marks.gate) (y.fram marks.gate) (with_effect (Store a w) k)
+        positions = ap positions_of (observe_quiet marks us one off) ∙ gate_positions marks (k.world.fram marks.gate) (y.fram marks.gate)
+            (with_effect (Store a w) k)
             ∙ ap (λ t. positions_behind (k.world.fram marks.gate) (y.fram marks.gate) t (positions_of k)) more
             ∙ ap (λ n. positions_behind (k.world.fram marks.gate) n k.taken (positions_of k)) (sym (ap (λ f. f marks.gate) (still y)));
         taken = none_more one ∙ same;

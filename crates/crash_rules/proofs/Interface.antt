@@ -4,6 +4,8 @@
 pub use Rattle.crash_rules.proofs.Lists.{world_fram, holds-append}
 -- Effects in front of an attempt.
 pub use Rattle.crash_rules.proofs.Front.{in_front}
+-- The words that effects store at an address, and the answers among them.
+pub use Rattle.crash_rules.proofs.Observed.{stored-append, answers-append, takes_store_none}
 -- What effects make of a history.
 pub use Rattle.crash_rules.proofs.Observed.{observe-append, with_effects, unchanged, observe_quiet, observed_taken, observed_world}
 -- The events of an instruction, by its effects and by GATE before and behind it.

@@ -4,7 +4,7 @@ use Rattle.std.proofs.Common.{append-nil, Bool, Option, Some, None}
 use Rattle.std.specs.Prelude.{◌&&◌, ◌%◌, ◌==◌, not}
 use Rattle.machine_effects.specs.fram_board.Effects.{Effect, Store, Take, Outside, OutsideEffect, Offered, Looked}
 use Rattle.machine_effects.specs.World.{World, received, accepted_behind, world_after_one, world_after, readings_taken, OfStore, EachStore}
-use Rattle.machine_effects.proofs.Interface.{put_same, put_other}
+use Rattle.machine_effects.proofs.Interface.{takes, put_same, put_other}
 use Rattle.crash_rules.specs.Model.{Marks, IsElsewhere, words_stored, answers_at, answers_in}
 use Rattle.crash_rules.specs.History.{Done, History, is_decide, is_done, with_effect, behind_decide, behind_done, behind_gate, observe_one, observe}
 
@@ -18,7 +18,7 @@ stored_behind : (is : Bool) (w : ℕ) (es fs all : List ℕ) → all ≡ es ++ f
 stored_behind true w es fs all e = ap (λ ws. w ∷ ws) e
 stored_behind false w es fs all e = e
 
-stored-append : (a : ℕ) (es fs : List Effect) → words_stored a (es ++ fs) ≡ words_stored a es ++ words_stored a fs
+pub stored-append : (a : ℕ) (es fs : List Effect) → words_stored a (es ++ fs) ≡ words_stored a es ++ words_stored a fs
 stored-append a [] fs = refl
 stored-append a (Store b w ∷ es) fs =
     stored_behind (b == a) w (words_stored a es) (words_stored a fs) (words_stored a (es ++ fs)) (stored-append a es fs)
@@ -31,6 +31,11 @@ answered-append (Some a) es fs = stored-append a es fs
 
 pub answers-append : (marks : Marks) (es fs : List Effect) → answers_in marks (es ++ fs) ≡ answers_in marks es ++ answers_in marks fs
 answers-append marks es fs = answered-append marks.answer es fs
+
+-- readings that are taken store nothing
+pub takes_store_none : (a : ℕ) (ws : List ℕ) → words_stored a (takes ws) ≡ []
+takes_store_none a [] = refl
+takes_store_none a (w ∷ ws) = takes_store_none a ws
 
 -- a history with these effects, but for their events
 abbrev pub with_effects : List Effect → History → History

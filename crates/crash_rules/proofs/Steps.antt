@@ -6,7 +6,7 @@ use Rattle.machine_effects.specs.World.{fram_after, IsPrefix}
 use Rattle.machine_effects.specs.Inputs.{Inputs, TakesExactly}
 use Rattle.machine_effects.specs.Going.{StepOutcome, Goes, Stops, At, Halted, Stretch, stretch, after_effects, continued, going, Leads, Stalls}
 use Rattle.machine_effects.specs.Machine.{MachineBoard, MachineOutcome}
-use Rattle.machine_effects.specs.Laws.{ChangesByEffects}
+use Rattle.machine_effects.specs.Changes.{ChangesByEffects}
 use Rattle.machine_effects.proofs.Interface.{after_after, fram_after-append, takes_nothing, takes_through}
 
 -- nothing in front

@@ -6,7 +6,7 @@ use Rattle.machine_effects.specs.World.{World}
 use Rattle.machine_effects.specs.Inputs.{SeeWords}
 use Rattle.machine_effects.specs.Going.{Goes, Stops, At, going, Leads, Stalls}
 use Rattle.machine_effects.specs.Machine.{MachineBoard, MachineOutcome}
-use Rattle.machine_effects.specs.Laws.{ChangesByEffects}
+use Rattle.machine_effects.specs.Changes.{ChangesByEffects}
 use Rattle.crash_rules.specs.Model.{Model, Marks, ProgramEffects, program_effects, Inputs, InputsAreWords, bound, with_commit, attempt_from}
 use Rattle.crash_rules.specs.History.{History, observe, behind_boot}
 

@@ -12,7 +12,7 @@ use Rattle.fram_board.specs.declared.events.Heard.{Heard}
 use Rattle.fram_board.specs.declared.events.Heard.TheVariants as heard
 use Rattle.fram_board.specs.Events.{is_full, port_word}
 use Rattle.fram_board.specs.Board.{BoardValue, executed, performed, at_boundary}
-use Rattle.fram_board.specs.Run.{StepKind, Accepting, Returning, Plain, Action, PowerUp, Execute, Moment, moment_of, kind_of, word_list}
+use Rattle.fram_board.specs.Run.{StepKind, Accepting, Returning, Plain, Action, Execute, Moment, moment_of, kind_of, word_list}
 use Rattle.board_run.specs.History.{word_in}
 use Rattle.board_run.specs.Events.{HandEnd, Reads, ChangesHead, Hand, handed, handed_all, accepting, losing, reads_of, change_ends, return_ends, is_return}
 use Rattle.board_run.specs.Events.{action_ends, hand_behind}
@@ -21,7 +21,8 @@ use Rattle.machine_effects.specs.Going.{Goes}
 use Rattle.machine_effects.specs.Machine.{MachineOutcome, fram_of, code_executed}
 use Rattle.machine_effects.specs.View.{machine_with, looks_at, outcome_of_answer}
 use Rattle.machine_effects.specs.Laws.{KeepsTheHandler}
-use Rattle.machine_effects.proofs.Interface.{standing_keeps, told_heard, put_other, put_same, machine_is_of_words}
+use Rattle.fram_board.proofs.Interface.{told_heard}
+use Rattle.machine_effects.proofs.Interface.{standing_keeps, put_other, put_same, machine_is_of_words}
 use Rattle.fram_board.specs.Effects.{effects_of}
 use Rattle.event_handler.specs.Handler.{Stage, SaveR4, SaveR5, TakeEvent, LoadHead, SubtractTail, CompareRoom, LeaveIfFull, LoadHeadAgain, CutToSlots}
 use Rattle.event_handler.specs.Handler.{DoubleIndex, StoreWord, RaiseHead, RestoreR5, RestoreR4, Return, instruction_at}
@@ -31,7 +32,7 @@ use Rattle.program_view.specs.Stands.{stage_behind, IsPrograms}
 use Rattle.run_charges.specs.View.{is_handlers}
 use Rattle.run_charges.specs.Moments.{IsMomentFrom, PowersUp, Instructs, Serves}
 use Rattle.run_charges.specs.Charges.{IsInstruction}
-use Rattle.run_charges.proofs.Interface.{PlacedProgram, Moves, MovesOwn, MovesIn, MovesOn}
+use Rattle.run_charges.proofs.Interface.{no_power_up, PlacedProgram, Moves, MovesOwn, MovesIn, MovesOn}
 use Rattle.event_rules.specs.Laws.{KeepsHand}
 
 -- the word that the handler has in hand in front of each of its instructions: from where it took the event, until HEAD is raised; where the
@@ -77,7 +78,8 @@ ends r was now returns = reads_of r ++ (change_ends was now ++ return_ends retur
 -- of a step that reads nothing and leaves HEAD
 ends_quiet : (r : Heard) (was now : ℕ) (returns : Bool) → r ≡ heard.Nothing → now ≡ was → ends r was now returns ≡ return_ends returns
 ends_quiet r was now returns none same =
-    ap (λ (h : Heard). reads_of h ++ (change_ends was now ++ return_ends returns)) none ∙ ap (λ (l : List HandEnd). l ++ return_ends returns) (change_same was now same)
+    ap (λ (h : Heard). reads_of h ++ (change_ends was now ++ return_ends returns)) none ∙ ap (λ (l : List HandEnd). l ++ return_ends returns)
+    (change_same was now same)
 
 -- hands of which one lost and accepted no more
 record SameHand (h k : Hand) : Type 0 where
@@ -212,7 +214,8 @@ module _ (from : BoardValue) (interrupted : IsInterrupted from) (b : BoardValue)
       hand_is m Plain done (executed b (instruction_at TakeEvent)).offered refl h
       ∙ ap (λ (r : Heard). handed_all (ends r was now false) h) once
       ∙ ap (λ (l : List HandEnd). handed_all (Reads from.line.port ∷ (l ++ [])) h) (change_same was now same) in
-      let lost : h.lost + length (word_list h.word) ≡ h.lost = ap (λ (o : Option ℕ). h.lost + length (word_list o)) empty ∙ (let e : h.lost + 0 ≡ h.lost = omega arith in e) in
+      let lost : h.lost + length (word_list h.word) ≡ h.lost = ap (λ (o : Option ℕ). h.lost + length (word_list o)) empty
+      ∙ (let e : h.lost + 0 ≡ h.lost = omega arith in e) in
       let P : Hand → Type 0 = λ k. Behind m h from.line.port [] k in
       subst P (sym all) (record { holds = refl; keeps = record { lost = inl lost; accepted = inl refl }; exact = sym (append-nil h.accepted) })
 
@@ -286,9 +289,6 @@ module _ (from : BoardValue) (interrupted : IsInterrupted from) (b : BoardValue)
   stage_hand RestoreR5 i q n w = quiet RestoreR5 None (if full then from.line.port else None) i n q refl refl w
   stage_hand RestoreR4 i q n w = quiet RestoreR4 None (if full then from.line.port else None) i n q refl refl w
   stage_hand Return i q n w = returns_so i q n w
-
-pub no_power_up : (m : Moment) → m.action ≡ PowerUp → IsInstruction m.action → ⊥
-no_power_up m up is = subst (λ (a : Action). IsInstruction a) up is
 
 -- a moment of a charge
 module _ (on : PlacedProgram) (b : BoardValue) (m : Moment) (is : IsInstruction m.action) (silent : b.line.heard ≡ heard.Nothing) (h : Hand) where

@@ -26,9 +26,9 @@ use Rattle.run_charges.specs.Moments.{IsMomentFrom, PowersUp, Instructs, Serves,
 use Rattle.run_charges.specs.Charges.{IsInstruction, AreInstructionMoments, observed}
 use Rattle.run_charges.specs.Fronts.{ChargeFront, board_powered, board_behind, board_behind_all, moments_of, AreChargesFrom}
 use Rattle.run_charges.proofs.Interface.{PlacedProgram, Moves, MovesOwn, MovesIn, MovesOn, MoveOn, silent_behind, Ready, ready_on, reach, ready_behind}
-use Rattle.run_charges.proofs.Interface.{last_behind, front_charges, run_front, placed_program, ready_there, programs_run}
+use Rattle.run_charges.proofs.Interface.{no_power_up, last_behind, front_charges, run_front, placed_program, ready_there, programs_run}
 use Rattle.event_rules.specs.Laws.{HoldsLast, RingHoldsAccepted}
-use Rattle.event_rules.proofs.Hands.{held, stored_at, stored_by, moves_hand, own_high, event_head, no_power_up}
+use Rattle.event_rules.proofs.Hands.{held, stored_at, stored_by, moves_hand, own_high, event_head}
 use Rattle.event_rules.proofs.Runs.{after, after-append, power_up_empties, power_up_loses}
 
 -- words that stand where a handler alone stores, or nobody

@@ -16,7 +16,8 @@ use Rattle.crash_rules.specs.Runs.{Program}
 use Rattle.run_charges.specs.Moments.{AreMoments}
 use Rattle.run_charges.specs.Charges.{AreInstructionMoments, observed}
 use Rattle.run_charges.specs.Fronts.{ChargeFront, board_powered, board_behind, board_behind_all, moments_of, AreChargesFrom}
-use Rattle.run_charges.proofs.Interface.{PlacedProgram, MoveOn, Machine, silent_behind, Ready, ready_on, reach, ready_behind, last_behind, front_charges, run_front}
+use Rattle.run_charges.proofs.Interface.{PlacedProgram, MoveOn, Machine, silent_behind, Ready, ready_on, reach, ready_behind, last_behind, front_charges}
+use Rattle.run_charges.proofs.Interface.{run_front}
 use Rattle.run_charges.proofs.Interface.{placed_program, ready_there, programs_run}
 use Rattle.event_rules.specs.Laws.{KeepsHand, EachKeepsHand, HandsAreKept, WaitsInTheHandler}
 use Rattle.event_rules.proofs.Hands.{held, moves_hand}

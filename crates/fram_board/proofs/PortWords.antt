@@ -62,8 +62,9 @@ instruction_reads b i none =
     let r = registers_of b.cpu in
     outcome_reads i r (opened b) (effect board_bus i r (opened b)) none (effect_ends board_bus i r (opened b))
 
-acceptance_reads_nothing : (b : BoardValue) → (acceptance b).board.line ≡ b.line
-acceptance_reads_nothing b =
+-- an acceptance leaves the line
+pub acceptance_line : (b : BoardValue) → (acceptance b).board.line ≡ b.line
+acceptance_line b =
     let r = registers_of b.cpu in
     let first = (word_same (opened b) (is_ram (return_place r)) _ _).1 in
     of_acceptance (λ o. o.bus.line ≡ b.line) r (opened b) (λ a. refl)
@@ -73,7 +74,7 @@ acceptance_reads_nothing b =
 pub step_reads : (b : BoardValue) (n : NextStep) → b.line.heard ≡ heard.Nothing → AreReads b.line (performed b n).board.line
 step_reads b next_step.Acceptance none =
     let P : EventLine → Type 0 = λ q. AreReads b.line q in
-    subst P (sym (acceptance_reads_nothing b)) Unread
+    subst P (sym (acceptance_line b)) Unread
 step_reads b (next_step.Instruction i) none = instruction_reads b i none
 
 -- each event that arose was lost at the port, waits there, or was taken: so many were
@@ -89,11 +90,12 @@ told_by : (b : BoardValue) (s : BusState) (a : Result machine.Stepped Stop) (don
 told_by b s (Ok d) done e = cc
 told_by b s (Err x) done e = cc
 
-told : (b : BoardValue) (n : NextStep) (done : Stepped) → (performed b n).answer ≡ Ok done → done.heard ≡ (performed b n).board.line.heard
-told b next_step.Acceptance done answer =
+-- what a step tells that it read is what its line says
+pub told_heard : (b : BoardValue) (n : NextStep) (done : Stepped) → (performed b n).answer ≡ Ok done → done.heard ≡ (performed b n).board.line.heard
+told_heard b next_step.Acceptance done answer =
     let o = acceptance_on (registers_of b.cpu) (opened b) in
     told_by b o.bus o.answer done answer
-told b (next_step.Instruction i) done answer =
+told_heard b (next_step.Instruction i) done answer =
     let o = execution board_bus i (registers_of b.cpu) (opened b) in
     told_by b o.bus o.answer done answer
 
@@ -106,7 +108,7 @@ stop_counts b n taken none h = read_counts b.line (performed b n).board.line tak
 pub step_counts : (b : BoardValue) (n : NextStep) (done : Stepped) (taken : ℕ) → (performed b n).answer ≡ Ok done → b.line.heard ≡ heard.Nothing
     → AreCounted b.line taken → AreCounted (performed b n).board.line (words_heard done.heard + taken)
 step_counts b n done taken answer none h =
-    let same = ap words_heard (told b n done answer) in
+    let same = ap words_heard (told_heard b n done answer) in
     let counts = stop_counts b n taken none h in
     omega (arith, same, counts)
 
@@ -119,7 +121,7 @@ either_arises : (b : Bool) (q r : EventLine) → Arises q r → Arises q (if b t
 either_arises true q r h = h
 either_arises false q r h = record { heard = refl; counts = refl }
 
-port_filled : (w : ℕ) (port : Option ℕ) → words_in (port_behind w port) ≡ 1
+pub port_filled : (w : ℕ) (port : Option ℕ) → words_in (port_behind w port) ≡ 1
 port_filled w None = refl
 port_filled w (Some v) = refl
 

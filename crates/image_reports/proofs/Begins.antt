@@ -66,7 +66,8 @@ module _ (at : Beginning) where
 
   -- the code stands in FRAM
   pub stands_there : Holds (steady (fram_of fram)) l.boot.address (words_of (source_code p l))
-  stands_there = holds_as (steady (fram_of fram)) (fram_of image.words) (words_of (source_code p l)) l.boot.address (code_is_placed p l new.fits).even code.code new.code
+  stands_there = holds_as (steady (fram_of fram)) (fram_of image.words) (words_of (source_code p l)) l.boot.address (code_is_placed p l new.fits).even
+      code.code new.code
 
   abbrev pub begins : Begins (compiled_model p l) readings origin first_world (outside_of first_board)
   begins = record { fram = refl; readings_left = refl; words = inputs.readings_are_words; stands = begun }

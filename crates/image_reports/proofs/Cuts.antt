@@ -44,14 +44,6 @@ pub cut_at_power : (ms : List Moment) → CutAtPower ms
 cut_at_power [] = Uncut tt
 cut_at_power (m ∷ ms) = cut_front m ms (cut_at_power ms)
 
--- a power-up is no step
-pub no_power : (a : Action) → a ≡ PowerUp → IsInstruction a → ⊥
-no_power a e is = subst IsInstruction e is
-
-pub last-append : (b : BoardValue) (ms ns : List Moment) → last_board b (ms ++ ns) ≡ last_board (last_board b ms) ns
-last-append b [] ns = refl
-last-append b (m ∷ ms) ns = last-append m.after ms ns
-
 pub none_serves : (ms rest : List Moment) → NoneServes (ms ++ rest) → NoneServes ms
 none_serves [] rest h = tt
 none_serves (m ∷ ms) rest h = (h.0, none_serves ms rest h.1)

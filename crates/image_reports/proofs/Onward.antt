@@ -44,7 +44,7 @@ use Rattle.run_charges.specs.Laws.{IsProgramRun}
 use Rattle.run_charges.specs.View.{looks_in}
 use Rattle.run_charges.specs.Moments.{BeginWithPower}
 use Rattle.run_charges.proofs.Interface.{follows_keeps, are_behind, front_moments, run_front, PlacedProgram, Machine, nothing_seen, is_powered, is_powered_from}
-use Rattle.run_charges.proofs.Interface.{sees, reach, leads, reached_on, powered_there, Counts, moments_count}
+use Rattle.run_charges.proofs.Interface.{no_instruction, last-append, sees, reach, leads, reached_on, powered_there, Counts, moments_count}
 use Rattle.board_run.specs.Events.{NeverReads, hand_after, head_of, no_hand}
 use Rattle.model_runs.specs.EventLaws.{StartsWith}
 use Rattle.model_runs.proofs.Interface.{moments_wait, never_reads, runs_so, runs_alone}
@@ -55,7 +55,7 @@ use Rattle.image_reports.specs.ImageLaw.{InCode, AtAcceptance, InHandler}
 use Rattle.image_reports.proofs.Begins.{holds_as, Beginning, first_world, first_board, begins, bears}
 use Rattle.image_reports.proofs.HandlerWords.{stage_holds}
 use Rattle.image_reports.proofs.Accounted.{moments_account}
-use Rattle.image_reports.proofs.Cuts.{CutAtPower, Uncut, Cut, cut_at_power, no_power, last-append, none_serves, own_part, ring_stays}
+use Rattle.image_reports.proofs.Cuts.{CutAtPower, Uncut, Cut, cut_at_power, none_serves, own_part, ring_stays}
 use Rattle.image_reports.proofs.Cuts.{encoding_has_words, prepared_bounds, handler_is_closed, two_less}
 use Rattle.image_reports.proofs.Opens.{opens as machine_opens}
 use Rattle.image_reports.specs.ImageLaw.{StaysOpen}
@@ -232,7 +232,7 @@ module _ (onward : Onward) where
   -- before the first power-up
   none_yet : (ns : List Moment) → BeginWithPower ns → AreInstructionMoments ns → Standing (last_board b ns)
   none_yet [] by_power are = standing_first
-  none_yet (m ∷ ns) by_power are = absurd (no_power m.action by_power are.0)
+  none_yet (m ∷ ns) by_power are = absurd (no_instruction m.action by_power are.0)
 
   standing_cut : (ms rest : List Moment) → r.moments ≡ ms ++ rest → CutAtPower ms → Standing (last_board b ms)
   standing_cut ms rest e (Uncut instructions) = none_yet ms (run_front cs b r ms rest own e).begins instructions

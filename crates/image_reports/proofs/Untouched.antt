@@ -1,7 +1,7 @@
 -- A word on which no step stores is, behind any charges, as it was in front of them.
 use Rattle.image_reports.proofs.Names.{◌≡◌, ℕ, refl, ap, ◌∙◌, List, [], ◌∷◌, EachStore, going, MachineBoard, IsElsewhere, Marks, History, observe, behind_boot}
 use Rattle.image_reports.proofs.Names.{Program, Charge, Charged, IsPoweredFrom, changed, elsewhere_same}
-use Rattle.machine_effects.specs.Laws.{ChangesByEffects}
+use Rattle.machine_effects.specs.Changes.{ChangesByEffects}
 
 module _ (a : ℕ) (c : Program) (changes : (s : MachineBoard) → ChangesByEffects s (c.step s)) (marks : Marks) where
   -- wherever charges lead, a further one stores elsewhere

@@ -37,4 +37,5 @@ abbrev pub ImagesKeepCapacities : Type 0
 ImagesKeepCapacities = (text : List ℕ) (p : CheckedProgram) (allow : Allow) (image : ImageValue) → IsAcceptedText text p allow
     → (c : IsCompiled text p allow image) → (trace : TraceValue) → IsTraceOfWords trace → (r : RunOutcome)
     → Run (charges_of trace.charges) (fresh image.words trace.readings trace.events) r
-    → (ms rest : List Moment) → r.moments ≡ ms ++ rest → KeepsCapacities c.layout (outside_of (last_board (fresh image.words trace.readings trace.events) ms)).fram
+    → (ms rest : List Moment) → r.moments ≡ ms ++ rest
+    → KeepsCapacities c.layout (outside_of (last_board (fresh image.words trace.readings trace.events) ms)).fram

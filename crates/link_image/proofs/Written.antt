@@ -145,7 +145,8 @@ module _ (l : MemoryMap) (programs : List Program) (fits : CodeFits l programs) 
       let same : new ≡ written start l.commit.address old (commit_part l).forms =
       is ∙ ap (λ x. written start x old code) a ∙ ap (written start l.commit.address old) k in
       let even : start % 2 ≡ 0 = ap (λ x. x % 2) s ∙ (even_of l fits.rules).boot in
-      let r = part_words start old new (words_of (linked l programs)) (commit_part l) (task_parts l.runtime.events l.tasks programs) even (even_of l fits.rules).commit
+      let r = part_words start old new (words_of (linked l programs)) (commit_part l) (task_parts l.runtime.events l.tasks programs) even
+      (even_of l fits.rules).commit
       (commit_behind start old before) same before.rest in
       record { there = r.0; rest = r.1 }
 
@@ -154,4 +155,5 @@ module _ (l : MemoryMap) (programs : List Program) (fits : CodeFits l programs) 
   tasks_behind start words h =
       let high = (apart_of l fits.rules).high in
       subst (λ x. PartsInOrder x (task_parts l.runtime.events l.tasks programs) reset_vector) (sym h.there)
-      (weaker_order (part_end (commit_part l)) (end_of l.code) reset_vector (task_parts l.runtime.events l.tasks programs) (omega (arith, high)) (in_order l programs fits).1.1)
+      (weaker_order (part_end (commit_part l)) (end_of l.code) reset_vector (task_parts l.runtime.events l.tasks programs) (omega (arith, high))
+      (in_order l programs fits).1.1)

@@ -200,19 +200,6 @@ pub step_accepts_by_sends : StepAcceptsBySends
 step_accepts_by_sends b next_step.Acceptance done ws len answer = acceptance_accepts b done ws answer
 step_accepts_by_sends b (next_step.Instruction i) done ws len answer = moment_accepts b i done answer ws len
 
--- what a step tells of the port EVENT is what the board holds of it
-heard_by : (b : BoardValue) (s : BusState) (a : Result cpu.Stepped Stop) (done : Stepped) → answer_of b s a ≡ Ok done → done.heard ≡ s.line.heard
-heard_by b s (Ok d) done e = cc
-heard_by b s (Err x) done e = cc
-
-pub told_heard : (b : BoardValue) (n : NextStep) (done : Stepped) → (performed b n).answer ≡ Ok done → done.heard ≡ (performed b n).board.line.heard
-told_heard b next_step.Acceptance done answer =
-    let o = acceptance_on (registers_of b.cpu) (opened b) in
-    heard_by b o.bus o.answer done answer
-told_heard b (next_step.Instruction i) done answer =
-    let o = execution board_bus i (registers_of b.cpu) (opened b) in
-    heard_by b o.bus o.answer done answer
-
 charge_accepts : (m : Measure) (amount : ℕ) (b : BoardValue) (r : RunOutcome) (ws : List ℕ) → TakesNextBehind ws b.receiver → ChargeRun m amount b r
     → accepted_after (moments_effects r.moments) ws ≡ ws ++ accepted_words r.moments
 charge_accepts m amount b r ws len (Spent _ _ none) = sym (append-nil ws)

@@ -1,5 +1,5 @@
 -- FRAM from the handler on stays as it is: no write is served there.
-use Rattle.std.proofs.Common.{◌≡◌, ◌==◌, ◌&&◌, ◌≤◌, ◌<◌, if◌then◌else◌, ◌%◌, arith, ℕ, refl, ◌∙◌, Bool, true, false, ltb-true, nat_lt, List, [], ◌∷◌, ◌++◌}
+use Rattle.std.proofs.Common.{◌≡◌, ◌==◌, ◌&&◌, ◌≤◌, ◌<◌, if◌then◌else◌, arith, ℕ, refl, ◌∙◌, Bool, true, false, ltb-true, nat_lt, List, [], ◌∷◌, ◌++◌}
 use Rattle.std.proofs.Common.{Option, Some, None, ap, subst}
 use Rattle.std.proofs.lemmas.Bool.{and_parts}
 use Rattle.event_places.specs.Places.{handler_place}
@@ -8,13 +8,12 @@ use Rattle.fram_board.specs.alp_words.declared.Width.TheVariants.{Word, Byte}
 use Rattle.fram_board.specs.msp_isa.declared.instructions.Instr.{Instr}
 use Rattle.fram_board.specs.msp_step.Registers.{Registers}
 use Rattle.fram_board.specs.msp_step.Access.{Access, Completed, Faulted}
-use Rattle.fram_board.specs.msp_step.Reads.{HasRead, Nothing, Once, OnlyReads}
+use Rattle.fram_board.specs.msp_step.Reads.{HasRead, Nothing, Once}
 use Rattle.fram_board.specs.msp_step.Effect.{Written}
 use Rattle.fram_board.specs.msp_step.Step.{effect, off_bit}
 use Rattle.fram_board.specs.msp_step.Laws.{AfterWrite}
 use Rattle.fram_board.proofs.msp_step.Interface.{Ends, effect_ends}
 use Rattle.fram_board.specs.msp_cycles.Cycles.{cycles_of}
-use Rattle.fram_board.specs.msp_step.declared.machine.Stop.{Stop}
 use Rattle.fram_board.specs.msp_step.declared.machine.Stop.TheVariants as stop
 use Rattle.fram_board.specs.Bus.{is_ram, is_memory, is_word, with_byte, sensor_port, number_port, data_port}
 use Rattle.fram_board.specs.Effects.{Effect, Store, Outside, Offered}
@@ -129,7 +128,8 @@ either_keeps false s o p h k = k
 -- an instruction of any code leaves it
 pub standing_keeps : (o : Option Instr) (s : MachineBoard) → KeepsTheHandler s (standing o s)
 standing_keeps None s = tt
-standing_keeps (Some i) s = either_keeps (looks_there i) s (executed_looking s.inputs.looks s i) (machine_executed s i) (looking_keeps s.inputs.looks s i) (executed_keeps None s i)
+standing_keeps (Some i) s = either_keeps (looks_there i) s (executed_looking s.inputs.looks s i) (machine_executed s i) (looking_keeps s.inputs.looks s i)
+    (executed_keeps None s i)
 
 step_keeps : (i : Option Instr) (s : MachineBoard) → KeepsTheHandler s (step_with i s)
 step_keeps i s = either_keeps (off_bit s.registers == 1) s (Stops [] 0 stop.Off) (standing i s) tt (standing_keeps i s)

@@ -37,5 +37,5 @@ pub use Rattle.machine_effects.proofs.Words.{index_small, words_stay_words, step
 pub use Rattle.machine_effects.proofs.Words.{charge_keeps_words, machine_is_of_words, power_up_keeps_words, fresh_is_whole}
 -- The views of a powered and of a fresh board.
 pub use Rattle.machine_effects.proofs.Views.{power_up_is_the_machines, zeros_at}
--- The effects that moments tell, what they tell of EVENT, and that the words that they tell are those that the receiver accepts.
-pub use Rattle.machine_effects.proofs.Accepted.{told_effects, told_heard, count_after, moment_accepts, step_accepts_by_sends}
+-- The effects that moments tell, and that the words that they tell are those that the receiver accepts.
+pub use Rattle.machine_effects.proofs.Accepted.{told_effects, count_after, moment_accepts, step_accepts_by_sends}

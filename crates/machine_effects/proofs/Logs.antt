@@ -28,7 +28,8 @@ use Rattle.machine_effects.specs.Inputs.{Look, Inputs, first_look, other_looks, 
 use Rattle.machine_effects.specs.Machine.{is_readable, word_written, looks_there, machine_executed_seeing, executed_looking, code_executed}
 use Rattle.machine_effects.specs.Machine.{machine_port_written, machine_written, MachineBoard, machine_opened_seeing, MachineOutcome, machine_outcome}
 use Rattle.machine_effects.specs.Machine.{machine_executed, NoInstruction, Executes, standing, step_with, astray, is_exposed, undisturbed}
-use Rattle.machine_effects.specs.Laws.{ChangesByEffects, CodeChangesByEffects, MachineChangesByEffects}
+use Rattle.machine_effects.specs.Laws.{CodeChangesByEffects, MachineChangesByEffects}
+use Rattle.machine_effects.specs.Changes.{ChangesByEffects}
 use Rattle.machine_effects.proofs.Worlds.{fram_after-append, readings_taken-append, looks_taken-append, taking_keeps_fram, taking_takes, taking_looks}
 use Rattle.machine_effects.proofs.Inputs.{takes_nothing, takes_look, takes_through}
 

@@ -19,12 +19,13 @@ use Rattle.fram_board.specs.Steps.{IsPowerState}
 use Rattle.fram_board.specs.Effects.{Effect}
 use Rattle.fram_board.specs.Run.{Measure, moment_of, RunOutcome, ChargeRun, accepted_by, accepted_words}
 use Rattle.machine_effects.specs.World.{World, fram_after, accepted_after, world_after}
-use Rattle.machine_effects.specs.Inputs.{Look, Inputs, look_effects, TakesExactly}
+use Rattle.machine_effects.specs.Inputs.{Look, look_effects}
 use Rattle.machine_effects.specs.Going.{Goes, Stops}
 use Rattle.machine_effects.specs.Machine.{MachineBoard, MachineOutcome, code_executed, IsMachineStep, Code, exec, IsRam, fram_of, machine_powered}
 use Rattle.machine_effects.specs.View.{machine_with, machine_of, IsWhole, IsOfWords, IsMachineOfWords, IsNextPrice, machine_outcome_with}
 use Rattle.machine_effects.specs.View.{machine_outcome_of, looks_at, seen_at_pc, IsBusFault}
 use Rattle.machine_effects.specs.Runs.{action_effects, moments_effects}
+use Rattle.machine_effects.specs.Changes.{ChangesByEffects}
 
 -- a step of the board is the machine's step of its view, with the board's effects and cycles, and leaves the port EVENT; a stop
 -- is the same stop, with the readings taken before it and the price of the instruction that stopped
@@ -92,11 +93,6 @@ PushesAlike = (floor : ℕ) (x : Src) (s t : MachineBoard) → floor ≤ s.regis
 -- the machine steps in one way
 abbrev pub MachineStepsInOneWay : Type 0
 MachineStepsInOneWay = (s : MachineBoard) (o p : MachineOutcome) → IsMachineStep s o → IsMachineStep s p → o ≡ p
-
--- what an outcome says of FRAM and the inputs: they are as the effects make them
-abbrev pub ChangesByEffects : MachineBoard → MachineOutcome → Type 0
-ChangesByEffects s (Goes es c t) = (t.fram ≡ fram_after es s.fram) × TakesExactly es s.inputs t.inputs
-ChangesByEffects s (Stops es price stop) = (fram_after es s.fram ≡ s.fram) × ((left : Inputs) × TakesExactly es s.inputs left)
 
 -- a step of code that stays changes FRAM and the inputs by its effects
 abbrev pub CodeChangesByEffects : Type 0

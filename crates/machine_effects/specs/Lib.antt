@@ -5,6 +5,7 @@ pub mod Machine
 pub mod View
 pub mod Runs
 pub mod Laws
+pub mod Changes
 pub use Rattle.event_places.specs as event_places
 pub use Rattle.fram_board.specs.address_space as address_space
 pub use Rattle.fram_board.specs.alp_text as alp_text

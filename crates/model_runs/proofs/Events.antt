@@ -83,7 +83,8 @@ seen_taking marks ws write k one =
     (sym (world_after-append (takes ws) write k.world))
 
 -- the same behind a look
-with_look : (look : Look) (es : List Effect) (k : History) → with_effects es (with_effects (Outside (Looked look) ∷ []) k) ≡ with_effects (Outside (Looked look) ∷ es) k
+with_look : (look : Look) (es : List Effect) (k : History) → with_effects es (with_effects (Outside (Looked look) ∷ []) k)
+    ≡ with_effects (Outside (Looked look) ∷ es) k
 with_look look es k =
     ap₂ (λ t l. record k { world = world_after es (with_effects (Outside (Looked look) ∷ []) k).world; taken = t; effects = l })
     (omega arith) (append_assoc k.effects (Outside (Looked look) ∷ []) es)

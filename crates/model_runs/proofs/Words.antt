@@ -9,7 +9,7 @@ use Rattle.crash_rules.specs.Model.{Model, Marks}
 use Rattle.crash_rules.specs.History.{History, observe, behind_boot, first_history}
 use Rattle.crash_rules.specs.Runs.{Program, Charge, IsPoweredFrom, Charged}
 use Rattle.crash_rules.proofs.Interface.{changed, stores_only}
-use Rattle.machine_effects.specs.Laws.{ChangesByEffects}
+use Rattle.machine_effects.specs.Changes.{ChangesByEffects}
 use Rattle.run_charges.specs.View.{outside_of}
 use Rattle.run_charges.proofs.Interface.{run_front}
 use Rattle.model_runs.specs.Runs.{history_behind}

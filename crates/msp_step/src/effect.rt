@@ -101,7 +101,8 @@ fn finish<B: Bus>(
     at: Location,
     v: u16,
 ) -> Result<Option<u16>, Fault>
-    ensures { answer (λ a. (registers_of cpu.new, a)) result bus.new ≡ addressed (finish (writes_destination op) B.model (registers_of cpu.old) width at v bus.old) }
+    ensures { answer (λ a. (registers_of cpu.new, a)) result bus.new
+        ≡ addressed (finish (writes_destination op) B.model (registers_of cpu.old) width at v bus.old) }
 {
     match op {
         TwoOp::Cmp | TwoOp::Bit => Ok(None),
@@ -217,7 +218,8 @@ fn write_back<B: Bus>(
     at: Location,
     v: u16,
 ) -> Result<Option<u16>, Fault>
-    ensures { answer (λ a. (registers_of cpu.new, a)) result bus.new ≡ addressed (written_back B.model (modification_of change) width at v (registers_of cpu.old) bus.old) }
+    ensures { answer (λ a. (registers_of cpu.new, a)) result bus.new
+        ≡ addressed (written_back B.model (modification_of change) width at v (registers_of cpu.old) bus.old) }
 {
     let (value, flags) = modified(change, width, v, flags_of(cpu.word(2)));
     set_flags(cpu, flags);

@@ -43,10 +43,16 @@ pub is_written : (b : BoardValue) (h : History) (t : TraceValue) (old new : Opti
     → IsRunOf h (charges_of t.charges) t.events b old new result after now → IsWrittenOf b h t old new result
 is_written b h t old new (Ok x) after now r =
     (report_of h t.events r.0, record { outcome = r.0; run = r.1; ends = ends_well r.0.ending x r.2.answer; lines = refl }, r.2.written)
-is_written b h t old new (Err (fault.Illegal pc word)) after now r =
-    (report_of h t.events r.0, record { outcome = r.0; run = r.1; ends = ends_at_fault r.0.ending (fault.Illegal pc word) r.2.answer; lines = refl }, r.2.written)
-is_written b h t old new (Err (fault.Bus pc address)) after now r =
-    (report_of h t.events r.0, record { outcome = r.0; run = r.1; ends = ends_at_fault r.0.ending (fault.Bus pc address) r.2.answer; lines = refl }, r.2.written)
+is_written b h t old new (Err (fault.Illegal pc word)) after now r = (
+  report_of h t.events r.0,
+  record { outcome = r.0; run = r.1; ends = ends_at_fault r.0.ending (fault.Illegal pc word) r.2.answer; lines = refl },
+  r.2.written,
+)
+is_written b h t old new (Err (fault.Bus pc address)) after now r = (
+  report_of h t.events r.0,
+  record { outcome = r.0; run = r.1; ends = ends_at_fault r.0.ending (fault.Bus pc address) r.2.answer; lines = refl },
+  r.2.written,
+)
 is_written b h t old new (Err fault.Write) after now r =
     (ending_of r.0.ending, report_of h t.events r.0, record { outcome = r.0; run = r.1; ends = refl; lines = refl }, r.2.written)
 

@@ -19,9 +19,9 @@ use Rattle.fram_board.specs.Events.{is_full, words_in, words_heard}
 use Rattle.fram_board.specs.Board.{BoardValue, opened, answer_of, executed, acceptance_on, acceptance, performed, accepted_word, receiver_after}
 use Rattle.fram_board.specs.Board.{at_boundary, is_accepting}
 use Rattle.fram_board.specs.Run.{kind_of, moment_of, word_list}
-use Rattle.fram_board.proofs.Interface.{counted}
+use Rattle.fram_board.proofs.Interface.{counted, acceptance_line, told_heard}
 use Rattle.machine_effects.specs.World.{EachStore}
-use Rattle.machine_effects.proofs.Interface.{each_store-front, each_store-back, told_heard}
+use Rattle.machine_effects.proofs.Interface.{each_store-front, each_store-back}
 use Rattle.machine_effects.specs.Machine.{MachineBoard, fram_of}
 use Rattle.machine_effects.specs.View.{IsWhole, IsOfWords}
 use Rattle.event_handler.specs.Handler.{Stage, SaveR4, SaveR5, TakeEvent, LoadHead, SubtractTail, CompareRoom, LeaveIfFull, LoadHeadAgain, CutToSlots}
@@ -34,7 +34,6 @@ use Rattle.program_view.specs.Stands.{shown_from, Shows, StandsAs, AtCode, InHan
 use Rattle.program_view.specs.Stands.{waiting_at, waiting, IsServed}
 use Rattle.program_view.specs.Laws.{Begins, AcceptancesBegin, GoesOn, HandlersGoOn}
 use Rattle.program_view.proofs.Steady.{same_steady}
-use Rattle.program_view.proofs.Ports.{acceptance_line}
 
 -- where an instruction stands says whose it is
 pub kind_is : (i : Instr) (b : BoardValue) → is_handlers_step (kind_of (next_step.Instruction i)) b ≡ nat_le handler_place (registers_of b.cpu 0)
@@ -210,7 +209,14 @@ module _ (from : BoardValue) (u : MachineBoard) (shows : Shows from u) (interrup
 
   stands_behind : (o : Option Stage) (b : BoardValue) → IsBehind from o b → Stands o b
   stands_behind None b h =
-      record { stands = AtCode (shows_again b h); cycles = refl; steps = refl; waits = refl; stage = refl; outside = (handler_keeps_the_rest from interrupted).returned b h }
+      record {
+        stands = AtCode (shows_again b h);
+        cycles = refl;
+        steps = refl;
+        waits = refl;
+        stage = refl;
+        outside = (handler_keeps_the_rest from interrupted).returned b h;
+      }
   stands_behind (Some at) b h = record {
     stands = InHandler from at shows interrupted h;
     cycles = refl;
@@ -285,7 +291,8 @@ module _ (from : BoardValue) (u : MachineBoard) (shows : Shows from u) (interrup
         made = step.made;
         served = served b (next_step.Instruction i) step.done step.made
             (kind_is i b ∙ ap (λ (p : ℕ). nat_le handler_place p) inside.pc ∙ place_high at)
-            (told_stores (λ a w. handler_place ≤ a) b i step.done step.made (subst P (sym step.effects) (stage_stores from at))) here (next_stage from at) step.behind;
+            (told_stores (λ a w. handler_place ≤ a) b i step.done step.made (subst P (sym step.effects) (stage_stores from at))) here (next_stage from at)
+            step.behind;
         stands = behind.stands;
         interrupted = interrupted;
         inside = inside;

@@ -24,7 +24,8 @@ use Rattle.machine_effects.specs.Inputs.{Look, look_effects}
 use Rattle.machine_effects.specs.Going.{Goes, Stops}
 use Rattle.machine_effects.specs.Machine.{MachineBoard, MachineOutcome, code_executed, fram_of, ram_of, in_stack, keeps_stack, pushes, IsRam}
 use Rattle.machine_effects.specs.View.{machine_with, looks_at, outcome_of_answer, machine_outcome_with, IsWhole, IsFault, IsBusFault}
-use Rattle.machine_effects.specs.Laws.{IsSameFrom, AreSameFrom, ChangesByEffects, HaveSameTop, KeepsTheHandler}
+use Rattle.machine_effects.specs.Laws.{IsSameFrom, AreSameFrom, HaveSameTop, KeepsTheHandler}
+use Rattle.machine_effects.specs.Changes.{ChangesByEffects}
 use Rattle.machine_effects.proofs.Interface.{looks_as_the_board, code_changes, standing_keeps, machine_is_blind, pushes_alike}
 use Rattle.machine_effects.proofs.Interface.{executed_is_step, step_leaves_it_whole, boundary_whole}
 use Rattle.program_view.specs.View.{steady}
@@ -233,11 +234,13 @@ module _ (b : BoardValue) (u : MachineBoard) (i : Instr) (more : List Look) (who
           → a % 2 ≡ 0 → next.ram a ≡ ram_of after.ram a
       ram_moved is stack (Up l) a above even = going.same.ram a (omega (arith, is, l, above)) even
       ram_moved is stack (Down p e f) a above even =
-          let inside = leb-true (u.registers 1) stack_start (and_parts (nat_le stack_floor (u.registers 1)) (nat_le (u.registers 1) stack_start) stack.in_stack).1 in
+          let inside = leb-true (u.registers 1) stack_start
+          (and_parts (nat_le stack_floor (u.registers 1)) (nat_le (u.registers 1) stack_start) stack.in_stack).1 in
           ⊎_elim (λ at. ap next.ram at ∙ same_there p f (omega (arith, inside, e)) ∙ ap (ram_of after.ram) (sym at))
           (λ further. going.same.ram a (omega (arith, is, e, further)) even) (even_from (next.registers 1) a sp_even even above)
 
-      ram_behind : KeepsRules i u next → (c : Bool) → is_interruptible u.registers ≡ c → (a : ℕ) → shown_from next ≤ a → a % 2 ≡ 0 → next.ram a ≡ ram_of after.ram a
+      ram_behind : KeepsRules i u next → (c : Bool) → is_interruptible u.registers ≡ c → (a : ℕ) → shown_from next ≤ a → a % 2 ≡ 0
+          → next.ram a ≡ ram_of after.ram a
       ram_behind rules false closed a above even =
           let is : floor ≡ 0 = ap (λ (d : Bool). if d then u.registers 1 else 0) closed in
           going.same.ram a (omega (arith, is)) even

@@ -65,7 +65,7 @@ begins_so cs b r (m ∷ ms) rest (Next c ds _ ns end next h k) e =
 begins_so cs b r (m ∷ ms) rest (Last c ds _ ns stop end h) e =
     sym (ap (λ x. x.action) (heads (power_up_of b c.start) m ns (ms ++ rest) e))
 
-no_instruction : (a : Action) → a ≡ PowerUp → IsInstruction a → ⊥
+pub no_instruction : (a : Action) → a ≡ PowerUp → IsInstruction a → ⊥
 no_instruction PowerUp e h = h
 no_instruction (Execute kind done offered) e h = absurd cc
 

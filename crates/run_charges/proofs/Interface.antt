@@ -8,14 +8,16 @@ pub use Rattle.run_charges.proofs.Moments.{AtMostOne, NoWrite, AStore, AnOutside
 pub use Rattle.run_charges.proofs.Moments.{nothing_seen, fram_changed, one_write, words_accepted, words_counted, readings_stay, readings_counted}
 pub use Rattle.run_charges.proofs.Moments.{step_is_programs, stepped, Steps, IsPowerOrStep, IsPower, IsStepped, moment_is, step_is_observed, whole_behind}
 -- Each front of a program's run is one by its moments alone.
-pub use Rattle.run_charges.proofs.Charges.{run_front, front_charges}
+pub use Rattle.run_charges.proofs.Charges.{no_instruction, run_front, front_charges}
 -- A board on which a program runs that stands in FRAM, and its handler beside it.
 pub use Rattle.run_charges.proofs.Running.{PlacedProgram, Machine, Running, charge_moments, Moves, MovesOwn, MovesIn, MovesOn}
 pub use Rattle.run_charges.proofs.Reaching.{MoveOn, Reach, instructions_reach, looks_see, fram_all, silent_behind}
 -- Charges of such a program, and the boards to which they lead.
 pub use Rattle.run_charges.proofs.Programs.{observed-append, charged_like, Ready, ready_on, begun, is_powered, is_powered_from, running, sees, first}
 pub use Rattle.run_charges.proofs.Programs.{reach, end, end_fram, end_readings, leads, charged_once, Reached, reached_first, reached_on, powered_there}
-pub use Rattle.run_charges.proofs.Programs.{front_reached, starts, last_behind, ready_behind}
+pub use Rattle.run_charges.proofs.Programs.{front_reached, starts, last-append, last_behind, ready_behind}
+-- A power-up is no instruction.
+pub use Rattle.run_charges.proofs.Room.{no_power_up}
 -- A charge that is spent, the one in which a run stops, and whole runs.
 pub use Rattle.run_charges.proofs.Spent.{spent_moments, spent_seen, spent_reached, status_behind, all_made, SpendsItsPart, is_spent, events_arise, p, q}
 pub use Rattle.run_charges.proofs.Stopped.{SameDones, StopsBehind, run_halts}

@@ -10,7 +10,8 @@ use Rattle.fram_board.specs.Board.{BoardValue, powered, executed, performed, at_
 use Rattle.fram_board.specs.Run.{Measure, price, Action, PowerUp, Execute, Moment, Charges, Stopped, RunOutcome, run_outcome, BoardCharge}
 use Rattle.fram_board.specs.Run.{Run, Over, Next, Last, StepKind}
 use Rattle.fram_board.specs.Run.{ChargeRun, Spent, NoInstruction, TooDear, Refused, Executed}
-use Rattle.machine_effects.proofs.Interface.{boundary_heard, powered_heard, told_heard}
+use Rattle.fram_board.proofs.Interface.{told_heard}
+use Rattle.machine_effects.proofs.Interface.{boundary_heard, powered_heard}
 use Rattle.crash_rules.specs.History.{History, behind_boot}
 use Rattle.run_charges.specs.View.{is_handlers, NoneServes}
 use Rattle.run_charges.specs.Moments.{IsMomentFrom, PowersUp, Instructs, Serves, AreMoments}

@@ -38,7 +38,8 @@ if_one false k = omega arith
 
 -- what is told in front, or nothing where it is the handler's
 joined : (h : Bool) (es fs : List Effect) (c d : ℕ) (t : MachineBoard) → (h ≡ true → es ≡ [])
-    → ◌≡◌ {A = MachineStretch} (if h then stretch fs d (At t) else after_effects es c (stretch fs d (At t))) (stretch (es ++ fs) (if h then d else c + d) (At t))
+    → ◌≡◌ {A = MachineStretch} (if h then stretch fs d (At t) else after_effects es c (stretch fs d (At t)))
+    (stretch (es ++ fs) (if h then d else c + d) (At t))
 joined true es fs c d t none = ap (λ l. stretch (l ++ fs) d (At t)) (sym (none refl))
 joined false es fs c d t none = refl
 

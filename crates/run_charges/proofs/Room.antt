@@ -131,7 +131,7 @@ all_whole b (m ∷ ms) whole words are =
     let one = whole_behind m.before m (subst IsWhole (sym are.0.same) whole) (subst IsOfWords (sym are.0.same) words) are.1 in
     all_whole m.after ms one.0 one.1 are.2
 
-no_power_up : (m : Moment) → m.action ≡ PowerUp → IsInstruction m.action → ⊥
+pub no_power_up : (m : Moment) → m.action ≡ PowerUp → IsInstruction m.action → ⊥
 no_power_up m up is = subst (λ (a : Action). IsInstruction a) up is
 
 -- a charge from a board that is ready: once interrupts are accepted they stay so

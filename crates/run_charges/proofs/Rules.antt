@@ -1,24 +1,14 @@
 -- The rules of interrupts, kept by a step of code in which the CPU accepts them.
-use Rattle.std.proofs.Common.{◌≡◌, ℕ, refl, sym, ap, ◌∙◌, subst, Bool, true, false, not, if◌then◌else◌, List, [], Option, Some}
+use Rattle.std.proofs.Common.{◌≡◌, ℕ, refl, subst, Bool, true, false, not, if◌then◌else◌, List, Option, Some}
 use Rattle.std.proofs.lemmas.Bool.{and_parts}
 use Rattle.msp_isa.specs.declared.instructions.Instr.{Instr}
 use Rattle.msp_step.specs.Step.{is_interruptible}
 use Rattle.fram_board.specs.Effects.{Effect}
-use Rattle.machine_effects.specs.Going.{Goes, Stops}
-use Rattle.machine_effects.specs.Machine.{Code, MachineBoard, MachineOutcome, exec, undisturbed, is_exposed, breaks_rules, astray, step_with, is_prepared}
+use Rattle.machine_effects.specs.Going.{Goes}
+use Rattle.machine_effects.specs.Machine.{Code, MachineBoard, exec, is_exposed, breaks_rules, step_with, is_prepared}
 use Rattle.machine_effects.specs.Machine.{keeps_stack, in_stack}
-use Rattle.code_forms.proofs.Interface.{code_stays_open}
+use Rattle.code_forms.proofs.Interface.{goes_kept, code_stays_open}
 use Rattle.program_view.specs.Laws.{KeepsItsStack}
-
-goes_by : (events b : Bool) (i : Option Instr) (s t u : MachineBoard) (es fs : List Effect) (c d : ℕ) → is_exposed events i s t ≡ b
-    → ◌≡◌ {A = MachineOutcome} (if b then Stops [] 0 (astray s) else Goes es c t) (Goes fs d u) → is_exposed events i s u ≡ false
-goes_by events true i s t u es fs c d e h = absurd cc
-goes_by events false i s t u es fs c d e h = let same : t ≡ u = cc in ap (λ v. is_exposed events i s v) (sym same) ∙ e
-
-goes_kept : (events : Bool) (i : Option Instr) (s u : MachineBoard) (o : MachineOutcome) (fs : List Effect) (d : ℕ)
-    → undisturbed events i s o ≡ Goes fs d u → is_exposed events i s u ≡ false
-goes_kept events i s u (Goes es c t) fs d h = goes_by events (is_exposed events i s t) i s t u es fs c d refl h
-goes_kept events i s u (Stops es price e) fs d h = absurd cc
 
 stack_by : (a b k p : Bool) → (if a then not (if b then k else p) else b) ≡ false → a ≡ true → b ≡ true → k ≡ true
 stack_by true true true p h e f = refl

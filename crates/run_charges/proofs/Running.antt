@@ -32,11 +32,13 @@ use Rattle.machine_effects.specs.Machine.{Code, MachineBoard, MachineOutcome, Ma
 use Rattle.machine_effects.specs.Machine.{step_with, undisturbed, exec, fram_of}
 use Rattle.machine_effects.specs.Machine.{machine_bus, machine_opened, word_in, is_prepared, in_stack}
 use Rattle.machine_effects.specs.View.{machine_with, IsWhole, IsOfWords, looks_at, seen_at_pc, IsBusFault}
-use Rattle.machine_effects.specs.Laws.{KeepsTheHandler, ChangesByEffects}
+use Rattle.machine_effects.specs.Laws.{KeepsTheHandler}
+use Rattle.machine_effects.specs.Changes.{ChangesByEffects}
 use Rattle.machine_effects.specs.Runs.{action_cycles}
 use Rattle.machine_effects.proofs.Interface.{each_store-front, each_store-back, machine_is_of_words, seen_by_words, current_on, stopped_to_machine}
 use Rattle.machine_effects.proofs.Interface.{code_keeps_the_handler}
-use Rattle.machine_effects.proofs.Interface.{code_changes_by_effects, told_heard}
+use Rattle.fram_board.proofs.Interface.{told_heard}
+use Rattle.machine_effects.proofs.Interface.{code_changes_by_effects}
 use Rattle.event_handler.specs.Handler.{Stage, SaveR4, HasHandler, handler_length, instruction_at}
 use Rattle.event_handler.specs.Boundaries.{IsInterrupted, IsInHandler, IsBehind, next_stage, heard_at, cycles_left, instructions_left}
 use Rattle.program_view.specs.View.{steady, is_handlers_step}
@@ -264,7 +266,8 @@ module _ (on : PlacedProgram) where
   -- whose the next step is, of a machine of which so many cycles and steps are the handler's yet
   pub data Turn (b : BoardValue) (more : List Look) (u : MachineBoard) (due left waits : ℕ) (stage : Option (BoardValue × Stage)) : NextStep → Type 0 where
     IsAcceptance : waits ≡ 0 → stage ≡ None → Begins b u → Turn b more u due left waits stage next_step.Acceptance
-    IsHandlers : (from : BoardValue) (at : Stage) → stage ≡ Some (from, at) → due ≡ cycles_left at → left ≡ instructions_left at → waits ≡ waiting_at at → GoesOn b u from at
+    IsHandlers : (from : BoardValue) (at : Stage) → stage ≡ Some (from, at) → due ≡ cycles_left at → left ≡ instructions_left at → waits ≡ waiting_at at
+        → GoesOn b u from at
         → Turn b more u due left waits stage (next_step.Instruction (instruction_at at))
     IsProgram : waits ≡ 0 → stage ≡ None → (i : Instr) → IsNextInstruction b i → Shows b u → IsCode b u i → DoesAlike b u i more
         → Turn b more u due left waits stage (next_step.Instruction i)
@@ -328,7 +331,8 @@ module _ (on : PlacedProgram) where
         let no : true ≡ false = sym e ∙ (handlers_go_on b u from at shows interrupted inside).none in absurd cc
 
     -- whose the next step is
-    pub turn : (n : NextStep) → IsNextStep b n → (x : Machine b (looks_of b n ++ more)) → Turn b more x.u (cycles_due x.stands) (steps_due x.stands) (waiting x.stands) (stage_of x.stands) n
+    pub turn : (n : NextStep) → IsNextStep b n → (x : Machine b (looks_of b n ++ more))
+        → Turn b more x.u (cycles_due x.stands) (steps_due x.stands) (waiting x.stands) (stage_of x.stands) n
     turn n next x = by n next x x.stands
       where
         by : (n : NextStep) → IsNextStep b n → (x : Machine b (looks_of b n ++ more)) → (st : StandsAs b x.u)
@@ -449,7 +453,8 @@ module _ (on : PlacedProgram) where
     abbrev m : Moment
     m = moment_of b (next_step.Instruction i) done
 
-    program_leads : (x : Machine b (outside_looks m ++ more)) → waiting x.stands ≡ 0 → stage_of x.stands ≡ None → IsCode b x.u i → DoesAlike b x.u i more → Leads b m more x
+    program_leads : (x : Machine b (outside_looks m ++ more)) → waiting x.stands ≡ 0 → stage_of x.stands ≡ None → IsCode b x.u i → DoesAlike b x.u i more
+        → Leads b m more x
     program_leads x free none c alike =
         let made = alike.made done answer in
         let fs : List Effect = look_effects (looks_at b i) ++ effects_of b (executed b i) in

@@ -1,18 +1,16 @@
 -- A charge that is spent is spent by the program too, but for what the handler took.
 use Rattle.std.proofs.Common.{◌≡◌, ℕ, suc, ◌+◌, ◌-◌, ◌*◌, ◌≤◌, ◌<◌, ◌⊎◌, refl, sym, ap, ◌∙◌, subst, arith, inl, inr, ⊎_elim, List, [], ◌∷◌, ◌++◌}
-use Rattle.std.proofs.Common.{if◌then◌else◌, Bool, true, false, not, Option, Some, None, Ok, Err}
+use Rattle.std.proofs.Common.{if◌then◌else◌, Bool, true, false, Option, Some, None}
 use Rattle.msp_isa.specs.declared.instructions.Instr.{Instr}
 use Rattle.msp_cycles.specs.Cycles.{cycles_of}
-use Rattle.msp_step.specs.declared.machine.Stop.{Stop}
 use Rattle.msp_step.specs.Registers.{Registers, registers_of}
 use Rattle.msp_step.specs.Access.{Access, Completed, Faulted}
 use Rattle.msp_step.specs.Effect.{Written}
-use Rattle.msp_step.specs.Step.{Outcome, effect, return_place, status_place}
+use Rattle.msp_step.specs.Step.{effect}
+use Rattle.fram_board.proofs.Interface.{performed_cycles}
 use Rattle.fram_board.specs.declared.board.NextStep.{NextStep}
 use Rattle.fram_board.specs.declared.board.NextStep.TheVariants as next_step
-use Rattle.fram_board.specs.declared.board.Stepped.{Stepped}
-use Rattle.fram_board.specs.Bus.{BusState, is_word, with_word}
-use Rattle.fram_board.specs.Board.{BoardValue, powered, opened, answer_of, acceptance, acceptance_made, acceptance_refused, performed, at_boundary}
+use Rattle.fram_board.specs.Board.{BoardValue, powered, opened, performed, at_boundary}
 use Rattle.fram_board.specs.Board.{step_cycles, is_accepting, IsNextStep}
 use Rattle.fram_board.specs.Steps.{IsPowerState}
 use Rattle.fram_board.specs.Run.{Cycles, Instructions, Moment, moment_of, Charges, RunOutcome, run_outcome, BoardCharge}
@@ -77,37 +75,6 @@ too_dear : (left n : ℕ) (o : MachineOutcome) → IsPriced n o → left < n →
 too_dear left n (Goes es c t) h l = inr (omega (arith, h, l))
 too_dear left n (Stops es price e) h l = inr (omega (arith, h, l))
 
--- a step takes its cycles
-answer_cycles : (b : BoardValue) (s : BusState) (c : ℕ) (w : Option ℕ) (done : Stepped)
-    → answer_of b s (Ok (record { cycles = c; wrote = w })) ≡ Ok done → done.cycles ≡ c
-answer_cycles b s c w done e = cc
-
-refused_answer : (b : BoardValue) (s : BusState) (e : Stop) (done : Stepped) → answer_of b s (Err e) ≡ Ok done → ⊥
-refused_answer b s e done h = cc
-
--- an acceptance takes six
-module _ (b : BoardValue) (done : Stepped) where
-  abbrev accepting : Bool → Bool → Outcome BusState
-  accepting p q =
-      let r = registers_of b.cpu in
-      let s = opened b in
-      if p then acceptance_refused r s (return_place r)
-      else if q then acceptance_refused r s (status_place r)
-      else acceptance_made r (with_word (with_word s (return_place r) (r 0)) (status_place r) (r 2))
-
-  accepting_cycles : (p q : Bool) → answer_of b (accepting p q).bus (accepting p q).answer ≡ Ok done → done.cycles ≡ 6
-  accepting_cycles true q h = absurd (refused_answer b (accepting true q).bus _ done h)
-  accepting_cycles false true h = absurd (refused_answer b (accepting false true).bus _ done h)
-  accepting_cycles false false h = answer_cycles b (accepting false false).bus 6 _ done h
-
-acceptance_cycles : (b : BoardValue) (done : Stepped) → (acceptance b).answer ≡ Ok done → done.cycles ≡ 6
-acceptance_cycles b done e =
-    let r = registers_of b.cpu in accepting_cycles b done (not (is_word (return_place r))) (not (is_word (status_place r))) e
-
-made_cycles : (b : BoardValue) (n : NextStep) (done : Stepped) → (performed b n).answer ≡ Ok done → done.cycles ≡ step_cycles n
-made_cycles b next_step.Acceptance done e = acceptance_cycles b done e
-made_cycles b (next_step.Instruction i) done e = told_cycles b i done e
-
 -- all cycles and steps are the program's or the handler's
 both_cycles : (c : Bool) (n p h : ℕ) → (if c then p else n + p) + (if c then n + h else h) ≡ n + (p + h)
 both_cycles true n p h = omega arith
@@ -140,7 +107,7 @@ charge_used left b r (NoInstruction _ _ x pos h) e = absurd cc
 charge_used left b r (TooDear _ _ n pos c dear) e = record { within = omega arith; used = inr (n, c, omega (arith, dear)) }
 charge_used left b r (Refused _ _ n x pos c paid a) e = absurd cc
 charge_used left b r (Executed _ _ n done rest pos c paid a h) e =
-    uses_more left (step_cycles n) (moment_of b n done) rest.moments rest.board (made_cycles b n done a) paid
+    uses_more left (step_cycles n) (moment_of b n done) rest.moments rest.board (performed_cycles b n done a) paid
     (charge_used (left - step_cycles n) (at_boundary (performed b n).board) rest h e)
 
 -- a charge of instructions that is spent has as many steps

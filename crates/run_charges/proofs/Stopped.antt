@@ -18,7 +18,7 @@ use Rattle.machine_effects.proofs.Interface.{takes, left_of}
 use Rattle.crash_rules.specs.Model.{IsElsewhere, Marks, words_stored, answers_at, answers_in}
 use Rattle.crash_rules.specs.History.{History, observe, behind_boot}
 use Rattle.crash_rules.specs.Runs.{IsPoweredFrom}
-use Rattle.crash_rules.proofs.Interface.{observe-append, observe_quiet, with_effects, goes_on}
+use Rattle.crash_rules.proofs.Interface.{takes_store_none, observe-append, observe_quiet, with_effects, goes_on}
 use Rattle.run_charges.specs.View.{looks_in, all_outside_effects}
 use Rattle.run_charges.specs.Moments.{AreMoments}
 use Rattle.run_charges.specs.Charges.{ArePowerStates, AreInstructionMoments, observed, program_steps, program_cycles}
@@ -48,10 +48,6 @@ seen_elsewhere gate [] ws = takes_elsewhere gate ws
 seen_elsewhere gate (look ∷ more) ws = (tt, takes_elsewhere gate ws)
 
 -- they store nothing
-takes_store_none : (a : ℕ) (ws : List ℕ) → words_stored a (takes ws) ≡ []
-takes_store_none a [] = refl
-takes_store_none a (w ∷ ws) = takes_store_none a ws
-
 seen_stores_none : (answer : Option ℕ) (looks : List Look) (ws : List ℕ) → answers_at answer (looks_and_takes looks ws) ≡ []
 seen_stores_none None looks ws = refl
 seen_stores_none (Some a) [] ws = takes_store_none a ws

@@ -152,7 +152,8 @@ module _ (code : Code) (tidy : IsTidy code) where
 
   -- from the dispatch to the code of the task that CUR names
   pub to_task : (m : MemoryMap) (p q : ℕ) (ss : List Rung) (s : Rung) (d : Deed) (u : Core) → HasLadder code m p q ss → IsAt p d.memory d.inputs u
-      → d.memory (word_place m CurrentTask) < length ss → rung_in ss (d.memory (word_place m CurrentTask)) ≡ s → Does code (stack_origin m.runtime.events) s.body d
+      → d.memory (word_place m CurrentTask) < length ss → rung_in ss (d.memory (word_place m CurrentTask)) ≡ s
+      → Does code (stack_origin m.runtime.events) s.body d
       → Comes code d.effects (6 + (d.steps + if_any (length s.body) 1)) (12 + (d.cycles + if_any (length s.body) 3)) u
       (Entered (stack_origin m.runtime.events) d s.code)
   to_task m p q ss s d u h at named is does =

@@ -1,52 +1,29 @@
 -- The answers that are read off the moments of a run are those that its effects store to ANS.
-use Rattle.std.proofs.Common.{◌≡◌, ◌==◌, ◌+◌, ◌-◌, ◌≤◌, ◌<◌, ◌/◌, ◌%◌, ℕ, refl, sym, ap, ap₂, ◌∙◌, subst, arith, Bool, true, false, cond, if◌then◌else◌}
-use Rattle.std.proofs.Common.{List, [], ◌∷◌, ◌++◌, append-nil, slice_index, eqb-true, ne_eqb, nat_lt, nat_le, ◌&&◌, Option, Some, None, IfSome, Ok}
+use Rattle.std.proofs.Common.{◌≡◌, ◌==◌, ◌+◌, ◌-◌, ◌≤◌, ◌<◌, ◌%◌, ℕ, refl, sym, ap, ap₂, ◌∙◌, subst, arith, Bool, true, false, cond, if◌then◌else◌}
+use Rattle.std.proofs.Common.{List, [], ◌∷◌, ◌++◌, append-nil, slice_index, eqb-true, ne_eqb, Option, Some, None, IfSome, Ok}
 use Rattle.std.proofs.lemmas.Bool.Decides.{nat_tests}
 use Rattle.image_map.specs.declared.parts.RingPlaces.{RingPlaces}
-use Rattle.image_map.specs.MapValue.{MapValue, IsFramWord, IsRing}
+use Rattle.image_map.specs.MapValue.{IsFramWord}
 use Rattle.fram_board.specs.image_text.ImageValue.{place_of}
 use Rattle.fram_board.specs.declared.board.Stepped.{Stepped}
 use Rattle.fram_board.specs.Bus.{is_fram}
 use Rattle.fram_board.specs.Board.{BoardValue}
-use Rattle.fram_board.specs.Effects.{Effect, Store, Take, Outside, store_at, sends_of, takes_of, effects_of}
-use Rattle.fram_board.specs.Run.{StepKind, Accepting, Returning, Plain, Action, PowerUp, Execute, Moment, moment_of, power_up_of}
+use Rattle.fram_board.specs.Effects.{Effect, Store, Take, Outside, store_at, sends_of}
+use Rattle.fram_board.specs.Run.{StepKind, Accepting, Returning, Plain, Moment}
 use Rattle.board_run.specs.History.{word_in}
 use Rattle.machine_effects.specs.event_places.Places.{handler_place}
 use Rattle.machine_effects.specs.World.{EachStore}
 use Rattle.machine_effects.specs.Inputs.{Look, look_effects}
 use Rattle.machine_effects.specs.Runs.{step_effects}
-use Rattle.machine_effects.specs.View.{IsWhole, IsOfWords, seen_at_pc}
+use Rattle.machine_effects.specs.View.{seen_at_pc}
 use Rattle.machine_effects.proofs.Interface.{takes}
-use Rattle.crash_rules.specs.Model.{Marks, words_stored, answers_at, answers_in}
+use Rattle.crash_rules.specs.Model.{words_stored, answers_at}
+use Rattle.crash_rules.proofs.Interface.{stored-append, takes_store_none}
 use Rattle.run_charges.specs.View.{is_handlers, outside_effects}
 use Rattle.run_charges.specs.Moments.{IsMomentFrom, PowersUp, Instructs, Serves, stored_by}
 use Rattle.run_charges.proofs.Interface.{stepped, step_is_programs}
 use Rattle.model_runs.specs.Events.{answer_in}
 use Rattle.source_runs.specs.Tells.{written_at, answer_by}
-
--- ---- the words stored at an address
-
-stored_behind : (is : Bool) (w : ℕ) (es fs all : List ℕ) → all ≡ es ++ fs → cond is (w ∷ all) all ≡ cond is (w ∷ es) es ++ fs
-stored_behind true w es fs all e = ap (λ ws. w ∷ ws) e
-stored_behind false w es fs all e = e
-
-stored-append : (a : ℕ) (es fs : List Effect) → words_stored a (es ++ fs) ≡ words_stored a es ++ words_stored a fs
-stored-append a [] fs = refl
-stored-append a (Store b w ∷ es) fs =
-    stored_behind (b == a) w (words_stored a es) (words_stored a fs) (words_stored a (es ++ fs)) (stored-append a es fs)
-stored-append a (Take w ∷ es) fs = stored-append a es fs
-stored-append a (Outside o ∷ es) fs = stored-append a es fs
-
-answered-append : (answer : Option ℕ) (es fs : List Effect) → answers_at answer (es ++ fs) ≡ answers_at answer es ++ answers_at answer fs
-answered-append None es fs = refl
-answered-append (Some a) es fs = stored-append a es fs
-
-pub answers-append : (marks : Marks) (es fs : List Effect) → answers_in marks (es ++ fs) ≡ answers_in marks es ++ answers_in marks fs
-answers-append marks es fs = answered-append marks.answer es fs
-
-takes_store_none : (a : ℕ) (ws : List ℕ) → words_stored a (takes ws) ≡ []
-takes_store_none a [] = refl
-takes_store_none a (w ∷ ws) = takes_store_none a ws
 
 sends_store_none : (a number : ℕ) (o : Option ℕ) → words_stored a (sends_of number o) ≡ []
 sends_store_none a number None = refl
@@ -127,7 +104,8 @@ module _ (ring : RingPlaces) (answer : IsAnswer ring) where
   -- or the handler's
   said_by : (handlers : Bool) (kind : StepKind) (b after : BoardValue) (done : Stepped) (offered : Option ℕ)
       → (kind ≡ Accepting → handlers ≡ true) → (handlers ≡ true → EachStore (λ a w. handler_place ≤ a) (store_at done.wrote after.fram))
-      → words_stored ring.answer (if handlers then [] else look_effects (seen_at_pc b) ++ step_effects kind b (record { answer = Ok done; offered = offered; board = after }))
+      → words_stored ring.answer (if handlers then [] else look_effects (seen_at_pc b) ++ step_effects kind b
+      (record { answer = Ok done; offered = offered; board = after }))
       ≡ written_at ring.answer done.wrote after.fram
   said_by true kind b after done offered is off =
       sym (stores_elsewhere ring.answer handler_place (store_at done.wrote after.fram) answer.front (off refl))

@@ -95,7 +95,8 @@ event_ordered marks before now h is b = by_done (is_done before now) refl
     by_done true e =
         let p = b.pending (was_one before now e) in
         record {
-          dones = one_more 0 h.completed (record { span_from = h.span_from; span_to = h.span_to; answers = h.answers; world = h.world }) h.taken p.behind p.onward p.taken;
+          dones = one_more 0 h.completed (record { span_from = h.span_from; span_to = h.span_to; answers = h.answers; world = h.world }) h.taken p.behind
+              p.onward p.taken;
           since = omega arith;
           pending = λ one. absurd (is_none before now e (omega (arith, is, one)));
         }

@@ -19,7 +19,7 @@ use Rattle.machine_effects.specs.Runs.{last_board}
 use Rattle.crash_rules.specs.Model.{Marks, answers_at, answers_in}
 use Rattle.crash_rules.specs.History.{Done, History, is_decide, behind_decide, behind_done, behind_gate, first_history}
 use Rattle.crash_rules.specs.Laws.{TaskCosts}
-use Rattle.crash_rules.proofs.Interface.{with_effects}
+use Rattle.crash_rules.proofs.Interface.{with_effects, answers-append}
 use Rattle.run_charges.specs.View.{outside_effects}
 use Rattle.run_charges.specs.Moments.{IsMomentFrom, AreMoments}
 use Rattle.run_charges.specs.Charges.{behind_moment, observed}
@@ -33,7 +33,7 @@ use Rattle.model_runs.specs.Runs as model
 use Rattle.model_runs.specs.Runs.{no_delay, arisen_between, Progresses}
 use Rattle.source_runs.specs.Tells.{Answers, no_answers, answer_by, answers_gated, answers_behind, answers_after, CommittedAttempt, attempts_by, attempts_of}
 use Rattle.source_runs.specs.Tells.{at_first, cost_due, PaysFor, EachChargePays, AllSpent, SpentOne, StoppedIn}
-use Rattle.source_runs.proofs.Answers.{IsAnswer, answers-append, answers_said}
+use Rattle.source_runs.proofs.Answers.{IsAnswer, answers_said}
 use Rattle.source_runs.proofs.Costs.{task_costs, less_than_read}
 
 -- an attempt, or none

@@ -331,7 +331,8 @@ module _ (text : List ℕ) (program : CheckedProgram) (m : MapValue) (model : Mo
         → IsToldBehind text program m t to cs b r (report_of (start_with b.fram (Some m)) b.line.coming r)
     told_pending s to t bears has = by_dones (events_of m x r).completed refl
       where
-        by_dones : (ds : List Done) → (events_of m x r).completed ≡ ds → IsToldBehind text program m t to cs b r (report_of (start_with b.fram (Some m)) b.line.coming r)
+        by_dones : (ds : List Done) → (events_of m x r).completed ≡ ds
+            → IsToldBehind text program m t to cs b r (report_of (start_with b.fram (Some m)) b.line.coming r)
         by_dones [] e = CommitUndone (told_undone to bears e)
         by_dones (d ∷ ds) e = CommitDone (told_done s to t bears has d ds e)
 

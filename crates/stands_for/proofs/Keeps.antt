@@ -46,7 +46,8 @@ reads_alike l x y apart same =
     record {
       gate = same (word_place m Gate) (λ h. omega (arith, apart, h)) (λ e. omega (arith, apart, e)) (λ e. omega (arith, e)) (λ e. omega (arith, e));
       next_task = same (word_place m NextTask) (λ h. omega (arith, apart, h)) (λ e. omega (arith, apart, e)) (λ e. omega (arith, e)) (λ e. omega (arith, e));
-      list_length = same (word_place m ListLength) (λ h. omega (arith, apart, h)) (λ e. omega (arith, apart, e)) (λ e. omega (arith, e)) (λ e. omega (arith, e));
+      list_length = same (word_place m ListLength) (λ h. omega (arith, apart, h)) (λ e. omega (arith, apart, e)) (λ e. omega (arith, e))
+          (λ e. omega (arith, e));
       emit_count = same (word_place m EmitCount) (λ h. omega (arith, apart, h)) (λ e. omega (arith, apart, e)) (λ e. omega (arith, e)) (λ e. omega (arith, e));
       sent_base = same (word_place m SentBase) (λ h. omega (arith, apart, h)) (λ e. omega (arith, apart, e)) (λ e. omega (arith, e)) (λ e. omega (arith, e));
       sent_tail = same sent_place (λ h. omega (arith, apart, h)) (λ e. omega (arith, e)) (λ e. omega (arith, apart, e)) (λ e. omega (arith, apart, e));

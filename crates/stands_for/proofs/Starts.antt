@@ -112,7 +112,12 @@ module _ {St : Type 0} (l : ProgramPlaces) (apart : AreApart l.map) (v : StateVi
         (λ q. omega (arith, apart, q)) in
         let u2 : UndecidedAt l v s y =
         store_keeps x a 0 (omega arith)
-        (record { shared = λ h. omega (arith, apart, h, e); current = λ q. omega (arith, apart, q); gate = λ q. omega (arith, apart, q); base = λ q. omega (arith, apart, q) })
+        (record {
+          shared = λ h. omega (arith, apart, h, e);
+          current = λ q. omega (arith, apart, q);
+          gate = λ q. omega (arith, apart, q);
+          base = λ q. omega (arith, apart, q);
+        })
         (λ i h. ⊎_elim {C = put x.fram a 0 (l.map.versions.address + 2 * i) ≤ put x.fram a 0 (word_place l.map Version)}
         (λ p. let p1 = p.1 in omega (arith, p1))
         (λ p. let p1 = p.1 in let k = u.is_open.versions i h in omega (arith, p1, ver, k)) (put_either x.fram a 0 (l.map.versions.address + 2 * i))) u in
@@ -151,7 +156,12 @@ module _ {St : Type 0} (l : ProgramPlaces) (apart : AreApart l.map) (v : StateVi
         → let es = where_events events (Store count_place 0 ∷ []) in HoldsThroughout (UndecidedAt l v s) es x × Opened (world_after es x)
     count_through true x o =
         let o2 = opened_still x count_place 0 (omega arith)
-        (record { shared = λ h. omega (arith, apart, h); current = λ q. omega (arith, apart, q); gate = λ q. omega (arith, apart, q); base = λ q. omega (arith, apart, q) })
+        (record {
+          shared = λ h. omega (arith, apart, h);
+          current = λ q. omega (arith, apart, q);
+          gate = λ q. omega (arith, apart, q);
+          base = λ q. omega (arith, apart, q);
+        })
         (omega (arith, apart)) o in
         ((o.undecided, o2.undecided), o2)
     count_through false x o = (o.undecided, o)
@@ -162,7 +172,12 @@ module _ {St : Type 0} (l : ProgramPlaces) (apart : AreApart l.map) (v : StateVi
     reset_keeps x u z =
         let m = l.map in
         store_keeps x (word_place m Version) 0 (omega arith)
-        (record { shared = λ h. omega (arith, apart, h); current = λ q. omega (arith, apart, q); gate = λ q. omega (arith, apart, q); base = λ q. omega (arith, apart, q) })
+        (record {
+          shared = λ h. omega (arith, apart, h);
+          current = λ q. omega (arith, apart, q);
+          gate = λ q. omega (arith, apart, q);
+          base = λ q. omega (arith, apart, q);
+        })
         (λ i h. let k = put_other x.fram (word_place m Version) 0 (m.versions.address + 2 * i) (λ q. omega (arith, apart, q)) in
         let e = z i h in omega (arith, k, e)) u
 
@@ -204,13 +219,28 @@ module _ {St : Type 0} (l : ProgramPlaces) (apart : AreApart l.map) (v : StateVi
         λ i h. let same = put_other x.fram (word_place m Version) w (m.versions.address + 2 * i) (λ q. omega (arith, apart, q)) in
         let most = u.is_open.versions i h in omega (arith, same, most) in
         let u1 = store_keeps x (word_place m Version) w (omega arith)
-        (record { shared = λ h. omega (arith, apart, h); current = λ q. omega (arith, apart, q); gate = λ q. omega (arith, apart, q); base = λ q. omega (arith, apart, q) })
+        (record {
+          shared = λ h. omega (arith, apart, h);
+          current = λ q. omega (arith, apart, q);
+          gate = λ q. omega (arith, apart, q);
+          base = λ q. omega (arith, apart, q);
+        })
         (λ i h. let k = z1 i h in omega (arith, k, v1)) u in
         let u2 = scratch x1 (word_place m ListLength) 0 (omega arith)
-        (record { shared = λ h. omega (arith, apart, h); current = λ q. omega (arith, apart, q); gate = λ q. omega (arith, apart, q); base = λ q. omega (arith, apart, q) })
+        (record {
+          shared = λ h. omega (arith, apart, h);
+          current = λ q. omega (arith, apart, q);
+          gate = λ q. omega (arith, apart, q);
+          base = λ q. omega (arith, apart, q);
+        })
         (λ q. omega (arith, apart, q)) (λ i h q. omega (arith, apart, q)) u1 in
         let u3 = scratch x2 (word_place m EmitCount) 0 (omega arith)
-        (record { shared = λ h. omega (arith, apart, h); current = λ q. omega (arith, apart, q); gate = λ q. omega (arith, apart, q); base = λ q. omega (arith, apart, q) })
+        (record {
+          shared = λ h. omega (arith, apart, h);
+          current = λ q. omega (arith, apart, q);
+          gate = λ q. omega (arith, apart, q);
+          base = λ q. omega (arith, apart, q);
+        })
         (λ q. omega (arith, apart, q)) (λ i h q. omega (arith, apart, q)) u2 in
         let same : (a : ℕ) → (a ≡ word_place m ListLength → ⊥) → (a ≡ word_place m EmitCount → ⊥) → x3.fram a ≡ x1.fram a =
         λ a p q. put_other x2.fram (word_place m EmitCount) 0 a q
@@ -259,7 +289,12 @@ module _ {St : Type 0} (l : ProgramPlaces) (apart : AreApart l.map) (v : StateVi
         let y = world_after_one (Store a w) x in
         let value : w ≡ v.word s p.home = ⊎_elim {C = w ≡ v.word s p.home} (λ f. absurd (cc (f, fixed))) (λ e. e) (o.undecided.shared p.home home) in
         let o2 : Opened y = opened_still x a w (o.undecided.is_open.words p.home)
-        (record { shared = λ h. omega (arith, apart, h, place); current = λ q. omega (arith, apart, q, place); gate = λ q. omega (arith, apart, q, place); base = λ q. omega (arith, apart, q, place) })
+        (record {
+          shared = λ h. omega (arith, apart, h, place);
+          current = λ q. omega (arith, apart, q, place);
+          gate = λ q. omega (arith, apart, q, place);
+          base = λ q. omega (arith, apart, q, place);
+        })
         (omega (arith, apart, place)) o in
         let r = copied_through ps y laid.4 o2 in (
           (o.undecided, r.0),

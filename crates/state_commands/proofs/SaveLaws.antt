@@ -30,7 +30,8 @@ use Rattle.plain_commands.proofs.Interface.{ends_well, ends_at_fault}
 -- ---- the run, to a sink that never fails
 
 ran_by : (s : State) (t : TraceValue) (old new : Option (List ℕ)) (end : Result RunEnd RunFault) (after : BoardValue) (now : History)
-    → IsRunOf (start_of s.image) (charges_of t.charges) t.events (from_state s t) old new end after now → HasWriteCause 0 0 end → RanFrom s t end after now.completed
+    → IsRunOf (start_of s.image) (charges_of t.charges) t.events (from_state s t) old new end after now → HasWriteCause 0 0 end
+    → RanFrom s t end after now.completed
 ran_by s t old new (Ok e) after now r cause =
     record { outcome = r.0; run = r.1; answer = r.2.answer; at_end = r.2.board; count = ap (λ h. h.completed) r.2.history }
 ran_by s t old new (Err (fault.Illegal pc word)) after now r cause =

@@ -1,6 +1,7 @@
 -- Elements of arrays, emits, and entries of the commit list.
 use Rattle.word_code.proofs.Names.{◌≡◌, ℕ, ◌+◌, ◌*◌, ◌%◌, ◌<◌, ◌==◌, not, List, [], ◌∷◌, ◌++◌, refl, sym, ap, ◌∙◌, subst, arith, Bool, true, false, ◌≤◌, nat_lt}
-use Rattle.word_code.proofs.Names.{nat_le, if◌then◌else◌, both_ways, nat_tests, word_sum, sum16, distance, Effect, Store, put, IsPlace, R4, R5, Core, Number, Constant}
+use Rattle.word_code.proofs.Names.{nat_le, if◌then◌else◌, both_ways, nat_tests, word_sum, sum16, distance, Effect, Store, put, IsPlace, R4, R5, Core, Number}
+use Rattle.word_code.proofs.Names.{Constant}
 use Rattle.word_code.proofs.Names.{ToRegister, ToIndexed, Form, Move, Calculate, Update, form_bytes, Stands, forms_bytes, Runs, stands_front, stands_back}
 use Rattle.word_code.proofs.Names.{forms_bytes-append, WordState, is_place, stored, word_emitted, entry_stored, number_source, check_code, zero_code}
 use Rattle.word_code.proofs.Names.{fetch_code, element_code, emit_code, pair_code, entry_code}

@@ -106,7 +106,8 @@ module _ (z : Setting) where
     flags : t.flags ≡ f
 
   -- an operation that writes no register leaves these flags
-  flags_part : (o : TwoOp) (x : Source) (b : WorkRegister) (c pc : ℕ) {l r : ℕ} {w : WordState} {t : Core} (f : Flags) → IsNotMov o × (writes_destination o ≡ false)
+  flags_part : (o : TwoOp) (x : Source) (b : WorkRegister) (c pc : ℕ) {l r : ℕ} {w : WordState} {t : Core} (f : Flags) → IsNotMov o
+      × (writes_destination o ≡ false)
       → source_cycles to_register (source_operand x) ≤ c
       → (let m = Calculate o x b in z.code.at pc ≡ Some (instruction_of m) → StandsFor z pc w t → IsRead z.code.events x b l r t t
       → flags_after (operated o Word l r t.flags).flags t.flags ≡ f → Runs z.code [] c t (HasFlags (pc + form_bytes m) w f))

@@ -131,7 +131,8 @@ module _ (z : Setting) where
           ((tail_fits, tt), ((tt, count_fits), ((tt, tt), ((tt, tt), ((tt, tt), ((tt, tt), ((slot_seen, tt), tt))))))),
           (refl, (refl, ap not equal, refl, (_, ((tt, answer_fits), tt), (refl, (refl, equal, refl, (_, ((tt, refl, tt, count_fits), tt), (refl, tt))))))),
         ) refl
-        refl (seen_is _ ∙ (λ k. seen (Store answer_place (same k) ∷ Store count_place (up k) ∷ []))) (λ k. put (put w.fram answer_place (same k)) count_place (up k)) refl
+        refl (seen_is _ ∙ (λ k. seen (Store answer_place (same k) ∷ Store count_place (up k) ∷ [])))
+        (λ k. put (put w.fram answer_place (same k)) count_place (up k)) refl
         (λ s. record { is = s; held = same })
 
     -- by whether the index is HEAD
@@ -156,7 +157,8 @@ module _ (z : Setting) where
       → StepDoes z [] os next_event 31 pc w u (event_pushed w.inputs.looks w)
   event_part os pc w u room small h d =
       does_behind z (flushed os) event_code (waiting.R4 ∷ []) 31 (31 + owed os) pc u (event_pushed w.inputs.looks w) (omega arith) h
-      (flush_part z os pc w u d) (λ t s k. answer_by (pc + forms_bytes (flushed os)) w t s k (event_index w.fram == first_look w.inputs.looks head_place) refl small room)
+      (flush_part z os pc w u d) (λ t s k. answer_by (pc + forms_bytes (flushed os)) w t s k (event_index w.fram == first_look w.inputs.looks head_place)
+      refl small room)
 
   -- the index of the next word is stored
   frozen_part : (pc : ℕ) (w : WordState) (t : Core) → Stands z.code pc freeze_code → StandsFor z pc w t

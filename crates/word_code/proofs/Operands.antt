@@ -15,6 +15,7 @@ use Rattle.word_code.proofs.Stretches.{two_parts, Setting, hop, dearer, nothing_
 use Rattle.word_code.proofs.Registers.{With, HasWord, Holds, Has, Flagged, line, no_borrow, equal_flag}
 use Rattle.word_code.proofs.Memory.{local_words, in_register, Memory, pop_memory, pop_needs, push_needs, push_memory}
 use Rattle.word_code.proofs.Follows.{StandsFor, stands_elsewhere, memory_as}
+pub use Rattle.word_code.specs.Code.{owed_by, owed}
 
 -- ---- what a word that waits is, and what it has paid for
 
@@ -44,18 +45,6 @@ IsThere most locals (waiting.Fram a) = IsPlace a
 IsThere most locals (waiting.Local n) = LocalIsThere most locals n
 IsThere most locals waiting.R4 = Unit {0}
 IsThere most locals waiting.R6 = Unit {0}
-
--- the cycles of its push, at most: they were spent when it came to wait
-abbrev pub owed_by : Waiting → ℕ
-owed_by (waiting.Number n) = 4
-owed_by (waiting.Fram a) = 5
-owed_by (waiting.Local n) = 5
-owed_by waiting.R4 = 3
-owed_by waiting.R6 = 3
-
-abbrev pub owed : List Waiting → ℕ
-owed [] = 0
-owed (o ∷ os) = owed os + owed_by o
 
 -- what holds of an immediate number and of the constants holds of a number as a source
 pick : (P : Source → Type 0) (b : Bool) (x y : Source) → (b ≡ true → P x) → P y → P (if b then x else y)

@@ -95,7 +95,8 @@ module _ (z : Setting) where
         → ((b ≡ 0 → ⊥) → (u : Core) → Factors a b next w u → Runs z.code [] (n * 9) u (Result a b next w)) → Runs z.code [] (2 + n * 9) t (Result a b next w)
     leave n a b next w t true e small j again =
         let nothing : next ≡ (next + a * b) % 0x10000 = sym (ap (λ q. (next + a * q) % 0x10000) (eqb-true b 0 e) ∙ no_more a next small) in
-        dearer z (omega arith) (route z p multiply_turn h 6 j.all.is j.all.held (jump false ∷ []) 2 _ (refl, ap not (j.flag ∙ e), refl, tt) refl refl (λ s. record { is = s; held = nothing }))
+        dearer z (omega arith) (route z p multiply_turn h 6 j.all.is j.all.held (jump false ∷ []) 2 _ (refl, ap not (j.flag ∙ e), refl, tt) refl refl
+        (λ s. record { is = s; held = nothing }))
     leave n a b next w t false e small j again =
         runs_on z (route z p multiply_turn h 6 j.all.is j.all.held (jump true ∷ []) 2 (Factors a b next w)
         (refl, ap not (j.flag ∙ e), refl, tt) refl refl

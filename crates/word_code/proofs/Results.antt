@@ -268,7 +268,8 @@ module _ (z : Setting) where
         λ v f. template (four_fetched os pc w i rest u e d) (in_four ms 10 v f) (15 + owed os) (omega arith) (omega (arith, load_owed os)) h in
         by_length (nat_lt i size) after end (15 + owed os) refl
         (λ no. gives 0 (λ p xs t s k. past_end z b base size p i (with_stack xs w) t (record { small = small; index = r; held = k }) s sure no))
-        (λ yes f. gives (w.fram (2 * i + base)) (λ p xs t s k. before_end z b base size p i (with_stack xs w) t (record { small = small; index = r; held = k }) s yes f))
+        (λ yes f. gives (w.fram (2 * i + base)) (λ p xs t s k. before_end z b base size p i (with_stack xs w) t
+        (record { small = small; index = r; held = k }) s yes f))
 
     -- an element at a number that waits
     known_by : (k : ℕ) (os : List Waiting) (pc : ℕ) → Describes z (waiting.Number k ∷ os) pc w u
@@ -343,7 +344,8 @@ module _ (z : Setting) where
     -- by whether the index is below the length
     read_by : (b : Bool) → nat_lt i place.length ≡ b → (let x : Behaviour = if b then own_element place list i (with_stack rest w) else goes_on []
         (with_stack (0 ∷ rest) w) in Does after_read read_end (23 + owed os) u x)
-    read_by false lt = read_gives 0 (λ p' xs t s k. past_read z sure place list p' i (with_stack xs w) t (record { small = small; stands = s; index = r; held = k }) is lt)
+    read_by false lt = read_gives 0 (λ p' xs t s k. past_read z sure place list p' i (with_stack xs w) t
+        (record { small = small; stands = s; index = r; held = k }) is lt)
     read_by true lt =
         let m = 2 * i + place.versions in
         reach_guarded z (is_place list.ver) (owed after_read) (Describes z after_read read_end) (23 + owed os) u _ (λ f.

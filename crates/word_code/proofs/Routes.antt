@@ -126,7 +126,8 @@ module _ (z : Setting) (p : ℕ) (all : List Form) (h : Stands z.code p all) whe
   leads (on n ∷ ls) j u v at needs e =
       let ms = take n (drop j all) in
       let there = ap forms_bytes (take-add j n all) ∙ forms_bytes-append (take j all) ms in
-      on_by (forms_run ms u).status n j (ending all (on n ∷ ls) j) (routed all p ls (j + n)) (λ t. (t.pc ≡ end_at u.pc ms) × RouteNeeds all z.code.events p ls (j + n) t)
+      on_by (forms_run ms u).status n j (ending all (on n ∷ ls) j) (routed all p ls (j + n))
+      (λ t. (t.pc ≡ end_at u.pc ms) × RouteNeeds all z.code.events p ls (j + n) t)
       at needs.0 needs.1 refl needs.2 (λ t more s. leads ls (j + n) t v (more.0 ∙ omega (arith, end_is u.pc ms, at, there)) more.1 s) e
   leads (jump b ∷ ls) j u v at needs e =
       let c = condition_of (drop j all) in
@@ -210,5 +211,6 @@ module _ (z : Setting) where
         → (StandsFor z (p + place all (ending all ls j)) w v → Q v) → Runs z.code [] c t Q)
     route ls c Q needs made kept q =
         let none : [] ≡ (routed all p ls j begun).effects = sym (ap (λ x. x.effects) made) in
-        store_route ls [] w.fram c Q needs (made ∙ (λ i. stretch (none i) c (At (end_of begun (routed all p ls j begun).status)))) (λ i. record (kept i) { fram = w.fram })
+        store_route ls [] w.fram c Q needs (made ∙ (λ i. stretch (none i) c (At (end_of begun (routed all p ls j begun).status))))
+        (λ i. record (kept i) { fram = w.fram })
         (sym none) (ap (λ x. x.fram) kept) q

@@ -20,7 +20,8 @@ pub record Setting : Type 0 where
 
 -- straight code comes to where its forms do
 module _ (z : Setting) (ms : List Form) (most : ℕ) (u t : Core) (es : List Effect) (c : ℕ) (P : Core → Type 0) where
-  pub straight : AreStraight ms → Stands z.code u.pc ms → FormsNeed z.code.events ms u → forms_run ms u ≡ stretch es c (At t) → c ≤ most → P t → Runs z.code es most u P
+  pub straight : AreStraight ms → Stands z.code u.pc ms → FormsNeed z.code.events ms u → forms_run ms u ≡ stretch es c (At t) → c ≤ most → P t
+      → Runs z.code es most u P
   straight st h w e l p = blocks.runs_within z.code z.tidy most (blocks.straight_comes z.code z.tidy ms u t es c P st h w e p) l
 
 -- one form, a jump too

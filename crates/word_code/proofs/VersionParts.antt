@@ -82,7 +82,8 @@ module _ (z : Setting) where
 
   -- a read, where its code stands, by whether the index is surely below the length
   pub past_read : (b : Bool) (place : ArrayPlace) (list : ListPlace) (pc i : ℕ) (w : WordState) (t : Core) → Reading b place list pc i w t
-      → (b ≡ true → nat_lt i place.length ≡ true) → nat_lt i place.length ≡ false → Runs z.code [] 18 t (Has z R4 (pc + forms_bytes (read_code b place list)) w 0)
+      → (b ≡ true → nat_lt i place.length ≡ true) → nat_lt i place.length ≡ false
+      → Runs z.code [] 18 t (Has z R4 (pc + forms_bytes (read_code b place list)) w 0)
   past_read true place list pc i w t r sure below = absurd (both_ways (nat_lt i place.length) below (sure refl))
   past_read false place list pc i w t r sure below =
       let ms = own_code 4 place list in

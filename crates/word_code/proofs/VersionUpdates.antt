@@ -91,7 +91,8 @@ module _ (z : Setting) (o : PlainOperation) (x : Source) (r : ℕ) (reads : sour
       let last = Move (Register R7) (ToIndexed R4 place.copies) ∷ [] in
       let mid = pc + 4 + form_bytes m in
       let there : mid + 4 ≡ pc + forms_bytes (made_code o x from place.copies) = omega arith in
-      let fetched = route z pc fetch (h.0, tt) 0 (starts z k.is) (k.held.four, refl, refl, refl) (on 1 ∷ []) 3 (Holds z (Fetched w (2 * i) v (w.fram a)) (pc + 4) w)
+      let fetched = route z pc fetch (h.0, tt) 0 (starts z k.is) (k.held.four, refl, refl, refl) (on 1 ∷ []) 3
+      (Holds z (Fetched w (2 * i) v (w.fram a)) (pc + 4) w)
       (_, ((ff, tt), tt), (refl, tt)) refl refl
       (λ s. record { is = s; held = record { aims = record { four = refl; gives = k.held.gives }; seven = refl } }) in
       let kept : (u : Core) → Holds z (Made (2 * i) y) mid w u → Runs z.code (Store c y ∷ []) 4 u (Has z R4 (mid + 4) (stored c y w) (2 * i)) =
@@ -248,7 +249,8 @@ module _ (z : Setting) (o : PlainOperation) (x : Source) (r : ℕ) (reads : sour
         ends_at z mid inside_end (77 + r) t b there (more_cycles z mid (7 + (2 + (68 + r))) (77 + r) t b.effects b.end (omega arith)
         (then_end z mid (2 + (68 + r)) b.effects b.end (looked false e) (λ u j.
         first_way (pc + 10) made afresh ways made_few first_few (68 + r) (2 * i) v w u b j (λ q hs a.
-        first_part (pc + 10 + 2 + forms_bytes (made ++ Jump condition.Always (size afresh) ∷ [])) i v w q (record { words = wl; number = fv; version = fm }) lv (place_is f g) (place_is c g') hs a))))))
+        first_part (pc + 10 + 2 + forms_bytes (made ++ Jump condition.Always (size afresh) ∷ [])) i v w q (record { words = wl; number = fv; version = fm })
+        lv (place_is f g) (place_is c g') hs a))))))
 
   -- where the index is below the length
   pub inside_part : (pc i v : ℕ) (w : WordState) (t : Core) → HoldsWords w.fram → v < 0x10000 → Stands z.code pc (inside_update o x place list)

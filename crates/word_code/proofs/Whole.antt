@@ -100,11 +100,13 @@ pub record Known (words locals loops spared : Type 0) : Type 0 where
   pub spares : spared
 
 -- of one part, and of the other, where it is known of both
-pub known_first : {A B C D E F : Type 0} (S T : ℕ → Type 0) (bs : List Bound) → Known (A × B) (C × D) (E × F) (Spared bs (λ n. S n × T n)) → Known A C E (Spared bs S)
+pub known_first : {A B C D E F : Type 0} (S T : ℕ → Type 0) (bs : List Bound) → Known (A × B) (C × D) (E × F) (Spared bs (λ n. S n × T n))
+    → Known A C E (Spared bs S)
 known_first S T bs k =
     record { of_words = k.of_words.0; below = k.below.0; count = k.count.0; spares = spared_so bs (λ n. S n × T n) S (λ n q. q.0) k.spares }
 
-pub known_second : {A B C D E F : Type 0} (S T : ℕ → Type 0) (bs : List Bound) → Known (A × B) (C × D) (E × F) (Spared bs (λ n. S n × T n)) → Known B D F (Spared bs T)
+pub known_second : {A B C D E F : Type 0} (S T : ℕ → Type 0) (bs : List Bound) → Known (A × B) (C × D) (E × F) (Spared bs (λ n. S n × T n))
+    → Known B D F (Spared bs T)
 known_second S T bs k =
     record { of_words = k.of_words.1; below = k.below.1; count = k.count.1; spares = spared_so bs (λ n. S n × T n) T (λ n q. q.1) k.spares }
 
@@ -172,7 +174,8 @@ module _ (z : Setting) where
     by_top : (os : List Waiting) (pc : ℕ) (w : WordState) (u : Core) (vs : List ℕ)
         → Forked z when d pc (holds_code os when d) ways.held.at ways.failed.at → Ready bs (Moves z.room 1 0 (λ r. ways.held.fits r × ways.failed.fits r)) w
         → w.stack ≡ vs
-        → Describes z os pc w u → Follows z ways.end (owed os + (8 + top_spent vs (λ v us. if is_true v then ways.held.cost (with_stack us w) else ways.failed.cost (with_stack us w)))) u
+        → Describes z os pc w u → Follows z ways.end
+        (owed os + (8 + top_spent vs (λ v us. if is_true v then ways.held.cost (with_stack us w) else ways.failed.cost (with_stack us w)))) u
         (with_top vs (λ v us. if is_true v then ways.held.does (with_stack us w) else ways.failed.does (with_stack us w)))
     by_top os pc w u [] k r e i = tt
     by_top os pc w u (v ∷ us) k r e i =
@@ -331,7 +334,8 @@ module _ (z : Setting) where
         let taken_spares = spared_so bs (λ m. StepSpares m (choose t taken otherwise)) (λ m. Spares m taken) (λ m k. k.1) known.spares in
         let taken_known : KnownProgram bs taken = record { of_words = known.of_words.1; below = known.below.1; count = known.count.1; spares = taken_spares } in
         let other_spares = spared_so bs (λ m. StepSpares m (choose t taken otherwise)) (λ m. Spares m otherwise) (λ m k. k.2) known.spares in
-        let other_known : KnownProgram bs otherwise = record { of_words = known.of_words.2; below = known.below.2; count = known.count.2; spares = other_spares } in
+        let other_known : KnownProgram bs otherwise =
+        record { of_words = known.of_words.2; below = known.below.2; count = known.count.2; spares = other_spares } in
         let b = block_code bs taken in
         let other = block_code bs otherwise in
         let over = pass_over (size other) in
@@ -360,7 +364,8 @@ module _ (z : Setting) where
               (λ s' y' k. pass_part z (inside + forms_bytes b) (size other) end y' s' (stands_back z.code inside b over hf)
               (omega (arith, whole_size other, forms_bytes-append b over))
               (λ low. stands_low z middle other ho (omega (arith, low, forms_bytes-append b over))) k);
-          if_failed = λ v y q j. block_follows bs otherwise middle v y ho (λ hs. steps_follow bs otherwise next [] middle v y q other_known hs (dressed z middle v y j));
+          if_failed = λ v y q j. block_follows bs otherwise middle v y ho
+              (λ hs. steps_follow bs otherwise next [] middle v y q other_known hs (dressed z middle v y j));
         } in
         let test_spares = spared_so bs (λ m. StepSpares m (choose t taken otherwise)) (λ m. TestSpares m t) (λ m q. q.0) known.spares in
         let test_known : KnownTest bs t = record { of_words = known.of_words.0; below = known.below.0; count = known.count.0; spares = test_spares } in
@@ -378,11 +383,13 @@ module _ (z : Setting) where
         let others = spared_so bs (λ m. StepSpares m (repeat n from below body)) (λ m. n ≢ m) (λ m q. q.0) known.spares in
         let around = spared_so bs (λ m. StepSpares m (repeat n from below body)) (λ m. Spares m body) (λ m q. q.1) known.spares in
         alone_part z os (start ++ rest) (step_spent (repeat n from below body) w) pc w u (step_behaviour (repeat n from below body) w) h d (λ x hs i.
-        loop_by z made at n from below (spent body) (behaviour body) (λ m s. Ready bs (turn m) s) (nat_lt from below) w x refl known.below.0 known.of_words.2 hs i r
+        loop_by z made at n from below (spent body) (behaviour body) (λ m s. Ready bs (turn m) s) (nat_lt from below) w x refl known.below.0 known.of_words.2
+        hs i r
         (λ stands m k s t p less j. block_follows inner body top (with_local n k s) t stands (λ hb.
         steps_follow inner body (turn m) [] top (with_local n k s) t
         (turn_ready bs (EachWay z.room body (turn m)) n k below s p others (let x = known.of_words.2 in omega arith) less)
-        (record { of_words = known.of_words.3; below = known.below.1; count = known.count.1; spares = (known.count.0, around) }) hb (dressed z top (with_local n k s) t j)))
+        (record { of_words = known.of_words.3; below = known.below.1; count = known.count.1; spares = (known.count.0, around) }) hb
+        (dressed z top (with_local n k s) t j)))
         (λ m k s p less. ready_with bs (turn m) n k (behaviour body (with_local n k s)).end
         (well z.room body (turn m) (assigning n p.place) (with_local n k s) p.fit (matches_local p.place s n k p.matches))
         (words body (with_local n k s) known.of_words.3 (local_words s n k p.words_in (let x = known.of_words.2 in omega arith)))
@@ -428,11 +435,17 @@ module _ (z : Setting) where
         let first = test_code bs t false (size second + (if not when then d else 0)) in
         let middle = pc + forms_bytes first in
         let back = forked_behind z when d pc first second ways.held.at ways.failed.at k in
-        let counted = fork_at when d ways.held.at ways.failed.at (middle + forms_bytes second) (middle + 2 * size second) (omega (arith, whole_size second)) back.fork in
+        let counted = fork_at when d ways.held.at ways.failed.at (middle + forms_bytes second) (middle + 2 * size second) (omega (arith, whole_size second))
+        back.fork in
         let low : middle < 0x10000 → middle + 2 * size second < 0x10000 =
         λ less. omega (arith, stands_low z middle second back.stands less, whole_size second) in
         let cost = test_spent e ways.held.cost ways.failed.cost in
-        let inner : Way = record { at = middle; fits = EachTestWay z.room e ways.held.fits ways.failed.fits; cost = cost; does = tested e ways.held.does ways.failed.does } in
+        let inner : Way = record {
+          at = middle;
+          fits = EachTestWay z.room e ways.held.fits ways.failed.fits;
+          cost = cost;
+          does = tested e ways.held.does ways.failed.does;
+        } in
         let inner_known : KnownTest bs e = known_second (λ n. TestSpares n t) (λ n. TestSpares n e) bs known in
         let first_known : KnownTest bs t = known_first (λ n. TestSpares n t) (λ n. TestSpares n e) bs known in
         test_follows bs t false (size second + (if not when then d else 0)) pc (record {
@@ -442,17 +455,26 @@ module _ (z : Setting) where
           if_held = λ v x q j. test_follows bs e when d middle ways v x q inner_known back j;
           if_failed = ways.if_failed;
         }) w u r first_known
-        (record { stands = stands_front z.code pc first second k.stands; fork = fork_both when d (size second) ways.held.at ways.failed.at middle low counted }) i
+        (record {
+          stands = stands_front z.code pc first second k.stands;
+          fork = fork_both when d (size second) ways.held.at ways.failed.at middle low counted;
+        }) i
     test_follows bs (either t e) when d pc ways w u r known k i =
         let second = test_code bs e when d in
         let first = test_code bs t true (size second + (if when then d else 0)) in
         let middle = pc + forms_bytes first in
         let back = forked_behind z when d pc first second ways.held.at ways.failed.at k in
-        let counted = fork_at when d ways.held.at ways.failed.at (middle + forms_bytes second) (middle + 2 * size second) (omega (arith, whole_size second)) back.fork in
+        let counted = fork_at when d ways.held.at ways.failed.at (middle + forms_bytes second) (middle + 2 * size second) (omega (arith, whole_size second))
+        back.fork in
         let low : middle < 0x10000 → middle + 2 * size second < 0x10000 =
         λ less. omega (arith, stands_low z middle second back.stands less, whole_size second) in
         let cost = test_spent e ways.held.cost ways.failed.cost in
-        let inner : Way = record { at = middle; fits = EachTestWay z.room e ways.held.fits ways.failed.fits; cost = cost; does = tested e ways.held.does ways.failed.does } in
+        let inner : Way = record {
+          at = middle;
+          fits = EachTestWay z.room e ways.held.fits ways.failed.fits;
+          cost = cost;
+          does = tested e ways.held.does ways.failed.does;
+        } in
         let inner_known : KnownTest bs e = known_second (λ n. TestSpares n t) (λ n. TestSpares n e) bs known in
         let first_known : KnownTest bs t = known_first (λ n. TestSpares n t) (λ n. TestSpares n e) bs known in
         test_follows bs t true (size second + (if when then d else 0)) pc (record {
@@ -462,7 +484,10 @@ module _ (z : Setting) where
           if_held = ways.if_held;
           if_failed = λ v x q j. test_follows bs e when d middle ways v x q inner_known back j;
         }) w u r first_known
-        (record { stands = stands_front z.code pc first second k.stands; fork = fork_either when d (size second) ways.held.at ways.failed.at middle low counted }) i
+        (record {
+          stands = stands_front z.code pc first second k.stands;
+          fork = fork_either when d (size second) ways.held.at ways.failed.at middle low counted;
+        }) i
     test_follows bs (fails t) when d pc ways w u r known k i =
         test_follows bs t (not when) d pc
         (record { end = ways.end; held = ways.failed; failed = ways.held; if_held = ways.if_failed; if_failed = ways.if_held }) w u r known

@@ -100,6 +100,19 @@ abbrev pub flushed : List Waiting → List Form
 flushed [] = []
 flushed (o ∷ os) = flushed os ++ Push (waiting_source o) ∷ []
 
+-- the cycles of the push of a word that waits, at most: what its step left unspent
+abbrev pub owed_by : Waiting → ℕ
+owed_by (waiting.Number n) = 4
+owed_by (waiting.Fram a) = 5
+owed_by (waiting.Local n) = 5
+owed_by waiting.R4 = 3
+owed_by waiting.R6 = 3
+
+-- and of the pushes of all of them
+abbrev pub owed : List Waiting → ℕ
+owed [] = 0
+owed (o ∷ os) = owed os + owed_by o
+
 -- the top, where it waits
 abbrev pub top_of : List Waiting → Option Waiting
 top_of [] = None

@@ -50,7 +50,8 @@ returns-clause-turn g c =
     } in
     let noted : IsNoted (known_so watch) (known_so c.note.new.self) b after Acceptance c.in-Ok.done = record {
       history = c.in_ok-note.ensures.history;
-      tally = tallied_by _ (moment_of b Acceptance c.in-Ok.done) _ (counted watch.tally) _ (step_ends_are _ watch.head.place watch.head.word b Acceptance c.in-Ok.done
+      tally = tallied_by _ (moment_of b Acceptance c.in-Ok.done) _ (counted watch.tally) _
+          (step_ends_are _ watch.head.place watch.head.word b Acceptance c.in-Ok.done
           after.fram _ c.requires.follows.head refl (ap (λ (x : BoardValue). x.fram) made.board)) c.note.ensures.tally;
       words = c.note.ensures.few;
     } in

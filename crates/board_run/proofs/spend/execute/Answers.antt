@@ -11,7 +11,8 @@ use Rattle.board_run.proofs.Turns.{too_dear, refused, turned, turned_partly, IsM
 use Rattle.board_run.proofs.spend.execute.Goals as goal
 
 pub returns-then-price-left-clause-turn : goal.returns-then-price-left-clause-turn
-returns-then-price-left-clause-turn g c = too_dear (measure_of c.args.kind) c.args.left c.args.board.now (Instruction c.args.instruction.now) _ _ c.requires.some
+returns-then-price-left-clause-turn g c = too_dear (measure_of c.args.kind) c.args.left c.args.board.now (Instruction c.args.instruction.now) _ _
+    c.requires.some
     c.requires.next
     (omega (arith, c.if-price-left.true, c.price-price.ensures))
 
@@ -52,7 +53,8 @@ returns-clause-turn g c =
     } in
     let noted : IsNoted (known_so watch) (known_so c.note.new.self) b after (Instruction i) c.in-Ok.done = record {
       history = c.in_ok-note.ensures.history;
-      tally = tallied_by _ (moment_of b (Instruction i) c.in-Ok.done) _ (counted watch.tally) _ (step_ends_are _ watch.head.place watch.head.word b (Instruction i) c.in-Ok.done
+      tally = tallied_by _ (moment_of b (Instruction i) c.in-Ok.done) _ (counted watch.tally) _
+          (step_ends_are _ watch.head.place watch.head.word b (Instruction i) c.in-Ok.done
           after.fram c.is_return.result c.requires.follows.head c.is_return.ensures (ap (λ (x : BoardValue). x.fram) made.board)) c.note.ensures.tally;
       words = c.note.ensures.few;
     } in

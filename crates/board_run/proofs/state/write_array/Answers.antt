@@ -32,7 +32,8 @@ write_place-requires g c = (in_array _ _ _ c.requires.variable.address (fits_so 
 
 pub returns-in_err-write_place-clause-bytes : goal.returns-in_err-write_place-clause-bytes
 returns-in_err-write_place-clause-bytes g c = progress_err _ _ _ _ _ _ _ c.from_residual.ensures.0
-    (next_lines _ _ _ _ _ (word_named _ _ _ _ _ _ _ c.as_bytes.ensures.value c.loop-i-test.true) c.loop-i.invariant.lines) c.in_err-write_place.ensures.bytes.part
+    (next_lines _ _ _ _ _ (word_named _ _ _ _ _ _ _ c.as_bytes.ensures.value c.loop-i-test.true) c.loop-i.invariant.lines)
+    c.in_err-write_place.ensures.bytes.part
 
 pub next_index-i-requires-in-loop-i-clause-low : goal.next_index-i-requires-in-loop-i-clause-low
 next_index-i-requires-in-loop-i-clause-low g c = (stands_at _ _ c.requires.variable c.requires.length).low

@@ -10,7 +10,8 @@ loop-left-init g c = record { same = refl; count = omega arith; follows = c.requ
 pub returns-in_err-stop-clause-spent : goal.returns-in_err-stop-clause-spent
 returns-in_err-stop-clause-spent g c = spends_for_err _ _ _ _ _ _ (charge_of c.args.charge.now ∷ [])
     (replicate (c.loop-left.left - 1) (charge_of c.args.charge.now)) c.loop-left.board _ (g.S.Sink.contents c.loop-left.report.sink.now) _
-    (known_so c.loop-left.watch) _ (known_so c.spend_one.new.watch) (4294967295 * c.loop-left.left) 4294967295 c.in_err-stop.field-0.0 _ c.from_residual.ensures.0
+    (known_so c.loop-left.watch) _ (known_so c.spend_one.new.watch) (4294967295 * c.loop-left.left) 4294967295 c.in_err-stop.field-0.0 _
+    c.from_residual.ensures.0
     (repeated_split c.loop-left.left (charge_of c.args.charge.now) c.loop-left-test.true) c.loop-left.invariant.on c.in_err-stop.ensures.spent
 
 pub returns-then-is_some-clause-spent : goal.returns-then-is_some-clause-spent

@@ -9,7 +9,8 @@ invariant-loop-left g l = record {
   same : l.report.sink.ghost_name ≡ l.fn.report.sink.ghost_name;
   count : g.S.Sink.faults l.fn.report.sink.now ≤ g.S.Sink.faults l.report.sink.now;
   follows : Follows l.watch l.board.fram;
-  on : SpendsFor (known_so l.fn.watch) (replicate l.charge.times (charge_of l.charge)) l.fn.board (g.S.Sink.contents l.fn.report.sink.now) (4294967295 * l.charge.times)
+  on : SpendsFor (known_so l.fn.watch) (replicate l.charge.times (charge_of l.charge)) l.fn.board (g.S.Sink.contents l.fn.report.sink.now)
+      (4294967295 * l.charge.times)
       (replicate l.left (charge_of l.charge)) l.board (g.S.Sink.contents l.report.sink.now) (known_so l.watch) (4294967295 * l.left);
 }
 

@@ -16,4 +16,5 @@ loop-name-preserved c =
     }
 
 pub returns-clause-text : goal.returns-clause-text
-returns-clause-text c = lines_done private_fields c.args.names.now c.loop-name.name-index c.loop-name.out.items c.loop-name-test.false ∙ c.loop-name.invariant.text
+returns-clause-text c = lines_done private_fields c.args.names.now c.loop-name.name-index c.loop-name.out.items c.loop-name-test.false
+    ∙ c.loop-name.invariant.text

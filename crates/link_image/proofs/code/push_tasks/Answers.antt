@@ -33,7 +33,8 @@ loop-k-preserved c =
     let part = task_part c.args.events t (program_of p) in
     let rest = task_parts c.args.events (drop (k + 1) ts) (map program_of (drop (k + 1) ps)) in
     let order = next_order c.args.events ts ps at k t p c.loop-k-test.true c.requires.count c.index-tasks-k.is c.index-programs-k.is c.loop-k.invariant.order in
-    let more = parts_more c.args.events ts ps k t p c.loop-k-test.true (omega (arith, c.loop-k-test.true, c.requires.count)) c.index-tasks-k.is c.index-programs-k.is in
+    let more = parts_more c.args.events ts ps k t p c.loop-k-test.true (omega (arith, c.loop-k-test.true, c.requires.count)) c.index-tasks-k.is
+    c.index-programs-k.is in
     let made = part_words c.args.start old new _ part rest c.requires.even order.0.even order.0.from c.in_ok-push_task.ensures
     (ap (λ l. old ++ words_in (chained at l)) (sym more) ∙ c.loop-k.invariant.made) in
     record {

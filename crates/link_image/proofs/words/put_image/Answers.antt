@@ -24,4 +24,5 @@ returns-clause-each c = λ a is.
 
 pub returns-clause-are_words : goal.returns-clause-are_words
 returns-clause-are_words c = λ h.
-    c.put_word-2.ensures.are_words (c.put_handler.ensures.are_words (c.put_words.ensures.are_words (c.put_word.ensures.are_words (c.put_scalars.ensures.are_words h))))
+    c.put_word-2.ensures.are_words (c.put_handler.ensures.are_words
+    (c.put_words.ensures.are_words (c.put_word.ensures.are_words (c.put_scalars.ensures.are_words h))))

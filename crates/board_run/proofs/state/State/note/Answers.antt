@@ -39,7 +39,8 @@ returns-clause-bytes g c =
     let P : History → Type 0 = λ h. Writes old new c.note_gate.result
     (if is_done c.keep_accepted.new.self.gate c.word-now.result then transition_lines m h c.args.board.now else []) in
     let Q : ℕ → ℕ → Type 0 = λ gate n. Writes old new c.note_gate.result
-    (if is_done gate n then transition_lines m (with_words (history_of (Some m) c.args.self.now) (word_list c.args.done.now.accepted)) c.args.board.now else []) in
+    (if is_done gate n then transition_lines m (with_words (history_of (Some m) c.args.self.now) (word_list c.args.done.now.accepted)) c.args.board.now
+    else []) in
     subst (Q c.args.self.now.gate) (c.word-now.ensures ∙ ap (λ (w : RuntimeWords). word_in c.args.board.now.fram w.gate) c.words.ensures)
     (subst (λ gate. Q gate c.word-now.result) c.keep_accepted.ensures.gate
     (subst P (c.keep_accepted.ensures.history (Some m)
