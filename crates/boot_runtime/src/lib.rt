@@ -35,8 +35,8 @@ fn ladder_offset(layout: &Layout) -> u16
     if layout.runtime().events { 78 } else { 68 }
 }
 
-// SP := where the stack begins, and the CPU accepts interrupts, where there are events.
-fn push_interrupts_enabled(code: &mut Vec<Form>, layout: &Layout) -> Result<(), AllocError>
+/// SP := where the stack begins, and the CPU accepts interrupts, where there are events.
+pub fn push_interrupts_enabled(code: &mut Vec<Form>, layout: &Layout) -> Result<(), AllocError>
     ensures { OnOk result (code.new.items ≡ code.old.items ++ interrupts_enabled layout.now) }
 {
     if layout.runtime().events {
@@ -45,8 +45,8 @@ fn push_interrupts_enabled(code: &mut Vec<Form>, layout: &Layout) -> Result<(), 
     Ok(())
 }
 
-// Where GATE is 1 a branch to the commit, else over it.
-fn head(layout: &Layout) -> [Form; 3]
+/// Where GATE is 1 a branch to the commit, else over it.
+pub fn head(layout: &Layout) -> [Form; 3]
     ensures { result ≡ head layout.now layout.now.commit.address }
 {
     let gate = layout.word_place(RuntimeWord::Gate);
@@ -57,8 +57,8 @@ fn head(layout: &Layout) -> [Form; 3]
     ]
 }
 
-// Where VER isn't at its end, over the clearing.
-fn end_tested(layout: &Layout) -> [Form; 2]
+/// Where VER isn't at its end, over the clearing.
+pub fn end_tested(layout: &Layout) -> [Form; 2]
     ensures { result ≡ end_tested layout.now }
 {
     let version = layout.word_place(RuntimeWord::Version);
@@ -68,8 +68,8 @@ fn end_tested(layout: &Layout) -> [Form; 2]
     ]
 }
 
-// R4 := the number of version words.
-fn clearing_begins(layout: &Layout) -> [Form; 1]
+/// R4 := the number of version words.
+pub fn clearing_begins(layout: &Layout) -> [Form; 1]
     ensures { result ≡ clearing_begins layout.now }
 {
     layout.rules();
@@ -87,8 +87,8 @@ fn clear_turn() -> [Form; 2]
     ]
 }
 
-// Each version word becomes 0.
-fn push_clear_loop(code: &mut Vec<Form>, layout: &Layout) -> Result<(), AllocError>
+/// Each version word becomes 0.
+pub fn push_clear_loop(code: &mut Vec<Form>, layout: &Layout) -> Result<(), AllocError>
     ensures { OnOk result (code.new.items ≡ code.old.items ++ clear_loop layout.now) }
 {
     code.extend_from_slice(&loop_begin(layout.versions().address, 7))?;
@@ -96,8 +96,8 @@ fn push_clear_loop(code: &mut Vec<Form>, layout: &Layout) -> Result<(), AllocErr
     code.extend_from_slice(&loop_end(0x400 - 5))
 }
 
-// VER := 0.
-fn version_cleared(layout: &Layout) -> [Form; 1]
+/// VER := 0.
+pub fn version_cleared(layout: &Layout) -> [Form; 1]
     ensures { result ≡ version_cleared layout.now }
 {
     let version = layout.word_place(RuntimeWord::Version);
@@ -118,8 +118,8 @@ fn counts_set(layout: &Layout) -> [Form; 3]
     ]
 }
 
-// EC := 0, where there are events.
-fn push_events_counted(code: &mut Vec<Form>, layout: &Layout) -> Result<(), AllocError>
+/// EC := 0, where there are events.
+pub fn push_events_counted(code: &mut Vec<Form>, layout: &Layout) -> Result<(), AllocError>
     ensures { OnOk result (code.new.items ≡ code.old.items ++ events_counted layout.now) }
 {
     if layout.runtime().events {
@@ -139,8 +139,8 @@ fn stack_origin(layout: &Layout) -> u16
     }
 }
 
-// SP := where the stack begins; to the branch of the task that CUR names, in a ladder of branches of four bytes that stands right behind.
-fn dispatch(layout: &Layout) -> [Form; 5]
+/// SP := where the stack begins; to the branch of the task that CUR names, in a ladder of branches of four bytes that stands right behind.
+pub fn dispatch(layout: &Layout) -> [Form; 5]
     ensures { result ≡ dispatch layout.now }
 {
     let current_task = Fram(layout.word_place(RuntimeWord::CurrentTask));
