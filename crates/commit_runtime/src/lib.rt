@@ -63,8 +63,8 @@ fn push_copies(code: &mut Vec<Form>, layout: &Layout) -> Result<(), AllocError>
     code.extend_from_slice(&loop_end(0x400 - 11))
 }
 
-// R7 := SB, R4 := EN.
-fn sends_begin(layout: &Layout) -> [Form; 2]
+/// R7 := SB, R4 := EN.
+pub fn sends_begin(layout: &Layout) -> [Form; 2]
     ensures { result ≡ sends_begin layout.now }
 {
     let sent_base = Fram(layout.word_place(RuntimeWord::SentBase));
@@ -87,8 +87,8 @@ fn send_turn() -> [Form; 3]
     ]
 }
 
-// Each emitted word is sent.
-fn push_sends(code: &mut Vec<Form>, layout: &Layout) -> Result<(), AllocError>
+/// Each emitted word is sent.
+pub fn push_sends(code: &mut Vec<Form>, layout: &Layout) -> Result<(), AllocError>
     ensures { OnOk result (code.new.items ≡ code.old.items ++ send_loop layout.now) }
 {
     code.extend_from_slice(&loop_begin(layout.emits().address, 9))?;
@@ -96,8 +96,8 @@ fn push_sends(code: &mut Vec<Form>, layout: &Layout) -> Result<(), AllocError>
     code.extend_from_slice(&loop_end(0x400 - 7))
 }
 
-// TAIL := SE, where there are events.
-fn push_events_taken(code: &mut Vec<Form>, layout: &Layout) -> Result<(), AllocError>
+/// TAIL := SE, where there are events.
+pub fn push_events_taken(code: &mut Vec<Form>, layout: &Layout) -> Result<(), AllocError>
     ensures { OnOk result (code.new.items ≡ code.old.items ++ events_taken layout.now) }
 {
     if layout.runtime().events {
