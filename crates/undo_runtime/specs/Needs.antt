@@ -27,7 +27,6 @@ pub record CanClose (m : MemoryMap) (f : ℕ → ℕ) : Type 0 where
 pub record CanLog (m : MemoryMap) (elements versions i : ℕ) (f : ℕ → ℕ) : Type 0 where
   pub element : IsLoggable m (2 * i + elements)
   pub version : IsLoggable m (2 * i + versions)
-  pub other : 2 * i + versions ≢ word_place m Version
   pub words : f (2 * i + versions) < 0x10000
   pub version_word : f (word_place m Version) < 0x10000
   pub first : f (2 * i + versions) ≢ f (word_place m Version) → f (word_place m ListLength) < m.entries
