@@ -10,7 +10,7 @@ use Rattle.memory_map.specs.declared.words.RuntimeWord.TheVariants.{CurrentTask,
 use Rattle.memory_map.specs.MemoryMap.{MemoryMap, word_place, with_events}
 use Rattle.runtime_code.specs.Addresses.{gate_address}
 use Rattle.runtime_code.specs.Counted.{over, counted, if_any}
-use Rattle.runtime_code.specs.Ladder.{Rung, dispatch, ladder, all_stubs}
+use Rattle.runtime_code.specs.Ladder.{Rung, rung_with, dispatch, ladder, all_stubs}
 use Rattle.runtime_code.specs.Sending.{sending}
 use Rattle.boot_runtime.specs.Listing.{interrupts_enabled, head, end_tested, clearing, events_counted}
 use Rattle.commit_runtime.specs.Listing.{events_taken}
@@ -92,6 +92,10 @@ stub_bytes t = 16 * length t.privates + if_any (length t.privates) 4
 -- a task as the ladder has it: its stub logs the words of its private scalars
 abbrev pub rung_for : MemoryMap → LoggedTask → Rung
 rung_for m t = record { body = logs_in m 0 t.privates; bytes = stub_bytes t; code = t.code }
+
+-- where its rung leads: to its stub, at an address, or right to its code where it has none
+abbrev pub rung_to : MemoryMap → ℕ → LoggedTask → ℕ
+rung_to m stub t = rung_with stub t.code (logs_in m 0 t.privates)
 
 abbrev pub rungs : MemoryMap → List LoggedTask → List Rung
 rungs m tasks = map (rung_for m) tasks

@@ -99,6 +99,7 @@ pub fn boot_code(alloc: Global, layout: &Layout, at: u16) -> Result<Vec<Form>, A
     push_gated(&mut code, layout)?;
     push_ladder(
         &mut code,
+        layout,
         tasks,
         at + ladder_offset(layout) + 4 * tasks.len() as u16,
     )?;
