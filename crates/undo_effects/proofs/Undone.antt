@@ -99,6 +99,11 @@ put_back_undoes [] f = refl
 put_back_undoes (e ∷ es) f =
     fram_after-append (put_back es) (Store e.address e.word ∷ []) f ∙ ap (λ g. put g e.address e.word) (put_back_undoes es f)
 
+-- the last entry is put back first
+pub put_back_last : (es : List Logged) (e : Logged) → put_back (es ++ e ∷ []) ≡ Store e.address e.word ∷ put_back es
+put_back_last [] e = refl
+put_back_last (d ∷ es) e = ap (λ l. l ++ (Store d.address d.word ∷ [])) (put_back_last es e)
+
 -- the world behind them
 pub put_back_restores : (es : List Logged) (x : World) → world_after (put_back es) x ≡ record x { fram = undone es x.fram }
 put_back_restores [] x = refl

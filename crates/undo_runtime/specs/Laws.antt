@@ -20,7 +20,7 @@ use Rattle.undo_runtime.specs.Listing.{LoggedTask, task_at, privates_in, boot_fo
 use Rattle.undo_runtime.specs.Listing.{recovery_steps, recovery_cycles, commit_forms, commit_bytes, commit_steps, commit_cycles}
 use Rattle.undo_runtime.specs.Listing.{logged_first, logged_write, first_bytes, first_steps, first_cycles}
 use Rattle.undo_runtime.specs.Entries.{logged_tasks}
-use Rattle.undo_runtime.specs.Needs.{IsLoggable, CanRecover, CanClose, CanLog}
+use Rattle.undo_runtime.specs.Needs.{ListStands, IsLoggable, CanRecover, CanClose, CanLog}
 
 -- a task that the boot can come to: the words of its private scalars can be logged, and the list has room for them
 pub record IsReached (m : MemoryMap) (t : LoggedTask) : Type 0 where
@@ -34,6 +34,7 @@ pub record IsUndoBoot (code : Code) (m : MemoryMap) (commit : ℕ) (tasks : List
   pub events : code.events ≡ m.runtime.events
   pub places : AreInFram m
   pub task : KeepsTask m
+  pub list : ListStands m
   pub even_commit : commit % 2 ≡ 0
   pub reached : All (IsReached m) tasks
   pub even : at % 2 ≡ 0
@@ -81,7 +82,7 @@ UndoCommitIsMade = (code : Code) (m : MemoryMap) (at start : ℕ) (u : Core) →
 
 -- from where the listing stands, with 2 * i in R4 and a word in R5, the code makes exactly the store of that word to element i of an array
 abbrev pub ElementIsStored : Type 0
-ElementIsStored = (code : Code) (m : MemoryMap) (elements versions i at : ℕ) (u : Core) → IsTidy code → AreInFram m
+ElementIsStored = (code : Code) (m : MemoryMap) (elements versions i at : ℕ) (u : Core) → IsTidy code → AreInFram m → ListStands m
     → at + first_bytes + 4 < 0x10000 → Stands code at (logged_write m elements versions) → u.pc ≡ at → u.work 4 ≡ 2 * i → CanLog m elements versions i u.fram
     → let later = u.fram (2 * i + versions) == u.fram (word_place m Version) in
     let es = element_stored m (2 * i + elements) (2 * i + versions) (u.work 5) u.fram in

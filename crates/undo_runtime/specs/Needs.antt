@@ -3,9 +3,17 @@ use Rattle.std.specs.Prelude.{◌≡◌, ◌≢◌, ℕ, ◌+◌, ◌*◌, ◌<�
 use Rattle.runtime_code.specs.machine_effects.Machine.{IsPlace}
 use Rattle.memory_map.specs.declared.words.RuntimeWord.TheVariants.{ListLength, EmitCount, SentBase, Version}
 use Rattle.memory_map.specs.MemoryMap.{MemoryMap, word_place}
+use Rattle.memory_map.specs.event_places.Places.{count_place}
 use Rattle.runtime_code.specs.runtime_effects.Places.{entry_bytes}
 use Rattle.runtime_code.specs.runtime_effects.Needs.{IsOutOf}
 use Rattle.undo_effects.specs.Entries.{logged, IsLogged}
+
+-- CLN and VER stand outside the list, and CLN outside the version words and what counts events
+pub record ListStands (m : MemoryMap) : Type 0 where
+  pub length : IsOutOf m.list.address (entry_bytes * m.entries) (word_place m ListLength)
+  pub version : IsOutOf m.list.address (entry_bytes * m.entries) (word_place m Version)
+  pub versions : IsOutOf m.versions.address (2 * m.versions.words) (word_place m ListLength)
+  pub event_count : count_place ≢ word_place m ListLength
 
 -- a word of FRAM that is none of those by which words are logged: not CLN, and outside the list
 pub record IsLoggable (m : MemoryMap) (a : ℕ) : Type 0 where
