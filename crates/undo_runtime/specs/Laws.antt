@@ -83,7 +83,7 @@ UndoCommitIsMade = (code : Code) (m : MemoryMap) (at start : ℕ) (u : Core) →
 -- from where the listing stands, with 2 * i in R4 and a word in R5, the code makes exactly the store of that word to element i of an array
 abbrev pub ElementIsStored : Type 0
 ElementIsStored = (code : Code) (m : MemoryMap) (elements versions i at : ℕ) (u : Core) → IsTidy code → AreInFram m → ListStands m
-    → at + first_bytes + 4 < 0x10000 → Stands code at (logged_write m elements versions) → u.pc ≡ at → u.work 4 ≡ 2 * i → CanLog m elements versions i u.fram
+    → at + first_bytes + 4 < 0x10000 → Stands code at (logged_write m elements versions) → u.pc ≡ at → u.work 4 ≡ 2 * i → CanLog m (2 * i + elements) (2 * i + versions) u.fram
     → let later = u.fram (2 * i + versions) == u.fram (word_place m Version) in
     let es = element_stored m (2 * i + elements) (2 * i + versions) (u.work 5) u.fram in
     Comes code es (first_steps later + 1) (first_cycles later + 4) u (IsAt (at + first_bytes + 4) (fram_after es u.fram) u.inputs)
