@@ -147,9 +147,28 @@ module _ (code : Code) (tidy : IsTidy code) (m : MemoryMap) (places : AreInFram 
     first =
         subst (λ es. Comes code es 9 28 from (IsReady (fram_after es f))) is_logged
         (ends (straight code tidy (first_forms m elements versions) from (tt, (tt, (tt, (tt, (tt, (tt, (tt, (tt, (tt, tt)))))))))
-        (forms_at code p 3 9 (logged_write m elements versions) stands)
-        ((places.words ListLength, tt), ((tt, tt), ((tt, tt), ((tt, tt), ((tt, tt), ((tt, first_place), ((can.element_is.place, second_place),
-        ((tt, refl, tt, places.words ListLength), ((places.words Version, can.version_is), tt))))))))) refl)
+        (forms_at code p 3 9 (logged_write m elements versions) stands) (
+          (places.words ListLength, tt),
+          (
+            (tt, tt),
+            (
+              (tt, tt),
+              (
+                (tt, tt),
+                (
+                  (tt, tt),
+                  (
+                    (tt, first_place),
+                    (
+                      (can.element_is.place, second_place),
+                      ((tt, refl, tt, places.words ListLength), ((places.words Version, can.version_is), tt)),
+                    ),
+                  ),
+                ),
+              ),
+            ),
+          ),
+        ) refl)
         (record { at = record { pc = omega arith; fram = refl; inputs = refl }; index = refl; word = refl }))
 
   -- ---- all of it

@@ -106,10 +106,25 @@ module _ (code : Code) (tidy : IsTidy code) (m : MemoryMap) (places : AreInFram 
                 (still_logged (entries n f) entry a (subst (λ es. IsLogged es a) alike h)));
           } in
           subst (λ es. Comes code es 5 12 s (IsBehind turning (count_at backs) n g)) same
-          (ends (straight code tidy (back_turn m) s (tt, (tt, (tt, (tt, (tt, tt))))) (turn_there code tidy backs)
-          ((tt, tt), ((tt, tt), ((tt, tt), ((subst IsPlace (sym first_there) (first_left places.list left (omega arith)), tt),
-          ((subst IsPlace (sym second_there) (first_left places.list (left_from 2 2 left refl (omega arith)) (omega arith)),
-          subst IsPlace (sym address) loggable.place), tt))))) refl)
+          (ends (straight code tidy (back_turn m) s (tt, (tt, (tt, (tt, (tt, tt))))) (turn_there code tidy backs) (
+            (tt, tt),
+            (
+              (tt, tt),
+              (
+                (tt, tt),
+                (
+                  (subst IsPlace (sym first_there) (first_left places.list left (omega arith)), tt),
+                  (
+                    (
+                      subst IsPlace (sym second_there) (first_left places.list (left_from 2 2 left refl (omega arith)) (omega arith)),
+                      subst IsPlace (sym address) loggable.place,
+                    ),
+                    tt,
+                  ),
+                ),
+              ),
+            ),
+          ) refl)
           (record {
             at = record { pc = omega arith; fram = λ i. put f (address i) (word i); inputs = refl };
             left = refl;

@@ -45,7 +45,12 @@ fn first_forms(layout: &Layout, elements: u16, versions: u16) -> [Form; 9]
 }
 
 // What stands in front of a store.
-fn push_logged_first(code: &mut Vec<Form>, layout: &Layout, elements: u16, versions: u16) -> Result<(), AllocError>
+fn push_logged_first(
+    code: &mut Vec<Form>,
+    layout: &Layout,
+    elements: u16,
+    versions: u16,
+) -> Result<(), AllocError>
     ensures { OnOk result (code.new.items ≡ code.old.items ++ logged_first layout.now elements versions) }
 {
     code.extend_from_slice(&version_tested(layout, elements, versions))?;
@@ -54,7 +59,12 @@ fn push_logged_first(code: &mut Vec<Form>, layout: &Layout, elements: u16, versi
 
 /// The instructions that store the word in R5 to an element of the array whose elements and version words begin at these addresses; or no memory is
 /// left. Where the element's version word isn't VER, they first list its address and its word, count the entry, and store VER to its version word.
-pub fn logged_write(alloc: Global, layout: &Layout, elements: u16, versions: u16) -> Result<Vec<Form>, AllocError>
+pub fn logged_write(
+    alloc: Global,
+    layout: &Layout,
+    elements: u16,
+    versions: u16,
+) -> Result<Vec<Form>, AllocError>
     ensures { IfOk result (λ code. code.items ≡ logged_write layout.now elements versions) }
 {
     let mut code = Vec::new(alloc);

@@ -74,7 +74,12 @@ pub fn push_ladder(
 }
 
 // Adds what logs a word in the entry of a number.
-fn push_logged(code: &mut Vec<Form>, layout: &Layout, entry: u16, home: u16) -> Result<(), AllocError>
+fn push_logged(
+    code: &mut Vec<Form>,
+    layout: &Layout,
+    entry: u16,
+    home: u16,
+) -> Result<(), AllocError>
     requires { entry < layout.now.entries }
     ensures { OnOk result (code.new.items ≡ code.old.items ++ word_logged_in layout.now entry home) }
 {
@@ -90,7 +95,12 @@ fn push_logged(code: &mut Vec<Form>, layout: &Layout, entry: u16, home: u16) -> 
 }
 
 // Adds what logs a private scalar's words, from the entry of a number on.
-fn push_scalar(code: &mut Vec<Form>, layout: &Layout, entry: u16, scalar: &PrivateScalar) -> Result<(), AllocError>
+fn push_scalar(
+    code: &mut Vec<Form>,
+    layout: &Layout,
+    entry: u16,
+    scalar: &PrivateScalar,
+) -> Result<(), AllocError>
     requires { EndsInMemory scalar.now }
     requires { entry + scalar_words scalar.now.width ≤ layout.now.entries }
     ensures { OnOk result (code.new.items ≡ code.old.items ++ logs_in layout.now entry (home_words scalar.now)) }
@@ -103,7 +113,11 @@ fn push_scalar(code: &mut Vec<Form>, layout: &Layout, entry: u16, scalar: &Priva
 }
 
 // Adds what logs the words of a task's private scalars.
-fn push_scalars(code: &mut Vec<Form>, layout: &Layout, privates: &[PrivateScalar]) -> Result<(), AllocError>
+fn push_scalars(
+    code: &mut Vec<Form>,
+    layout: &Layout,
+    privates: &[PrivateScalar],
+) -> Result<(), AllocError>
     requires { All EndsInMemory privates.now }
     requires { private_words privates.now ≤ layout.now.entries }
     ensures { OnOk result (code.new.items ≡ code.old.items ++ logs_in layout.now 0 (homes_in privates.now)) }
@@ -133,7 +147,11 @@ fn push_stub(code: &mut Vec<Form>, layout: &Layout, task: &TaskLayout) -> Result
 }
 
 /// Adds each task's stub.
-pub fn push_stubs(code: &mut Vec<Form>, layout: &Layout, tasks: &[TaskLayout]) -> Result<(), AllocError>
+pub fn push_stubs(
+    code: &mut Vec<Form>,
+    layout: &Layout,
+    tasks: &[TaskLayout],
+) -> Result<(), AllocError>
     requires { All (λ t. All EndsInMemory t.privates) tasks.now }
     requires { All (FitsList layout.now) tasks.now }
     ensures { OnOk result (code.new.items ≡ code.old.items ++ all_stubs (rungs layout.now (map task_of tasks.now))) }
