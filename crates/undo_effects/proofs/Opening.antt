@@ -1,5 +1,5 @@
 -- Where an attempt's opening stores.
-use Rattle.std.proofs.Common.{ℕ, zero, suc, ◌+◌, ◌*◌, ◌<◌, ◌++◌, [], ◌∷◌, Bool, true, false, subst, arith}
+use Rattle.std.proofs.Common.{ℕ, zero, suc, ◌+◌, ◌*◌, ◌<◌, [], ◌∷◌, Bool, true, false, subst, arith}
 use Rattle.runtime_effects.specs.fram_board.Effects.{Store}
 use Rattle.runtime_effects.specs.machine_effects.World.{fram_after, EachStore}
 use Rattle.runtime_effects.proofs.machine_effects.Interface.{each_store-append}

@@ -4,7 +4,7 @@ use Rattle.std.specs.Prelude.{All}
 use Rattle.std.proofs.lemmas.Bool.{cases_eq}
 use Rattle.std.proofs.lemmas.List.Elements.{All-nil, All-cons}
 use mathlib.Core.Path.{fun_ext}
-use Rattle.runtime_effects.specs.fram_board.Effects.{Effect, Store}
+use Rattle.runtime_effects.specs.fram_board.Effects.{Store}
 use Rattle.runtime_effects.specs.machine_effects.World.{World, put, fram_after, world_after_one, world_after, EachStore}
 use Rattle.runtime_effects.specs.machine_effects.Inputs.{inputs_taken, no_inputs}
 use Rattle.runtime_effects.proofs.machine_effects.Interface.{fram_after-append, world_after-append, each_store-append, none_taken_through, put_same, put_other}
