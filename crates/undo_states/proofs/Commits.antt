@@ -8,21 +8,21 @@ use Rattle.memory_map.specs.MemoryMap.{MemoryMap, word_place}
 use Rattle.memory_map.specs.event_places.Places.{tail_place, sent_place}
 use Rattle.memory_map.specs.declared.words.RuntimeWord.TheVariants.{CurrentTask, NextTask, Gate, ListLength, EmitCount, Base, SentBase, Version}
 use Rattle.fram_board.specs.Effects.{Effect, Store, Outside, Offered}
-use Rattle.machine_effects.specs.World.{World, put, world_after_one, world_after, EachStore}
-use Rattle.machine_effects.specs.Inputs.{inputs_taken, no_inputs}
+use Rattle.machine_effects.specs.World.{World, world_after_one, world_after, EachStore}
+use Rattle.machine_effects.specs.Inputs.{inputs_taken}
 use Rattle.machine_effects.proofs.Interface.{put_same, put_other, world_after-append, each_store-append, none_taken_through}
-use Rattle.runtime_effects.specs.Places.{CopyPair, entries_from, listed}
+use Rattle.runtime_effects.specs.Places.{entries_from, listed}
 use Rattle.runtime_effects.specs.Stages.{copied_home, sends, emits_sent, tail_moved, commit_closed, commit_effects, start_effects}
 use Rattle.runtime_effects.proofs.Interface.{sends_store, where_stores}
 use Rattle.undo_effects.specs.Stages.{moved_on, let_go, undo_commit}
-use Rattle.undo_effects.proofs.Interface.{put_over, put_again}
-use Rattle.crash_rules.specs.Model.{HoldsThroughout, IsElsewhere, CommitKeeps, ModelLaws, Given, Inputs, Short, Lacks, program_effects}
+use Rattle.undo_effects.proofs.Interface.{put_over}
+use Rattle.crash_rules.specs.Model.{HoldsThroughout, IsElsewhere, CommitKeeps, ModelLaws, Inputs, Short, Lacks, program_effects}
 use Rattle.crash_rules.proofs.Interface.{holds-append}
-use Rattle.stands_for.specs.Layout.{ProgramPlaces, StateView, IsSharedWord, IsAmong, HaveRoom}
+use Rattle.stands_for.specs.Layout.{ProgramPlaces, StateView, IsAmong, HaveRoom}
 use Rattle.stands_for.specs.StandsFor.{HoldsWords, RestsAt, SendsAndCloses, CopiesHome, DecidedFrom}
 use Rattle.stands_for.specs.Program.{ProgramParts, program_model, TasksContract}
 use Rattle.stands_for.proofs.Interface.{put_words, keeps_the_laws, numbered_starts}
-use Rattle.undo_states.specs.States.{list_length, RestsClear, ClosesWith, ClosesFrom, ClosesTo}
+use Rattle.undo_states.specs.States.{list_length, RestsClear, ClosesFrom}
 use Rattle.undo_states.specs.Program.{undo_model}
 use Rattle.undo_states.proofs.Steps.{both_through, at_end, stays_through, world_with, through_with, after_with}
 

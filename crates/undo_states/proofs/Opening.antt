@@ -8,10 +8,10 @@ use Rattle.machine_effects.specs.World.{World, world_after, fram_after, EachStor
 use Rattle.machine_effects.specs.Inputs.{inputs_taken, no_inputs}
 use Rattle.machine_effects.proofs.Interface.{each_store-front, each_store-back, each_store-append}
 use Rattle.runtime_effects.specs.Stages.{is_at_end, clearing_if, count_cleared, start_effects}
-use Rattle.undo_effects.specs.Entries.{logged, logged_from, IsLogged, undone}
+use Rattle.undo_effects.specs.Entries.{logged_from, IsLogged, undone}
 use Rattle.undo_effects.specs.Stages.{undo_opening}
 use Rattle.crash_rules.specs.Model.{HoldsThroughout}
-use Rattle.stands_for.specs.Layout.{ProgramPlaces, StateView, IsSharedWord}
+use Rattle.stands_for.specs.Layout.{ProgramPlaces, StateView}
 use Rattle.stands_for.specs.StandsFor.{UndecidedAt, StartedAt}
 use Rattle.stands_for.specs.Program.{IsStartStore, StartContract}
 use Rattle.stands_for.proofs.Interface.{each_weaker, numbered_starts}

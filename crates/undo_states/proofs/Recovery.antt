@@ -1,5 +1,5 @@
 -- A recovery: each word that is put back is a logged one, so that what is still to be put back stays; behind it the world is settled.
-use Rattle.std.proofs.Common.{◌≡◌, ℕ, ◌+◌, ◌*◌, ◌<◌, ◌≤◌, inl, inr, List, [], ◌∷◌, ◌++◌, refl, sym, ap, ◌∙◌, subst, arith}
+use Rattle.std.proofs.Common.{◌≡◌, ℕ, ◌<◌, inl, inr, List, [], ◌∷◌, ◌++◌, refl, sym, ap, ◌∙◌, subst, arith}
 use Rattle.std.specs.Prelude.{All}
 use Rattle.std.proofs.lemmas.List.Elements.{All-head, All-tail}
 use Rattle.memory_map.specs.Laws.{AreApart}
@@ -7,18 +7,18 @@ use Rattle.memory_map.specs.MemoryMap.{word_place}
 use Rattle.memory_map.specs.event_places.Places.{answer_place}
 use Rattle.memory_map.specs.declared.words.RuntimeWord.TheVariants.{Gate, ListLength}
 use Rattle.fram_board.specs.Effects.{Effect, Store}
-use Rattle.machine_effects.specs.World.{World, put, world_after_one, world_after, EachStore}
+use Rattle.machine_effects.specs.World.{World, world_after_one, world_after}
 use Rattle.machine_effects.proofs.Interface.{put_same, world_after-append, each_store-append, none_taken_through}
 use Rattle.undo_effects.specs.Entries.{Logged, logged, IsLogged}
 use Rattle.undo_effects.specs.Stages.{put_back, recovery}
 use Rattle.undo_effects.proofs.Interface.{put_back_restores, put_back_takes, put_back_stores, logged_words}
 use Rattle.crash_rules.specs.Model.{HoldsThroughout, IsElsewhere, RecoveryKeeps}
 use Rattle.crash_rules.proofs.Interface.{holds-append}
-use Rattle.stands_for.specs.Layout.{ProgramPlaces, StateView, IsSharedWord, HaveRoom}
+use Rattle.stands_for.specs.Layout.{ProgramPlaces, StateView, HaveRoom}
 use Rattle.stands_for.specs.StandsFor.{UndecidedAt}
 use Rattle.stands_for.specs.Program.{ProgramParts}
 use Rattle.stands_for.proofs.Interface.{none_answered}
-use Rattle.undo_states.specs.States.{list_length, restored, UndoneAt, SettledAt}
+use Rattle.undo_states.specs.States.{list_length, UndoneAt, SettledAt}
 use Rattle.undo_states.specs.Program.{undo_model}
 use Rattle.undo_states.proofs.Undecided.{over_keeps, over_entries, length_is, scratch_undecided}
 use Rattle.undo_states.proofs.Opening.{none_logged}

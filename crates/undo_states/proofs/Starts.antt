@@ -1,17 +1,17 @@
 -- An attempt's start: its opening, then the words of the private scalars are logged.
-use Rattle.std.proofs.Common.{◌≡◌, ℕ, suc, ◌+◌, ◌*◌, ◌<◌, ◌≤◌, ⊎_elim, inl, inr, false, List, [], ◌∷◌, ◌++◌, length, map, refl, sym, ap, ◌∙◌, subst, arith}
+use Rattle.std.proofs.Common.{◌≡◌, ℕ, ◌+◌, ◌*◌, ◌<◌, ◌≤◌, ⊎_elim, inl, inr, false, List, [], ◌∷◌, ◌++◌, length, map, refl, sym, ap, ◌∙◌, subst, arith}
 use Rattle.std.proofs.Common.{append_assoc, append-nil, length-append}
 use Rattle.std.specs.Prelude.{All}
 use Rattle.std.proofs.lemmas.List.{map-append}
 use Rattle.std.proofs.lemmas.List.Elements.{All-head, All-tail}
 use Rattle.memory_map.specs.Laws.{AreApart}
 use Rattle.memory_map.specs.MemoryMap.{word_place}
-use Rattle.memory_map.specs.declared.words.RuntimeWord.TheVariants.{CurrentTask, Gate, ListLength, EmitCount, Version}
-use Rattle.fram_board.specs.Effects.{Effect, Store}
+use Rattle.memory_map.specs.declared.words.RuntimeWord.TheVariants.{CurrentTask, EmitCount, Version}
+use Rattle.fram_board.specs.Effects.{Effect}
 use Rattle.machine_effects.specs.World.{World, world_after, fram_after, EachStore}
 use Rattle.machine_effects.specs.Inputs.{inputs_taken, no_inputs}
 use Rattle.machine_effects.proofs.Interface.{world_after-append, each_store-append, none_taken_through}
-use Rattle.undo_effects.specs.Entries.{logged_from, entry_place}
+use Rattle.undo_effects.specs.Entries.{logged_from}
 use Rattle.undo_effects.specs.Stages.{word_logged, words_logged, undo_opening, undo_start}
 use Rattle.crash_rules.specs.Model.{HoldsThroughout}
 use Rattle.crash_rules.proofs.Interface.{world_fram, holds-append}
@@ -21,8 +21,8 @@ use Rattle.stands_for.proofs.Interface.{each_weaker}
 use Rattle.undo_states.specs.States.{list_length, UndoneAt, SettledAt, LoggingAt, AreLogged, entry_at}
 use Rattle.undo_states.specs.Program.{IsLoggingStore, LoggingContract}
 use Rattle.undo_states.proofs.Steps.{at_end}
-use Rattle.undo_states.proofs.Undecided.{list_within, Logs, logs, logs_beside, logs_leave}
-use Rattle.undo_states.proofs.Opening.{settled_stands, none_logged, opening_takes, opening_stores, Opens, opens}
+use Rattle.undo_states.proofs.Undecided.{logs, logs_beside, logs_leave}
+use Rattle.undo_states.proofs.Opening.{settled_stands, none_logged, opening_takes, opening_stores, opens}
 
 -- words that are logged take nothing of what is ready
 logged_takes : (l : ProgramPlaces) (privates : List ℕ) (f : ℕ → ℕ) → inputs_taken (words_logged l.map privates f) ≡ no_inputs
@@ -127,7 +127,8 @@ module _ {St : Type 0} (l : ProgramPlaces) (apart : AreApart l.map) (room : Have
           emit_count = o.opened.emit_count;
           versions = o.opened.versions;
         } in
-        let g = goes [] privates y laid.few laid.each d in
+        let few = laid.few in
+        let g = goes [] privates y (omega (arith, few)) laid.each d in
         let more = words_logged l.map privates (fram_after op x.fram) in
         let same : words_logged l.map privates y.fram ≡ more = ap (words_logged l.map privates) there in
         record {

@@ -1,25 +1,25 @@
 -- The laws of what a world stands for.
-use Rattle.std.proofs.Common.{◌≡◌, ◌≢◌, ℕ, ◌+◌, ◌*◌, ◌<◌, ◌≤◌, ◌==◌, ⊎_elim, inl, inr, Bool, true, false, if◌then◌else◌, List, [], ◌∷◌, ◌++◌}
-use Rattle.std.proofs.Common.{refl, sym, ap, ◌∙◌, subst, arith, take, drop, append_assoc, eq-eqb, ne_eqb}
+use Rattle.std.proofs.Common.{◌≡◌, ℕ, ◌+◌, ◌*◌, ◌<◌, ◌≤◌, ◌==◌, ⊎_elim, inl, inr, Bool, if◌then◌else◌, List, [], ◌∷◌, ◌++◌}
+use Rattle.std.proofs.Common.{sym, ap, ◌∙◌, subst, arith, take, drop, append_assoc, eq-eqb, ne_eqb}
 use Rattle.std.proofs.lemmas.Bool.{cases_eq}
 use Rattle.std.proofs.lemmas.List.{take-append-drop}
 use Rattle.memory_map.specs.Laws.{AreApart}
 use Rattle.memory_map.specs.MemoryMap.{word_place}
 use Rattle.memory_map.specs.event_places.Places.{answer_place}
-use Rattle.memory_map.specs.declared.words.RuntimeWord.TheVariants.{CurrentTask, Gate, ListLength, Version}
-use Rattle.fram_board.specs.Effects.{Effect, Store}
+use Rattle.memory_map.specs.declared.words.RuntimeWord.TheVariants.{Gate, Version}
+use Rattle.fram_board.specs.Effects.{Store}
 use Rattle.machine_effects.specs.World.{World, put, world_after_one, world_after, fram_after, EachStore}
 use Rattle.machine_effects.proofs.Interface.{put_other}
-use Rattle.undo_effects.specs.Entries.{Logged, logged, IsLogged, undone}
-use Rattle.undo_effects.specs.Stages.{word_logged, first_logged, element_stored}
+use Rattle.undo_effects.specs.Entries.{Logged, logged, IsLogged}
+use Rattle.undo_effects.specs.Stages.{word_logged, element_stored}
 use Rattle.undo_effects.proofs.Interface.{undone_other, undone_at, is_logged_last}
 use Rattle.crash_rules.specs.Model.{HoldsThroughout, IsElsewhere, behind_effects, Inputs, InputsAreWords, AttemptContract, IsBetween}
 use Rattle.crash_rules.proofs.Interface.{world_fram, holds-append, in_front}
 use Rattle.stands_for.specs.Layout.{ProgramPlaces, StateView, IsSharedWord, HaveRoom}
-use Rattle.stands_for.specs.StandsFor.{UndecidedAt, VersionsWithin}
+use Rattle.stands_for.specs.StandsFor.{VersionsWithin}
 use Rattle.stands_for.specs.Program.{ProgramParts, attempt_effects}
 use Rattle.stands_for.proofs.Interface.{put_either, each_weaker, none_answered}
-use Rattle.undo_states.specs.States.{list_length, restored, UndoneAt, SettledAt, RestsClear, ClosesFrom, ClosesTo}
+use Rattle.undo_states.specs.States.{list_length, restored, UndoneAt, SettledAt, ClosesFrom, ClosesTo}
 use Rattle.undo_states.specs.Program.{undo_model, IsLoggingStore, LoggingContract, LoggedTasksContract, UndoKeepsTheLaws, LoggingStarts, CanStore}
 use Rattle.undo_states.specs.Program.{ElementStoresStay, SharedStoresStay}
 use Rattle.undo_states.proofs.Steps.{both_through, at_end}

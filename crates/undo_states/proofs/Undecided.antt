@@ -1,19 +1,19 @@
 -- What a store keeps of an undecided world.
-use Rattle.std.proofs.Common.{◌≡◌, ℕ, suc, ◌+◌, ◌*◌, ◌%◌, ◌<◌, ◌≤◌, ◌⊎◌, ⊎_elim, inl, inr, true, List, [], ◌∷◌, ◌++◌, refl, sym, ap, ◌∙◌, subst, arith}
+use Rattle.std.proofs.Common.{◌≡◌, ℕ, suc, ◌+◌, ◌*◌, ◌%◌, ◌<◌, ◌≤◌, ⊎_elim, inl, inr, true, [], ◌∷◌, ◌++◌, sym, ap, ◌∙◌, subst, arith}
 use Rattle.std.proofs.lemmas.Bool.{cases_eq}
 use Rattle.memory_map.specs.Laws.{AreApart}
 use Rattle.memory_map.specs.MemoryMap.{word_place}
 use Rattle.memory_map.specs.declared.words.RuntimeWord.TheVariants.{CurrentTask, Gate, ListLength, Base, Version}
-use Rattle.fram_board.specs.Effects.{Effect, Store}
+use Rattle.fram_board.specs.Effects.{Store}
 use Rattle.machine_effects.specs.World.{World, put, world_after_one, world_after, fram_after}
 use Rattle.machine_effects.proofs.Interface.{put_same, put_other}
 use Rattle.runtime_effects.specs.Needs.{IsOutOf}
 use Rattle.undo_effects.specs.Entries.{Logged, entry_place, logged_bytes, logged_from, logged, IsLogged, undone}
 use Rattle.undo_effects.specs.Stages.{word_logged}
-use Rattle.undo_effects.proofs.Interface.{put_again, undone_other, undone_over, undone_beside, undone_last, logged_last, last_logged, logged_alike}
+use Rattle.undo_effects.proofs.Interface.{put_again, undone_over, undone_beside, undone_last, logged_last, last_logged, logged_alike}
 use Rattle.crash_rules.specs.Model.{HoldsThroughout}
 use Rattle.stands_for.specs.Layout.{ProgramPlaces, StateView, IsSharedWord, HaveRoom}
-use Rattle.stands_for.specs.StandsFor.{HoldsWords, VersionsWithin, UndecidedAt}
+use Rattle.stands_for.specs.StandsFor.{VersionsWithin, UndecidedAt}
 use Rattle.stands_for.proofs.Interface.{put_words}
 use Rattle.undo_states.specs.States.{list_length, restored, UndoneAt}
 

@@ -1,10 +1,10 @@
 -- A compiled program under undo as the crash theorem takes it, and what its start and its tasks owe.
 use Rattle.std.specs.Prelude.{◌≡◌, ◌≢◌, ℕ, ◌+◌, ◌*◌, ◌<◌, ◌⊎◌, true, List, [], ◌∷◌}
-use Rattle.memory_map.specs.MemoryMap.{MemoryMap, word_place}
+use Rattle.memory_map.specs.MemoryMap.{word_place}
 use Rattle.memory_map.specs.event_places.Places.{answer_place}
 use Rattle.memory_map.specs.Places.{end_of}
 use Rattle.memory_map.specs.Laws.{AreApart}
-use Rattle.memory_map.specs.declared.words.RuntimeWord.TheVariants.{Gate, ListLength, Version}
+use Rattle.memory_map.specs.declared.words.RuntimeWord.TheVariants.{Gate, Version}
 use Rattle.fram_board.specs.Effects.{Effect, Store}
 use Rattle.machine_effects.specs.World.{World, world_after, EachStore}
 use Rattle.machine_effects.specs.Inputs.{inputs_taken, no_inputs}
