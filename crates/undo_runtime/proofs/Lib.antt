@@ -3,7 +3,7 @@ mod Opening
 mod Entering
 mod Boot
 mod Commit
-mod Elements
+mod ElementStores
 mod Words
 mod Writing
 pub mod Interface

@@ -27,7 +27,7 @@ pub fn undo_commit_is_made()
 
 /// The code of a store to an element makes exactly that: the first of an attempt lists the element's address and its word, counts the entry, stores VER to
 /// the element's version word, and then the word to the element.
-#[tactic(auto, using(crate::proofs::Elements::element_is_stored))]
+#[tactic(auto, using(crate::proofs::ElementStores::element_is_stored))]
 pub fn element_is_stored()
     ensures { ElementIsStored }
 {}

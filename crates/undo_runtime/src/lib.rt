@@ -88,8 +88,8 @@ fn ladder_offset(layout: &Layout) -> u16
 /// branch leads to its code. They take 50 words, 5 more where there are events, and for each task 2, and where it has private scalars 2 more and 8 for
 /// each of their words.
 pub fn boot_code(alloc: Global, layout: &Layout, at: u16) -> Result<Vec<Form>, AllocError>
-    requires { at + boot_bytes layout.now (logged_tasks layout.now) < 65536 }
-    requires { All (FitsList layout.now) layout.now.tasks }
+    requires room { at + boot_bytes layout.now (logged_tasks layout.now) < 65536 }
+    requires few { All (FitsList layout.now) layout.now.tasks }
     ensures { IfOk result (λ code. code.items ≡ boot_forms layout.now layout.now.commit.address (logged_tasks layout.now) at) }
 {
     layout.rules();

@@ -101,8 +101,8 @@ fn push_scalar(
     entry: u16,
     scalar: &PrivateScalar,
 ) -> Result<(), AllocError>
-    requires { EndsInMemory scalar.now }
-    requires { entry + scalar_words scalar.now.width ≤ layout.now.entries }
+    requires ends { EndsInMemory scalar.now }
+    requires few { entry + scalar_words scalar.now.width ≤ layout.now.entries }
     ensures { OnOk result (code.new.items ≡ code.old.items ++ logs_in layout.now entry (home_words scalar.now)) }
 {
     push_logged(code, layout, entry, scalar.home)?;
@@ -118,8 +118,8 @@ fn push_scalars(
     layout: &Layout,
     privates: &[PrivateScalar],
 ) -> Result<(), AllocError>
-    requires { All EndsInMemory privates.now }
-    requires { private_words privates.now ≤ layout.now.entries }
+    requires ends { All EndsInMemory privates.now }
+    requires few { private_words privates.now ≤ layout.now.entries }
     ensures { OnOk result (code.new.items ≡ code.old.items ++ logs_in layout.now 0 (homes_in privates.now)) }
 {
     layout.rules();
@@ -133,8 +133,8 @@ fn push_scalars(
 
 // Adds a task's stub: the words of its private scalars are logged, and a branch leads to its code; or nothing, where it has none.
 fn push_stub(code: &mut Vec<Form>, layout: &Layout, task: &TaskLayout) -> Result<(), AllocError>
-    requires { All EndsInMemory task.now.privates }
-    requires { FitsList layout.now task.now }
+    requires ends { All EndsInMemory task.now.privates }
+    requires few { FitsList layout.now task.now }
     ensures { OnOk result (code.new.items ≡ code.old.items ++ stub_of (rung_for layout.now (task_of task.now))) }
 {
     let privates = task.privates();
@@ -152,8 +152,8 @@ pub fn push_stubs(
     layout: &Layout,
     tasks: &[TaskLayout],
 ) -> Result<(), AllocError>
-    requires { All (λ t. All EndsInMemory t.privates) tasks.now }
-    requires { All (FitsList layout.now) tasks.now }
+    requires ends { All (λ t. All EndsInMemory t.privates) tasks.now }
+    requires few { All (FitsList layout.now) tasks.now }
     ensures { OnOk result (code.new.items ≡ code.old.items ++ all_stubs (rungs layout.now (map task_of tasks.now))) }
 {
     for task in tasks {
