@@ -172,7 +172,9 @@ undo_start_is_made code m commit tasks at u boot e named word none =
     let reached = All-get_or (IsReached m) tasks k (record { privates = []; code = 0 }) named boot.reached in
     let is = ap (λ i. rung_in (rungs m tasks) i) stays ∙ rung_is m tasks k in
     let once = once_logged m 0 t.privates 1 in let dear = once_logged m 0 t.privates 3 in
-    let does = logs_done code boot.tidy m boot.places boot.list (stack_origin m.runtime.events) 0 t.privates g u.inputs empty reached.few reached.privates in
+    let few = reached.few in
+    let does = logs_done code boot.tidy m boot.places boot.list (stack_origin m.runtime.events) 0 t.privates g u.inputs empty (omega (arith, few))
+    reached.privates in
     recounted (omega (arith, once)) (omega (arith, dear)) (so_ends (comes_on
     (moved_to (omega arith) (opens code boot.tidy m boot.places (from + 46) f u.inputs u (omega (arith, room)) word
     (opening_there code m commit tasks at boot u) (record { pc = e; fram = refl; inputs = refl })))

@@ -1,16 +1,17 @@
 -- The commit's code makes the commit.
-use Rattle.std.proofs.Common.{◌≡◌, ℕ, zero, suc, ◌+◌, ◌*◌, ◌%◌, ◌<◌, List, [], ◌∷◌, ◌++◌, refl, sym, ap, ◌∙◌, subst, arith}
+use Rattle.std.proofs.Common.{◌≡◌, ◌≢◌, ℕ, ◌+◌, ◌*◌, ◌%◌, ◌<◌, List, [], ◌∷◌, ◌++◌, refl, sym, ap, ◌∙◌, subst, arith}
+use mathlib.Core.Path.{fun_ext}
 use Rattle.runtime_code.specs.fram_board.Effects.{Effect, Store}
 use Rattle.runtime_code.specs.machine_effects.World.{fram_after}
 use Rattle.runtime_code.specs.machine_effects.Inputs.{Inputs}
 use Rattle.runtime_code.specs.machine_effects.Machine.{Code}
-use Rattle.runtime_code.proofs.machine_effects.Interface.{fram_after-append}
+use Rattle.runtime_code.proofs.machine_effects.Interface.{fram_after-append, fram_untouched}
 use Rattle.runtime_code.specs.code_forms.Forms.{Core, Branch}
 use Rattle.runtime_code.specs.code_forms.Code.{Stands, IsTidy}
 use Rattle.runtime_code.proofs.code_forms.Interface.{stands_front, forms_behind}
-use Rattle.runtime_code.specs.runtime_effects.Stages.{sends, emits_sent, tail_moved}
+use Rattle.runtime_code.specs.runtime_effects.Stages.{emits_sent, tail_moved}
 use Rattle.runtime_code.specs.runtime_effects.Needs.{AreInFram}
-use Rattle.runtime_code.proofs.runtime_effects.Interface.{where_leaves}
+use Rattle.runtime_code.proofs.runtime_effects.Interface.{sends_store, where_leaves}
 use Rattle.runtime_code.specs.Comes.{Comes, IsAt}
 use Rattle.runtime_code.specs.Counted.{if_any}
 use Rattle.runtime_code.specs.Sending.{sending}
@@ -22,7 +23,7 @@ use Rattle.memory_map.specs.declared.words.RuntimeWord.TheVariants.{CurrentTask,
 use Rattle.memory_map.specs.MemoryMap.{MemoryMap, word_place, with_events}
 use Rattle.memory_map.specs.event_places.Places.{tail_place, sent_place}
 use Rattle.undo_effects.specs.Stages.{undo_commit}
-use Rattle.undo_runtime.specs.Listing.{closing, commit_forms}
+use Rattle.undo_runtime.specs.Listing.{closing, undo_commit_forms}
 use Rattle.undo_runtime.specs.Laws.{UndoCommitIsMade}
 
 module _ (code : Code) (tidy : IsTidy code) (m : MemoryMap) (places : AreInFram m) where
@@ -65,11 +66,6 @@ module _ (code : Code) (tidy : IsTidy code) (m : MemoryMap) (places : AreInFram 
       (λ v j. subst (λ x. Closed x v) next (close_part (p + with_events events 6) start number g l v even behind_tail j)))
       (λ v j. record { pc = j.pc; fram = j.fram ∙ sym (fram_after-append ts es f); inputs = j.inputs })
 
--- sends leave FRAM
-sends_keep : (n k p : ℕ) (f g : ℕ → ℕ) → fram_after (sends n k p f) g ≡ g
-sends_keep zero k p f g = refl
-sends_keep (suc n) k p f g = sends_keep n ((k + 1) % 0x10000) (p + 2) f g
-
 pub undo_commit_is_made : UndoCommitIsMade
 undo_commit_is_made code m at start u tidy places high even h e can =
     let f = u.fram in
@@ -77,10 +73,10 @@ undo_commit_is_made code m at start u tidy places high even h e can =
     let base = f (word_place m SentBase) in
     let ss = emits_sent m f in
     let ls = tail_moved m f ++ closed_with code tidy m places (f (word_place m NextTask)) ((base + n) % 0x10000) in
-    let after : fram_after ls f ≡ fram_after (undo_commit m f) f =
-    ap (fram_after ls) (sym (sends_keep n base m.emits.address f f)) ∙ sym (fram_after-append ss ls f) in
+    let sent : fram_after ss f ≡ f = fun_ext (λ a. fram_untouched ss a f (sends_store (λ b w. b ≢ a) n base m.emits.address f)) in
+    let after : fram_after ls f ≡ fram_after (undo_commit m f) f = ap (fram_after ls) (sym sent) ∙ sym (fram_after-append ss ls f) in
     recounted (omega arith) (omega arith) (so_ends
     (comes_on (sends_are_made code tidy m places at f u.inputs u (omega (arith, high)) (stands_front code at (sending m) _ h) can.emit_count can.sent_base
     (record { pc = e; fram = refl; inputs = refl }))
-    (λ v k. end_part code tidy m places (at + 30) start ((base + n) % 0x10000) f u.inputs v even (forms_behind code at 10 (commit_forms m start) h) k))
+    (λ v k. end_part code tidy m places (at + 30) start ((base + n) % 0x10000) f u.inputs v even (forms_behind code at 10 (undo_commit_forms m start) h) k))
     (λ v k. record { pc = k.pc; fram = k.fram ∙ after; inputs = k.inputs }))

@@ -14,7 +14,8 @@ use Rattle.runtime_code.specs.code_forms.Code.{Stands, IsTidy, size}
 use Rattle.runtime_code.proofs.code_forms.Interface.{stands_front, forms_at, forms_behind}
 use Rattle.runtime_code.specs.runtime_effects.Needs.{AreInFram, IsOutOf}
 use Rattle.runtime_code.specs.Comes.{Comes, IsAt}
-use Rattle.runtime_code.proofs.Interface.{behind, core_at, from_there, ends, then_on, so_ends, recounted, comes_on, straight, jumps, IsLeft, left_from, first_left}
+use Rattle.runtime_code.proofs.Interface.{behind, core_at, from_there, ends, then_on, so_ends, comes_on, straight, jumps}
+use Rattle.runtime_code.proofs.Interface.{IsLeft, left_from, first_left}
 use Rattle.memory_map.specs.declared.words.RuntimeWord.TheVariants.{ListLength, Version}
 use Rattle.memory_map.specs.MemoryMap.{MemoryMap, word_place}
 use Rattle.undo_effects.specs.Entries.{entry_place}

@@ -19,7 +19,8 @@ use Rattle.memory_map.specs.MemoryMap.{MemoryMap, word_place}
 use Rattle.undo_effects.specs.Entries.{Logged, logged_from, logged, IsLogged}
 use Rattle.undo_effects.specs.Stages.{put_back, recovery}
 use Rattle.undo_effects.proofs.Interface.{put_back_last, last_logged, logged_alike, still_logged, is_logged_last}
-use Rattle.undo_runtime.specs.Listing.{recovery_begins, back_turn, back_loop, list_cleared, recovering, recovery_steps, recovery_cycles}
+use Rattle.commit_runtime.specs.Listing.{copies_begin}
+use Rattle.undo_runtime.specs.Listing.{back_turn, back_loop, list_cleared, recovering, recovery_steps, recovery_cycles}
 use Rattle.undo_runtime.specs.Needs.{IsLoggable, CanRecover}
 
 -- an address outside others is none of them
@@ -162,7 +163,7 @@ module _ (code : Code) (tidy : IsTidy code) (m : MemoryMap) (places : AreInFram 
       Comes code (recovery m f) (recovery_steps n) (recovery_cycles n) u (IsAt (p + 36) (fram_after (recovery m f) f) l)
   recovers p f l u high h can at =
       let n = f (word_place m ListLength) in
-      let begun = behind (recovery_begins m) (core_at p f l u) in
+      let begun = behind (copies_begin m) (core_at p f l u) in
       let es = put_back (logged m f) in
       let g = fram_after es f in
       let last = places.list.high in
@@ -177,5 +178,5 @@ module _ (code : Code) (tidy : IsTidy code) (m : MemoryMap) (places : AreInFram 
       λ v k. from_there v k (ends (straight code tidy (list_cleared m) (core_at (p + 32) g l v) (tt, tt) (forms_behind code p 11 (recovering m) h)
       ((tt, places.words ListLength), tt) refl) (record { pc = omega arith; fram = refl; inputs = refl })) in
       recounted (omega arith) (omega arith) (on_fram f (moved_to (omega arith)
-      (from_there u at (then_on (straight code tidy (recovery_begins m) (core_at p f l u) (tt, tt) (h.0, tt) ((places.words ListLength, tt), tt) refl) all)))
+      (from_there u at (then_on (straight code tidy (copies_begin m) (core_at p f l u) (tt, tt) (h.0, tt) ((places.words ListLength, tt), tt) refl) all)))
       end)

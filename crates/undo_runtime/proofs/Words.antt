@@ -13,7 +13,7 @@ use Rattle.boot_runtime.specs.Listing.{head, end_tested, clearing, interrupts_se
 use Rattle.commit_runtime.specs.Listing.{tail_set, events_taken}
 use Rattle.memory_map.specs.MemoryMap.{MemoryMap}
 use Rattle.undo_runtime.specs.Listing.{recovering, numbers_set, opening, logs_in, LoggedTask, rung_for, rungs, stub_bytes, stubs_bytes, stubs_place}
-use Rattle.undo_runtime.specs.Listing.{ladder_offset, gated_forms, ladder_forms, boot_forms, closing, commit_forms}
+use Rattle.undo_runtime.specs.Listing.{ladder_offset, gated_forms, ladder_forms, boot_forms, closing, undo_commit_forms}
 use Rattle.undo_runtime.specs.Laws.{UndoStartsAreShort, FirstStoresAreShort, UndoBootIsShort, UndoBootIsCode, UndoBootFits, entry_room}
 use Rattle.undo_runtime.specs.Laws.{UndoCommitIsShort, UndoCommitIsCode, UndoCommitFits}
 use Rattle.undo_runtime.proofs.Entering.{stub_size}
@@ -61,9 +61,6 @@ ladder_are : (m : MemoryMap) (q : ℕ) (ts : List LoggedTask) → AreInstruction
 ladder_are m q [] = tt
 ladder_are m q (t ∷ ts) = (tt, ladder_are m (q + stub_bytes t) ts)
 
-head_are : (m : MemoryMap) (commit : ℕ) → AreInstructions (instructions (head m commit))
-head_are m commit = search arith
-
 recovering_are : (m : MemoryMap) → AreInstructions (instructions (recovering m))
 recovering_are m = search arith
 
@@ -76,19 +73,18 @@ opening_are m =
     are_instructions-append (end_tested m ++ (clearing m ++ numbers_set m)) (events_counted m) (numbered_are m)
     (where_instructions m.runtime.events event_count_set (tt, tt))
 
-dispatch_are : (m : MemoryMap) → AreInstructions (instructions (dispatch m))
-dispatch_are m = search arith
-
 pub undo_boot_is_code : UndoBootIsCode
 undo_boot_is_code m commit tasks at =
     let q = stubs_place m tasks at in
     let d = dispatch m in
+    let head_are : AreInstructions (instructions (head m commit)) = search arith in
+    let dispatch_are : AreInstructions (instructions d) = search arith in
     are_instructions-append (interrupts_enabled m) (gated_forms m commit ++ ladder_forms m tasks at)
     (where_instructions m.runtime.events interrupts_set (tt, (tt, tt)))
     (are_instructions-append (gated_forms m commit) (ladder_forms m tasks at)
-    (are_instructions-append (head m commit) (recovering m ++ (opening m ++ d)) (head_are m commit)
+    (are_instructions-append (head m commit) (recovering m ++ (opening m ++ d)) head_are
     (are_instructions-append (recovering m) (opening m ++ d) (recovering_are m)
-    (are_instructions-append (opening m) d (opening_are m) (dispatch_are m))))
+    (are_instructions-append (opening m) d (opening_are m) dispatch_are)))
     (are_instructions-append (ladder q (rungs m tasks)) (all_stubs (rungs m tasks)) (ladder_are m q tasks) (stubs_are m tasks)))
 
 entries_fit : (ts : List LoggedTask) → 4 * length ts + stubs_bytes ts ≤ 2 * entry_room ts
@@ -106,19 +102,17 @@ undo_commit_is_short m start =
     let whole = forms_bytes-append (sending m) (events_taken m ++ last) in
     let rest = forms_bytes-append (events_taken m) last in
     let more = where_bytes m.runtime.events tail_set in
-    code_bytes (commit_forms m start) ∙ omega (arith, whole, rest, more)
+    code_bytes (undo_commit_forms m start) ∙ omega (arith, whole, rest, more)
 
 sending_are : (m : MemoryMap) → AreInstructions (instructions (sending m))
 sending_are m = search arith
 
-last_are : (m : MemoryMap) (start : ℕ) → AreInstructions (instructions (closing m ++ (Branch start ∷ [])))
-last_are m start = search arith
-
 pub undo_commit_is_code : UndoCommitIsCode
 undo_commit_is_code m start =
     let last = closing m ++ (Branch start ∷ []) in
+    let last_are : AreInstructions (instructions last) = search arith in
     are_instructions-append (sending m) (events_taken m ++ last) (sending_are m)
-    (are_instructions-append (events_taken m) last (where_instructions m.runtime.events tail_set (tt, tt)) (last_are m start))
+    (are_instructions-append (events_taken m) last (where_instructions m.runtime.events tail_set (tt, tt)) last_are)
 
 pub undo_commit_fits : UndoCommitFits
 undo_commit_fits events = let few = with_events_most events 6 in omega (arith, few)

@@ -13,7 +13,8 @@ use Rattle.memory_map.specs.Places.{scalar_words}
 use Rattle.memory_map.specs.Spots.{private_words}
 use Rattle.memory_map.specs.MemoryMap.{TaskPlace, MemoryMap}
 use Rattle.undo_runtime.specs.Entries.{words_from, home_words, homes_in, task_of}
-use Rattle.undo_runtime.specs.Listing.{word_logged_in, logs_in, LoggedTask, stub_bytes, rung_to, rung_for, rungs, stubs_place, gated_forms, ladder_forms, boot_forms}
+use Rattle.undo_runtime.specs.Listing.{word_logged_in, logs_in, LoggedTask, stub_bytes, rung_to, rung_for, rungs, stubs_place}
+use Rattle.undo_runtime.specs.Listing.{gated_forms, fixed_forms, ladder_forms, boot_forms}
 
 -- words behind words
 logs_behind : (m : MemoryMap) (i : ℕ) (xs ys : List ℕ) → logs_in m i (xs ++ ys) ≡ logs_in m i xs ++ logs_in m (i + length xs) ys
@@ -60,13 +61,13 @@ next_written m is js all xs x i it l written rest =
     ap (λ l. l ++ s) written ∙ append_assoc is (stub_of (rung_for m (task_of x))) s ∙ sym more ∙ rest
 
 -- what stands before the ladder, the ladder, and the stubs
-pub boot_written : (m : MemoryMap) (commit at q : ℕ) (tasks us : List LoggedTask) (v w x : List Form) → us ≡ tasks → q ≡ stubs_place m us at
-    → v ≡ interrupts_enabled m ++ gated_forms m commit → w ≡ v ++ ladder q (rungs m us) → x ≡ w ++ all_stubs (rungs m us) → x ≡ boot_forms m commit tasks at
-boot_written m commit at q tasks us v w x e there front rungs_there rest =
+pub boot_written : (m : MemoryMap) (commit at q : ℕ) (tasks us : List LoggedTask) (v w : List Form) → us ≡ tasks → q ≡ stubs_place m us at
+    → v ≡ fixed_forms m commit ++ ladder q (rungs m us) → w ≡ v ++ all_stubs (rungs m us) → w ≡ boot_forms m commit tasks at
+boot_written m commit at q tasks us v w e there front rest =
     let a = interrupts_enabled m in
     let g = gated_forms m commit in
     let stubs = all_stubs (rungs m us) in
-    rest ∙ ap (λ y. y ++ stubs) (rungs_there ∙ ap (λ y. y ++ ladder q (rungs m us)) front ∙ ap (λ n. (a ++ g) ++ ladder n (rungs m us)) there)
+    rest ∙ ap (λ y. y ++ stubs) (front ∙ ap (λ n. fixed_forms m commit ++ ladder n (rungs m us)) there)
     ∙ append_assoc (a ++ g) (ladder (stubs_place m us at) (rungs m us)) stubs ∙ append_assoc a g (ladder_forms m us at)
     ∙ ap (λ y. boot_forms m commit y at) e
 

@@ -17,7 +17,7 @@ use Rattle.privatise.specs.Sizes.{own_boot_words, commit_words}
 use Rattle.boot_runtime.specs.Laws.{NamesHandler}
 use Rattle.undo_effects.specs.Stages.{first_logged, element_stored, recovery, undo_start, undo_commit}
 use Rattle.undo_runtime.specs.Listing.{LoggedTask, task_at, privates_in, boot_forms, boot_bytes, start_place, start_steps, start_cycles}
-use Rattle.undo_runtime.specs.Listing.{recovery_steps, recovery_cycles, commit_forms, commit_bytes, commit_steps, commit_cycles}
+use Rattle.undo_runtime.specs.Listing.{recovery_steps, recovery_cycles, undo_commit_forms, commit_bytes, commit_steps, commit_cycles}
 use Rattle.undo_runtime.specs.Listing.{logged_first, logged_write, first_bytes, first_steps, first_cycles}
 use Rattle.undo_runtime.specs.Entries.{logged_tasks}
 use Rattle.undo_runtime.specs.Needs.{ListStands, IsLoggable, CanRecover, CanClose, CanLog}
@@ -74,7 +74,7 @@ UndoStartIsMade = (code : Code) (m : MemoryMap) (commit : ℕ) (tasks : List Log
 -- from where the listing stands, the code makes exactly the commit, whatever the registers, and comes to the attempt's start
 abbrev pub UndoCommitIsMade : Type 0
 UndoCommitIsMade = (code : Code) (m : MemoryMap) (at start : ℕ) (u : Core) → IsTidy code → AreInFram m → at + commit_bytes m.runtime.events < 0x10000
-    → start % 2 ≡ 0 → Stands code at (commit_forms m start) → u.pc ≡ at → CanClose m u.fram
+    → start % 2 ≡ 0 → Stands code at (undo_commit_forms m start) → u.pc ≡ at → CanClose m u.fram
     → let emits = u.fram (word_place m EmitCount) in
     let es = undo_commit m u.fram in
     let events = m.runtime.events in
@@ -83,7 +83,8 @@ UndoCommitIsMade = (code : Code) (m : MemoryMap) (at start : ℕ) (u : Core) →
 -- from where the listing stands, with 2 * i in R4 and a word in R5, the code makes exactly the store of that word to element i of an array
 abbrev pub ElementIsStored : Type 0
 ElementIsStored = (code : Code) (m : MemoryMap) (elements versions i at : ℕ) (u : Core) → IsTidy code → AreInFram m → ListStands m
-    → at + first_bytes + 4 < 0x10000 → Stands code at (logged_write m elements versions) → u.pc ≡ at → u.work 4 ≡ 2 * i → CanLog m (2 * i + elements) (2 * i + versions) u.fram
+    → at + first_bytes + 4 < 0x10000 → Stands code at (logged_write m elements versions) → u.pc ≡ at → u.work 4 ≡ 2 * i
+    → CanLog m (2 * i + elements) (2 * i + versions) u.fram
     → let later = u.fram (2 * i + versions) == u.fram (word_place m Version) in
     let es = element_stored m (2 * i + elements) (2 * i + versions) (u.work 5) u.fram in
     Comes code es (first_steps later + 1) (first_cycles later + 4) u (IsAt (at + first_bytes + 4) (fram_after es u.fram) u.inputs)
@@ -102,14 +103,14 @@ UndoBootIsShort = (m : MemoryMap) (commit : ℕ) (tasks : List LoggedTask) (at :
     → 2 * length (words_of (instructions (boot_forms m commit tasks at))) ≡ boot_bytes m tasks
 
 abbrev pub UndoCommitIsShort : Type 0
-UndoCommitIsShort = (m : MemoryMap) (start : ℕ) → 2 * length (words_of (instructions (commit_forms m start))) ≡ commit_bytes m.runtime.events
+UndoCommitIsShort = (m : MemoryMap) (start : ℕ) → 2 * length (words_of (instructions (undo_commit_forms m start))) ≡ commit_bytes m.runtime.events
 
 -- each of its instructions has its words
 abbrev pub UndoBootIsCode : Type 0
 UndoBootIsCode = (m : MemoryMap) (commit : ℕ) (tasks : List LoggedTask) (at : ℕ) → AreInstructions (instructions (boot_forms m commit tasks at))
 
 abbrev pub UndoCommitIsCode : Type 0
-UndoCommitIsCode = (m : MemoryMap) (start : ℕ) → AreInstructions (instructions (commit_forms m start))
+UndoCommitIsCode = (m : MemoryMap) (start : ℕ) → AreInstructions (instructions (undo_commit_forms m start))
 
 -- the words that the allowance has for the entries of tasks: 200 for each, and 16 for each word of a private scalar
 abbrev pub entry_room : List LoggedTask → ℕ

@@ -13,14 +13,10 @@ use Rattle.runtime_code.specs.Counted.{over, counted, if_any}
 use Rattle.runtime_code.specs.Ladder.{Rung, rung_with, dispatch, ladder, all_stubs}
 use Rattle.runtime_code.specs.Sending.{sending}
 use Rattle.boot_runtime.specs.Listing.{interrupts_enabled, head, end_tested, clearing, events_counted}
-use Rattle.commit_runtime.specs.Listing.{events_taken}
+use Rattle.commit_runtime.specs.Listing.{copies_begin, events_taken}
 use Rattle.undo_effects.specs.Entries.{entry_place, logged_bytes}
 
 -- ---- the recovery
-
--- R4 := CLN
-abbrev pub recovery_begins : MemoryMap → List Form
-recovery_begins m = Move (Fram (word_place m ListLength)) (ToRegister R4) ∷ []
 
 -- the word of the last entry of so many as R4 says goes back to its address: R6 := four times R4, from which the entry ends that far behind the list's
 -- beginning
@@ -39,7 +35,7 @@ list_cleared m = Move (Constant Zero) (ToFram (word_place m ListLength)) ∷ []
 
 -- the recovery
 abbrev pub recovering : MemoryMap → List Form
-recovering m = recovery_begins m ++ (back_loop m ++ list_cleared m)
+recovering m = copies_begin m ++ (back_loop m ++ list_cleared m)
 
 abbrev pub recovery_bytes : ℕ
 recovery_bytes = 36
@@ -129,6 +125,10 @@ stubs_place m tasks at = at + ladder_offset m + 4 * length tasks
 abbrev pub gated_forms : MemoryMap → ℕ → List Form
 gated_forms m commit = head m commit ++ (recovering m ++ (opening m ++ dispatch m))
 
+-- all that stands before the ladder
+abbrev pub fixed_forms : MemoryMap → ℕ → List Form
+fixed_forms m commit = interrupts_enabled m ++ gated_forms m commit
+
 -- ladder and stubs
 abbrev pub ladder_forms : MemoryMap → List LoggedTask → ℕ → List Form
 ladder_forms m tasks at = ladder (stubs_place m tasks at) (rungs m tasks) ++ all_stubs (rungs m tasks)
@@ -156,8 +156,8 @@ closing m =
     ∷ Move (Constant Zero) (ToFram (word_place m ListLength)) ∷ Move (Constant Zero) (ToFram (word_place m Gate)) ∷ []
 
 -- the commit, and the branch to an attempt's start at this address: 26 words, 3 more where there are events
-abbrev pub commit_forms : MemoryMap → ℕ → List Form
-commit_forms m start = sending m ++ (events_taken m ++ (closing m ++ (Branch start ∷ [])))
+abbrev pub undo_commit_forms : MemoryMap → ℕ → List Form
+undo_commit_forms m start = sending m ++ (events_taken m ++ (closing m ++ (Branch start ∷ [])))
 
 abbrev pub commit_bytes : Bool → ℕ
 commit_bytes events = 52 + with_events events 6

@@ -1,7 +1,7 @@
 //! The commit.
 
 ghost use Rattle.std.specs.Prelude.{◌≡◌, ◌+◌, ◌<◌, IfOk};
-ghost use Rattle.undo_runtime.specs.Listing.{closing, commit_forms};
+ghost use Rattle.undo_runtime.specs.Listing.{closing, undo_commit_forms};
 
 use commit_runtime::{push_events_taken, push_sends, sends_begin};
 use memory_map::{Layout, RuntimeWord};
@@ -34,7 +34,7 @@ fn closing(layout: &Layout) -> [Form; 4]
 /// They send the emitted words, numbered from SB on, and store TAIL, where there are events, CUR, BASE, CLN and GATE, in this order. They take 26
 /// words, 29 where there are events, and may stand anywhere.
 pub fn commit_code(alloc: Global, layout: &Layout, start: u16) -> Result<Vec<Form>, AllocError>
-    ensures { IfOk result (λ code. code.items ≡ commit_forms layout.now start) }
+    ensures { IfOk result (λ code. code.items ≡ undo_commit_forms layout.now start) }
 {
     let mut code = Vec::new(alloc);
     code.extend_from_slice(&sends_begin(layout))?;

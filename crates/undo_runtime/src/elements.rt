@@ -54,7 +54,8 @@ fn push_logged_first(
     ensures { OnOk result (code.new.items ≡ code.old.items ++ logged_first layout.now elements versions) }
 {
     code.extend_from_slice(&version_tested(layout, elements, versions))?;
-    code.extend_from_slice(&first_forms(layout, elements, versions))
+    code.extend_from_slice(&first_forms(layout, elements, versions))?;
+    Ok(())
 }
 
 /// The instructions that store the word in R5 to an element of the array whose elements and version words begin at these addresses; or no memory is

@@ -10,8 +10,8 @@ mod stubs;
 
 ghost use Rattle.std.specs.Prelude.{◌≡◌, ◌+◌, ◌<◌, ◌++◌, ℕ, All, IfOk, OnOk};
 ghost use Rattle.undo_runtime.specs.Entries.{logged_tasks, FitsList};
-ghost use Rattle.undo_runtime.specs.Listing.{numbers_set, opening, gated_forms, ladder_offset, boot_forms, boot_bytes};
-ghost use Rattle.boot_runtime.specs.Listing.{clearing, interrupts_enabled};
+ghost use Rattle.undo_runtime.specs.Listing.{numbers_set, opening, gated_forms, fixed_forms, ladder_offset, boot_forms, boot_bytes};
+ghost use Rattle.boot_runtime.specs.Listing.{clearing};
 
 use boot_runtime::{
     clearing_begins, dispatch, end_tested, head, push_clear_loop, push_events_counted,
@@ -73,6 +73,16 @@ fn push_gated(code: &mut Vec<Form>, layout: &Layout) -> Result<(), AllocError>
     code.extend_from_slice(&dispatch(layout))
 }
 
+// What stands before the ladder.
+fn fixed_code(alloc: Global, layout: &Layout) -> Result<Vec<Form>, AllocError>
+    ensures { IfOk result (λ code. code.items ≡ fixed_forms layout.now layout.now.commit.address) }
+{
+    let mut code = Vec::new(alloc);
+    push_interrupts_enabled(&mut code, layout)?;
+    push_gated(&mut code, layout)?;
+    Ok(code)
+}
+
 // The bytes of the code before the ladder.
 fn ladder_offset(layout: &Layout) -> u16
     ensures { result ≡ ladder_offset layout.now }
@@ -94,9 +104,7 @@ pub fn boot_code(alloc: Global, layout: &Layout, at: u16) -> Result<Vec<Form>, A
 {
     layout.rules();
     let tasks = layout.tasks();
-    let mut code = Vec::new(alloc);
-    push_interrupts_enabled(&mut code, layout)?;
-    push_gated(&mut code, layout)?;
+    let mut code = fixed_code(alloc, layout)?;
     push_ladder(
         &mut code,
         layout,

@@ -1,7 +1,8 @@
 //! The recovery: what a boot does before an attempt, where no commit is pending.
 
 ghost use Rattle.std.specs.Prelude.{◌≡◌, ◌++◌, OnOk};
-ghost use Rattle.undo_runtime.specs.Listing.{recovery_begins, back_turn, back_loop, list_cleared, recovering};
+ghost use Rattle.commit_runtime.specs.Listing.{copies_begin};
+ghost use Rattle.undo_runtime.specs.Listing.{back_turn, back_loop, list_cleared, recovering};
 
 use memory_map::{Layout, RuntimeWord};
 use runtime_code::forms::Form::{Calculate, Move};
@@ -14,7 +15,7 @@ use std::alloc::AllocError;
 
 // R4 := CLN.
 fn recovery_begins(layout: &Layout) -> [Form; 1]
-    ensures { result ≡ recovery_begins layout.now }
+    ensures { result ≡ copies_begin layout.now }
 {
     let list_length = Fram(layout.word_place(RuntimeWord::ListLength));
     [Move(list_length, ToRegister(R4))]
@@ -41,7 +42,8 @@ fn push_back_loop(code: &mut Vec<Form>, layout: &Layout) -> Result<(), AllocErro
 {
     code.extend_from_slice(&loop_begin(layout.list().address, 12))?;
     code.extend_from_slice(&back_turn(layout))?;
-    code.extend_from_slice(&loop_end(0x400 - 10))
+    code.extend_from_slice(&loop_end(0x400 - 10))?;
+    Ok(())
 }
 
 // CLN := 0.

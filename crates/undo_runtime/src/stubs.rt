@@ -105,6 +105,7 @@ fn push_scalar(
     requires few { entry + scalar_words scalar.now.width ≤ layout.now.entries }
     ensures { OnOk result (code.new.items ≡ code.old.items ++ logs_in layout.now entry (home_words scalar.now)) }
 {
+    layout.rules();
     push_logged(code, layout, entry, scalar.home)?;
     match scalar.width {
         ScalarWidth::OneWord => Ok(()),
@@ -113,6 +114,7 @@ fn push_scalar(
 }
 
 // Adds what logs the words of a task's private scalars.
+#[tactic(auto, using(crate::proofs::Writing::scalar_behind))]
 fn push_scalars(
     code: &mut Vec<Form>,
     layout: &Layout,
