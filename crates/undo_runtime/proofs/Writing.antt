@@ -16,6 +16,11 @@ use Rattle.undo_runtime.specs.Entries.{words_from, home_words, homes_in, task_of
 use Rattle.undo_runtime.specs.Listing.{word_logged_in, logs_in, LoggedTask, stub_bytes, rung_to, rung_for, rungs, stubs_place}
 use Rattle.undo_runtime.specs.Listing.{gated_forms, fixed_forms, ladder_forms, boot_forms}
 
+-- two lists behind another, each by what it is
+pub two_pushed : (before x y a b c d : List Form) → y ≡ x ++ b → x ≡ before ++ a → a ≡ c → b ≡ d → y ≡ before ++ (c ++ d)
+two_pushed before x y a b c d second first one two =
+    second ∙ ap (λ l. l ++ b) first ∙ append_assoc before a b ∙ ap (λ l. before ++ (l ++ b)) one ∙ ap (λ l. before ++ (c ++ l)) two
+
 -- words behind words
 logs_behind : (m : MemoryMap) (i : ℕ) (xs ys : List ℕ) → logs_in m i (xs ++ ys) ≡ logs_in m i xs ++ logs_in m (i + length xs) ys
 logs_behind m i [] ys = let e : i ≡ i + 0 = omega arith in ap (λ k. logs_in m k ys) e
