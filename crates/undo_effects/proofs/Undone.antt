@@ -8,15 +8,21 @@ use Rattle.runtime_effects.specs.fram_board.Effects.{Store}
 use Rattle.runtime_effects.specs.machine_effects.World.{World, put, fram_after, world_after_one, world_after, EachStore}
 use Rattle.runtime_effects.specs.machine_effects.Inputs.{inputs_taken, no_inputs}
 use Rattle.runtime_effects.proofs.machine_effects.Interface.{fram_after-append, world_after-append, each_store-append, none_taken_through, put_same, put_other}
+use Rattle.runtime_effects.specs.Needs.{IsOutOf}
 use Rattle.undo_effects.specs.Entries.{Logged, logged_from, IsLogged, undone}
 use Rattle.undo_effects.specs.Stages.{put_back}
 
 -- ---- words put into FRAM
 
 -- a word that is there already
-pub put_again : (f : ℕ → ℕ) (a w : ℕ) → f a ≡ w → put f a w ≡ f
-put_again f a w e =
-    fun_ext (λ b. ⊎_elim {C = put f a w b ≡ f b} (λ q. ap (put f a w) q ∙ put_same f a w ∙ sym e ∙ ap f (sym q)) (λ n. put_other f a w b n) (cases_eq b a))
+pub put_again : (f : ℕ → ℕ) (a : ℕ) → put f a (f a) ≡ f
+put_again f a =
+    let w = f a in
+    fun_ext (λ b. ⊎_elim {C = put f a w b ≡ f b} (λ q. ap (put f a w) q ∙ put_same f a w ∙ ap f (sym q)) (λ n. put_other f a w b n) (cases_eq b a))
+
+-- an address outside others is none of them
+pub out_of : (p n a x : ℕ) → IsOutOf p n a → p ≤ x → x < p + n → x ≡ a → ⊥
+out_of p n a x out low high e = ⊎_elim {C = ⊥} (λ l. omega (arith, l, low, e)) (λ g. omega (arith, g, high, e)) out
 
 -- two words at one address
 pub put_over : (f : ℕ → ℕ) (a v w : ℕ) → put (put f a v) a w ≡ put f a w

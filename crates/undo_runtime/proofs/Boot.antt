@@ -1,6 +1,6 @@
 -- The boot, its recovery, and the start of an attempt.
-use Rattle.std.proofs.Common.{◌≡◌, ◌≢◌, ℕ, ◌+◌, ◌*◌, ◌%◌, ◌<◌, ◌==◌, Bool, not, if◌then◌else◌, List, [], ◌∷◌, ◌++◌, length, map}
-use Rattle.std.proofs.Common.{refl, sym, ap, ◌∙◌, subst, arith, true, false, append_assoc}
+use Rattle.std.proofs.Common.{◌≡◌, ◌≢◌, ℕ, ◌+◌, ◌*◌, ◌%◌, ◌<◌, ◌==◌, Bool, not, if◌then◌else◌, List, [], ◌∷◌, ◌++◌}
+use Rattle.std.proofs.Common.{refl, sym, ap, ◌∙◌, subst, arith, true, append_assoc}
 use Rattle.std.proofs.lemmas.List.{length-map}
 use Rattle.std.proofs.lemmas.List.Elements.{All-get_or}
 use Rattle.runtime_code.specs.msp_isa.declared.operands.Konst.TheVariants.{One}
@@ -10,36 +10,35 @@ use Rattle.runtime_code.specs.machine_effects.Machine.{Code}
 use Rattle.runtime_code.proofs.machine_effects.Interface.{fram_after-append, fram_untouched}
 use Rattle.runtime_code.specs.code_forms.Forms.{Core, Form, Branch}
 use Rattle.runtime_code.specs.code_forms.Code.{Stands, forms_bytes}
-use Rattle.runtime_code.proofs.code_forms.Interface.{stands_front, stands_back, forms_at, forms_behind}
+use Rattle.runtime_code.proofs.code_forms.Interface.{stands_front, stands_back, forms_behind}
 use Rattle.runtime_code.specs.runtime_effects.Needs.{IsOutOf}
 use Rattle.runtime_code.specs.Addresses.{gate_address, stack_origin}
 use Rattle.runtime_code.specs.Comes.{Comes, IsAt}
-use Rattle.runtime_code.specs.Counted.{if_any}
 use Rattle.runtime_code.specs.Ladder.{dispatch, ladder, all_stubs}
 use Rattle.runtime_code.proofs.Interface.{last_flag, comes_on, form_comes, so_ends, recounted, moved_to, compares, rung_in, HasLadder, ladder_bytes, to_task}
 use Rattle.runtime_code.proofs.Interface.{behind_where, with_events_sum, with_events_even}
-use Rattle.boot_runtime.specs.Listing.{interrupts_set, interrupts_enabled, head, event_count_set, events_counted}
+use Rattle.boot_runtime.specs.Listing.{interrupts_set, interrupts_enabled, event_count_set, events_counted}
 use Rattle.boot_runtime.specs.Laws.{NamesHandler}
 use Rattle.boot_runtime.proofs.Interface.{gate_is_not_one, enables}
 use Rattle.memory_map.specs.declared.words.RuntimeWord.TheVariants.{CurrentTask, Gate, ListLength, EmitCount, Version}
 use Rattle.memory_map.specs.MemoryMap.{MemoryMap, word_place, with_events}
 use Rattle.memory_map.specs.event_places.Places.{count_place}
 use Rattle.undo_effects.specs.Stages.{words_logged, undo_opening}
-use Rattle.undo_effects.proofs.Interface.{opening_stores}
+use Rattle.undo_effects.proofs.Interface.{out_of, opening_stores}
 use Rattle.undo_runtime.specs.Listing.{LoggedTask, task_at, rung_for, rungs, stubs_place, recovering, opening, gated_forms, ladder_forms}
 use Rattle.undo_runtime.specs.Laws.{IsReached, IsUndoBoot, UndoCommitIsFound, RecoveryIsMade, UndoStartIsMade}
-use Rattle.undo_runtime.proofs.Recovery.{out_of, recovers}
+use Rattle.undo_runtime.proofs.Recovery.{recovers}
 use Rattle.undo_runtime.proofs.Opening.{opens}
-use Rattle.undo_runtime.proofs.Entering.{logs_count, once_logged, are_rungs, rung_is, logging, logs_done}
+use Rattle.undo_runtime.proofs.Entering.{once_logged, are_rungs, rung_is, logging, logs_done}
 
 -- the opening leaves a word that is no version word, nor VER, EN or EC
 opening_leaves : (m : MemoryMap) (a : ℕ) (f : ℕ → ℕ) → IsOutOf m.versions.address (2 * m.versions.words) a → word_place m Version ≢ a
     → word_place m EmitCount ≢ a → count_place ≢ a → fram_after (undo_opening m f) f a ≡ f a
 opening_leaves m a f versions version count events =
     fram_untouched (undo_opening m f) a f
-    (opening_stores (λ b w. b ≢ a) m f
+    (opening_stores (λ b. b ≢ a) m f
     (λ i l. out_of m.versions.address (2 * m.versions.words) a (m.versions.address + 2 * i) versions (omega arith) (omega (arith, l)))
-    (λ w. version) count events)
+    version count events)
 
 module _ (code : Code) (m : MemoryMap) (commit : ℕ) (tasks : List LoggedTask) (at : ℕ) (boot : IsUndoBoot code m commit tasks at) (u : Core) where
   abbrev fram : ℕ → ℕ

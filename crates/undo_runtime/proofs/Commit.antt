@@ -1,5 +1,5 @@
 -- The commit's code makes the commit.
-use Rattle.std.proofs.Common.{◌≡◌, ◌≢◌, ℕ, ◌+◌, ◌*◌, ◌%◌, ◌<◌, List, [], ◌∷◌, ◌++◌, refl, sym, ap, ◌∙◌, subst, arith}
+use Rattle.std.proofs.Common.{◌≡◌, ◌≢◌, ℕ, ◌+◌, ◌%◌, List, [], ◌∷◌, ◌++◌, refl, sym, ap, ◌∙◌, subst, arith}
 use mathlib.Core.Path.{fun_ext}
 use Rattle.runtime_code.specs.fram_board.Effects.{Effect, Store}
 use Rattle.runtime_code.specs.machine_effects.World.{fram_after}
@@ -13,7 +13,6 @@ use Rattle.runtime_code.specs.runtime_effects.Stages.{emits_sent, tail_moved}
 use Rattle.runtime_code.specs.runtime_effects.Needs.{AreInFram}
 use Rattle.runtime_code.proofs.runtime_effects.Interface.{sends_store, where_leaves}
 use Rattle.runtime_code.specs.Comes.{Comes, IsAt}
-use Rattle.runtime_code.specs.Counted.{if_any}
 use Rattle.runtime_code.specs.Sending.{sending}
 use Rattle.runtime_code.proofs.Interface.{behind, from_there, core_at, then_on, so_ends, recounted, comes_on, form_comes, straight, BehindSends, sends_are_made}
 use Rattle.runtime_code.proofs.Interface.{behind_where}

@@ -1,5 +1,5 @@
 -- The code of a store to an element makes that.
-use Rattle.std.proofs.Common.{◌≡◌, ◌≢◌, ℕ, ◌+◌, ◌-◌, ◌*◌, ◌%◌, ◌<◌, ◌≤◌, ◌==◌, Bool, true, false, if◌then◌else◌, List, [], ◌∷◌, ◌++◌}
+use Rattle.std.proofs.Common.{◌≡◌, ◌≢◌, ℕ, ◌+◌, ◌-◌, ◌*◌, ◌%◌, ◌<◌, ◌==◌, Bool, true, false, if◌then◌else◌, List, [], ◌∷◌, ◌++◌}
 use Rattle.std.proofs.Common.{refl, sym, ap, ◌∙◌, subst, arith}
 use Rattle.std.proofs.lemmas.Bool.Decides.{nat_tests}
 use Rattle.runtime_code.specs.msp_isa.declared.instructions.TwoOp.TheVariants.{Cmp}
@@ -8,10 +8,10 @@ use Rattle.runtime_code.specs.fram_board.Effects.{Effect, Store}
 use Rattle.runtime_code.specs.machine_effects.World.{put, fram_after}
 use Rattle.runtime_code.specs.machine_effects.Inputs.{Inputs}
 use Rattle.runtime_code.specs.machine_effects.Machine.{Code, IsPlace}
-use Rattle.runtime_code.proofs.machine_effects.Interface.{put_same, put_other, fram_after-append}
+use Rattle.runtime_code.proofs.machine_effects.Interface.{put_other, fram_after-append}
 use Rattle.runtime_code.specs.code_forms.Forms.{Core, Form, Move, Calculate, R4, R5, R6, Register, Fram, Indexed, ToRegister, ToIndexed}
 use Rattle.runtime_code.specs.code_forms.Code.{Stands, IsTidy, size}
-use Rattle.runtime_code.proofs.code_forms.Interface.{stands_front, forms_at, forms_behind}
+use Rattle.runtime_code.proofs.code_forms.Interface.{forms_at, forms_behind}
 use Rattle.runtime_code.specs.runtime_effects.Needs.{AreInFram, IsOutOf}
 use Rattle.runtime_code.specs.Comes.{Comes, IsAt}
 use Rattle.runtime_code.proofs.Interface.{behind, core_at, from_there, ends, then_on, so_ends, comes_on, straight, jumps}
@@ -20,10 +20,10 @@ use Rattle.memory_map.specs.declared.words.RuntimeWord.TheVariants.{ListLength, 
 use Rattle.memory_map.specs.MemoryMap.{MemoryMap, word_place}
 use Rattle.undo_effects.specs.Entries.{entry_place}
 use Rattle.undo_effects.specs.Stages.{word_logged, element_stored}
-use Rattle.undo_runtime.specs.Listing.{first_forms, version_tested, logged_write, first_steps, first_cycles}
+use Rattle.undo_runtime.specs.Listing.{first_forms, logged_write, first_steps, first_cycles}
 use Rattle.undo_runtime.specs.Needs.{ListStands, CanLog}
 use Rattle.undo_runtime.specs.Laws.{ElementIsStored}
-use Rattle.undo_runtime.proofs.Recovery.{out_of}
+use Rattle.undo_effects.proofs.Interface.{out_of}
 
 -- whether two words are the same, by the flag behind their comparison
 same_flag : (x y : ℕ) → x < 0x10000 → y < 0x10000 → ((x + (0xFFFF - y) + 1) % 0x10000 == 0) ≡ (y == x)

@@ -1,5 +1,5 @@
 -- The rungs and stubs of tasks the words of whose private scalars are logged.
-use Rattle.std.proofs.Common.{◌≡◌, ℕ, zero, suc, ◌+◌, ◌*◌, ◌%◌, ◌<◌, ◌≤◌, List, [], ◌∷◌, ◌++◌, length, map, refl, sym, ap, ◌∙◌, subst, arith}
+use Rattle.std.proofs.Common.{◌≡◌, ℕ, zero, suc, ◌+◌, ◌*◌, ◌%◌, ◌<◌, ◌≤◌, List, [], ◌∷◌, length, refl, sym, ap, ◌∙◌, subst, arith}
 use Rattle.std.specs.List.{All}
 use Rattle.std.proofs.lemmas.List.Elements.{All-nil, All-cons, All-head, All-tail}
 use Rattle.runtime_code.specs.fram_board.Effects.{Effect, Store}
@@ -7,11 +7,11 @@ use Rattle.runtime_code.specs.machine_effects.World.{put, fram_after}
 use Rattle.runtime_code.specs.machine_effects.Inputs.{Inputs}
 use Rattle.runtime_code.specs.machine_effects.Machine.{Code, IsPlace}
 use Rattle.runtime_code.proofs.machine_effects.Interface.{put_same, put_other, fram_after-append}
-use Rattle.runtime_code.specs.code_forms.Forms.{Core, Form, Branch}
+use Rattle.runtime_code.specs.code_forms.Forms.{Core, Branch}
 use Rattle.runtime_code.specs.code_forms.Code.{Stands, IsTidy, forms_bytes}
 use Rattle.runtime_code.proofs.code_forms.Interface.{forms_bytes-append, stands_front, stands_back}
 use Rattle.runtime_code.specs.runtime_effects.Needs.{AreInFram}
-use Rattle.runtime_code.specs.Comes.{Comes, IsAt, Enters}
+use Rattle.runtime_code.specs.Comes.{Comes, Enters}
 use Rattle.runtime_code.specs.Counted.{if_any}
 use Rattle.runtime_code.specs.Ladder.{stub_with, stub_of}
 use Rattle.runtime_code.proofs.Interface.{core_at, from_there, ends, so_ends, recounted, nothing, comes_on, straight, rung_in, IsRung, Deed, Does}
@@ -23,7 +23,7 @@ use Rattle.undo_effects.specs.Stages.{word_logged, words_logged}
 use Rattle.undo_runtime.specs.Listing.{word_logged_in, logs_in, LoggedTask, task_at, stub_bytes, rung_for, rungs}
 use Rattle.undo_runtime.specs.Needs.{ListStands, IsLoggable}
 use Rattle.undo_runtime.specs.Laws.{IsReached}
-use Rattle.undo_runtime.proofs.Recovery.{out_of}
+use Rattle.undo_effects.proofs.Interface.{out_of}
 
 pub logs_bytes : (m : MemoryMap) (i : ℕ) (xs : List ℕ) → forms_bytes (logs_in m i xs) ≡ 16 * length xs
 logs_bytes m i [] = refl

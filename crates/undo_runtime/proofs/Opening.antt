@@ -1,7 +1,7 @@
 -- An attempt's opening: that of any runtime with version words, and VER and EN, and EC, where there are events.
-use Rattle.std.proofs.Common.{◌≡◌, ℕ, ◌+◌, ◌*◌, ◌%◌, ◌<◌, List, [], ◌∷◌, ◌++◌, Bool, true, false, if◌then◌else◌, not, refl, ap, subst, arith}
+use Rattle.std.proofs.Common.{◌≡◌, ℕ, ◌+◌, ◌*◌, ◌%◌, ◌<◌, List, [], ◌∷◌, ◌++◌, Bool, true, false, if◌then◌else◌, refl, subst, arith}
 use Rattle.runtime_code.specs.fram_board.Effects.{Effect, Store}
-use Rattle.runtime_code.specs.machine_effects.World.{put, fram_after}
+use Rattle.runtime_code.specs.machine_effects.World.{fram_after}
 use Rattle.runtime_code.specs.machine_effects.Inputs.{Inputs}
 use Rattle.runtime_code.specs.machine_effects.Machine.{Code}
 use Rattle.runtime_code.specs.code_forms.Forms.{Core}
@@ -12,7 +12,7 @@ use Rattle.runtime_code.specs.runtime_effects.Needs.{AreInFram}
 use Rattle.runtime_code.specs.Comes.{Comes, IsAt}
 use Rattle.runtime_code.specs.Counted.{if_any}
 use Rattle.runtime_code.proofs.Interface.{core_at, from_there, ends, recounted, on_fram, moved_to, comes_on, straight}
-use Rattle.boot_runtime.specs.Listing.{clearing, events_counted}
+use Rattle.boot_runtime.specs.Listing.{events_counted}
 use Rattle.boot_runtime.proofs.Interface.{looks_at_version, clears, counts_events}
 use Rattle.memory_map.specs.declared.words.RuntimeWord.TheVariants.{EmitCount, Version}
 use Rattle.memory_map.specs.MemoryMap.{MemoryMap, word_place, with_events}

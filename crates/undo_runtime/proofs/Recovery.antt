@@ -1,31 +1,26 @@
 -- The recovery's code puts the entries back, the last one first.
-use Rattle.std.proofs.Common.{◌≡◌, ℕ, zero, suc, ◌+◌, ◌-◌, ◌*◌, ◌%◌, ◌<◌, ◌≤◌, ⊎_elim, List, [], ◌∷◌, ◌++◌, refl, sym, ap, ◌∙◌, subst, arith}
-use Rattle.runtime_code.specs.fram_board.Effects.{Effect, Store}
+use Rattle.std.proofs.Common.{◌≡◌, ℕ, suc, ◌+◌, ◌-◌, ◌*◌, ◌%◌, ◌<◌, ◌≤◌, List, [], ◌∷◌, ◌++◌, refl, sym, ap, ◌∙◌, subst, arith}
+use Rattle.runtime_code.specs.fram_board.Effects.{Store}
 use Rattle.runtime_code.specs.machine_effects.World.{put, fram_after}
 use Rattle.runtime_code.specs.machine_effects.Inputs.{Inputs}
 use Rattle.runtime_code.specs.machine_effects.Machine.{Code, IsPlace}
-use Rattle.runtime_code.proofs.machine_effects.Interface.{put_other, fram_after-append}
+use Rattle.runtime_code.proofs.machine_effects.Interface.{put_other}
 use Rattle.runtime_code.specs.code_forms.Forms.{Core}
 use Rattle.runtime_code.specs.code_forms.Code.{Stands, IsTidy}
 use Rattle.runtime_code.proofs.code_forms.Interface.{forms_at, forms_behind}
-use Rattle.runtime_code.specs.runtime_effects.Needs.{AreInFram, IsOutOf}
+use Rattle.runtime_code.specs.runtime_effects.Needs.{AreInFram}
 use Rattle.runtime_code.specs.Comes.{Comes, IsAt}
-use Rattle.runtime_code.specs.Counted.{if_any}
-use Rattle.runtime_code.proofs.Interface.{behind, core_at, from_there, ends, then_on, so_ends, recounted, on_fram, moved_to, nothing, straight}
+use Rattle.runtime_code.proofs.Interface.{behind, core_at, from_there, ends, then_on, recounted, on_fram, moved_to, nothing, straight}
 use Rattle.runtime_code.proofs.Interface.{Loop, Turning, Turn, IsBehind, Makes, count_at, loop_ends, in_front, turn_there, loops}
-use Rattle.runtime_code.proofs.Interface.{IsLeft, all_left, left_from, first_left}
+use Rattle.runtime_code.proofs.Interface.{IsLeft, left_from, first_left}
 use Rattle.memory_map.specs.declared.words.RuntimeWord.TheVariants.{ListLength}
 use Rattle.memory_map.specs.MemoryMap.{MemoryMap, word_place}
 use Rattle.undo_effects.specs.Entries.{Logged, logged_from, logged, IsLogged}
 use Rattle.undo_effects.specs.Stages.{put_back, recovery}
-use Rattle.undo_effects.proofs.Interface.{put_back_last, last_logged, logged_alike, still_logged, is_logged_last}
+use Rattle.undo_effects.proofs.Interface.{out_of, put_back_last, last_logged, logged_alike, still_logged, is_logged_last}
 use Rattle.commit_runtime.specs.Listing.{copies_begin}
 use Rattle.undo_runtime.specs.Listing.{back_turn, back_loop, list_cleared, recovering, recovery_steps, recovery_cycles}
 use Rattle.undo_runtime.specs.Needs.{IsLoggable, CanRecover}
-
--- an address outside others is none of them
-pub out_of : (p n a x : ℕ) → IsOutOf p n a → p ≤ x → x < p + n → x ≡ a → ⊥
-out_of p n a x out low high e = ⊎_elim {C = ⊥} (λ l. omega (arith, l, low, e)) (λ g. omega (arith, g, high, e)) out
 
 module _ (code : Code) (tidy : IsTidy code) (m : MemoryMap) (places : AreInFram m) where
   -- the first so many entries of the list

@@ -1,5 +1,5 @@
 -- The length of the code, and what starts and first stores cost at most.
-use Rattle.std.proofs.Common.{◌≡◌, ℕ, suc, ◌+◌, ◌*◌, ◌≤◌, List, [], ◌∷◌, ◌++◌, length, map, refl, ◌∙◌, arith, true, false}
+use Rattle.std.proofs.Common.{◌≡◌, ℕ, suc, ◌+◌, ◌*◌, ◌≤◌, List, [], ◌∷◌, ◌++◌, length, refl, ◌∙◌, arith, true, false}
 use Rattle.std.proofs.lemmas.List.{length-map}
 use Rattle.runtime_code.specs.code_forms.Forms.{Branch}
 use Rattle.runtime_code.specs.code_forms.Code.{forms_bytes}
@@ -13,7 +13,7 @@ use Rattle.boot_runtime.specs.Listing.{head, end_tested, clearing, interrupts_se
 use Rattle.commit_runtime.specs.Listing.{tail_set, events_taken}
 use Rattle.memory_map.specs.MemoryMap.{MemoryMap}
 use Rattle.undo_runtime.specs.Listing.{recovering, numbers_set, opening, logs_in, LoggedTask, rung_for, rungs, stub_bytes, stubs_bytes, stubs_place}
-use Rattle.undo_runtime.specs.Listing.{ladder_offset, gated_forms, ladder_forms, boot_forms, closing, undo_commit_forms}
+use Rattle.undo_runtime.specs.Listing.{gated_forms, ladder_forms, boot_forms, closing, undo_commit_forms}
 use Rattle.undo_runtime.specs.Laws.{UndoStartsAreShort, FirstStoresAreShort, UndoBootIsShort, UndoBootIsCode, UndoBootFits, entry_room}
 use Rattle.undo_runtime.specs.Laws.{UndoCommitIsShort, UndoCommitIsCode, UndoCommitFits}
 use Rattle.undo_runtime.proofs.Entering.{stub_size}

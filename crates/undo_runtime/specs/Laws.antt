@@ -1,25 +1,22 @@
 -- What the code of the undo runtime does.
-use Rattle.std.specs.Prelude.{◌≡◌, ◌≢◌, ℕ, ◌+◌, ◌*◌, ◌%◌, ◌<◌, ◌≤◌, ◌==◌, Bool, true, false, if◌then◌else◌, List, [], ◌∷◌, ◌++◌, length, All}
-use Rattle.runtime_code.specs.fram_board.Effects.{Store}
-use Rattle.runtime_code.specs.machine_effects.World.{put, fram_after, EachStore}
-use Rattle.runtime_code.specs.machine_effects.Machine.{Code, IsPlace}
+use Rattle.std.specs.Prelude.{◌≡◌, ◌≢◌, ℕ, ◌+◌, ◌*◌, ◌%◌, ◌<◌, ◌≤◌, ◌==◌, Bool, false, List, [], ◌∷◌, length, All}
+use Rattle.runtime_code.specs.machine_effects.World.{fram_after}
+use Rattle.runtime_code.specs.machine_effects.Machine.{Code}
 use Rattle.runtime_code.specs.code_forms.Forms.{Core}
 use Rattle.runtime_code.specs.code_forms.Code.{Stands, IsTidy}
 use Rattle.runtime_code.specs.code_forms.Placed.{instructions, words_of, AreInstructions}
 use Rattle.memory_map.specs.declared.words.RuntimeWord.TheVariants.{CurrentTask, Gate, ListLength, EmitCount, Version}
 use Rattle.memory_map.specs.MemoryMap.{MemoryMap, word_place, with_events}
-use Rattle.memory_map.specs.Places.{IsLaidOut}
 use Rattle.runtime_code.specs.runtime_effects.Stages.{is_at_end}
 use Rattle.runtime_code.specs.runtime_effects.Needs.{AreInFram, KeepsTask}
 use Rattle.runtime_code.specs.Addresses.{stack_origin}
 use Rattle.runtime_code.specs.Comes.{Comes, IsAt, Enters}
 use Rattle.privatise.specs.Sizes.{own_boot_words, commit_words}
 use Rattle.boot_runtime.specs.Laws.{NamesHandler}
-use Rattle.undo_effects.specs.Stages.{first_logged, element_stored, recovery, undo_start, undo_commit}
+use Rattle.undo_effects.specs.Stages.{element_stored, recovery, undo_start, undo_commit}
 use Rattle.undo_runtime.specs.Listing.{LoggedTask, task_at, privates_in, boot_forms, boot_bytes, start_place, start_steps, start_cycles}
 use Rattle.undo_runtime.specs.Listing.{recovery_steps, recovery_cycles, undo_commit_forms, commit_bytes, commit_steps, commit_cycles}
-use Rattle.undo_runtime.specs.Listing.{logged_first, logged_write, first_bytes, first_steps, first_cycles}
-use Rattle.undo_runtime.specs.Entries.{logged_tasks}
+use Rattle.undo_runtime.specs.Listing.{logged_write, first_bytes, first_steps, first_cycles}
 use Rattle.undo_runtime.specs.Needs.{ListStands, IsLoggable, CanRecover, CanClose, CanLog}
 
 -- a task that the boot can come to: the words of its private scalars can be logged, and the list has room for them

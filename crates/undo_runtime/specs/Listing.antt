@@ -1,5 +1,5 @@
 -- The code of boot, start, commit and stores to elements under undo: its listing.
-use Rattle.std.specs.Prelude.{ℕ, zero, suc, ◌+◌, ◌-◌, ◌*◌, Bool, if◌then◌else◌, List, [], ◌∷◌, ◌++◌, length, get_or, map}
+use Rattle.std.specs.Prelude.{ℕ, suc, ◌+◌, ◌-◌, ◌*◌, Bool, if◌then◌else◌, List, [], ◌∷◌, ◌++◌, length, get_or, map}
 use Rattle.runtime_code.specs.msp_isa.declared.instructions.TwoOp.{TwoOp}
 use Rattle.runtime_code.specs.msp_isa.declared.instructions.TwoOp.TheVariants.{Add, Cmp}
 use Rattle.runtime_code.specs.msp_isa.declared.instructions.Condition.TheVariants.{Equal}
@@ -14,7 +14,7 @@ use Rattle.runtime_code.specs.Ladder.{Rung, rung_with, dispatch, ladder, all_stu
 use Rattle.runtime_code.specs.Sending.{sending}
 use Rattle.boot_runtime.specs.Listing.{interrupts_enabled, head, end_tested, clearing, events_counted}
 use Rattle.commit_runtime.specs.Listing.{copies_begin, events_taken}
-use Rattle.undo_effects.specs.Entries.{entry_place, logged_bytes}
+use Rattle.undo_effects.specs.Entries.{entry_place}
 
 -- ---- the recovery
 

@@ -1,5 +1,6 @@
 -- A commit: to redo a decided world is one whose list is empty, so that what redo's commit keeps there each store keeps here, up to the last two.
-use Rattle.std.proofs.Common.{◌≡◌, ℕ, zero, suc, ◌+◌, ◌*◌, ◌%◌, ◌<◌, ◌≤◌, ⊎_elim, inl, inr, false, if◌then◌else◌, List, [], ◌∷◌, ◌++◌, refl, sym, ap, ◌∙◌, subst, arith}
+use Rattle.std.proofs.Common.{◌≡◌, ℕ, zero, suc, ◌+◌, ◌*◌, ◌%◌, ◌<◌, ◌≤◌, ⊎_elim, inl, inr}
+use Rattle.std.proofs.Common.{false, if◌then◌else◌, List, [], ◌∷◌, ◌++◌, refl, sym, ap, ◌∙◌, subst, arith}
 use Rattle.std.proofs.Common.{append_assoc, zero-le}
 use Rattle.std.proofs.lemmas.Bool.{cases_eq}
 use Rattle.std.proofs.lemmas.List.{append_cancel_right}
@@ -227,10 +228,10 @@ module _ {St : Type 0} (l : ProgramPlaces) (apart : AreApart l.map) (room : Have
           let none = put_same y.fram cln 0 in
           of_redo (emptied y) (subst (λ n. n ≤ l.list_capacity (v.task s)) (sym none) zero-le)
           (subst (λ f. DecidedFrom l v s next (record y { fram = f })) (sym (put_over y.fram cln 0 0))
-          (at_end (λ z. DecidedFrom l v s next (emptied z)) es x redo_through))
+          (at_end (λ z. DecidedFrom l v s next (emptied z)) (λ z. DecidedFrom l v s next (emptied z)) (λ z k. k) es x redo_through))
 
       pub kept : HoldsThroughout (ClosesFrom l v s next) (commit_before m x.fram) x
-      kept = holds-append (ClosesFrom l v s next) es (Store cln 0 ∷ []) x closes_through (at_end (ClosesFrom l v s next) es x closes_through, emptied_closes)
+      kept = holds-append (ClosesFrom l v s next) es (Store cln 0 ∷ []) x closes_through (at_end (ClosesFrom l v s next) (ClosesFrom l v s next) (λ z k. k) es x closes_through, emptied_closes)
 
       behind : world_after redo.before (emptied x) ≡ world_after (commit_before m x.fram) x
       behind =

@@ -101,7 +101,7 @@ module _ {St : Type 0} (l : ProgramPlaces) (v : StateView St) where
         let Cleared : ℕ → ℕ → Type 0 = λ b w. b ≡ cln → w ≡ 0 in
         let each = each_weaker (IsStartStore l) Cleared (λ b w k. k.list_length) _ (redo_stores f) in
         let none = same_through cln 0 (numbered f ++ (list_cleared ∷ counted)) x each u.none in
-        let front = at_end (λ y. y.fram cln ≡ 0) (numbered f) x
+        let front = at_end (λ y. y.fram cln ≡ 0) (λ y. y.fram cln ≡ 0) (λ y e. e) (numbered f) x
         (same_through cln 0 (numbered f) x (each_store-front Cleared (numbered f) (list_cleared ∷ counted) each) u.none) in
         let redo = subst (λ es. HoldsThroughout (UndecidedAt l v s) es x) (redo_is f) (redo_starts.undecided s x stands) in
         let both = both_through (UndecidedAt l v s) (λ y. y.fram cln ≡ 0) (UndoneAt l v s) (λ y p e. none_logged s y p e) _ x redo none in

@@ -78,13 +78,14 @@ module _ {St : Type 0} (l : ProgramPlaces) (apart : AreApart l.map) (room : Have
       let last : List Effect = Store (word_place l.map ListLength) 0 ∷ [] in
       let r = recovers x u in
       let Off : ℕ → ℕ → ℕ → Type 0 = IsElsewhere in
+      let gate = word_place l.map Gate in
       record {
         stays = record {
           takes_none = none_taken_through (put_back es) last (put_back_takes es) refl;
           answers_none = none_answered l.map (recovery l.map x.fram) (each_store-append (Off answer_place) (put_back es) last
               (put_back_stores (Off answer_place) es (λ a w h e. let sh = u.shared a h in omega (arith, apart, sh, e))) ((λ e. omega (arith, apart, e)), tt));
-          elsewhere = each_store-append (Off (word_place l.map Gate)) (put_back es) last
-              (put_back_stores (Off (word_place l.map Gate)) es (λ a w h e. let sh = u.shared a h in omega (arith, apart, sh, e))) ((λ e. omega (arith, e)), tt);
+          elsewhere = each_store-append (Off gate) (put_back es) last
+              (put_back_stores (Off gate) es (λ a w h e. let sh = u.shared a h in omega (arith, apart, sh, e))) ((λ e. omega (arith, e)), tt);
           undecided = r.through;
         };
         settled = r.settled;

@@ -51,7 +51,7 @@ module _ {St : Type 0} (l : ProgramPlaces) (apart : AreApart l.map) (room : Have
       let lengths = length-append done (a ∷ []) in
       let more = k.count in
       record {
-        undecided = at_end (UndoneAt l v s) (word_logged m a y.fram) y k.through;
+        undecided = at_end (UndoneAt l v s) (UndoneAt l v s) (λ y k. k) (word_logged m a y.fram) y k.through;
         stands = logs_beside l apart v s room y a d.undecided sh free d.stands;
         entries = k.entries ∙ ap (λ es. es ++ record { address = a; word = y.fram a } ∷ []) d.entries
             ∙ ap (λ w. map (entry_at v s) done ++ record { address = a; word = w } ∷ []) word ∙ sym (map-append (entry_at v s) done (a ∷ []));

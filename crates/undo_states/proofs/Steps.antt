@@ -13,10 +13,10 @@ pub both_through : (P Q R : World → Type 0) → ((y : World) → P y → Q y �
 both_through P Q R h [] x p q = h x p q
 both_through P Q R h (e ∷ es) x p q = (h x p.0 q.0, both_through P Q R h es (world_after_one e x) p.1 q.1)
 
--- a fact behind all effects
-pub at_end : (P : World → Type 0) (es : List Effect) (x : World) → HoldsThroughout P es x → P (world_after es x)
-at_end P [] x h = h
-at_end P (e ∷ es) x h = at_end P es (world_after_one e x) h.1
+-- a fact behind all effects, and what follows from it
+pub at_end : (P Q : World → Type 0) → ((y : World) → P y → Q y) → (es : List Effect) (x : World) → HoldsThroughout P es x → Q (world_after es x)
+at_end P Q h [] x p = h x p
+at_end P Q h (e ∷ es) x p = at_end P Q h es (world_after_one e x) p.1
 
 -- a word that is stored nowhere
 pub stays_through : (a w : ℕ) (es : List Effect) (x : World) → EachStore (IsElsewhere a) es → x.fram a ≡ w → HoldsThroughout (λ y. y.fram a ≡ w) es x
@@ -39,7 +39,8 @@ same_through a w (Outside o ∷ es) x h e = (e, same_through a w es (world_after
 
 -- the world behind a store of what is there already
 store_again : (a w : ℕ) (x : World) → x.fram a ≡ w → world_after_one (Store a w) x ≡ x
-store_again a w x e = ap (λ f. record x { fram = f }) (put_again x.fram a w e)
+store_again a w x e =
+    ap (λ u. record x { fram = put x.fram a u }) (sym e) ∙ ap (λ f. record x { fram = f }) (put_again x.fram a)
 
 -- such a store may be left out, or be there
 module _ (a w : ℕ) (after : List Effect) where

@@ -143,7 +143,7 @@ module _ {St : Type 0} (l : ProgramPlaces) (apart : AreApart l.map) (room : Have
     entry = record { address = element; word = f element }
 
     undecided : UndoneAt l v s y
-    undecided = at_end (UndoneAt l v s) (word_logged l.map element f) x (logs l apart v s room x element u k.is_shared free).through
+    undecided = at_end (UndoneAt l v s) (UndoneAt l v s) (λ y k. k) (word_logged l.map element f) x (logs l apart v s room x element u k.is_shared free).through
 
     -- VER stays
     ver_there : y.fram (word_place l.map Version) ≡ ver

@@ -10,16 +10,12 @@ use Rattle.machine_effects.proofs.Interface.{put_same, put_other}
 use Rattle.runtime_effects.specs.Needs.{IsOutOf}
 use Rattle.undo_effects.specs.Entries.{Logged, entry_place, logged_bytes, logged_from, logged, IsLogged, undone}
 use Rattle.undo_effects.specs.Stages.{word_logged}
-use Rattle.undo_effects.proofs.Interface.{put_again, undone_over, undone_beside, undone_last, logged_last, last_logged, logged_alike}
+use Rattle.undo_effects.proofs.Interface.{out_of, put_again, undone_over, undone_beside, undone_last, logged_last, last_logged, logged_alike}
 use Rattle.crash_rules.specs.Model.{HoldsThroughout}
 use Rattle.stands_for.specs.Layout.{ProgramPlaces, StateView, IsSharedWord, HaveRoom}
 use Rattle.stands_for.specs.StandsFor.{VersionsWithin, UndecidedAt}
 use Rattle.stands_for.proofs.Interface.{put_words}
 use Rattle.undo_states.specs.States.{list_length, restored, UndoneAt}
-
--- an address outside others is none of them
-out_of : (p n a x : ℕ) → IsOutOf p n a → p ≤ x → x < p + n → x ≡ a → ⊥
-out_of p n a x out low high e = ⊎_elim {C = ⊥} (λ l. omega (arith, l, low, e)) (λ g. omega (arith, g, high, e)) out
 
 module _ {St : Type 0} (l : ProgramPlaces) (apart : AreApart l.map) (v : StateView St) (s : St) where
   -- a word that an undecided world doesn't speak of, but for VER and version words, or that the task writes in place
@@ -290,7 +286,7 @@ module _ {St : Type 0} (l : ProgramPlaces) (apart : AreApart l.map) (v : StateVi
           let c = word_place l.map ListLength in
           let w = (n + 1) % 0x10000 in
           ap (λ z. undone z x3.fram) (entries3 ∙ ap (λ z. z ++ entry ∷ []) (sym entries2)) ∙ undone_last es entry x3.fram
-          ∙ ap (undone es) (put_again x3.fram a (f a) word_there)
+          ∙ ap (λ w. undone es (put x3.fram a w)) (sym word_there) ∙ ap (undone es) (put_again x3.fram a)
           ∙ undone_beside es x2.fram c w (λ h. let is = u2.shared c h in omega (arith, apart, is))
 
       u3 : UndoneAt l v s x3

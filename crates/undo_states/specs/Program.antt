@@ -17,7 +17,7 @@ use Rattle.stands_for.specs.Program.{ProgramParts, program_model}
 use Rattle.undo_states.specs.States.{list_length, RestsClear, UndoneAt, SettledAt, LoggingAt, ClosesFrom, ClosesTo, AreLogged}
 
 -- the source with its layout and the undo runtime: its task, its start and its marks are those of any runtime
-abbrev pub undo_model : {St : Type 0} → ProgramPlaces → StateView St → ProgramParts St → Model St
+abbrev pub undo_model : {St : Type 0} (l : ProgramPlaces) (v : StateView St) (p : ProgramParts St) → Model St
 undo_model l v p = let m = program_model l v p in record m {
   commit = λ f inputs. undo_commit l.map f;
   recover = recovery l.map;
