@@ -16,10 +16,11 @@ use Rattle.task_ast.specs.declared.names.VariableName.{VariableName}
 use Rattle.task_ast.specs.declared.names.TaskName.{TaskName}
 use Rattle.source_values.specs.Runs.{CheckedProgram, body_of, task_body}
 use Rattle.array_versions.specs.declared.operations.PlainOperation.{PlainOperation}
-use Rattle.array_versions.specs.Program.{Step, Test, Program, nothing, step, joined, behind}
+use Rattle.array_versions.specs.Program.{Step, Test, Program, nothing, step, joined, behind, store_number, move_word, jump}
+use Rattle.memory_map.specs.declared.words.RuntimeWord.TheVariants.{Gate, ListLength, Base, SentBase}
 use Rattle.memory_map.specs.declared.place.VariablePlace.{VariablePlace}
 use Rattle.memory_map.specs.declared.place.VariablePlace.TheVariants.{Scalar, Array}
-use Rattle.memory_map.specs.MemoryMap.{MemoryMap, TaskPlace}
+use Rattle.memory_map.specs.MemoryMap.{MemoryMap, TaskPlace, word_place}
 use Rattle.memory_map.specs.Spots.{Places, places_of}
 use Rattle.lower.specs.declared.runs.Run.{Run}
 use Rattle.lower.specs.declared.operations.BinaryMeaning.{BinaryMeaning}
@@ -275,7 +276,14 @@ freezing_none p = by p.map.runtime.events refl
     by false e = rw e (omega arith)
 
 transition_none : (p : Places) (task : ℕ) → senses (lowered_transition p task) ≤ 0
-transition_none p task = ?
+transition_none p task =
+    let listed = entries_none (word_place p.map ListLength) p.map.list.address (runs_of p.privates) in
+    let frozen = freezing_none p in
+    let close = step (store_number (word_place p.map Gate) 1) (one (jump p.map.commit.address)) in
+    let behind_freezing = senses_joined (freezing p) close in
+    let behind_entries = senses_joined (entries (word_place p.map ListLength) p.map.list.address (runs_of p.privates))
+    (step (move_word (word_place p.map Base) (word_place p.map SentBase)) (joined (freezing p) close)) in
+    omega (arith, listed, frozen, behind_freezing, behind_entries)
 
 mutual
   statement_few : (p : Places) (s : CheckedStatement) → senses (lowered_statement p s) ≤ statement_readings s

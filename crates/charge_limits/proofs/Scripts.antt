@@ -1,7 +1,7 @@
 -- What a run follows from a power-up or a done on takes no more readings than a task's text has.
 use Rattle.std.proofs.Common.{◌≡◌, ℕ, zero, suc, ◌+◌, ◌≤◌, ◌==◌, Bool, true, false, if◌then◌else◌, List, [], ◌∷◌, ◌++◌, length, refl, sym, ap, ◌∙◌, subst, arith}
 use Rattle.machine_effects.specs.fram_board.Effects.{Effect}
-use Rattle.machine_effects.specs.World.{readings_taken, fram_after, IsPrefix}
+use Rattle.machine_effects.specs.World.{fram_after, looks_taken, IsPrefix}
 use Rattle.machine_effects.specs.Inputs.{Inputs}
 use Rattle.source_values.specs.Runs.{CheckedProgram, State, task_body}
 use Rattle.array_versions.specs.Behaviour.{behaviour, started}
@@ -107,7 +107,7 @@ module _ (p : CheckedProgram) (l : MemoryMap) where
 
   follows_few : (readings : List ℕ) (h : History) → FollowsScript m readings h → taken h.effects ≤ readings_from p l h.start.fram
   follows_few readings h follows =
-      let inputs = inputs_from readings h.since _ in
+      let inputs = inputs_from readings h.since (looks_taken h.effects ++ follows.left) in
       let part = prefix_few h.effects (script m h.booted h.start.fram inputs).effects follows.follows in
       let whole = script_few h.booted h.start.fram inputs in
       omega (arith, part, whole)
