@@ -34,7 +34,7 @@ use Rattle.lower.specs.Seen.{map_seen}
 use Rattle.lower.specs.Runs.{runs_of}
 use Rattle.lower.specs.Lowered.{Lowering, as_word, as_test, as_bits, as_long, one, read_step, write_step, update_step, read_long, write_long, element_read}
 use Rattle.lower.specs.Lowered.{element_step, store_step, update_element_step, word_program, value_test, widening, long_words, long_program, unary_lowering}
-use Rattle.lower.specs.Lowered.{long_unary_lowering, operand_lowering, binary_lowering, answer, long_binary_lowering, sides_lowering, shift_lowering, sides_test}
+use Rattle.lower.specs.Lowered.{long_zero, long_unary_lowering, operand_lowering, binary_lowering, answer, long_binary_lowering, sides_lowering, shift_lowering, sides_test}
 use Rattle.lower.specs.Lowered.{widened_type, lowering, lowered_expression, lowered_long, lowered_test, setting, long_setting, updating, of_words, sides_set}
 use Rattle.lower.specs.Lowered.{assignment, index_and_value, element_setting, element_updating, element_sides_set, element_assignment, declaration, emission}
 use Rattle.lower.specs.Lowered.{entries, freezing, lowered_transition, lowered_statement, lowered_choice, lowered_block, lowered_task, lowered_tasks, lowered}
@@ -138,7 +138,10 @@ unary_few Complement l n h = behind_few n (word_program l) _ refl (word_few l n 
 unary_few Not l n h = test_few l n h
 
 long_unary_few : (op : UnaryOperator) (l : Lowering) (n : ℕ) → lowering_senses l ≤ n → lowering_senses (long_unary_lowering op l) ≤ n
-long_unary_few Negate l n h = behind_few n _ _ refl (joined_few 0 n _ (long_words l) (omega arith) (longs_few l n h))
+long_unary_few Negate l n h =
+    let words = longs_few l n h in
+    let all = senses_joined long_zero (long_words l) in
+    behind_few n (joined long_zero (long_words l)) _ refl (omega (arith, words, all))
 long_unary_few Complement l n h = behind_few n (long_words l) _ refl (longs_few l n h)
 long_unary_few Not l n h = test_few l n h
 

@@ -5,14 +5,14 @@ use Rattle.machine_effects.specs.World.{fram_after, looks_taken, IsPrefix}
 use Rattle.machine_effects.specs.Inputs.{Inputs}
 use Rattle.source_values.specs.Runs.{CheckedProgram, State, task_body}
 use Rattle.array_versions.specs.Behaviour.{behaviour, started}
-use Rattle.memory_map.specs.declared.words.RuntimeWord.TheVariants.{CurrentTask, Gate}
+use Rattle.memory_map.specs.declared.words.RuntimeWord.TheVariants.{CurrentTask, Gate, EmitCount, SentBase}
 use Rattle.memory_map.specs.MemoryMap.{MemoryMap, word_place, where_events}
 use Rattle.runtime_effects.specs.Places.{CopyPair, listed}
 use Rattle.runtime_effects.specs.Stages.{copied_home, sends, emits_sent, commit_closed, commit_effects, cleared, clearing_if, counting_effects, opening_effects}
 use Rattle.runtime_effects.specs.Stages.{copied_in, start_effects, is_at_end, tail_moved, count_cleared}
 use Rattle.boot_runtime.specs.Entries.{task_entries}
 use Rattle.boot_runtime.specs.Listing.{privates_in}
-use Rattle.crash_rules.specs.Model.{Model, with_commit, attempt_from, script}
+use Rattle.crash_rules.specs.Model.{Model, ProgramEffects, program_effects, with_commit, attempt_from, script}
 use Rattle.crash_rules.specs.History.{History, inputs_from}
 use Rattle.crash_rules.specs.Laws.{FollowsScript}
 use Rattle.compiled_model.specs.Parts.{redo_model, compiled_model, task_program, has_jumped}
@@ -44,7 +44,7 @@ commit_none : (l : MemoryMap) (f : ℕ → ℕ) → taken (commit_effects l f) �
 commit_none l f =
     let closes = two_none (tail_moved l f) _ (where_none l.runtime.events _ (omega arith)) (omega arith) in
     two_none (copied_home (listed l f) f) (emits_sent l f ++ commit_closed l f) (home_none (listed l f) f)
-    (two_none (emits_sent l f) (commit_closed l f) (sends_none _ _ l.emits.address f) closes)
+    (two_none (emits_sent l f) (commit_closed l f) (sends_none (f (word_place l EmitCount)) (f (word_place l SentBase)) l.emits.address f) closes)
 
 cleared_none : (n p : ℕ) → taken (cleared n p) ≤ 0
 cleared_none zero p = omega arith
@@ -63,7 +63,10 @@ opening_none l f =
     two_none (clearing_if l (is_at_end l f)) _ (clearing_none l (is_at_end l f)) (where_none l.runtime.events _ (omega arith))
 
 start_none : (l : MemoryMap) (privates : ℕ → List CopyPair) (f : ℕ → ℕ) → taken (start_effects l privates f) ≤ 0
-start_none l privates f = two_none (opening_effects l f) _ (opening_none l f) (in_none _ _)
+start_none l privates f =
+    let ps = privates (f (word_place l CurrentTask)) in
+    let g = fram_after (opening_effects l f) f in
+    two_none (opening_effects l f) (copied_in ps g) (opening_none l f) (in_none ps g)
 
 -- ---- scripts
 
@@ -93,13 +96,21 @@ module _ (p : CheckedProgram) (l : MemoryMap) where
       commit_if true es h = h
       commit_if false es h = omega arith
 
+  booted_few : (booted : Bool) (f : ℕ → ℕ) (inputs : Inputs)
+      → taken (with_commit m f inputs (attempt_from m booted f inputs)).effects ≤ block_readings (task_body p (f (word_place l CurrentTask)))
+  booted_few true f inputs = attempt_few f inputs
+  booted_few false f inputs = attempt_few f inputs
+
+  -- the commit, or an attempt
+  either_few : (pending : Bool) (a b : ProgramEffects) (n : ℕ) → taken a.effects ≤ 0 → taken b.effects ≤ n
+      → taken (if pending then a else b).effects ≤ (if pending then 0 else n)
+  either_few true a b n h k = h
+  either_few false a b n h k = k
+
   script_few : (booted : Bool) (f : ℕ → ℕ) (inputs : Inputs) → taken (script m booted f inputs).effects ≤ readings_from p l f
-  script_few booted f inputs = by booted (f (word_place l Gate) == 1) refl
-    where
-      by : (booted pending : Bool) → (f (word_place l Gate) == 1) ≡ pending → taken (script m booted f inputs).effects ≤ readings_from p l f
-      by booted true e = rw e (commit_none l f)
-      by true false e = rw e (attempt_few f inputs)
-      by false false e = rw e (attempt_few f inputs)
+  script_few booted f inputs =
+      either_few (f (word_place l Gate) == 1) (program_effects (m.commit f inputs) true) (with_commit m f inputs (attempt_from m booted f inputs))
+      (block_readings (task_body p (f (word_place l CurrentTask)))) (commit_none l f) (booted_few booted f inputs)
 
   -- and each prefix
   prefix_few : (es fs : List Effect) → IsPrefix es fs → taken es ≤ taken fs

@@ -1,5 +1,5 @@
 -- How many readings a word program takes at most.
-use Rattle.std.proofs.Common.{◌≡◌, ℕ, ◌+◌, ◌-◌, ◌*◌, max, refl, ap, arith}
+use Rattle.std.proofs.Common.{◌≡◌, ℕ, ◌+◌, ◌-◌, ◌*◌, max, arith}
 use Rattle.array_versions.specs.Program.{Step, Test, Program, number, load, keep, update, local, set_local, update_local, unary, binary, shift, long, element}
 use Rattle.array_versions.specs.Program.{emit_word, list_entry, versioned_read, versioned_write, versioned_update, sense, next_event, freeze_events, truth}
 use Rattle.array_versions.specs.Program.{choose, repeat, store_number, move_word, jump, holds, compares, both, either, fails, nothing, step, joined, behind}
@@ -24,7 +24,7 @@ abbrev mutual
   senses (step first more) = step_senses first + senses more
 
 pub senses_joined : (q r : Program) → senses (joined q r) ≡ senses q + senses r
-senses_joined nothing r = refl
+senses_joined nothing r = omega arith
 senses_joined (step s q) r = let rest = senses_joined q r in omega (arith, rest)
 
 pub senses_behind : (q : Program) (s : Step) → senses (behind q s) ≡ senses q + step_senses s
