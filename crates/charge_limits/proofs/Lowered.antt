@@ -1,5 +1,5 @@
 -- A task's word program takes no more readings than the task's text has.
-use Rattle.std.proofs.Common.{◌≡◌, ℕ, zero, suc, ◌+◌, ◌-◌, ◌*◌, ◌≤◌, max, Bool, true, false, List, [], ◌∷◌, Option, Some, None, refl, ap, arith, slice_get, get_or}
+use Rattle.std.proofs.Common.{◌≡◌, ℕ, zero, suc, ◌+◌, ◌-◌, ◌*◌, ◌≤◌, Bool, true, false, List, [], ◌∷◌, Option, Some, None, refl, arith, slice_get, get_or}
 use Rattle.task_ast.specs.Tree as t
 use Rattle.task_ast.specs.Types.{by_width, type_of, joined_type}
 use Rattle.task_ast.specs.Paths.{CheckedExpression, CheckedStatement, CheckedChoice, CheckedBlock}
@@ -29,15 +29,15 @@ use Rattle.lower.specs.declared.operations.LongQuestion.{LongQuestion}
 use Rattle.lower.specs.declared.operations.LongQuestion.TheVariants as question
 use Rattle.lower.specs.declared.operations.LongMeaning.{LongMeaning}
 use Rattle.lower.specs.declared.operations.LongMeaning.TheVariants as meaning
-use Rattle.lower.specs.Operations.{binary_meaning, plain_operation, operand_type, long_meaning}
+use Rattle.lower.specs.Operations.{binary_meaning, operand_type, long_meaning}
 use Rattle.lower.specs.Seen.{map_seen}
 use Rattle.lower.specs.Runs.{runs_of}
 use Rattle.lower.specs.Lowered.{Lowering, as_word, as_test, as_bits, as_long, one, read_step, write_step, update_step, read_long, write_long, element_read}
 use Rattle.lower.specs.Lowered.{element_step, store_step, update_element_step, word_program, value_test, widening, long_words, long_program, unary_lowering}
-use Rattle.lower.specs.Lowered.{long_zero, long_unary_lowering, operand_lowering, binary_lowering, answer, long_binary_lowering, sides_lowering, shift_lowering, sides_test}
-use Rattle.lower.specs.Lowered.{widened_type, lowering, lowered_expression, lowered_long, lowered_test, setting, long_setting, updating, of_words, sides_set}
-use Rattle.lower.specs.Lowered.{assignment, index_and_value, element_setting, element_updating, element_sides_set, element_assignment, declaration, emission}
-use Rattle.lower.specs.Lowered.{entries, freezing, lowered_transition, lowered_statement, lowered_choice, lowered_block, lowered_task, lowered_tasks, lowered}
+use Rattle.lower.specs.Lowered.{long_zero, long_unary_lowering, binary_lowering, answer, long_binary_lowering, sides_test}
+use Rattle.lower.specs.Lowered.{widened_type, lowering, lowered_expression, lowered_long, setting, long_setting, updating, of_words, sides_set}
+use Rattle.lower.specs.Lowered.{assignment, index_and_value, element_setting, element_updating, element_sides_set, element_assignment}
+use Rattle.lower.specs.Lowered.{entries, freezing, lowered_transition, lowered_statement, lowered_choice, lowered_block, lowered_tasks}
 use Rattle.compiled_model.specs.Parts.{task_program}
 use Rattle.task_readings.specs.Readings.{expression_readings, statement_readings, choice_readings, block_readings}
 use Rattle.charge_limits.proofs.Senses.{step_senses, test_senses, senses, senses_joined, senses_behind}

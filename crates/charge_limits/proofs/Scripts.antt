@@ -1,5 +1,5 @@
 -- What a run follows from a power-up or a done on takes no more readings than a task's text has.
-use Rattle.std.proofs.Common.{◌≡◌, ℕ, zero, suc, ◌+◌, ◌≤◌, ◌==◌, Bool, true, false, if◌then◌else◌, List, [], ◌∷◌, ◌++◌, length, refl, sym, ap, ◌∙◌, subst, arith}
+use Rattle.std.proofs.Common.{ℕ, zero, suc, ◌+◌, ◌≤◌, ◌==◌, Bool, true, false, if◌then◌else◌, List, [], ◌∷◌, ◌++◌, ap, subst, arith}
 use Rattle.machine_effects.specs.fram_board.Effects.{Effect}
 use Rattle.machine_effects.specs.World.{fram_after, looks_taken, IsPrefix}
 use Rattle.machine_effects.specs.Inputs.{Inputs}
@@ -8,18 +8,17 @@ use Rattle.array_versions.specs.Behaviour.{behaviour, started}
 use Rattle.memory_map.specs.declared.words.RuntimeWord.TheVariants.{CurrentTask, Gate, EmitCount, SentBase}
 use Rattle.memory_map.specs.MemoryMap.{MemoryMap, word_place, where_events}
 use Rattle.runtime_effects.specs.Places.{CopyPair, listed}
-use Rattle.runtime_effects.specs.Stages.{copied_home, sends, emits_sent, commit_closed, commit_effects, cleared, clearing_if, counting_effects, opening_effects}
-use Rattle.runtime_effects.specs.Stages.{copied_in, start_effects, is_at_end, tail_moved, count_cleared}
+use Rattle.runtime_effects.specs.Stages.{copied_home, sends, emits_sent, commit_closed, commit_effects, cleared, clearing_if, opening_effects}
+use Rattle.runtime_effects.specs.Stages.{copied_in, start_effects, is_at_end, tail_moved}
 use Rattle.boot_runtime.specs.Entries.{task_entries}
 use Rattle.boot_runtime.specs.Listing.{privates_in}
 use Rattle.crash_rules.specs.Model.{Model, ProgramEffects, program_effects, with_commit, attempt_from, script}
 use Rattle.crash_rules.specs.History.{History, inputs_from}
 use Rattle.crash_rules.specs.Laws.{FollowsScript}
-use Rattle.compiled_model.specs.Parts.{redo_model, compiled_model, task_program, has_jumped}
+use Rattle.compiled_model.specs.Parts.{redo_model, task_program, has_jumped}
 use Rattle.compiled_model.proofs.Interface.{is_redo}
 use Rattle.task_readings.specs.Readings.{block_readings}
 use Rattle.charge_limits.specs.Laws.{readings_from, ReadingsAreFew}
-use Rattle.charge_limits.proofs.Senses.{senses}
 use Rattle.charge_limits.proofs.Takes.{taken, taken-append, program_takes}
 use Rattle.charge_limits.proofs.Lowered.{task_few}
 

@@ -1,8 +1,8 @@
 -- How many readings a word program takes at most.
 use Rattle.std.proofs.Common.{◌≡◌, ℕ, ◌+◌, ◌-◌, ◌*◌, max, arith}
-use Rattle.array_versions.specs.Program.{Step, Test, Program, number, load, keep, update, local, set_local, update_local, unary, binary, shift, long, element}
-use Rattle.array_versions.specs.Program.{emit_word, list_entry, versioned_read, versioned_write, versioned_update, sense, next_event, freeze_events, truth}
-use Rattle.array_versions.specs.Program.{choose, repeat, store_number, move_word, jump, holds, compares, both, either, fails, nothing, step, joined, behind}
+use Rattle.array_versions.specs.Program.{Step, Test, Program}
+use Rattle.array_versions.specs.Program.{sense, truth}
+use Rattle.array_versions.specs.Program.{choose, repeat, holds, compares, both, either, fails, nothing, step, joined, behind}
 
 abbrev mutual
   pub step_senses : Step → ℕ

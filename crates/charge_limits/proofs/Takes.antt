@@ -1,5 +1,5 @@
 -- What a word program does takes no more readings than the program has.
-use Rattle.std.proofs.Common.{◌≡◌, ℕ, zero, suc, ◌+◌, ◌-◌, ◌*◌, ◌%◌, ◌==◌, ◌<◌, ◌≤◌, max, nat_lt, Bool, true, false, if◌then◌else◌, List, [], ◌∷◌, ◌++◌, length}
+use Rattle.std.proofs.Common.{◌≡◌, ℕ, zero, suc, ◌+◌, ◌-◌, ◌*◌, ◌%◌, ◌==◌, ◌≤◌, max, nat_lt, Bool, true, false, if◌then◌else◌, List, [], ◌∷◌, ◌++◌, length}
 use Rattle.std.proofs.Common.{length-append, Option, Some, None, refl, ap, ◌∙◌, arith}
 use Rattle.std.proofs.Math.Nat.{suc-mul}
 use Rattle.machine_effects.specs.fram_board.Effects.{Effect, Store}
@@ -16,8 +16,8 @@ use Rattle.array_versions.specs.Program.{emit_word, list_entry, versioned_read, 
 use Rattle.array_versions.specs.Program.{choose, repeat, store_number, move_word, jump, holds, compares, both, either, fails, nothing, step}
 use Rattle.array_versions.specs.Behaviour.{WordState, End, GoesOn, Jumps, Short, Strays, Broken, Behaviour, behaves, goes_on, behind_effects, on_end, then_on}
 use Rattle.array_versions.specs.Behaviour.{is_place, at_place, with_top, with_two, with_words, with_stack, pushed, stored, with_local, local_pushed, strays}
-use Rattle.array_versions.specs.Behaviour.{local_updated, with_readings, reading_pushed, raised, event_index, none_answered, word_answered, event_answered}
-use Rattle.array_versions.specs.Behaviour.{with_looks, event_pushed, events_frozen, word_stored, element_pushed, word_emitted, entry_stored, ends_before}
+use Rattle.array_versions.specs.Behaviour.{local_updated, reading_pushed, raised, event_index, none_answered, word_answered, event_answered}
+use Rattle.array_versions.specs.Behaviour.{with_looks, event_pushed, word_stored, element_pushed, word_emitted, entry_stored, ends_before}
 use Rattle.array_versions.specs.Behaviour.{listed_behind, word_listed, own_element, versioned_pushed, first_stored, own_stored, versioned_stored, own_place}
 use Rattle.array_versions.specs.Behaviour.{own_kept, own_updated, versioned_updated, number_pushed, way_by_top, way_by_two, turns, jumped, step_behaviour}
 use Rattle.array_versions.specs.Behaviour.{tested, behaviour, broken}
