@@ -1,10 +1,10 @@
 #!/usr/bin/env python3
 """Runs the examples of README.md and of the pages in docs/, and compares what they print with what the pages say.
 
-usage: docs/check_examples.py PROGRAM [PAGE ..]
+usage: docs/check_examples.py ALPACA SCOPE [PAGE ..]   (the built programs)
 
 A block whose info string is `file NAME` is a file, and `part NAME` are lines of a file of examples/. A block `console` holds commands, `$ alpaca WORDS`,
-`$ cat FILES` or `$ bench/bounds.py alpaca FILE`, each followed by what it prints on standard output and standard error; a last line `[status N]` is the exit
+`$ alpaca-scope WORDS` or `$ cat FILES`, each followed by what it prints on standard output and standard error; a last line `[status N]` is the exit
 status where it isn't 0. `> NAME` at a command's end puts standard output into that file, and a line `...` stands for any lines. The blocks of a page run in
 its order, in one folder, where at first the files of examples/ lie. A block with the name of one of these has to be that file.
 """
@@ -17,7 +17,6 @@ import tempfile
 
 DOCS = pathlib.Path(__file__).resolve().parent
 EXAMPLES = DOCS.parent / "examples"
-BOUNDS = "bench/bounds.py"
 
 
 def blocks(text):
@@ -48,25 +47,21 @@ def commands(lines):
         yield command, wanted
 
 
-def run(program, words, folder):
+def run(programs, words, folder):
     """What one command writes on standard output and standard error, and its exit status."""
     if words[0] == "cat":
         return "".join(pathlib.Path(folder, name).read_text() for name in words[1:]), "", 0
-    if words[:2] == [BOUNDS, "alpaca"]:
-        called = [sys.executable, DOCS.parent / BOUNDS, program, *words[2:]]
-    elif words[0] == "alpaca":
-        called = [program, *words[1:]]
-    else:
+    if words[0] not in programs:
         raise SystemExit(f"no command that this script knows: {words}")
-    ended = subprocess.run(called, cwd=folder, capture_output=True, text=True, timeout=60)
+    ended = subprocess.run([programs[words[0]], *words[1:]], cwd=folder, capture_output=True, text=True, timeout=60)
     return ended.stdout, ended.stderr, ended.returncode
 
 
-def printed(program, command, folder):
+def printed(programs, command, folder):
     """The lines that a command prints, and its status where that isn't 0."""
     words = shlex.split(command)
     into = words[-1] if words[-2:-1] == [">"] else None
-    output, errors, status = run(program, words[:-2] if into else words, folder)
+    output, errors, status = run(programs, words[:-2] if into else words, folder)
     if into:
         pathlib.Path(folder, into).write_text(output)
         output = ""
@@ -88,7 +83,7 @@ def is_another(name, text):
     return example.exists() and example.read_text() != text
 
 
-def check(program, page):
+def check(programs, page):
     """How many commands and examples of a page were looked at, and how many of them aren't as the page says."""
     ran = wrong = 0
     with tempfile.TemporaryDirectory() as folder:
@@ -107,7 +102,7 @@ def check(program, page):
             elif kind == "console":
                 for command, wanted in commands(lines):
                     ran += 1
-                    got = printed(program, command, folder)
+                    got = printed(programs, command, folder)
                     if not agree(got, wanted):
                         wrong += 1
                         print(f"{page.name}: {command}\n  page:    {wanted}\n  program: {got}")
@@ -115,11 +110,11 @@ def check(program, page):
 
 
 def main():
-    if len(sys.argv) < 2:
+    if len(sys.argv) < 3:
         raise SystemExit(__doc__)
-    program = str(pathlib.Path(sys.argv[1]).resolve())
-    pages = [pathlib.Path(p) for p in sys.argv[2:]] or [DOCS.parent / "README.md", *sorted(DOCS.glob("*.md"))]
-    counts = [check(program, page) for page in pages]
+    programs = {name: str(pathlib.Path(path).resolve()) for name, path in zip(("alpaca", "alpaca-scope"), sys.argv[1:3])}
+    pages = [pathlib.Path(p) for p in sys.argv[3:]] or [DOCS.parent / "README.md", *sorted(DOCS.glob("*.md"))]
+    counts = [check(programs, page) for page in pages]
     ran, wrong = sum(c[0] for c in counts), sum(c[1] for c in counts)
     print(f"{ran - wrong} examples agree, {wrong} don't")
     raise SystemExit(1 if wrong else 0)

@@ -43,7 +43,7 @@ first_after (r ∷ front) rest id file e = go (bytes_eq r.id id) refl (first_aft
     go true is more = absurd (true≢false (sym (ap (λ b. b || has_row id front) is) ∙ e))
     go false is more = more (ap (λ b. b || has_row id front) (sym is) ∙ e)
 
-values_after : (ids : List Text) (rules : List Rule) (keys : List Text) (k : ℕ) (front : List Row) (files : List Text) → IsInOrder rules keys k ids
+pub values_after : (ids : List Text) (rules : List Rule) (keys : List Text) (k : ℕ) (front : List Row) (files : List Text) → IsInOrder rules keys k ids
     → IsGiven keys front
     → length files ≡ length ids → values_of ids (front ++ rows_for ids files) ≡ Some files
 values_after [] rules keys k front [] order given count = refl
@@ -155,7 +155,7 @@ command_is_line (name ∷ rest) texts n =
     let all : all_said s.0.files b.0 ≡ Some m.0 = ap (λ o. all_said (option_map_or (λ (x : Subcommand). x.files) o []) b.0) (sym s.1) ∙ b.2 in
     line_there name rest b.0 m.0 s.0 texts s.1 b.1 (sym (said_length s.0.files b.0 m.0 all) ∙ s.2) all
 
-abbrev lent : Text → Bor Text
+abbrev pub lent : Text → Bor Text
 lent text = record { ref_ptr = (0, 0); now = text }
 
 -- what files say, as many as the subcommand has, is that of a command's line

@@ -1,5 +1,6 @@
-pub mod Files
-pub mod Numbers
-pub mod Lines
-pub mod Commands
+pub mod Interface
+mod Files
+mod Numbers
+mod Lines
+mod Commands
 mod Added

@@ -18,11 +18,11 @@ use Rattle.command_line.specs.CommandLine.{AreTexts, IsLine, Subcommand, all_sai
 use Rattle.command_line.proofs.Files.{IsInOrder, IsJudged, Kind, built_subcommand, command_judged, ends, kind_of_word, long, no_kind, plain, rows_for, short}
 use Rattle.command_line.proofs.Files.{some_char, walk_at}
 
-first_none : (a b : Kinds) → or_else a b ≡ [] → a ≡ []
+pub first_none : (a b : Kinds) → or_else a b ≡ [] → a ≡ []
 first_none [] b e = refl
 first_none (k ∷ ks) b e = cc
 
-or_nothing : (a : Kinds) → or_else a [] ≡ a
+pub or_nothing : (a : Kinds) → or_else a [] ≡ a
 or_nothing [] = refl
 or_nothing (k ∷ ks) = refl
 
@@ -50,10 +50,10 @@ fault_is words = refl
 abbrev pub named : List Subcommand → Text → Option Subcommand
 named xs word = find (λ s. bytes_eq s.name word) xs
 
-abbrev names_in : List Subcommand → Names
+abbrev pub names_in : List Subcommand → Names
 names_in xs = map label_of (map built_subcommand xs)
 
-met_by_name : (xs : List Subcommand) (word : Text) → find (answers_to word) (names_in xs) ≡ option_map (λ (s : Subcommand). (s.name, [])) (named xs word)
+pub met_by_name : (xs : List Subcommand) (word : Text) → find (answers_to word) (names_in xs) ≡ option_map (λ (s : Subcommand). (s.name, [])) (named xs word)
 met_by_name [] word = refl
 met_by_name (x ∷ xs) word = go (bytes_eq x.name word) (met_by_name xs word)
   where
@@ -63,7 +63,7 @@ met_by_name (x ∷ xs) word = go (bytes_eq x.name word) (met_by_name xs word)
     go true rest = refl
     go false rest = rest
 
-entered_by_name : (xs : List Subcommand) (word : Text)
+pub entered_by_name : (xs : List Subcommand) (word : Text)
     → find (λ s. answers_to word (label_of s)) (map built_subcommand xs) ≡ option_map built_subcommand (named xs word)
 entered_by_name [] word = refl
 entered_by_name (x ∷ xs) word = go (bytes_eq x.name word) (entered_by_name xs word)
@@ -161,7 +161,7 @@ in_order (x ∷ xs) word s all e = go (bytes_eq x.name word) (in_order xs word s
 abbrev names : Names
 names = names_in subcommands
 
-abbrev stopped_at : Text → List Text → Walk
+abbrev pub stopped_at : Text → List Text → Walk
 stopped_at name words = record (walk_from nothing_held) { stopped = Some (name, words) }
 
 stopped_walk : (words : List Text) (name : Text) (before : List Text)

@@ -1,5 +1,5 @@
 -- Where the ring of an image is, and that it keeps its rule before anything was done.
-use Rattle.compiled_states.proofs.Names.{◌≡◌, ℕ, ◌+◌, ◌-◌, ◌*◌, ◌%◌, ◌<◌, ◌≤◌, ◌&&◌, nat_le, nat_lt, Bool, true, false, if◌then◌else◌, List, [], ◌∷◌}
+use Rattle.compiled_states.proofs.Names.{◌≡◌, ℕ, ◌+◌, ◌-◌, ◌*◌, ◌%◌, ◌<◌, ◌≤◌, ◌&&◌, nat_le, Bool, true, false, if◌then◌else◌, List, [], ◌∷◌}
 use Rattle.compiled_states.proofs.Names.{Option, Some, None, refl, sym, ap}
 use Rattle.compiled_states.proofs.Names.{◌==◌, ap₂, ne_eqb, or_parts, holds}
 use Rattle.compiled_states.proofs.Names.{◌∙◌, subst, arith, inl, inr, IfSome, MemoryMap, MapValue, ImageValue, IsImageOf, IsFreshImage, images_are_fresh}
@@ -22,7 +22,6 @@ use Rattle.fram_state.specs.Migrated.{kept_ring_word}
 use Rattle.fram_state.specs.Stretch.{words_at}
 use Rattle.compiled_states.proofs.Held.{within}
 use Rattle.fram_state.specs.Sound as sound
-use Rattle.fram_state.specs.declared.runtime.Ring.{Ring}
 use Rattle.compiled_states.proofs.Words.{fram_at}
 
 -- the parts of a ring, from one on

@@ -177,9 +177,9 @@ fresh_states_belong text image of =
 -- ---- runs
 
 -- a sound world holds words
-sound_words : {p : CheckedProgram} {l : MemoryMap} {x : World} → IsSound (program_places p l) x → (a : ℕ) → x.fram a < 0x10000
-sound_words (SoundAtRest q) = q.words
-sound_words (SoundPending q) = q.words
+sound_words : (p : CheckedProgram) (map : MemoryMap) (x : World) → IsSound (program_places p map) x → (a : ℕ) → x.fram a < 0x10000
+sound_words p map x (SoundAtRest q) = q.words
+sound_words p map x (SoundPending q) = q.words
 
 -- a run from a state that belongs to an image
 record StateRun : Type 0 where
@@ -252,14 +252,14 @@ module _ (on : StateRun) where
       words = (last_board first ms).fram
 
       small : (fram : List ℕ) → fram_of fram tail_place < 0x10000 → word_in fram tail_place < 0x10000
-      small fram l =
-          let same = fram_at fram tail_place (record { even = refl; low = omega arith; high = omega arith }) in omega (arith, l, same)
+      small fram below =
+          let same = fram_at fram tail_place (record { even = refl; low = omega arith; high = omega arith }) in omega (arith, below, same)
 
       last_small : fram_of words tail_place < 0x10000
       last_small =
           let k = lawful.fronts ms rest e in
           let P : (ℕ → ℕ) → Type 0 = λ f. f tail_place < 0x10000 in
-          subst P k.fram (sound_words k.belongs.sound tail_place)
+          subst P k.fram (sound_words p c.layout (known_from c.layout x ms).world k.belongs.sound tail_place)
 
       by : (events : Bool) → c.layout.runtime.events ≡ events → IsKept words
       by false off = ap (λ o. is_ring_at (if o then Some event_ring else None) words (word_in words gate == 1)) off

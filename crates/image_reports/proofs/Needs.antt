@@ -1,5 +1,6 @@
 -- Each charge of a run pays for its transitions by what their tasks need.
-use Rattle.image_reports.proofs.Names.{◌<◌, ◌≤◌, ◌+◌, ◌*◌, ℕ, zero, suc, refl, ap, ◌≡◌, ◌∙◌, subst, arith, List, length, Bool, MapValue, BoardValue, BoardCharge}
+use Rattle.image_reports.proofs.Names.{◌<◌, ◌≤◌, ◌+◌, ◌*◌, ℕ, zero, suc, refl, ap, ◌≡◌, ◌∙◌, subst, arith, List, length, Bool, MapValue, BoardValue}
+use Rattle.image_reports.proofs.Names.{BoardCharge}
 use Rattle.image_reports.proofs.Names.{RunOutcome, World, CheckedProgram, State, map_of, MemoryMap, Model, ModelLaws, History, first_history, Program}
 use Rattle.image_reports.proofs.Names.{StandsFor, BearsModel, IsFirstWithin, IsTaskWithin, task_costs, cost_due, at_first, EachChargePays}
 use Rattle.image_reports.proofs.Names.{compiled_model, compiled_program, runtime_marks, IsReadyToRun}

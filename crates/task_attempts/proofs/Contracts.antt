@@ -266,6 +266,7 @@ module _ (run : Started) where
       let b = behaviour program (started x.fram inputs) in
       subst (λ q. let done = behaviour q (started x.fram inputs) in ListsAtEnd p l s.task (fram_after done.effects x.fram) done.end)
       (sym (program_is p l given s.task i)) (lists b.effects b.end (run_block code attempt) (meets agree small))
+
   -- ---- words of the ring
 
   -- no store of a statement is to SE

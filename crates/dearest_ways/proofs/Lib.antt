@@ -1,0 +1,4 @@
+mod Joined
+mod Priced
+mod Made
+mod Levels

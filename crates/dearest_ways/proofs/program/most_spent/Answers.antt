@@ -1,0 +1,21 @@
+use Rattle.std.proofs.Common.{sym, ap, subst, arith}
+use Rattle.word_code.specs.array_versions.View.{steps_of}
+use Rattle.word_code.specs.array_versions.Form.{LocalsBelow, locals_of}
+use Rattle.word_code.proofs.Interface.{program_below}
+use Rattle.dearest_ways.proofs.Priced.{whole_locals}
+use Rattle.dearest_ways.proofs.program.most_spent.Goals as goal
+
+pub steps_locals-requires : goal.steps_locals-requires
+steps_locals-requires c =
+    let p = steps_of c.args.program.now.steps.items in
+    subst (λ s. LocalsBelow 1016 (steps_of s)) (sym c.deref.ensures.value) (program_below 1016 p (whole_locals p c.requires.whole))
+
+pub emit_stack_set-requires : goal.emit_stack_set-requires
+emit_stack_set-requires c =
+    let p = steps_of c.args.program.now.steps.items in
+    omega (arith, c.steps_locals.ensures, ap (λ s. locals_of (steps_of s)) c.deref.ensures.value, whole_locals p c.requires.whole)
+
+pub block_ways-requires-clause-locals : goal.block_ways-requires-clause-locals
+block_ways-requires-clause-locals c =
+    let p = steps_of c.args.program.now.steps.items in
+    subst (λ s. LocalsBelow 1016 (steps_of s)) (sym c.deref-2.ensures.value) (program_below 1016 p (whole_locals p c.requires.whole))

@@ -1,0 +1,454 @@
+//! The dearest way of a program's code.
+
+ghost use Rattle.std.specs.Prelude.{◌≡◌, ◌==◌, ◌+◌, ◌*◌, ◌<◌, ◌≤◌, ◌∷◌, ◌++◌, ◌-◌, [], ℕ, None, not, if◌then◌else◌, is_some, max, IfOk, OnOk};
+ghost use Rattle.word_code.specs.array_versions.Program.{truth, repeat};
+ghost use Rattle.word_code.specs.array_versions.View.{program_of, steps_of, step_of, test_of};
+ghost use Rattle.word_code.specs.array_versions.Form.{IsWhole, LocalsBelow, StepLocalsBelow, TestLocalsBelow};
+ghost use Rattle.word_code.specs.array_versions.Cost.{words_of, step_words, test_words};
+ghost use Rattle.word_code.specs.Code.{owed_by, owed, power, size, holds_code, compares_code, number_code, turn_end, pass_over, test_code};
+ghost use Rattle.word_code.specs.Code.{block_code, waiting_behind, waiting_after, bound_of};
+ghost use Rattle.code_paths.specs.Paths.{capped, forward_most};
+ghost use Rattle.code_costs.specs.Dearest.{any_most, bits_in, by_number_most, product_most, flush_most, leaf_most};
+ghost use Rattle.code_costs.specs.Dearest.{back_cycles, turn_most, turns_most, step_most};
+ghost use Rattle.code_costs.specs.Dearest.{test_most, steps_most, block_most, most_spent};
+ghost use Rattle.dearest_ways.specs.Ways.{straight_of, ways_cost, AreWaysOf, AreForksOf};
+
+use crate::ways::{Forks, Ways, all_turns, behind, both, chosen, forked, one_of, straight, turned};
+use array_versions::{BinaryOperation, Comparison, WordProgram, WordStep, WordTest};
+use code_paths::{dearer, forward_most, plus};
+use codegen::parts::{
+    bounds_within, code_words, emit_all, emit_block, emit_compares, emit_flushed, emit_holds,
+    emit_number, emit_pass_over, emit_stack_set, emit_step, emit_test, emit_turn_end, steps_locals,
+    words_if,
+};
+use std::alloc::{AllocError, Global};
+use word_code::forms::Form;
+use word_code::{Bound, Waiting};
+
+// The cycles of the push of a word that waits, at most.
+fn owed_by(word: Waiting) -> u64
+    ensures { result ≡ owed_by word }
+{
+    match word {
+        Waiting::Number(_) => 4,
+        Waiting::Fram(_) | Waiting::Local(_) => 5,
+        Waiting::R4 | Waiting::R6 => 3,
+    }
+}
+
+// Of all of them.
+fn owed(waiting: &[Waiting]) -> u64
+    ensures { result ≡ capped (owed waiting.now) }
+{
+    let mut cycles = 0;
+    for i in (0..waiting.len()).rev() {
+        cycles = plus(cycles, owed_by(waiting[i]));
+    }
+    cycles
+}
+
+// Code without jumps out of it, which costs so much at most whatever it is.
+fn priced(alloc: Global, code: &[Form], most: u64) -> Result<Ways, AllocError>
+    ensures { IfOk result (λ w. w ≡ straight_of (capped (forward_most code.now most))) }
+{
+    let cycles = forward_most(alloc, code, most)?;
+    Ok(straight(cycles))
+}
+
+// The words that wait are pushed, and then none waits.
+fn flush(alloc: Global, waiting: &mut Vec<Waiting>) -> Result<Ways, AllocError>
+    ensures ways { IfOk result (λ w. w ≡ straight_of (capped (flush_most waiting.old.items))) }
+    ensures waiting { OnOk result (waiting.new.items ≡ []) }
+{
+    let most = owed(waiting);
+    let mut code = Vec::new(alloc);
+    emit_all(waiting, &mut code)?;
+    priced(alloc, code.as_slice(), most)
+}
+
+// Whether a number is a power of two.
+fn is_power(number: u16) -> bool
+    ensures { result ≡ is_some (power number) }
+{
+    let count = number.trailing_zeros();
+    count < 16 && number == 1 << count
+}
+
+// Whether anything is left of a number.
+fn bit_left(number: u16) -> u64
+    ensures { result ≡ (if number == 0 then 0 else 1) }
+{
+    if number == 0 { 0 } else { 1 }
+}
+
+// How many bits a number has, 15 at most.
+#[tactic(auto, using(crate::proofs::Priced::bits_ended, crate::proofs::Priced::bit_small))]
+fn bits_in(number: u16) -> u64
+    ensures value { result ≡ bits_in 15 number }
+    ensures low { result ≤ 15 }
+{
+    let mut left = number;
+    let mut bits = 0u64;
+    for turn in 0..15u16 {
+        bits += bit_left(left);
+        left = left / 2;
+    }
+    bits
+}
+
+// What a product by a number costs: a turn for each of its bits, and one for 0.
+fn by_number_most(number: u16) -> u64
+    ensures { result ≡ by_number_most (power number) number }
+{
+    if is_power(number) {
+        152
+    } else {
+        8 + (1 + bits_in(number / 2)) * 9
+    }
+}
+
+// What a product costs whose right side may wait on top.
+fn product_most(waiting: &[Waiting]) -> u64
+    ensures { result ≡ product_most waiting.now }
+{
+    match waiting.first() {
+        Some(Waiting::Number(number)) => by_number_most(*number),
+        _ => 152,
+    }
+}
+
+// What a step costs that is no test, no choice, no loop and no jump, whatever its code is.
+fn any_most(waiting: &[Waiting], step: &WordStep) -> u64
+    ensures { result ≡ any_most waiting.now (step_of step.now) }
+{
+    match step {
+        WordStep::Binary(BinaryOperation::Multiply) => product_most(waiting),
+        _ => 202,
+    }
+}
+
+// Such a step; the words that wait in front of it become those that wait behind it.
+fn leaf(
+    alloc: Global,
+    bounds: &[Bound],
+    step: &WordStep,
+    waiting: &mut Vec<Waiting>,
+) -> Result<Ways, AllocError>
+    requires room { step_words (step_of step.now) ≤ 0x7FFF }
+    requires locals { StepLocalsBelow 1016 (step_of step.now) }
+    ensures ways { IfOk result (λ w. w ≡ straight_of (capped (leaf_most bounds.now waiting.old.items (step_of step.now)))) }
+    ensures waiting { OnOk result (waiting.new.items ≡ waiting_behind waiting.old.items (step_of step.now)) }
+{
+    let most = plus(any_most(waiting, step), owed(waiting));
+    let mut code = Vec::new(alloc);
+    emit_step(alloc, bounds, step, waiting, &mut code)?;
+    priced(alloc, code.as_slice(), most)
+}
+
+// What asks whether the top isn't 0, and goes over so many words.
+fn holds_asked(
+    alloc: Global,
+    when: bool,
+    over: u16,
+    waiting: &mut Vec<Waiting>,
+) -> Result<Ways, AllocError>
+    requires { 2 * over ≤ 0xFFFE }
+    ensures { IfOk result (λ w. w ≡ straight_of (capped (forward_most (holds_code waiting.old.items when over) (8 + owed waiting.old.items)))) }
+{
+    let most = plus(8, owed(waiting));
+    let mut code = Vec::new(alloc);
+    emit_holds(when, over, waiting, &mut code)?;
+    priced(alloc, code.as_slice(), most)
+}
+
+// What asks whether the two words on top compare so, and goes over so many words.
+fn compares_asked(
+    alloc: Global,
+    comparison: Comparison,
+    when: bool,
+    over: u16,
+    waiting: &mut Vec<Waiting>,
+) -> Result<Ways, AllocError>
+    requires { 2 * over ≤ 0xFFFE }
+    ensures { IfOk result (λ w. w ≡ straight_of (capped (forward_most (compares_code waiting.old.items comparison when over)
+        (10 + owed waiting.old.items)))) }
+{
+    let most = plus(10, owed(waiting));
+    let mut code = Vec::new(alloc);
+    emit_compares(comparison, when, over, waiting, &mut code)?;
+    priced(alloc, code.as_slice(), most)
+}
+
+// How far the first of two tests goes over the second, and further where the flag is set.
+fn over_both(
+    alloc: Global,
+    bounds: &[Bound],
+    second: &WordTest,
+    when: bool,
+    over: u16,
+    further: bool,
+) -> Result<u16, AllocError>
+    requires room { over + test_words (test_of second.now) ≤ 0x7FFF }
+    requires locals { TestLocalsBelow 1016 (test_of second.now) }
+    ensures value { IfOk result (λ n. n ≡ size (test_code bounds.now (test_of second.now) when over) + (if further then over else 0)) }
+    ensures most { IfOk result (λ n. n ≤ test_words (test_of second.now) + over) }
+{
+    let mut code = Vec::new(alloc);
+    emit_test(alloc, bounds, second, when, over, &mut code)?;
+    Ok(code_words(code.as_slice()) + words_if(further, over))
+}
+
+// What goes over a block to its end, where another block stands behind it: its words with it, and what it costs.
+fn pass(alloc: Global, other: u16) -> Result<Ways, AllocError>
+    requires { 2 * other ≤ 0xFFFE }
+    ensures { IfOk result (λ w. w ≡ straight_of (capped (forward_most (pass_over other) 3))) }
+{
+    let mut code = Vec::new(alloc);
+    emit_pass_over(other, &mut code)?;
+    priced(alloc, code.as_slice(), 3)
+}
+
+// A local becomes a number.
+fn number_set(alloc: Global, local: u16, number: u16) -> Result<Ways, AllocError>
+    requires { local < 1016 }
+    ensures { IfOk result (λ w. w ≡ straight_of (capped (forward_most (number_code local number) 5))) }
+{
+    let mut code = Vec::new(alloc);
+    emit_number(local, number, &mut code)?;
+    priced(alloc, code.as_slice(), 5)
+}
+
+// What goes back over so many words.
+fn back_cycles(words: u16) -> u64
+    ensures { result ≡ back_cycles words }
+{
+    if words <= 511 { 2 } else { 5 }
+}
+
+// The end of a turn with this body, and what goes back over both.
+fn turn_ended(
+    alloc: Global,
+    inner: &[Bound],
+    own: Bound,
+    body: &[WordStep],
+) -> Result<Ways, AllocError>
+    requires room { words_of (steps_of body.now) + 15 ≤ 0x7FFF }
+    requires low { own.local < 1016 }
+    requires locals { LocalsBelow 1016 (steps_of body.now) }
+    ensures { IfOk result (λ w. w ≡ straight_of (capped (turn_most own.local own.below
+        (size (block_code inner.now (steps_of body.now) ++ turn_end own.local own.below))))) }
+{
+    let mut turn = Vec::new(alloc);
+    emit_block(alloc, inner, body, &mut turn)?;
+    emit_turn_end(own, &mut turn)?;
+    let mut end = Vec::new(alloc);
+    emit_turn_end(own, &mut end)?;
+    let cycles = forward_most(alloc, end.as_slice(), 10)?;
+    Ok(straight(plus(cycles, back_cycles(code_words(turn.as_slice())))))
+}
+
+// A jump out of the program.
+fn leaving() -> Ways
+    ensures goes { result.goes ≡ None }
+    ensures leaves { result.leaves ≡ 3 }
+{
+    Ways {
+        goes: None,
+        leaves: 3,
+    }
+}
+
+// The dearest of all ways.
+fn most_of(ways: Ways) -> u64
+    ensures { result ≡ capped (ways_cost ways 0) }
+{
+    let goes = match ways.goes {
+        None => 0,
+        Some(cycles) => cycles,
+    };
+    dearer(goes, ways.leaves)
+}
+
+// A test, whose code goes over so many words where its truth is the flag.
+#[cycle(ways)]
+fn test_forks(
+    alloc: Global,
+    bounds: &[Bound],
+    test: &WordTest,
+    when: bool,
+    over: u16,
+) -> Result<Forks, AllocError>
+    requires room { over + test_words (test_of test.now) ≤ 0x7FFF }
+    requires locals { TestLocalsBelow 1016 (test_of test.now) }
+    ensures { IfOk result (AreForksOf (test_most bounds.now (test_of test.now) when over)) }
+{
+    match test {
+        WordTest::Holds(steps) => {
+            let mut waiting = Vec::new(alloc);
+            let first = steps_ways(alloc, bounds, steps, &mut waiting)?;
+            let asked = holds_asked(alloc, when, over, &mut waiting)?;
+            Ok(forked(behind(first, asked)))
+        }
+        WordTest::Compares(comparison, steps) => {
+            let mut waiting = Vec::new(alloc);
+            let first = steps_ways(alloc, bounds, steps, &mut waiting)?;
+            let asked = compares_asked(alloc, *comparison, when, over, &mut waiting)?;
+            Ok(forked(behind(first, asked)))
+        }
+        WordTest::Both(first, second) => {
+            let further = over_both(alloc, bounds, second, when, over, !when)?;
+            let one = test_forks(alloc, bounds, first, false, further)?;
+            let other = test_forks(alloc, bounds, second, when, over)?;
+            Ok(both(one, other))
+        }
+        WordTest::Either(first, second) => {
+            let further = over_both(alloc, bounds, second, when, over, when)?;
+            let one = test_forks(alloc, bounds, first, true, further)?;
+            let other = test_forks(alloc, bounds, second, when, over)?;
+            Ok(one_of(one, other))
+        }
+        WordTest::Fails(test) => {
+            let other = test_forks(alloc, bounds, test, !when, over)?;
+            Ok(turned(other))
+        }
+    }
+}
+
+// The truth of a test.
+#[cycle(ways)]
+fn truth_ways(
+    alloc: Global,
+    bounds: &[Bound],
+    test: &WordTest,
+    waiting: &mut Vec<Waiting>,
+) -> Result<Ways, AllocError>
+    requires room { step_words (truth (test_of test.now)) ≤ 0x7FFF }
+    requires locals { TestLocalsBelow 1016 (test_of test.now) }
+    ensures ways { IfOk result (AreWaysOf (step_most bounds.now waiting.old.items (truth (test_of test.now)))) }
+    ensures waiting { OnOk result (waiting.new.items ≡ []) }
+{
+    let front = flush(alloc, waiting)?;
+    let test = test_forks(alloc, bounds, test, false, 2)?;
+    Ok(behind(front, chosen(test, straight(5), straight(3))))
+}
+
+// A loop, by the bound in its body.
+#[cycle(ways)]
+fn loop_ways(
+    alloc: Global,
+    bounds: &[Bound],
+    own: Bound,
+    from: u16,
+    body: &[WordStep],
+    waiting: &mut Vec<Waiting>,
+) -> Result<Ways, AllocError>
+    requires room { step_words (repeat own.local from own.below (steps_of body.now)) ≤ 0x7FFF }
+    requires low { own.local < 1016 }
+    requires locals { LocalsBelow 1016 (steps_of body.now) }
+    ensures ways { IfOk result (AreWaysOf (step_most bounds.now waiting.old.items (repeat own.local from own.below (steps_of body.now)))) }
+    ensures waiting { OnOk result (waiting.new.items ≡ []) }
+{
+    let front = flush(alloc, waiting)?;
+    let set = number_set(alloc, own.local, from)?;
+    let inner = bounds_within(alloc, own, bounds)?;
+    let turn = block_ways(alloc, &inner, body)?;
+    let end = turn_ended(alloc, &inner, own, body)?;
+    let turns = all_turns(own.below.saturating_sub(from), behind(turn, end));
+    Ok(behind(front, behind(set, turns)))
+}
+
+// A step; the words that wait in front of it become those that wait behind it.
+#[cycle(ways)]
+fn step_ways(
+    alloc: Global,
+    bounds: &[Bound],
+    step: &WordStep,
+    waiting: &mut Vec<Waiting>,
+) -> Result<Ways, AllocError>
+    requires room { step_words (step_of step.now) ≤ 0x7FFF }
+    requires locals { StepLocalsBelow 1016 (step_of step.now) }
+    ensures ways { IfOk result (AreWaysOf (step_most bounds.now waiting.old.items (step_of step.now))) }
+    ensures waiting { OnOk result (waiting.new.items ≡ waiting_behind waiting.old.items (step_of step.now)) }
+{
+    match step {
+        WordStep::Truth(test) => truth_ways(alloc, bounds, test, waiting),
+        WordStep::Choose(test, taken, otherwise) => {
+            let front = flush(alloc, waiting)?;
+            let mut other = Vec::new(alloc);
+            emit_block(alloc, bounds, otherwise, &mut other)?;
+            let passed = code_words(other.as_slice());
+            let mut first = Vec::new(alloc);
+            emit_block(alloc, bounds, taken, &mut first)?;
+            emit_pass_over(passed, &mut first)?;
+            let forks = test_forks(alloc, bounds, test, false, code_words(first.as_slice()))?;
+            let held = behind(block_ways(alloc, bounds, taken)?, pass(alloc, passed)?);
+            let failed = block_ways(alloc, bounds, otherwise)?;
+            Ok(behind(front, chosen(forks, held, failed)))
+        }
+        WordStep::Repeat {
+            local,
+            from,
+            below,
+            body,
+        } => {
+            let own = Bound {
+                local: *local,
+                below: *below,
+            };
+            loop_ways(alloc, bounds, own, *from, body, waiting)
+        }
+        WordStep::Jump(_) => {
+            let front = flush(alloc, waiting)?;
+            Ok(behind(front, leaving()))
+        }
+        _ => leaf(alloc, bounds, step, waiting),
+    }
+}
+
+// Steps, one after another.
+#[cycle(ways)]
+fn steps_ways(
+    alloc: Global,
+    bounds: &[Bound],
+    steps: &[WordStep],
+    waiting: &mut Vec<Waiting>,
+) -> Result<Ways, AllocError>
+    requires room { words_of (steps_of steps.now) ≤ 0x7FFF }
+    requires locals { LocalsBelow 1016 (steps_of steps.now) }
+    ensures ways { IfOk result (AreWaysOf (steps_most bounds.now waiting.old.items (steps_of steps.now))) }
+    ensures waiting { OnOk result (waiting.new.items ≡ waiting_after waiting.old.items (steps_of steps.now)) }
+{
+    let mut ways = straight(0);
+    for step in steps {
+        let next = step_ways(alloc, bounds, step, waiting)?;
+        ways = behind(ways, next);
+    }
+    Ok(ways)
+}
+
+// Steps with no word waiting in front of them or behind them.
+#[cycle(ways)]
+fn block_ways(alloc: Global, bounds: &[Bound], steps: &[WordStep]) -> Result<Ways, AllocError>
+    requires room { words_of (steps_of steps.now) ≤ 0x7FFF }
+    requires locals { LocalsBelow 1016 (steps_of steps.now) }
+    ensures { IfOk result (AreWaysOf (block_most bounds.now (steps_of steps.now))) }
+{
+    let mut waiting = Vec::new(alloc);
+    let ways = steps_ways(alloc, bounds, steps, &mut waiting)?;
+    let end = flush(alloc, &mut waiting)?;
+    Ok(behind(ways, end))
+}
+
+/// The cycles that the code of a whole program, which takes events or not, takes at most, whatever the words are that decide its ways; 2^64 - 1
+/// where they are more.
+pub fn most_spent(alloc: Global, events: bool, program: &WordProgram) -> Result<u64, AllocError>
+    requires room { words_of (program_of program.now) ≤ 0x7FFF }
+    requires whole { IsWhole (program_of program.now) }
+    ensures { IfOk result (λ n. n ≡ capped (most_spent events (program_of program.now))) }
+{
+    let mut set = Vec::new(alloc);
+    emit_stack_set(events, steps_locals(&program.steps), &mut set)?;
+    let front = priced(alloc, set.as_slice(), 2)?;
+    let ways = behind(front, block_ways(alloc, &[], &program.steps)?);
+    Ok(most_of(ways))
+}

@@ -1,0 +1,30 @@
+-- The lines that tell what tasks need of a charge.
+use Rattle.std.specs.Prelude.{ℕ, List, [], ◌∷◌, ◌++◌, codes, decimal}
+use Rattle.text_parts.specs.Printed.{printed}
+use Rattle.need_lines.specs.Rows.{NeedRow, need_in, greatest}
+
+-- `task NAME NEED TABLE WORDS`
+abbrev pub task_fields : NeedRow → List (List ℕ)
+task_fields r = codes "task" ∷ r.name ∷ decimal (need_in r) ∷ decimal r.table ∷ decimal r.words ∷ []
+
+-- `parts BOOT START PATH COMMIT`
+abbrev pub parts_fields : NeedRow → List (List ℕ)
+parts_fields r = codes "parts" ∷ decimal r.boot ∷ decimal r.start ∷ decimal r.path ∷ decimal r.commit ∷ []
+
+-- both lines of each task
+abbrev pub rows_fields : List NeedRow → List (List (List ℕ))
+rows_fields [] = []
+rows_fields (r ∷ rs) = task_fields r ∷ parts_fields r ∷ rows_fields rs
+
+-- `need N of B`
+abbrev pub last_fields : ℕ → ℕ → List (List ℕ)
+last_fields most bound = codes "need" ∷ decimal most ∷ codes "of" ∷ decimal bound ∷ []
+
+-- the lines of tasks in order, and behind them the greatest need and the bound
+abbrev pub needs_text : List NeedRow → ℕ → List ℕ
+needs_text rows bound = printed (rows_fields rows ++ last_fields (greatest rows) bound ∷ [])
+
+-- what is left of a line behind its first word
+unfoldable pub tail_text : List (List ℕ) → List ℕ
+tail_text [] = []
+tail_text (w ∷ ws) = 32 ∷ w ++ tail_text ws

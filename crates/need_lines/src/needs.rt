@@ -1,0 +1,50 @@
+//! What a task needs.
+
+ghost use Rattle.std.specs.Prelude.{◌≡◌, max, map};
+ghost use Rattle.need_lines.specs.Rows.{need_in, greatest, row_of};
+
+/// What a task needs of a charge, in cycles, part by part; and what the table of allowances says of it.
+#[derive(Clone, Copy)]
+pub struct TaskNeed<'t> {
+    /// The task's name.
+    pub name: &'t [u8],
+    /// From a power-up to the start of an attempt.
+    pub boot: u32,
+    /// To the task's own code, with the version words cleared.
+    pub start: u32,
+    /// Through it, up to the store that decides.
+    pub path: u32,
+    /// To the end of the commit.
+    pub commit: u32,
+    /// The cycles that the table of allowances has for the task.
+    pub table: u32,
+    /// Its words of the 22,000.
+    pub words: u32,
+}
+
+impl TaskNeed<'_> {
+    /// In all.
+    pub fn need(&self) -> u64
+        ensures { result ≡ need_in (row_of self.now) }
+    {
+        self.boot as u64 + self.start as u64 + self.path as u64 + self.commit as u64
+    }
+}
+
+// The greater of two numbers.
+fn dearer(a: u64, b: u64) -> u64
+    ensures { result ≡ max a b }
+{
+    if a < b { b } else { a }
+}
+
+/// The greatest need of some tasks, 0 where there are none.
+pub fn greatest(needs: &[TaskNeed<'_>]) -> u64
+    ensures { result ≡ greatest (map row_of needs.now) }
+{
+    let mut most = 0;
+    for i in (0..needs.len()).rev() {
+        most = dearer(needs[i].need(), most);
+    }
+    most
+}

@@ -1,0 +1,3 @@
+mod Stretches
+mod Tables
+mod Rows

@@ -1,0 +1,100 @@
+-- What one task of an accepted source needs, from what its table and its layout say.
+use Rattle.std.proofs.Common.{◌≡◌, ◌∙◌, ℕ, zero, suc, ◌+◌, ◌-◌, ◌*◌, ◌^◌, ◌<◌, ◌≤◌}
+use Rattle.std.proofs.Common.{◌++◌, ◌∷◌, [], min, List, Bool, length, map, drop, get_or, drop-cons, add-one}
+use Rattle.std.proofs.Common.{Some, append_assoc, append-nil, drop_all, refl, sym, ap, subst, arith}
+use Rattle.std.specs.Prelude.{slice_get}
+use Rattle.cost_bound.specs.declared.allowance.Allow.{Allow}
+use Rattle.cost_bound.specs.Allowance.{CheckedTask, scalars_of, task_bound, task_words, uses_events, versions_of}
+use Rattle.code_paths.specs.Paths.{capped}
+use Rattle.source_values.specs.Runs.{CheckedProgram}
+use Rattle.war_analysis.specs.PlanValue.{TaskPlanValue}
+use Rattle.war_analysis.proofs.Interface.{element}
+use Rattle.memory_map.specs.MemoryMap.{MemoryMap, TaskPlace}
+use Rattle.memory_map.specs.Spots.{places_of, private_words}
+use Rattle.memory_map.proofs.Interface.{privates_few}
+use Rattle.array_versions.specs.Program.{nothing}
+use Rattle.array_versions.specs.Form.{IsWhole}
+use Rattle.array_versions.specs.Cost.{words_of}
+use Rattle.lower.specs.Seen.{map_seen}
+use Rattle.lower.specs.Lowered.{lowered, lowered_tasks}
+use Rattle.lower.proofs.Interface.{blocks_keep_to_words, program_at}
+use Rattle.whole_programs.specs.Laws.{IsLaidOutText, TasksAreWhole, PrivatesAreFew}
+use Rattle.compiled_model.specs.Parts.{task_program}
+use Rattle.need_lines.specs.Rows.{NeedRow}
+use Rattle.source_needs.specs.Needs.{need_row, rows_from}
+use Rattle.source_needs.proofs.Tables.{at_most_greatest, at_most_total}
+
+-- what holds of a task of a source with its layout
+pub record TaskHolds (text : List ℕ) (p : CheckedProgram) (allow : Allow) (l : MemoryMap) (k : ℕ) : Type 0 where
+  pub task : CheckedTask
+  pub place : TaskPlace
+  pub there : slice_get p.tasks k ≡ Some task
+  pub placed : slice_get l.tasks k ≡ Some place
+  pub events : l.runtime.events ≡ uses_events p
+  pub versions : allow.versions ≡ versions_of p
+  pub cleared : l.versions.words ≡ allow.versions
+  pub bound : task_bound (uses_events p) (versions_of p) p.shared task.body < 2 ^ 32
+  pub words : task_words p.shared task.body ≤ 22000
+  pub whole : IsWhole (task_program p l k)
+  pub room : words_of (task_program p l k) ≤ 0x7FFF
+  pub privates : private_words place.privates ≤ scalars_of p.shared task.body
+
+pub task_holds : TasksAreWhole → (text : List ℕ) (p : CheckedProgram) (allow : Allow) (plans : List TaskPlanValue) (l : MemoryMap)
+    → PrivatesAreFew → IsLaidOutText text p allow plans l
+    → (k : ℕ) → k < length p.tasks → TaskHolds text p allow l k
+task_holds whole text p allow plans l few laid k inside =
+    let t = element p.tasks k inside in
+    let count = laid.layout.tasks.count in
+    let place = element l.tasks k (omega (arith, inside, count)) in
+    let program : task_program p l k ≡ _ = program_at l p.tasks l.tasks k t.0 place.0 t.1 place.1 in
+    let privates = few text p allow plans l laid k t.0 place.0 t.1 place.1 in
+    let allowed = laid.accepted.allowed in
+    let bound = at_most_greatest (task_bound (uses_events p) (versions_of p) p.shared) p.tasks k t.0 t.1 in
+    let words = at_most_total (task_words p.shared) p.tasks k t.0 t.1 in
+    let code = blocks_keep_to_words (places_of (map_seen t.0.body l) place.0) (scalars_of p.shared t.0.body) t.0.body privates in
+    let small : task_words p.shared t.0.body ≤ 22000 = omega (arith, words, allowed.within_size) in
+    record {
+      task = t.0;
+      place = place.0;
+      there = t.1;
+      placed = place.1;
+      events = ap (λ r. r.events) laid.layout.runtime;
+      versions = allowed.versions;
+      cleared = laid.layout.versions;
+      bound = omega (arith, bound, allowed.within_bound);
+      words = small;
+      whole = subst IsWhole (sym program) (whole text p allow plans l laid k t.0 place.0 t.1 place.1).0.whole;
+      room = omega (arith, ap words_of program, code, small);
+      privates = privates;
+    }
+
+-- ways that are cut at 2^64 - 1 are cut by a bound of 32 bits
+pub path_cut : (most m bound beside : ℕ) → bound < 2 ^ 32 → most ≡ capped m → min most (bound - beside) ≡ min m (bound - beside)
+path_cut most m bound beside small e = omega (arith, small, e)
+
+-- the row of one task more
+pub row_more : (text : List ℕ) (p : CheckedProgram) (l : MemoryMap) (i : ℕ) (task : CheckedTask) (rows next : List NeedRow) (row : NeedRow)
+    → slice_get p.tasks i ≡ Some task → row ≡ need_row text p l i task → next ≡ rows ++ row ∷ []
+    → next ++ rows_from text p l (i + 1) (drop (i + 1) p.tasks) ≡ rows ++ rows_from text p l i (drop i p.tasks)
+row_more text p l i task rows next row there is e =
+    let rest : List NeedRow = rows_from text p l (i + 1) (drop (i + 1) p.tasks) in
+    ap (λ x. x ++ rest) e ∙ append_assoc rows (row ∷ []) rest
+    ∙ ap (λ r. rows ++ r ∷ rest) is
+    ∙ ap (λ j. rows ++ need_row text p l i task ∷ rows_from text p l j (drop j p.tasks)) (add-one i)
+    ∙ ap (λ ts. rows ++ rows_from text p l i ts) (sym (drop_there p.tasks i task there))
+  where
+    drop_there : (ts : List CheckedTask) (k : ℕ) (t : CheckedTask) → slice_get ts k ≡ Some t → drop k ts ≡ t ∷ drop (suc k) ts
+    drop_there [] k t e = cc
+    drop_there (u ∷ ts) zero t e = let same : u ≡ t = cc in ap (λ x. x ∷ ts) same
+    drop_there (u ∷ ts) (suc k) t e = drop_there ts k t e
+
+-- and behind the last one
+pub rows_end : (text : List ℕ) (p : CheckedProgram) (l : MemoryMap) (i : ℕ) (rows : List NeedRow) → length p.tasks ≤ i
+    → rows ++ rows_from text p l i (drop i p.tasks) ≡ rows
+rows_end text p l i rows h = ap (λ ts. rows ++ rows_from text p l i ts) (drop_all i p.tasks h) ∙ append-nil rows
+
+-- as many programs as tasks
+pub as_many : (l : MemoryMap) (tasks : List CheckedTask) (ts : List TaskPlace) → length ts ≡ length tasks → length (lowered_tasks l tasks ts) ≡ length tasks
+as_many l [] ts e = refl
+as_many l (task ∷ tasks) [] e = absurd (omega (arith, e))
+as_many l (task ∷ tasks) (t ∷ ts) e = ap suc (as_many l tasks ts (omega (arith, e)))

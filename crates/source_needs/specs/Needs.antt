@@ -1,0 +1,69 @@
+-- What each task of a source needs of a charge, as its lines tell it.
+use Rattle.std.specs.Prelude.{◌≡◌, ℕ, suc, ◌+◌, ◌-◌, min, Bool, true, List, [], ◌∷◌, length}
+use Rattle.cost_bound.specs.declared.allowance.Allow.{Allow}
+use Rattle.cost_bound.specs.Allowance.{CheckedTask, task_words}
+use Rattle.source_values.specs.Runs.{CheckedProgram}
+use Rattle.source_report.specs.SourceReport.{spelled}
+use Rattle.war_analysis.specs.PlanValue.{TaskPlanValue}
+use Rattle.war_analysis.specs.Plans.{IsPlan}
+use Rattle.memory_map.specs.declared.place.PrivateScalar.{PrivateScalar}
+use Rattle.memory_map.specs.MemoryMap.{MemoryMap, with_events}
+use Rattle.memory_map.specs.Spots.{private_words}
+use Rattle.lower.specs.Runs.{runs_of}
+use Rattle.boot_runtime.specs.Listing.{start_cycles}
+use Rattle.commit_runtime.specs.Listing.{commit_cycles}
+use Rattle.privatise.specs.Layouts.{IsLayout}
+use Rattle.compiled_model.specs.Parts.{program_parts}
+use Rattle.task_needs.specs.Needs.{need_parts}
+use Rattle.need_lines.specs.Rows.{NeedRow}
+use Rattle.source_needs.specs.declared.needs.Table.{Table}
+
+-- a task by its number: its need with its parts, the cycles and the words that the table of allowances has for it
+abbrev pub need_row : List ℕ → CheckedProgram → MemoryMap → ℕ → CheckedTask → NeedRow
+need_row text p l k task = let n = need_parts p l k in record {
+  name = spelled text task.name;
+  boot = n.boot;
+  start = n.start;
+  path = n.path;
+  commit = n.commit;
+  table = (program_parts p l).cost k;
+  words = task_words p.shared task.body;
+}
+
+-- tasks from a number on
+abbrev pub rows_from : List ℕ → CheckedProgram → MemoryMap → ℕ → List CheckedTask → List NeedRow
+rows_from text p l k [] = []
+rows_from text p l k (task ∷ tasks) = need_row text p l k task ∷ rows_from text p l (suc k) tasks
+
+-- all tasks
+abbrev pub need_rows : List ℕ → CheckedProgram → MemoryMap → List NeedRow
+need_rows text p l = rows_from text p l 0 p.tasks
+
+-- these are the needs of the tasks of a source, by its layout, of which there is one
+pub record AreNeedsOf (text : List ℕ) (p : CheckedProgram) (allow : Allow) (rows : List NeedRow) : Type 0 where
+  pub plans : List TaskPlanValue
+  pub layout : MemoryMap
+  pub is_plan : IsPlan p plans
+  pub is_layout : IsLayout p allow plans layout
+  pub only : (plans : List TaskPlanValue) (l : MemoryMap) → IsPlan p plans → IsLayout p allow plans l → l ≡ layout
+  pub rows_are : rows ≡ need_rows text p layout
+
+-- ---- as it is computed
+
+-- a boot up to the start of an attempt, by whether there are events
+abbrev pub boot_part : Bool → ℕ
+boot_part events = with_events events 3 + 6
+
+-- the start of an attempt, with so many version words cleared, of a task with these private scalars
+abbrev pub start_part : Bool → ℕ → List PrivateScalar → ℕ
+start_part events versions privates = start_cycles events true versions (private_words privates)
+
+-- the commit of one that lists so many elements and emits so many words
+abbrev pub commit_part : Bool → List PrivateScalar → Table → ℕ
+commit_part events privates table =
+    commit_cycles events (length (runs_of privates) + table.elements) (private_words privates + table.elements) table.emits
+
+-- its code, whose dearest way takes so many cycles
+abbrev pub path_part : Bool → ℕ → List PrivateScalar → Table → ℕ → ℕ
+path_part events versions privates table most =
+    min most (table.bound - (boot_part events + start_part events versions privates + commit_part events privates table))
