@@ -3,12 +3,22 @@ use Rattle.std.proofs.Common.{◌≡◌, ◌∙◌, ℕ, zero, suc, ◌+◌, ◌
 use Rattle.std.proofs.Common.{◌++◌, ◌∷◌, [], min, List, Bool, length, map, drop, get_or, drop-cons, add-one}
 use Rattle.std.proofs.Common.{Some, append_assoc, append-nil, refl, sym, ap, subst, arith}
 use Rattle.std.proofs.lemmas.List.{drop_all}
+use Rattle.std.proofs.Math.ListN.{get_or-map}
 use Rattle.std.specs.Prelude.{slice_get}
+use Rattle.std.proofs.lemmas.Option.{get_or_from_slice_get}
+use Rattle.task_ast.specs.declared.TaskDeclaration.{TaskDeclaration}
+use Rattle.task_ast.specs.declared.names.VariableName.{VariableName}
+use Rattle.task_ast.specs.declared.names.TaskName.{TaskName}
+use Rattle.task_ast.specs.View.{block_view, task_of}
 use Rattle.cost_bound.specs.declared.allowance.Allow.{Allow}
 use Rattle.cost_bound.specs.Allowance.{CheckedTask, scalars_of, task_bound, task_words, uses_events, versions_of}
 use Rattle.code_paths.specs.Paths.{capped}
 use Rattle.source_values.specs.Runs.{CheckedProgram}
 use Rattle.war_analysis.specs.PlanValue.{TaskPlanValue}
+use Rattle.war_analysis.specs.Plans.{IsPlan}
+use Rattle.war_analysis.specs.Laws.{OnePlan}
+use Rattle.privatise.specs.Layouts.{IsLayout}
+use Rattle.privatise.specs.Laws.{OneLayout}
 use Rattle.war_analysis.proofs.Interface.{element}
 use Rattle.memory_map.specs.MemoryMap.{MemoryMap, TaskPlace}
 use Rattle.memory_map.specs.Spots.{places_of, private_words}
@@ -22,7 +32,7 @@ use Rattle.lower.proofs.Interface.{blocks_keep_to_words, program_at}
 use Rattle.whole_programs.specs.Laws.{IsLaidOutText, TasksAreWhole, PrivatesAreFew}
 use Rattle.compiled_model.specs.Parts.{task_program}
 use Rattle.need_lines.specs.Rows.{NeedRow}
-use Rattle.source_needs.specs.Needs.{need_row, rows_from}
+use Rattle.source_needs.specs.Needs.{AreNeedsOf, need_row, need_rows, rows_from}
 use Rattle.source_needs.proofs.Tables.{at_most_greatest, at_most_total}
 
 -- what holds of a task of a source with its layout
@@ -99,3 +109,25 @@ pub as_many : (l : MemoryMap) (tasks : List CheckedTask) (ts : List TaskPlace) �
 as_many l [] ts e = refl
 as_many l (task ∷ tasks) [] e = absurd (omega (arith, e))
 as_many l (task ∷ tasks) (t ∷ ts) e = ap suc (as_many l tasks ts (omega (arith, e)))
+
+-- a task as it is declared, where it stands
+pub task_at : (ts : List (TaskDeclaration VariableName TaskName)) (k : ℕ) (t : TaskDeclaration VariableName TaskName) (task : CheckedTask)
+    → slice_get (map task_of ts) k ≡ Some task
+    → t ≡ get_or ts k t → (t.name ≡ task.name) × (block_view t.body.items ≡ task.body)
+task_at ts k t task there is =
+    let a : task_of t ≡ task = ap task_of is ∙ sym (get_or-map task_of ts k t) ∙ get_or_from_slice_get (map task_of ts) k task (task_of t) there in
+    (ap (λ u. u.name) a, ap (λ u. u.body) a)
+
+-- the needs of a source by one layout are its needs, since it has no other
+pub needs_are : (text : List ℕ) (p : CheckedProgram) (allow : Allow) (plans : List TaskPlanValue) (l : MemoryMap) (rows : List NeedRow) → OnePlan p
+    → OneLayout p allow → IsPlan p plans → IsLayout p allow plans l → rows ≡ need_rows text p l → AreNeedsOf text p allow rows
+needs_are text p allow plans l rows one_plan one_layout planned laid is = record {
+  plans = plans;
+  layout = l;
+  is_plan = planned;
+  is_layout = laid;
+  only = λ others m is_plan is_layout.
+      let P : List TaskPlanValue → Type 0 = λ ps. IsLayout p allow ps m in
+      one_layout plans m l planned (subst P (one_plan others plans is_plan planned) is_layout) laid;
+  rows_are = is;
+}

@@ -1,0 +1,23 @@
+use Rattle.std.proofs.Common.{◌≡◌, ◌∙◌, map, sym, ap, subst}
+use Rattle.std.proofs.lemmas.Result.{IfOk-weaker}
+use Rattle.task_ast.specs.View.{program_of}
+use Rattle.source_values.specs.Runs.{CheckedProgram}
+use Rattle.war_analysis.specs.Plans.{IsPlan}
+use Rattle.privatise.specs.Layouts.{IsLayout}
+use Rattle.need_lines.specs.Rows.{row_of}
+use Rattle.source_needs.specs.Needs.{AreNeedsOf, need_rows}
+use Rattle.source_needs.proofs.Rows.{needs_are}
+use Rattle.source_needs.proofs.needs.needs_of.Goals as goal
+
+pub returns : goal.returns
+returns c =
+    let text = c.args.accepted.now.text.items in
+    let p = program_of c.args.accepted.now.checked.source in
+    let allow = c.args.accepted.now.allow in
+    let plans = c.in_ok-plan.plan in
+    let l = c.in_ok-layout.layout in
+    let planned : IsPlan p plans = rw c.checked-checked.ensures at c.in_ok-plan.ensures in
+    let laid : IsLayout p allow plans l = rw (c.checked-checked.ensures, c.allow.ensures) at c.in_ok-layout.ensures in
+    IfOk-weaker c.tasks_need.result (λ needs. map row_of needs.items ≡ need_rows text p l) (λ needs. AreNeedsOf text p allow (map row_of needs.items))
+    (λ needs is. needs_are text p allow plans l (map row_of needs.items) (c.one_plan.ensures p) (c.one_layout.ensures p allow c.requires.allowed) planned laid is)
+    c.tasks_need.ensures
