@@ -1,0 +1,5 @@
+mod Senses
+mod Takes
+mod Lowered
+mod Scripts
+pub mod Interface
