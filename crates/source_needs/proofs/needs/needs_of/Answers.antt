@@ -18,5 +18,6 @@ returns c =
     let planned : IsPlan p plans = rw c.checked-checked.ensures at c.in_ok-plan.ensures in
     let laid : IsLayout p allow plans l = rw (c.checked-checked.ensures, c.allow.ensures) at c.in_ok-layout.ensures in
     IfOk-weaker c.tasks_need.result (λ needs. map row_of needs.items ≡ need_rows text p l) (λ needs. AreNeedsOf text p allow (map row_of needs.items))
-    (λ needs is. needs_are text p allow plans l (map row_of needs.items) (c.one_plan.ensures p) (c.one_layout.ensures p allow c.requires.allowed) planned laid is)
+    (λ needs is. needs_are text p allow plans l (map row_of needs.items) (c.one_plan.ensures p) (c.one_layout.ensures p allow c.requires.allowed) planned
+    laid is)
     c.tasks_need.ensures
