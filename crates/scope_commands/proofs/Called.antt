@@ -1,5 +1,5 @@
 -- What is said of a command is said of the words.
-use Rattle.std.proofs.Common.{◌≡◌, ◌⊎◌, ℕ, List, Some, None, refl, sym, subst}
+use Rattle.std.proofs.Common.{◌≡◌, ℕ, List, Some}
 use Rattle.plain_commands.specs.alp_io.Shelf.{Told}
 use Rattle.plain_commands.specs.command_answers.declared.status.Status.{Status}
 use Rattle.plain_commands.specs.command_answers.declared.status.Status.TheVariants.{Done, Refused, Usage, Unreadable, Unwritable, OutOfMemory, MachineFault}
@@ -11,11 +11,6 @@ use Rattle.scope_line.specs.ScopeLine.{plain_line, scope_line_of}
 use Rattle.scope_line.specs.declared.Command.{Command}
 use Rattle.scope_line.specs.declared.Command.TheVariants.{Bounds}
 use Rattle.scope_commands.specs.Answers.{ScopeAnswers, promise_of}
-
--- the same command is answered in the same way
-pub answers_as : (status : Status) (c d : Command) (shelf : Shelved) (out err : Written) → c ≡ d
-    → CommandAnswers status (promise_of d) shelf out err → CommandAnswers status (promise_of c) shelf out err
-answers_as status c d shelf out err is a = subst (λ x. CommandAnswers status (promise_of x) shelf out err) (sym is) a
 
 -- the words are a line, and this is said of its command
 pub on_line : (status : Status) (c : Command) (words : List (List ℕ)) (shelf : Shelved) (out err : Written)

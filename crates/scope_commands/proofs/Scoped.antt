@@ -3,7 +3,6 @@ use Rattle.std.proofs.Common.{◌≡◌, ℕ, List, [], ◌∷◌, Result, refl,
 use Rattle.plain_commands.specs.cost_bound.declared.allowance.Allow.{Allow}
 use Rattle.plain_commands.specs.source_values.Runs.{CheckedProgram}
 use Rattle.plain_commands.specs.source_meaning.Acceptance.{IsAcceptedText}
-use Rattle.plain_commands.specs.image_text.ImageValue.{ImageValue}
 use Rattle.plain_commands.specs.command_answers.declared.failure.Failure.{Failure}
 use Rattle.plain_commands.specs.command_answers.Ending.{well}
 use Rattle.plain_commands.specs.command_answers.CommandAnswers.{IsWhole}
@@ -11,7 +10,6 @@ use Rattle.plain_commands.specs.command_answers.Outcomes.{FailsBy, FailsWriting,
 use Rattle.plain_commands.specs.command_answers.Outside.{Written, WhereStands}
 use Rattle.plain_commands.proofs.command_answers.Interface.{whole_by, fails_by}
 use Rattle.memory_map.specs.MemoryMap.{MemoryMap}
-use Rattle.image_laws.specs.Compiled.{IsCompiled}
 use Rattle.image_reports.specs.ImageLaw.{ImagesKeepTheLaws, IsLawful}
 use Rattle.need_lines.specs.Rows.{NeedRow}
 use Rattle.need_lines.specs.Lines.{needs_text}

@@ -1,4 +1,4 @@
-use Rattle.std.proofs.Common.{◌≡◌, refl, sym, subst}
+use Rattle.std.proofs.Common.{refl}
 use Rattle.plain_commands.proofs.command_answers.Interface.{refusal_fails, memory_fails, handed_on}
 use Rattle.scope_commands.proofs.Scoped.{scope_whole, scope_fails}
 use Rattle.scope_commands.proofs.bounds.bounds_texts.Goals as goal

@@ -1,7 +1,6 @@
-use Rattle.std.proofs.Common.{◌∙◌, refl, map, ap}
+use Rattle.std.proofs.Common.{map}
 use Rattle.task_ast.specs.View.{program_of}
 use Rattle.need_lines.specs.Rows.{row_of}
-use Rattle.need_lines.specs.Lines.{needs_text}
 use Rattle.scope_commands.proofs.Scoped.{scoped}
 use Rattle.scope_commands.proofs.needs.needs_text.Goals as goal
 
