@@ -181,7 +181,8 @@ expression_few p t.next_event = omega arith
 expression_few p (t.unary op e) =
     let n = expression_readings e in
     let l = lowering p e in
-    lowering_by (type_of e) (unary_lowering op l) (long_unary_lowering op l) n (unary_few op l n (expression_few p e)) (long_unary_few op l n (expression_few p e))
+    lowering_by (type_of e) (unary_lowering op l) (long_unary_lowering op l) n (unary_few op l n (expression_few p e))
+    (long_unary_few op l n (expression_few p e))
 expression_few p (t.binary op a b) =
     let n = expression_readings a in let m = expression_readings b in
     let left = lowering p a in let right = lowering p b in
@@ -297,7 +298,8 @@ mutual
       (long_setting_few p x.variable e)
   statement_few p (t.store x index e) = element_few p x.variable index e
   statement_few p (t.choose choice) = choice_few p choice
-  statement_few p (t.loop x from tested below stepped body) = let rest = block_few p body in more (below - from) (senses (lowered_block p body)) (block_readings body) rest
+  statement_few p (t.loop x from tested below stepped body) = let rest = block_few p body in
+      more (below - from) (senses (lowered_block p body)) (block_readings body) rest
     where
       more : (k a b : ℕ) → a ≤ b → k * a + 0 ≤ k * b
       more zero a b h = omega arith

@@ -130,7 +130,8 @@ first_none place list i s =
     let e = 2 * i + place.elements in
     let v = s.fram list.ver in
     let rest = word_listed list e (2 * i + place.copies) (stored m v s) in
-    at_takes 0 e (behind_effects (Store m v ∷ []) rest) (behind_takes 0 (Store m v ∷ []) rest refl (word_listed_none list e (2 * i + place.copies) (stored m v s)))
+    at_takes 0 e (behind_effects (Store m v ∷ []) rest)
+    (behind_takes 0 (Store m v ∷ []) rest refl (word_listed_none list e (2 * i + place.copies) (stored m v s)))
 
 own_stored_none : (place : ArrayPlace) (list : ListPlace) (i v : ℕ) (s : WordState) → None0 (own_stored place list i v s)
 own_stored_none place list i v s =
@@ -256,7 +257,8 @@ mutual
       let made = tested_takes t 0 (number_pushed 1) (number_pushed 0) (λ u. omega arith) (λ u. omega arith) s in omega (arith, made)
   step_takes (choose t taken otherwise) s =
       let dearer = max (senses taken) (senses otherwise) in
-      tested_takes t dearer (behaviour taken) (behaviour otherwise) (λ u. more_take (senses taken) dearer (behaviour taken u) (omega arith) (program_takes taken u))
+      tested_takes t dearer (behaviour taken) (behaviour otherwise)
+      (λ u. more_take (senses taken) dearer (behaviour taken u) (omega arith) (program_takes taken u))
       (λ u. more_take (senses otherwise) dearer (behaviour otherwise u) (omega arith) (program_takes otherwise u)) s
   step_takes (repeat n from below body) s = turns_take (senses body) (behaviour body) (program_takes body) (below - from) n from s
   step_takes (store_number a w) s = word_none a w s

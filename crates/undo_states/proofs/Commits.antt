@@ -231,7 +231,8 @@ module _ {St : Type 0} (l : ProgramPlaces) (apart : AreApart l.map) (room : Have
           (at_end (λ z. DecidedFrom l v s next (emptied z)) (λ z. DecidedFrom l v s next (emptied z)) (λ z k. k) es x redo_through))
 
       pub kept : HoldsThroughout (ClosesFrom l v s next) (commit_before m x.fram) x
-      kept = holds-append (ClosesFrom l v s next) es (Store cln 0 ∷ []) x closes_through (at_end (ClosesFrom l v s next) (ClosesFrom l v s next) (λ z k. k) es x closes_through, emptied_closes)
+      kept = holds-append (ClosesFrom l v s next) es (Store cln 0 ∷ []) x closes_through
+          (at_end (ClosesFrom l v s next) (ClosesFrom l v s next) (λ z k. k) es x closes_through, emptied_closes)
 
       behind : world_after redo.before (emptied x) ≡ world_after (commit_before m x.fram) x
       behind =
