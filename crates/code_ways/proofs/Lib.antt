@@ -1,0 +1,3 @@
+mod Costs
+mod Joined
+pub mod Interface
