@@ -1,5 +1,5 @@
 -- What ways cost that are joined, by their cycles alone.
-use Rattle.std.proofs.Common.{◌≡◌, ℕ, zero, suc, ◌+◌, ◌-◌, ◌*◌, ◌^◌, ◌≤◌, min, max, Option, Some, None, refl, sym, ap, ◌∙◌, arith}
+use Rattle.std.proofs.Common.{◌≡◌, ℕ, zero, suc, ◌+◌, ◌-◌, ◌*◌, ◌^◌, min, max, Option, Some, None, refl, sym, ap, ◌∙◌, arith}
 use Rattle.code_paths.specs.Paths.{capped}
 
 -- the cycles of the dearest way that goes on, and of the dearest that leaves, 0 where none does
@@ -109,7 +109,7 @@ one_goes m c l k g e = omega (arith, e)
 
 -- ---- one stretch behind another
 
-behind_by : (v w : Option ℕ) (l k n g : ℕ) → capped g ≡ capped (max (goes_cost w n) k)
+pub behind_by : (v w : Option ℕ) (l k n g : ℕ) → capped g ≡ capped (max (goes_cost w n) k)
     → capped (max (goes_cost v g) l) ≡ capped (max (goes_cost (sum_of v w) n) (max l (left_behind v k)))
 behind_by None w l k n g e = omega arith
 behind_by (Some c) None l k n g e = one_goes (2 ^ 64 - 1) c l k g e
@@ -295,7 +295,7 @@ either_is None b l k n = omega arith
 either_is (Some c) None l k n = omega arith
 either_is (Some c) (Some d) l k n = omega arith
 
-chosen_by : (m x y a b : ℕ) → min x m ≡ min a m → min y m ≡ min b m → min (max x y) m ≡ min (max a b) m
+pub chosen_by : (m x y a b : ℕ) → min x m ≡ min a m → min y m ≡ min b m → min (max x y) m ≡ min (max a b) m
 chosen_by m x y a b e f = omega (arith, e, f)
 
 pub chosen_are : (f : ℕ → ℕ → ℕ) (g k : ℕ → ℕ) (t : ForkCosts) (v w : Costs) → AreForkCosts f t → AreCosts g v → AreCosts k w

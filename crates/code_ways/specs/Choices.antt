@@ -1,5 +1,5 @@
 -- The choices that a way through code takes.
-use Rattle.std.specs.Prelude.{ℕ, zero, ◌+◌, ◌*◌, ◌==◌, ◌&&◌, Bool, not, if◌then◌else◌, List, [], ◌∷◌, ◌++◌, map, Option, Some, None}
+use Rattle.std.specs.Prelude.{ℕ, ◌+◌, ◌*◌, ◌==◌, ◌&&◌, Bool, not, if◌then◌else◌, List, [], ◌∷◌, ◌++◌, map, Option, Some, None}
 use Rattle.std.specs.Global.{Global}
 use Rattle.std.specs.declared.rc.Rc.{Rc}
 use Rattle.code_ways.specs.declared.choices.Choices.{Choices, fold-Choices}

@@ -10,10 +10,7 @@ use std::rc::Rc;
 #[derive(Drop)]
 pub enum Choices {
     /// The choice of a number, and whether its test holds.
-    One {
-        number: u32,
-        holds: bool,
-    },
+    One { number: u32, holds: bool },
     /// Those of one way and of another behind it.
     Behind(Rc<Choices>, Rc<Choices>),
     /// Those of so many turns of one way.

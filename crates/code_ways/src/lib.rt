@@ -5,5 +5,7 @@ mod choices;
 mod ways;
 
 pub use choices::Choices;
-pub use ways::{Forks, Way, Ways};
-pub use ways::{all_turns, behind, both, choice, chosen, forked, leaving, most_of, one_of, straight, turned};
+pub use ways::{
+    Forks, Way, Ways, all_turns, behind, both, choice, chosen, forked, leaving, most_of, one_of,
+    straight, turned,
+};

@@ -70,7 +70,11 @@ fn both_ways(
 fn dearer_way(one: Way, other: Way) -> Way
     ensures { way_of result ≡ dearer_way (way_of one) (way_of other) }
 {
-    if one.cycles < other.cycles { other } else { one }
+    if one.cycles < other.cycles {
+        other
+    } else {
+        one
+    }
 }
 
 // The same of those that there are.
@@ -179,8 +183,8 @@ fn more_turns(
 ) -> Result<Ways, AllocError>
     requires { turns < 0x10000 }
     ensures { IfOk result (λ w. ways_of w ≡ record {
-        goes = Some (way_turned (suc turns) (way_of turn.now));
-        leaves = both_ways (Some (way_turned turns (way_of turn.now))) (option_map way_of leaves.now);
+      goes = Some (way_turned (suc turns) (way_of turn.now));
+      leaves = both_ways (Some (way_turned turns (way_of turn.now))) (option_map way_of leaves.now);
     }) }
 {
     let before = Some(way_turned(alloc, turns, turn)?);
@@ -265,10 +269,7 @@ pub fn chosen(alloc: Global, forks: Forks, held: Ways, failed: Ways) -> Result<W
         goes: forks.failed,
         leaves: None,
     };
-    Ok(either(
-        behind(alloc, holds, held)?,
-        behind(alloc, fails, failed)?,
-    ))
+    Ok(either(behind(alloc, holds, held)?, behind(alloc, fails, failed)?))
 }
 
 /// The dearest of all ways; without cycles where there is none.
