@@ -1,3 +1,4 @@
 mod Costs
 mod Joined
+mod Grown
 pub mod Interface

@@ -1,7 +1,9 @@
 -- The choices that a way through code takes.
-use Rattle.std.specs.Prelude.{ℕ, ◌+◌, ◌*◌, ◌==◌, ◌&&◌, Bool, not, if◌then◌else◌, List, [], ◌∷◌, ◌++◌, map, Option, Some, None}
+use Rattle.std.specs.Prelude.{◌≡◌, ℕ, zero, suc, ◌+◌, ◌*◌, ◌==◌, ◌<◌, ◌&&◌, Bool, true, false, not, if◌then◌else◌, List, [], ◌∷◌, ◌++◌, map, length}
+use Rattle.std.specs.Prelude.{slice_index, Option, Some, None}
 use Rattle.std.specs.Global.{Global}
 use Rattle.std.specs.declared.rc.Rc.{Rc}
+use Rattle.code_paths.specs.Paths.{capped}
 use Rattle.code_ways.specs.declared.choices.Choices.{Choices, fold-Choices}
 use Rattle.code_ways.specs.declared.choices.Choices.TheOpen.{Choices-F}
 
@@ -30,11 +32,21 @@ abbrev pub taken_of : Option (Rc Choices Global) → List Taken
 taken_of None = []
 taken_of (Some choices) = choices_of choices.value
 
--- how often the test of a choice holds, and how often it fails
-abbrev pub held_times : ℕ → List Taken → ℕ
-held_times number [] = 0
-held_times number (t ∷ more) = (if t.number == number && t.holds then t.times else 0) + held_times number more
+-- whether a truth is the one that is asked for
+abbrev pub is_so : Bool → Bool → Bool
+is_so true b = b
+is_so false b = not b
 
-abbrev pub failed_times : ℕ → List Taken → ℕ
-failed_times number [] = 0
-failed_times number (t ∷ more) = (if t.number == number && not t.holds then t.times else 0) + failed_times number more
+-- how often a choice is taken so, by its number
+abbrev pub times_of : Bool → ℕ → List Taken → ℕ
+times_of holds number [] = 0
+times_of holds number (t ∷ more) = (if t.number == number && is_so holds t.holds then t.times else 0) + times_of holds number more
+
+-- of so many choices from a number on how often each is taken so; 2^64 - 1 where it is more
+abbrev pub counts_from : Bool → ℕ → ℕ → List Taken → List ℕ
+counts_from holds number zero taken = []
+counts_from holds number (suc n) taken = capped (times_of holds number taken) ∷ counts_from holds (suc number) n taken
+
+-- counts of choices grew by as much as each is taken
+abbrev pub HaveGrown : List ℕ → List ℕ → (ℕ → ℕ) → Type 0
+HaveGrown old new more = (i : ℕ) → i < length old → capped (slice_index new i) ≡ capped (slice_index old i + more i)

@@ -2,9 +2,11 @@
 #![tactic(auto)]
 
 mod choices;
+mod counts;
 mod ways;
 
 pub use choices::Choices;
+pub use counts::counts_of;
 pub use ways::{
     Forks, Way, Ways, all_turns, behind, both, choice, chosen, forked, leaving, most_of, one_of,
     straight, turned,

@@ -1,90 +1,84 @@
--- What stretches of code cost at most, as it is computed: by the dearest way that goes on, and by the dearest that leaves.
-use Rattle.std.specs.Prelude.{◌≡◌, ℕ, zero, suc, ◌+◌, ◌*◌, max, Option, Some, None}
-use Rattle.code_paths.specs.Paths.{capped}
-use Rattle.dearest_ways.specs.declared.ways.Ways.{Ways}
-use Rattle.dearest_ways.specs.declared.ways.Forks.{Forks}
+-- The dearest ways through the code of a word program, and the choices that they take. Choices are numbered from 0 on, in the order in which a program has
+-- them: a choice before those of its test, then those of what is done where it holds, then those of what is done where it fails.
+use Rattle.std.specs.Prelude.{◌≡◌, ℕ, suc, ◌+◌, ◌-◌, Bool, true, false, not, if◌then◌else◌, List, [], ◌∷◌, ◌++◌}
+use Rattle.word_code.specs.declared.bounds.Bound.{Bound}
+use Rattle.word_code.specs.declared.waiting.Waiting.{Waiting}
+use Rattle.word_code.specs.code_forms.Forms.{Form}
+use Rattle.word_code.specs.array_versions.Program.{Step, Test, Program, truth, choose, repeat, jump, holds, compares, both, either, fails, nothing, step}
+use Rattle.word_code.specs.array_versions.Form.{locals_of}
+use Rattle.word_code.specs.Code.{owed, holds_code, compares_code, number_code, turn_end, pass_over, size, bound_of, stack_set, waiting_behind}
+use Rattle.word_code.specs.Code.{waiting_after, test_code, block_code}
+use Rattle.code_paths.specs.Paths.{capped, forward_most}
+use Rattle.code_costs.specs.Dearest.{flush_most, leaf_most, turn_most}
+use Rattle.code_ways.specs.Ways.{WayValue, WaysValue, ForksValue, straight_ways, choice_ways, leaving_ways, ways_behind, all_turns, forked_ways, both_forks}
+use Rattle.code_ways.specs.Ways.{one_of_forks, turned_forks, chosen_ways, most_of}
 
--- what a way costs with what follows it, where there is one
-abbrev pub goes_cost : Option ℕ → ℕ → ℕ
-goes_cost None next = 0
-goes_cost (Some c) next = c + next
+-- how many choices there are
+abbrev mutual
+  pub step_choices : Step → ℕ
+  step_choices (truth t) = test_choices t
+  step_choices (choose t taken otherwise) = suc (test_choices t + (program_choices taken + program_choices otherwise))
+  step_choices (repeat n from below body) = program_choices body
+  step_choices s = 0
 
--- what ways cost, with what follows where they go on
-abbrev pub ways_cost : Ways → ℕ → ℕ
-ways_cost w next = max (goes_cost w.goes next) w.leaves
+  pub test_choices : Test → ℕ
+  test_choices (holds p) = program_choices p
+  test_choices (compares c p) = program_choices p
+  test_choices (both t u) = test_choices t + test_choices u
+  test_choices (either t u) = test_choices t + test_choices u
+  test_choices (fails t) = test_choices t
 
--- and those of a test, with what follows where it holds and where it fails
-abbrev pub forks_cost : Forks → ℕ → ℕ → ℕ
-forks_cost t held failed = max (max (goes_cost t.held held) (goes_cost t.failed failed)) t.leaves
+  pub program_choices : Program → ℕ
+  program_choices nothing = 0
+  program_choices (step first more) = step_choices first + program_choices more
 
--- they are the ways of code that costs so much with what follows it
-abbrev pub AreWaysOf : (ℕ → ℕ) → Ways → Type 0
-AreWaysOf f w = (next : ℕ) → capped (f next) ≡ capped (ways_cost w next)
+-- code without a choice that costs so much
+abbrev pub straight_cost : ℕ → WaysValue
+straight_cost cycles = straight_ways (capped cycles)
 
-abbrev pub AreForksOf : (ℕ → ℕ → ℕ) → Forks → Type 0
-AreForksOf f t = (held failed : ℕ) → capped (f held failed) ≡ capped (forks_cost t held failed)
+abbrev mutual
+  -- the ways of a step's code, in the bodies of loops with these bounds, where these words wait; its first choice has this number
+  pub step_ways : List Bound → List Waiting → ℕ → Step → WaysValue
+  step_ways bs os k (truth t) = ways_behind (straight_cost (flush_most os)) (chosen_ways (test_forks bs k t false 2) (straight_ways 5) (straight_ways 3))
+  step_ways bs os k (choose t taken otherwise) =
+      let over = size (block_code bs otherwise) in
+      let first = size (block_code bs taken ++ pass_over over) in
+      let within = suc k + test_choices t in
+      let held = ways_behind (block_ways bs within taken) (straight_cost (forward_most (pass_over over) 3)) in
+      let failed = block_ways bs (within + program_choices taken) otherwise in
+      ways_behind (straight_cost (flush_most os))
+      (chosen_ways (test_forks bs (suc k) t false first) (ways_behind (choice_ways k true) held) (ways_behind (choice_ways k false) failed))
+  step_ways bs os k (repeat n from below body) =
+      let inner = bound_of n below ∷ bs in
+      let end = turn_most n below (size (block_code inner body ++ turn_end n below)) in
+      let turn = ways_behind (block_ways inner k body) (straight_cost end) in
+      ways_behind (straight_cost (flush_most os)) (ways_behind (straight_cost (forward_most (number_code n from) 5)) (all_turns (below - from) turn))
+  step_ways bs os k (jump to) = ways_behind (straight_cost (flush_most os)) (leaving_ways 3)
+  step_ways bs os k s = straight_cost (leaf_most bs os s)
 
--- two ways, one behind the other
-abbrev pub sum_of : Option ℕ → Option ℕ → Option ℕ
-sum_of None b = None
-sum_of (Some c) None = None
-sum_of (Some c) (Some d) = Some (capped (c + d))
+  -- those of a test's code that goes over so many words where its truth is this one
+  pub test_forks : List Bound → ℕ → Test → Bool → ℕ → ForksValue
+  test_forks bs k (holds p) when d =
+      let os = waiting_after [] p in
+      forked_ways (ways_behind (steps_ways bs [] k p) (straight_cost (forward_most (holds_code os when d) (8 + owed os))))
+  test_forks bs k (compares c p) when d =
+      let os = waiting_after [] p in
+      forked_ways (ways_behind (steps_ways bs [] k p) (straight_cost (forward_most (compares_code os c when d) (10 + owed os))))
+  test_forks bs k (both t u) when d =
+      both_forks (test_forks bs k t false (size (test_code bs u when d) + (if not when then d else 0))) (test_forks bs (k + test_choices t) u when d)
+  test_forks bs k (either t u) when d =
+      one_of_forks (test_forks bs k t true (size (test_code bs u when d) + (if when then d else 0))) (test_forks bs (k + test_choices t) u when d)
+  test_forks bs k (fails t) when d = turned_forks (test_forks bs k t (not when) d)
 
--- a way that leaves behind one
-abbrev pub left_behind : Option ℕ → ℕ → ℕ
-left_behind None leaves = 0
-left_behind (Some c) leaves = capped (c + leaves)
+  -- those of steps, one after another
+  pub steps_ways : List Bound → List Waiting → ℕ → Program → WaysValue
+  steps_ways bs os k nothing = straight_ways 0
+  steps_ways bs os k (step first more) = ways_behind (step_ways bs os k first) (steps_ways bs (waiting_behind os first) (k + step_choices first) more)
 
--- the dearer of two
-abbrev pub more_of : Option ℕ → Option ℕ → Option ℕ
-more_of None b = b
-more_of (Some c) None = Some c
-more_of (Some c) (Some d) = Some (max c d)
+  -- with no word waiting in front of them or behind them
+  pub block_ways : List Bound → ℕ → Program → WaysValue
+  block_ways bs k p = ways_behind (steps_ways bs [] k p) (straight_cost (flush_most (waiting_after [] p)))
 
--- ways that go on alike, each in so many cycles
-abbrev pub straight_of : ℕ → Ways
-straight_of c = record { goes = Some c; leaves = 0 }
-
--- one stretch behind another
-abbrev pub behind_of : Ways → Ways → Ways
-behind_of v w = record { goes = sum_of v.goes w.goes; leaves = max v.leaves (left_behind v.goes w.leaves) }
-
--- one of two
-abbrev pub either_of : Ways → Ways → Ways
-either_of v w = record { goes = more_of v.goes w.goes; leaves = max v.leaves w.leaves }
-
--- so many turns and one more
-abbrev pub more_turns : ℕ → Ways → Option ℕ → Ways
-more_turns m w None = w
-more_turns m w (Some c) = record { goes = Some (capped (suc m * c)); leaves = capped (capped (m * c) + w.leaves) }
-
-abbrev pub turns_of : ℕ → Ways → Ways
-turns_of zero w = straight_of 0
-turns_of (suc m) w = more_turns m w w.goes
-
--- a test whose way goes on where it holds and where it fails
-abbrev pub forks_of : Ways → Forks
-forks_of w = record { held = w.goes; failed = w.goes; leaves = w.leaves }
-
--- the second of two tests is asked where the first holds, or where it fails
-abbrev pub both_of : Forks → Forks → Forks
-both_of t u = record {
-  held = sum_of t.held u.held;
-  failed = more_of t.failed (sum_of t.held u.failed);
-  leaves = max t.leaves (left_behind t.held u.leaves);
-}
-
-abbrev pub one_of : Forks → Forks → Forks
-one_of t u = record {
-  held = more_of t.held (sum_of t.failed u.held);
-  failed = sum_of t.failed u.failed;
-  leaves = max t.leaves (left_behind t.failed u.leaves);
-}
-
-abbrev pub turned_of : Forks → Forks
-turned_of t = record { held = t.failed; failed = t.held; leaves = t.leaves }
-
--- what is done where a test holds, and where it fails
-abbrev pub chosen_of : Forks → Ways → Ways → Ways
-chosen_of t v w =
-    either_of (behind_of (record { goes = t.held; leaves = t.leaves }) v) (behind_of (record { goes = t.failed; leaves = 0 }) w)
+-- the dearest way through the code of a program, by whether it takes events
+abbrev pub dearest_way : Bool → Program → WayValue
+dearest_way events p = most_of (ways_behind (straight_cost (forward_most (stack_set events (locals_of p)) 2)) (block_ways [] 0 p))
