@@ -104,12 +104,20 @@ module _ {St : Type 0} (given : Setting St) where
     pub undecided : k.decided ≡ false
     pub behind_done : k.booted ≡ false
 
+  none_seen : SeeWords []
+  none_seen = λ k d low. absurd (omega arith)
+
+  -- what is ready from a position on are words
+  words_from : (since : ℕ) (looks : List Look) → SeeWords looks → InputsAreWords (inputs_from readings since looks)
+  words_from since looks see = record { readings = All-drop IsWord since readings words; looks = see }
+
   pub point_lawful : (h : History) → Point h → IsLawful m readings origin h
   point_lawful h p =
       record {
         world = sym p.start ∙ ap (λ es. world_after es h.start) (sym p.none);
         stands = p.stands;
-        follows = subst (λ es. IsOfScript m readings h.since h.booted h.start.fram es) (sym p.none) (record { left = []; follows = nothing_first _ });
+        follows = subst (λ es. IsOfScript m readings h.since h.booted h.start.fram es) (sym p.none)
+            (record { left = []; words = words_from h.since [] none_seen; follows = nothing_first _ });
       }
 
   told_more : (v : History) (es : List Effect) → IsTold v → world_after es v.world ≡ world_after (v.effects ++ es) v.start
@@ -501,7 +509,7 @@ module _ {St : Type 0} (given : Setting St) where
   attempt_at h looks = attempt_from m h.booted h.world.fram (inputs_at h looks)
 
   pub words_left : (h : History) (looks : List Look) → SeeWords looks → InputsAreWords (inputs_at h looks)
-  words_left h looks see = record { readings = All-drop IsWord h.taken readings words; looks = see }
+  words_left h looks see = words_from h.taken looks see
 
   -- behind a boot as behind a done an attempt keeps the contract
   pub owed_from : (booted : Bool) (s : St) (x : World) (inputs : Inputs) → InputsAreWords inputs → m.Undecided s x
@@ -533,12 +541,14 @@ module _ {St : Type 0} (given : Setting St) where
         → ChargeEffects (observe m.marks (script_at h looks).effects h) left es
         → ChargeEffects h looks ((script_at h looks).effects ++ es)
 
-  may_go_on : (h : History) (looks : List Look) (es : List Effect) → Point h → IsPrefix es (script_at h looks).effects → TakesFirst es looks → MayGoOn h es
-  may_go_on h looks es p pre first =
+  may_go_on : (h : History) (looks : List Look) (es : List Effect) → SeeWords looks → Point h → IsPrefix es (script_at h looks).effects
+      → TakesFirst es looks → MayGoOn h es
+  may_go_on h looks es see p pre first =
       let all = looks_taken es ++ first.0 in
       let P : List Effect → Type 0 = λ l. IsOfScript m readings h.since h.booted h.start.fram (l ++ es) in
       subst P (sym p.none) (record {
         left = first.0;
+        words = words_from h.since all (subst SeeWords (sym first.1) see);
         follows =
             subst (λ x. IsPrefix es (script m h.booted x.fram (inputs_from readings h.since all)).effects) (sym p.start)
             (subst (λ n. IsPrefix es (script m h.booted h.world.fram (inputs_from readings n all)).effects) (sym p.since)
@@ -549,7 +559,7 @@ module _ {St : Type 0} (given : Setting St) where
   pub point_part : (h : History) (looks : List Look) (es : List Effect) → SeeWords looks → Point h → IsPrefix es (script_at h looks).effects
       → TakesFirst es looks → Cut h (observe m.marks es h)
   point_part h looks es see p pre first =
-      let go = may_go_on h looks es p pre first in
+      let go = may_go_on h looks es see p pre first in
       ⊎_elim
       (λ u. attempt_part h looks u es _ (owed h looks see u) (subst (λ q. IsPrefix es q.effects) (script_u h looks u) pre) go)
       (λ d.
@@ -558,14 +568,14 @@ module _ {St : Type 0} (given : Setting St) where
       (phase_of h p)
 
   -- from a pending commit on no done comes, or one, at which no reading more was taken
-  pub point_grows : (h : History) (looks : List Look) (es : List Effect) → Point h → h.decided ≡ true → IsPrefix es (script_at h looks).effects
-      → TakesFirst es looks → Grows h (observe m.marks es h)
-  point_grows h looks es p decided pre first =
+  pub point_grows : (h : History) (looks : List Look) (es : List Effect) → SeeWords looks → Point h → h.decided ≡ true
+      → IsPrefix es (script_at h looks).effects → TakesFirst es looks → Grows h (observe m.marks es h)
+  point_grows h looks es see p decided pre first =
       ⊎_elim {C = Grows h (observe m.marks es h)}
       (λ u. absurd (cc (u.undecided, decided)))
       (λ d.
       (d.part (inputs_at h looks) es (subst (λ q. IsPrefix es q.effects) (script_d h looks d) pre) (point_lawful h p).world
-      (may_go_on h looks es p pre first)).grows)
+      (may_go_on h looks es see p pre first)).grows)
       (phase_of h p)
 
   -- and the whole script

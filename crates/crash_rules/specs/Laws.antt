@@ -68,9 +68,10 @@ pub record StandsFor {St : Type 0} (m : Model St) (readings : List ℕ) (origin 
   pub phase : Phase m readings origin state h
 
 -- effects are a prefix of a script: the commit, or the start, the task on the readings from a position on and on the looks that these
--- effects take, with some behind them, and the commit; behind a boot the recovery in front of the start
+-- effects take, with some behind them, and the commit; behind a boot the recovery in front of the start. These inputs are words
 pub record IsOfScript {St : Type 0} (m : Model St) (readings : List ℕ) (since : ℕ) (booted : Bool) (fram : ℕ → ℕ) (es : List Effect) : Type 0 where
   pub left : List Look
+  pub words : InputsAreWords (inputs_from readings since (looks_taken es ++ left))
   pub follows : IsPrefix es (script m booted fram (inputs_from readings since (looks_taken es ++ left))).effects
 
 -- those since the last boot or done are a prefix of the script there
