@@ -12,6 +12,7 @@ use Rattle.crash_rules.specs.Model.{AttemptContract, Comes, Lacks, CommitKeeps}
 use Rattle.crash_rules.specs.History.{Done, History, with_effect, behind_decide, behind_done, observe_one, observe, behind_boot, inputs_from}
 use Rattle.crash_rules.specs.History.{decided_given, done_given}
 use Rattle.crash_rules.specs.Laws.{Origin, Resting, Pending, SourceRun, HasNoSpan, Reaches, IsPending, IsSettled, Transits, Phase, UndecidedPhase, DecidedPhase}
+use Rattle.crash_rules.specs.Laws.{StartsFrom, FromUndecided, FromDecided, FromCommitting}
 use Rattle.crash_rules.specs.Laws.{CommittingPhase, StandsFor, IsOfScript, IsLawful, IsShort, AreConsecutive, TaskCosts, CoversTasks}
 use Rattle.crash_rules.proofs.Lists.{world_fram, each_prefix, holds_prefix, holds_end, prefix_cases, prefix_one, nothing_first, range_of}
 use Rattle.crash_rules.proofs.Front.{in_front}
@@ -120,15 +121,19 @@ module _ {St : Type 0} (given : Setting St) where
             (record { left = []; words = words_from h.since [] none_seen; follows = nothing_first _ });
       }
 
+  -- where the transition began that a history is in
+  abbrev pub BeganAt : History → St → Type 0
+  BeganAt v s = StartsFrom m origin v.completed s v.start
+
   told_more : (v : History) (es : List Effect) → IsTold v → world_after es v.world ≡ world_after (v.effects ++ es) v.start
   told_more v es t = ap (world_after es) t ∙ sym (world_after-append v.effects es v.start)
 
   quiet_part : (s : St) (v : History) (es : List Effect) → EachStore (IsElsewhere m.marks.gate) es → IsTold v → MayGoOn v es
-      → Reaches m readings origin v.completed s → Phase m readings origin s (with_effects es v) → Part v (observe m.marks es v)
-  quiet_part s v es q told go reached phase =
+      → Reaches m readings origin v.completed s → BeganAt v s → Phase m readings origin s (with_effects es v) → Part v (observe m.marks es v)
+  quiet_part s v es q told go reached began phase =
       subst (Part v) (sym (observe_quiet m.marks es v q))
       (record {
-        lawful = record { world = told_more v es told; stands = record { state = s; reached = reached; phase = phase }; follows = go };
+        lawful = record { world = told_more v es told; stands = record { state = s; reached = reached; starts = began; phase = phase }; follows = go };
         grows = Stayed refl refl;
       })
 
@@ -136,6 +141,7 @@ module _ {St : Type 0} (given : Setting St) where
   pub record IsDue (v : History) (s next : St) (Kept : World → Type 0) : Type 0 where
     pub decided : v.decided ≡ true
     pub reached : Reaches m readings origin v.completed s
+    pub began : BeganAt v s
     pub holds : Kept v.world
     pub committing : (y : World) → Kept y → m.Committing next y
     pub contract : (inputs : Inputs) → CommitKeeps m Kept next inputs v.world
@@ -143,12 +149,13 @@ module _ {St : Type 0} (given : Setting St) where
     pub done : (y : World) → m.Rests next y → Reaches m readings origin (v.completed ++ done_of v y ∷ []) next
 
   -- behind a decide
-  due_decided : (v : History) (s next : St) → Reaches m readings origin v.completed s → v.decided ≡ true
+  due_decided : (v : History) (s next : St) → Reaches m readings origin v.completed s → BeganAt v s → v.decided ≡ true
       → Transits m origin v.completed (decided_given readings v) s next → m.Decided s next v.world → IsDue v s next (m.Decided s next)
-  due_decided v s next reached g t d =
+  due_decided v s next reached began g t d =
       record {
         decided = g;
         reached = reached;
+        began = began;
         holds = d;
         committing = laws.decided_committing s next;
         contract = laws.decided_commits s next v.world d;
@@ -157,12 +164,13 @@ module _ {St : Type 0} (given : Setting St) where
       }
 
   -- at the start of the run
-  due_first : (v : History) (to : St) → Reaches m readings origin v.completed to → v.decided ≡ true → IsPending origin v.completed
+  due_first : (v : History) (to : St) → Reaches m readings origin v.completed to → BeganAt v to → v.decided ≡ true → IsPending origin v.completed
       → HasNoSpan v.span_from v.span_to v.answers → m.Committing to v.world → IsDue v to to (m.Committing to)
-  due_first v to reached g p n d =
+  due_first v to reached began g p n d =
       record {
         decided = g;
         reached = reached;
+        began = began;
         holds = d;
         committing = λ y h. h;
         contract = λ inputs. laws.commits to v.world inputs d;
@@ -195,6 +203,7 @@ module _ {St : Type 0} (given : Setting St) where
             stands = record {
               state = next;
               reached = due.done k.world p.rests;
+              starts = FromUndecided (settled_more origin v.completed (done_of v k.world)) (laws.settled_undecided next k.world there);
               phase = UndecidedPhase refl (settled_more origin v.completed (done_of v k.world)) (laws.settled_undecided next k.world there);
             };
             since = refl;
@@ -213,7 +222,7 @@ module _ {St : Type 0} (given : Setting St) where
 
     commit_quiet : (es : List Effect) → IsPrefix es before → IsTold v → MayGoOn v es → Part v (observe m.marks es v)
     commit_quiet es h told go =
-        quiet_part s v es (each_prefix (IsElsewhere m.marks.gate) es before h keeps.elsewhere) told go due.reached
+        quiet_part s v es (each_prefix (IsElsewhere m.marks.gate) es before h keeps.elsewhere) told go due.reached due.began
         (due.phase es (holds_prefix Kept es before v.world h keeps.kept))
 
     whole_part : (k : History) → Whole v k → Part v k
@@ -252,11 +261,11 @@ module _ {St : Type 0} (given : Setting St) where
 
   -- effects that store nothing to GATE are part of a script that goes on, and no done
   quiet_cut : (s : St) (h : History) (es : List Effect) → EachStore (IsElsewhere m.marks.gate) es → IsTold h → MayGoOn h es
-      → Reaches m readings origin h.completed s → Phase m readings origin s (with_effects es h) → Cut h (observe m.marks es h)
-  quiet_cut s h es q told go reached phase =
+      → Reaches m readings origin h.completed s → BeganAt h s → Phase m readings origin s (with_effects es h) → Cut h (observe m.marks es h)
+  quiet_cut s h es q told go reached began phase =
       let is = observe_quiet m.marks es h q in
       record {
-        lawful = (quiet_part s h es q told go reached phase).lawful;
+        lawful = (quiet_part s h es q told go reached began phase).lawful;
         spans = record {
           dones = [];
           completed = ap (λ k. k.completed) is ∙ sym (append-nil h.completed);
@@ -296,6 +305,7 @@ module _ {St : Type 0} (given : Setting St) where
     pub point : Point h
     pub state : St
     pub reached : Reaches m readings origin h.completed state
+    pub began : BeganAt h state
     pub undecided : h.decided ≡ false
     pub settled : IsSettled origin h.completed
     pub holds : m.Undecided state h.world
@@ -346,7 +356,7 @@ module _ {St : Type 0} (given : Setting St) where
         transits_task origin h.completed _ s next u.settled (ap (m.task s) same ∙ c.exact)
 
     gate_due : IsDue at_gate s next (m.Decided s next)
-    gate_due = due_decided at_gate s next u.reached refl transits c.decided
+    gate_due = due_decided at_gate s next u.reached u.began refl transits c.decided
 
     gate_effects : at_gate.effects ≡ h.effects ++ to_gate
     gate_effects = append_assoc h.effects c.before (Store m.marks.gate 1 ∷ [])
@@ -380,7 +390,7 @@ module _ {St : Type 0} (given : Setting St) where
     -- up to it
     before_gate : (es : List Effect) → IsPrefix es c.before → MayGoOn h es → Cut h (observe m.marks es h)
     before_gate es p go =
-        quiet_cut s h es (each_prefix (IsElsewhere m.marks.gate) es c.before p c.elsewhere) (point_lawful h pt).world go u.reached
+        quiet_cut s h es (each_prefix (IsElsewhere m.marks.gate) es c.before p c.elsewhere) (point_lawful h pt).world go u.reached u.began
         (UndecidedPhase u.undecided u.settled (holds_prefix (m.Undecided s) es c.before h.world p c.undecided))
 
     decides_part : (es : List Effect) → IsPrefix es (with_commit m h.world.fram (inputs_at h looks) r).effects → MayGoOn h es
@@ -426,7 +436,7 @@ module _ {St : Type 0} (given : Setting St) where
   short_part : (h : History) (looks : List Look) (u : AtUndecided h) (r : ProgramEffects) (es : List Effect)
       → RunsShort m u.state (inputs_at h looks) h.world r → IsPrefix es r.effects → MayGoOn h es → Cut h (observe m.marks es h)
   short_part h looks u r es c p go =
-      quiet_cut u.state h es (each_prefix (IsElsewhere m.marks.gate) es r.effects p c.elsewhere) (point_lawful h u.point).world go u.reached
+      quiet_cut u.state h es (each_prefix (IsElsewhere m.marks.gate) es r.effects p c.elsewhere) (point_lawful h u.point).world go u.reached u.began
       (UndecidedPhase u.undecided u.settled (holds_prefix (m.Undecided u.state) es r.effects h.world p c.undecided))
 
   attempt_part : (h : History) (looks : List Look) (u : AtUndecided h) (es : List Effect) (r : ProgramEffects)
@@ -477,17 +487,18 @@ module _ {St : Type 0} (given : Setting St) where
       }
 
   pub phase_of : (h : History) → Point h → (AtUndecided h) ⊎ (AtCommit h)
-  phase_of h p = by_phase p.stands.state p.stands.reached p.stands.phase p.ready
+  phase_of h p = by_phase p.stands.state p.stands.reached p.stands.starts p.stands.phase p.ready
     where
-      by_phase : (s : St) → Reaches m readings origin h.completed s → Phase m readings origin s h → (h.booted ≡ false → IsReady h s)
+      by_phase : (s : St) → Reaches m readings origin h.completed s → BeganAt h s → Phase m readings origin s h → (h.booted ≡ false → IsReady h s)
           → (AtUndecided h) ⊎ (AtCommit h)
-      by_phase s r (UndecidedPhase d k u) w =
-          inl (record { point = p; state = s; reached = r; undecided = d; settled = k; holds = u; ready = λ z. (w z).settled })
-      by_phase s r (DecidedPhase next d t u) w =
+      by_phase s r b (UndecidedPhase d k u) w =
+          inl (record { point = p; state = s; reached = r; began = b; undecided = d; settled = k; holds = u; ready = λ z. (w z).settled })
+      by_phase s r b (DecidedPhase next d t u) w =
           inr (at_commit h s next (m.Decided s next)
           (OfTask s next r (transits_settled origin h.completed (decided_given readings h) s next t) u)
-          (due_decided h s next r d t u) (λ z. (w z).undecided))
-      by_phase s r (CommittingPhase d p n u) w = inr (at_commit h s s (m.Committing s) (OfStart p) (due_first h s r d p n u) (λ z. (w z).undecided))
+          (due_decided h s next r b d t u) (λ z. (w z).undecided))
+      by_phase s r b (CommittingPhase d p n u) w =
+          inr (at_commit h s s (m.Committing s) (OfStart p) (due_first h s r b d p n u) (λ z. (w z).undecided))
 
   -- what the script is, by GATE
   abbrev undecided_script : Bool → (ℕ → ℕ) → Inputs → ProgramEffects
@@ -636,6 +647,7 @@ module _ {St : Type 0} (given : Setting St) where
         stands = record {
           state = u.state;
           reached = u.reached;
+          starts = u.began;
           phase = UndecidedPhase u.undecided u.settled (holds_end (m.Undecided u.state) r.effects h.world c.undecided);
         };
         undecided = u.undecided;
@@ -659,7 +671,7 @@ module _ {St : Type 0} (given : Setting St) where
   -- a boot
   pub booted : (h : History) → StandsFor m readings origin h → Point (behind_boot h)
   booted h st = record {
-    stands = record { state = st.state; reached = st.reached; phase = same st.phase };
+    stands = record { state = st.state; reached = st.reached; starts = from st.phase; phase = same st.phase };
     since = refl;
     start = refl;
     none = refl;
@@ -670,3 +682,9 @@ module _ {St : Type 0} (given : Setting St) where
       same (UndecidedPhase d k u) = UndecidedPhase d k u
       same (DecidedPhase next d t u) = DecidedPhase next d t u
       same (CommittingPhase d p n u) = CommittingPhase d p n u
+
+      from : Phase m readings origin st.state h → BeganAt (behind_boot h) st.state
+      from (UndecidedPhase d k u) = FromUndecided k u
+      from (DecidedPhase next d t u) =
+          FromDecided next (transits_settled origin h.completed (decided_given readings h) st.state next t) u
+      from (CommittingPhase d p n u) = FromCommitting p u
