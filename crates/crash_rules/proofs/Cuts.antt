@@ -6,7 +6,7 @@ use Rattle.machine_effects.specs.fram_board.Effects.{Effect, Store}
 use Rattle.machine_effects.specs.World.{World, world_after, fram_after, readings_taken, looks_taken, IsPrefix, EachStore}
 use Rattle.machine_effects.specs.Inputs.{Look, SeeWords}
 use Rattle.machine_effects.proofs.Interface.{world_after-append, readings_taken-append}
-use Rattle.crash_rules.specs.Model.{Model, ModelLaws, Given, nothing_given, given_by, answers_in, Ends, Short, ProgramEffects, program_effects, IsWord}
+use Rattle.crash_rules.specs.Model.{Model, ModelLaws, Given, nothing_given, given_by, answers_in, Ends, ProgramEffects, program_effects, IsWord}
 use Rattle.crash_rules.specs.Model.{IsElsewhere, Inputs, InputsAreWords, inputs_behind, with_commit, attempt_from, script, Decides, RunsShort}
 use Rattle.crash_rules.specs.Model.{AttemptContract, Comes, Lacks, CommitKeeps}
 use Rattle.crash_rules.specs.History.{Done, History, with_effect, behind_decide, behind_done, observe_one, observe, behind_boot, inputs_from}
@@ -105,11 +105,11 @@ module _ {St : Type 0} (given : Setting St) where
     pub undecided : k.decided ≡ false
     pub behind_done : k.booted ≡ false
 
-  none_seen : SeeWords []
+  pub none_seen : SeeWords []
   none_seen = λ k d low. absurd (omega arith)
 
   -- what is ready from a position on are words
-  words_from : (since : ℕ) (looks : List Look) → SeeWords looks → InputsAreWords (inputs_from readings since looks)
+  pub words_from : (since : ℕ) (looks : List Look) → SeeWords looks → InputsAreWords (inputs_from readings since looks)
   words_from since looks see = record { readings = All-drop IsWord since readings words; looks = see }
 
   pub point_lawful : (h : History) → Point h → IsLawful m readings origin h
