@@ -123,5 +123,5 @@ module _ (p : CheckedProgram) (l : MemoryMap) where
       omega (arith, part, whole)
 
 pub readings_are_few : ReadingsAreFew
-readings_are_few p l readings h follows =
-    follows_few p l readings h (subst (λ m. FollowsScript m readings h) (is_redo p l) follows)
+readings_are_few p l logs readings h follows =
+    follows_few p l readings h (subst (λ m. FollowsScript m readings h) (is_redo p l logs) follows)
