@@ -368,7 +368,7 @@ module _ (onward : Onward) where
   keeps_versions : (ms rest : List Moment) → r.moments ≡ ms ++ rest → KeepsVersions p l (known_from l x ms).world.fram
   keeps_versions ms rest e =
       let stands = (fronts_are_lawful model program readings origin x cs b r run bearing ms rest e).0.stands in
-      phase_keeps_versions p l readings origin stands.state (known_from l x ms) stands.phase
+      phase_keeps_versions p l ready.code.apart readings origin stands.state (known_from l x ms) stands.phase
 
   -- and so at the last boot or done
   began : (ms rest : List Moment) → r.moments ≡ ms ++ rest → KeepsVersions p l (known_from l x ms).start.fram
