@@ -255,8 +255,8 @@ module _ (p : CheckedProgram) (l : MemoryMap) where
         omega (arith, all, same, whole)
 
 pub readings_are_few : ReadingsAreFew
-readings_are_few p l readings h follows =
-    follows_few p l readings h (subst (λ m. FollowsScript m readings h) (is_redo p l) follows)
+readings_are_few p l logs readings h follows =
+    follows_few p l readings h (subst (λ m. FollowsScript m readings h) (is_redo p l logs) follows)
 
 -- the law for a model
 abbrev WordsFollow : CheckedProgram → MemoryMap → Model State → Type 0
@@ -264,4 +264,4 @@ WordsFollow p l m = ModelLaws m → (readings : List ℕ) (origin : Origin State
     → (stands : StandsFor m readings origin h) → offered h.effects ≤ words_from p l origin h.completed stands.state
 
 pub words_are_few : WordsAreFew
-words_are_few p l = subst (WordsFollow p l) (sym (is_redo p l)) (words_follow p l)
+words_are_few p l logs = subst (WordsFollow p l) (sym (is_redo p l logs)) (words_follow p l)

@@ -61,7 +61,7 @@ module _ (p : CheckedProgram) (l : MemoryMap) (r : CanRun p l) where
       let P : Logging → Role → Type 0 = λ logging role. started_under logging p l s (world_after es x) in
       let At : ℕ → (ℕ → ℕ) → Type 0 = λ t h.
       let done = behaviour (task_program p l t) (started h inputs) in ListsAtEnd p l s.task (fram_after done.effects h) done.end in
-      let at_end : At s.task (world_after es x).fram = few.few s (world_after es x) inputs ready (under_map l P start) in
+      let at_end : At s.task (world_after es x).fram = few.few s (world_after es x) inputs ready (under_map l P r.logging start) in
       let there : At k g = subst (λ t. At t g) (sym und.is_open.current_task) (subst (At s.task) (world_fram es x) at_end) in
       let b : Behaviour = behaviour (task_program p l k) (started g inputs) in
       subst (ListsWithin p l s.task) (sym (fram_after-append es b.effects x.fram)) (by_end p l s.task (fram_after b.effects g) b.end ends there)
@@ -181,4 +181,4 @@ pub needs_keep_the_laws : NeedsKeepTheLaws
 needs_keep_the_laws p l r few laws =
     let L : Model State → Type 0 = λ m. ModelLaws m in
     let P : Model State → Type 0 = λ m. ModelLaws (with_needs p l m) in
-    subst P (sym (is_redo p l)) (needs_laws p l r few (subst L (is_redo p l) laws))
+    subst P (sym (is_redo p l r.logging)) (needs_laws p l r few (subst L (is_redo p l r.logging) laws))
