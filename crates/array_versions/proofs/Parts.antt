@@ -3,11 +3,13 @@ use Rattle.std.proofs.Common.{◌≡◌, ℕ, zero, suc, ◌+◌, ◌*◌, ◌%�
 use Rattle.machine_effects.specs.fram_board.Effects.{Effect, Store}
 use Rattle.array_versions.specs.declared.program.ArrayPlace.{ArrayPlace}
 use Rattle.array_versions.specs.declared.program.ListPlace.{ListPlace}
+use Rattle.array_versions.specs.declared.program.LoggedPlace.{LoggedPlace}
 use Rattle.array_versions.specs.declared.operations.PlainOperation.{PlainOperation}
 use Rattle.array_versions.specs.Operations.{plain_word}
 use Rattle.array_versions.specs.Behaviour.{WordState, End, GoesOn, Strays, Behaviour, goes_on, strays, is_place, at_place, pushed, stored, behind_effects}
 use Rattle.array_versions.specs.Behaviour.{word_stored, element_pushed, word_emitted, raised, entry_stored, ends_before, listed_behind, own_element}
 use Rattle.array_versions.specs.Behaviour.{versioned_pushed, first_stored, own_stored, versioned_stored, own_place, own_kept, own_updated, versioned_updated}
+use Rattle.array_versions.specs.Behaviour.{first_logged, own_logged, logged_stored, logged_updated}
 use Rattle.array_versions.specs.Laws.{IsStateOfWords}
 use Rattle.array_versions.proofs.Words.{plain_small, stored_words, place_high}
 
@@ -155,4 +157,67 @@ module _ (W : Type 0) where
           let a = own_place c place i in
           writes_at (is_place list.ver) s _ (λ e. writes_at (is_place m) s _ (λ f. writes_at (is_place a) s _ (λ g.
           kept_writes c place list i (plain_word op (s.fram a) v) s (λ x. plain_small op (s.fram a) v ((k x).fram a) (l x)) k)))
+      by false = done
+
+  -- an element is logged in front of what writes behind it
+  logged_first_writes : (list : ListPlace) (element version : ℕ) (s : WordState) (next : WordState → Behaviour) → element < 0x10000 → Known s
+      → ((t : WordState) → Known t → WritesBy t (next t)) → WritesBy s (first_logged list element version s next)
+  logged_first_writes list element version s next small k f =
+      let a = list.list + 4 * s.fram list.cln in
+      let t = stored a element s in
+      let u = stored (a + 2) (t.fram element) t in
+      let n = (u.fram list.cln + 1) % 65536 in
+      let x = stored list.cln n u in
+      let words : Known t = λ y. stored_words s a element (k y) small in
+      let more : Known u = λ y. stored_words t (a + 2) (t.fram element) (words y) ((words y).fram element) in
+      let counted : Known x = λ y. stored_words u list.cln n (more y) (omega arith) in
+      let y = stored version (x.fram list.ver) x in
+      writes_at (is_place list.cln) s _ (λ e. writes_at (is_place a) s _ (λ g. writes_at (is_place (a + 2)) s _ (λ h.
+      writes a element (λ z. small) (writes (a + 2) (t.fram element) (λ z. (words z).fram element) (writes list.cln n (λ z. omega arith)
+      (writes version (x.fram list.ver) (λ z. (counted z).fram list.ver)
+      (f y (λ z. stored_words x version (x.fram list.ver) (counted z) ((counted z).fram list.ver)))))))))
+
+  -- a store to an element in its place, logged or not
+  own_logged_writes : (place : LoggedPlace) (list : ListPlace) (i : ℕ) (word : WordState → ℕ) (s : WordState)
+      → ((t : WordState) → Known t → W → word t < 0x10000) → Known s → WritesBy s (own_logged place list i word s)
+  own_logged_writes place list i word s l k =
+      let e = 2 * i + place.elements in
+      let m = 2 * i + place.versions in
+      writes_at (is_place e) s _ (λ f. writes_at (is_place list.ver) s _ (λ g. writes_at (is_place m) s _ (λ h.
+      by (s.fram list.ver == s.fram m) (place_high e f))))
+    where
+      abbrev e : ℕ
+      e = 2 * i + place.elements
+
+      abbrev m : ℕ
+      m = 2 * i + place.versions
+
+      abbrev next : WordState → Behaviour
+      next t = goes_on (Store e (word t) ∷ []) (stored e (word t) t)
+
+      stores : (t : WordState) → Known t → WritesBy t (next t)
+      stores t j = writes e (word t) (l t j) done
+
+      by : (b : Bool) → e < 0x10000 → WritesBy s (if b then next s else first_logged list e m s next)
+      by true small = stores s k
+      by false small = logged_first_writes list e m s next small k stores
+
+  pub logged_writes : (place : LoggedPlace) (list : ListPlace) (i v : ℕ) (s : WordState) → (W → v < 0x10000) → Known s
+      → WritesBy s (logged_stored place list i v s)
+  logged_writes place list i v s l k = by (nat_lt i place.length)
+    where
+      by : (b : Bool) → WritesBy s (if b then own_logged place list i (λ t. v) s else goes_on [] s)
+      by true = own_logged_writes place list i (λ t. v) s (λ t j. l) k
+      by false = done
+
+  pub logged_update_writes : (op : PlainOperation) (place : LoggedPlace) (list : ListPlace) (i v : ℕ) (s : WordState) → (W → v < 0x10000) → Known s
+      → WritesBy s (logged_updated op place list i v s)
+  logged_update_writes op place list i v s l k = by (nat_lt i place.length)
+    where
+      abbrev word : WordState → ℕ
+      word t = plain_word op (t.fram (2 * i + place.elements)) v
+
+      by : (b : Bool) → WritesBy s (if b then own_logged place list i word s else goes_on [] s)
+      by true =
+          own_logged_writes place list i word s (λ t j x. plain_small op (t.fram (2 * i + place.elements)) v ((j x).fram (2 * i + place.elements)) (l x)) k
       by false = done
