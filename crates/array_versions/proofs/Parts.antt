@@ -177,30 +177,28 @@ module _ (W : Type 0) where
       (writes version (x.fram list.ver) (λ z. (counted z).fram list.ver)
       (f y (λ z. stored_words x version (x.fram list.ver) (counted z) ((counted z).fram list.ver)))))))))
 
+  -- what writes a word of this state
+  abbrev keeps : ℕ → (WordState → ℕ) → WordState → Behaviour
+  keeps e word t = goes_on (Store e (word t) ∷ []) (stored e (word t) t)
+
+  keeps_writes : (e : ℕ) (word : WordState → ℕ) → ((t : WordState) → Known t → W → word t < 0x10000) → (t : WordState) → Known t
+      → WritesBy t (keeps e word t)
+  keeps_writes e word l t j = writes e (word t) (l t j) done
+
   -- a store to an element in its place, logged or not
+  kept_logged_writes : (b : Bool) (list : ListPlace) (e m : ℕ) (word : WordState → ℕ) (s : WordState) → e < 0x10000
+      → ((t : WordState) → Known t → W → word t < 0x10000) → Known s
+      → WritesBy s (if b then keeps e word s else first_logged list e m s (keeps e word))
+  kept_logged_writes true list e m word s small l k = keeps_writes e word l s k
+  kept_logged_writes false list e m word s small l k = logged_first_writes list e m s (keeps e word) small k (keeps_writes e word l)
+
   own_logged_writes : (place : LoggedPlace) (list : ListPlace) (i : ℕ) (word : WordState → ℕ) (s : WordState)
       → ((t : WordState) → Known t → W → word t < 0x10000) → Known s → WritesBy s (own_logged place list i word s)
   own_logged_writes place list i word s l k =
       let e = 2 * i + place.elements in
       let m = 2 * i + place.versions in
       writes_at (is_place e) s _ (λ f. writes_at (is_place list.ver) s _ (λ g. writes_at (is_place m) s _ (λ h.
-      by (s.fram list.ver == s.fram m) (place_high e f))))
-    where
-      abbrev e : ℕ
-      e = 2 * i + place.elements
-
-      abbrev m : ℕ
-      m = 2 * i + place.versions
-
-      abbrev next : WordState → Behaviour
-      next t = goes_on (Store e (word t) ∷ []) (stored e (word t) t)
-
-      stores : (t : WordState) → Known t → WritesBy t (next t)
-      stores t j = writes e (word t) (l t j) done
-
-      by : (b : Bool) → e < 0x10000 → WritesBy s (if b then next s else first_logged list e m s next)
-      by true small = stores s k
-      by false small = logged_first_writes list e m s next small k stores
+      kept_logged_writes (s.fram list.ver == s.fram m) list e m word s (place_high e f) l k)))
 
   pub logged_writes : (place : LoggedPlace) (list : ListPlace) (i v : ℕ) (s : WordState) → (W → v < 0x10000) → Known s
       → WritesBy s (logged_stored place list i v s)
@@ -214,10 +212,8 @@ module _ (W : Type 0) where
       → WritesBy s (logged_updated op place list i v s)
   logged_update_writes op place list i v s l k = by (nat_lt i place.length)
     where
-      abbrev word : WordState → ℕ
-      word t = plain_word op (t.fram (2 * i + place.elements)) v
-
-      by : (b : Bool) → WritesBy s (if b then own_logged place list i word s else goes_on [] s)
+      by : (b : Bool) → WritesBy s (if b then own_logged place list i (λ t. plain_word op (t.fram (2 * i + place.elements)) v) s else goes_on [] s)
       by true =
-          own_logged_writes place list i word s (λ t j x. plain_small op (t.fram (2 * i + place.elements)) v ((j x).fram (2 * i + place.elements)) (l x)) k
+          let e = 2 * i + place.elements in
+          own_logged_writes place list i (λ t. plain_word op (t.fram e) v) s (λ t j x. plain_small op (t.fram e) v ((j x).fram e) (l x)) k
       by false = done
