@@ -14,7 +14,8 @@ use Rattle.array_versions.specs.declared.operations.PlainOperation.{PlainOperati
 use Rattle.array_versions.specs.Operations.{unary_word, plain_word, binary_word, shift_word, is_true, compare_words, long_pops, long_result}
 use Rattle.array_versions.specs.Program.{Step, Test, Program, number, load, keep, update, local, set_local, update_local, unary, binary, shift, long, element}
 use Rattle.array_versions.specs.Program.{emit_word, list_entry, versioned_read, versioned_write, versioned_update, logged_write, logged_update, sense}
-use Rattle.array_versions.specs.Program.{next_event, freeze_events, truth, choose, repeat, store_number, move_word, jump, holds, compares, both, either, fails, nothing, step}
+use Rattle.array_versions.specs.Program.{next_event, freeze_events, truth, choose, repeat, store_number, move_word, jump, holds, compares, both, either, fails}
+use Rattle.array_versions.specs.Program.{nothing, step}
 use Rattle.array_versions.specs.Behaviour.{WordState, End, GoesOn, Jumps, Short, Strays, Broken, Behaviour, behaves, goes_on, behind_effects, on_end, then_on}
 use Rattle.array_versions.specs.Behaviour.{is_place, at_place, with_top, with_two, with_words, with_stack, pushed, stored, with_local, local_pushed, strays}
 use Rattle.array_versions.specs.Behaviour.{local_updated, reading_pushed, raised, event_index, none_answered, word_answered, event_answered}
