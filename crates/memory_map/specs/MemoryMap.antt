@@ -5,7 +5,7 @@ use Rattle.memory_map.specs.declared.place.VariablePlace.{VariablePlace}
 use Rattle.memory_map.specs.declared.place.PrivateScalar.{PrivateScalar}
 use Rattle.memory_map.specs.declared.words.RuntimeWord.{RuntimeWord}
 use Rattle.memory_map.specs.declared.runtime.Runtime.{Runtime}
-use Rattle.memory_map.specs.declared.runtime.Logging.TheVariants.{Redo}
+use Rattle.memory_map.specs.declared.runtime.Logging.TheVariants.{Redo, Undo}
 use Rattle.memory_map.specs.declared.runtime.Role.TheVariants.{Alone}
 use Rattle.memory_map.specs.Words.{index_of, row_words}
 
@@ -33,6 +33,10 @@ pub record MemoryMap : Type 0 where
 -- attempts that work in copies, on a board that is alone, without events
 abbrev pub lone_redo : Runtime
 lone_redo = record { logging = Redo; role = Alone; events = false }
+
+-- the same places, for attempts that work in the shared words and list first what stood there
+abbrev pub logged_map : MemoryMap → MemoryMap
+logged_map m = record m { runtime = record (m.runtime) { logging = Undo } }
 
 -- what a list has more where a runtime takes events
 abbrev pub where_events : {A : Type 0} → Bool → List A → List A

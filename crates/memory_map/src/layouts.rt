@@ -1,7 +1,7 @@
 //! Layouts: memory maps of compiled sources, as they are kept in memory.
 
 use crate::place::{PrivateScalar, Region, VariablePlace};
-use crate::runtime::Runtime;
+use crate::runtime::{Logging, Runtime};
 use crate::words::RuntimeWord;
 use std::marker::Model;
 
@@ -98,7 +98,7 @@ impl Model for Layout {
 
 impl Layout {
     ghost use Rattle.std.specs.Prelude.{◌≡◌};
-    ghost use Rattle.memory_map.specs.MemoryMap.{word_place};
+    ghost use Rattle.memory_map.specs.MemoryMap.{word_place, logged_map};
     ghost use Rattle.memory_map.specs.Places.{IsLaidOut};
     ghost use Rattle.memory_map.specs.View.{map_with};
 
@@ -132,6 +132,19 @@ impl Layout {
         ensures { result ≡ self.now.runtime }
     {
         self.runtime
+    }
+
+    /// The same places for the undo runtime. Where copies were kept nothing is.
+    pub fn logged(self) -> Layout
+        ensures { result ≡ logged_map self }
+    {
+        Layout {
+            runtime: Runtime {
+                logging: Logging::Undo,
+                ..self.runtime
+            },
+            ..self
+        }
     }
 
     /// The address of a word of the runtime.

@@ -1,9 +1,12 @@
 //! The runtime that a source is compiled for.
 
-/// What makes a cut attempt void. Under redo it works in copies, which the commit brings home; so nothing is to be put back.
+/// What makes a cut attempt void.
 #[derive(Clone, Copy)]
 pub enum Logging {
+    /// The attempt works in copies, which the commit brings home; so nothing is to be put back.
     Redo,
+    /// The attempt works in the shared words themselves, and lists first what stood there; a boot puts the listed words back.
+    Undo,
 }
 
 /// Whom a board's words are for: a board that is alone offers them to the receiver at its ports.
