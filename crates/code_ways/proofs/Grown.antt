@@ -82,7 +82,7 @@ all_counted (suc n) k h a [] e fit each = cc
 all_counted (suc n) k h a (c ∷ counts) e fit each =
     let first : c ≡ capped (times_of h k a) =
     (let low = fit 0 in let here = each 0 (omega arith) in let at : k + 0 ≡ k = omega arith in
-      let own : c ≡ capped c = omega (arith, low) in own ∙ here ∙ ap (λ j. capped (times_of h j a)) at) in
+    let own : c ≡ capped c = omega (arith, low) in own ∙ here ∙ ap (λ j. capped (times_of h j a)) at) in
     let rest = all_counted n (suc k) h a counts (omega (arith, e)) (λ i. fit (suc i))
     (λ i less. each (suc i) (omega (arith, less)) ∙ ap (λ j. capped (times_of h j a)) (further i)) in
     ap (λ x. x ∷ counts) first ∙ ap (λ xs. capped (times_of h k a) ∷ xs) rest
@@ -96,8 +96,8 @@ begun_with_none n h a old new e length_is grown fit =
     let count : length old ≡ n = ap length e ∙ length-replicate n 0 in
     all_counted n 0 h a new (length_is ∙ count) fit
     (λ i less. let none : slice_index old i ≡ 0 = ap (λ l. slice_index l i) e ∙ get_or-replicate n i 0 0 less in
-      grown i (omega (arith, count, less)) ∙ ap (λ x. capped (x + times_of h i a)) none ∙ ap (λ x. capped x) (same (times_of h i a))
-      ∙ ap (λ j. capped (times_of h j a)) (at i))
+    grown i (omega (arith, count, less)) ∙ ap (λ x. capped (x + times_of h i a)) none ∙ ap (λ x. capped x) (same (times_of h i a))
+    ∙ ap (λ j. capped (times_of h j a)) (at i))
   where
     same : (x : ℕ) → 0 + x ≡ x
     same x = omega arith

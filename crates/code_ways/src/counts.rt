@@ -1,6 +1,6 @@
 //! How often a way takes each of its choices.
 
-ghost use Rattle.std.specs.Prelude.{◌≡◌, ◌==◌, ◌*◌, IfOk, if◌then◌else◌, length};
+ghost use Rattle.std.specs.Prelude.{◌≡◌, ◌==◌, ◌*◌, ◌<◌, ◌^◌, ℕ, IfOk, if◌then◌else◌, length, slice_index};
 ghost use Rattle.code_ways.specs.Choices.{HaveGrown, choices_of, counts_from, taken_of, times_of};
 
 use crate::choices::Choices;
@@ -25,10 +25,7 @@ fn add(choices: &Choices, holds: bool, times: u64, counts: &mut [u64])
     ensures grown { HaveGrown counts.old counts.new (λ i. times * times_of holds i (choices_of choices.now)) }
 {
     match choices {
-        Choices::One {
-            number,
-            holds: so,
-        } => {
+        Choices::One { number, holds: so } => {
             if *so == holds {
                 add_one(*number, times, counts);
             }
@@ -37,7 +34,12 @@ fn add(choices: &Choices, holds: bool, times: u64, counts: &mut [u64])
             add(first, holds, times, counts);
             add(second, holds, times, counts);
         }
-        Choices::Turns(turns, turn) => add(turn, holds, times.saturating_mul(*turns as u64), counts),
+        Choices::Turns(turns, turn) => add(
+            turn,
+            holds,
+            times.saturating_mul(*turns as u64),
+            counts,
+        ),
     }
 }
 
@@ -45,6 +47,7 @@ fn add(choices: &Choices, holds: bool, times: u64, counts: &mut [u64])
 fn add_taken(taken: &Option<Rc<Choices>>, holds: bool, counts: &mut [u64])
     ensures length { length counts.new ≡ length counts.old }
     ensures grown { HaveGrown counts.old counts.new (λ i. times_of holds i (taken_of taken.now)) }
+    ensures low { (i : ℕ) → slice_index counts.new i < 2 ^ 64 }
 {
     match taken {
         None => {}
