@@ -1,4 +1,4 @@
-mod Joined
+mod Costs
+mod Few
 mod Priced
-mod Made
 mod Levels

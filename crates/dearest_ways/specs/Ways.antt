@@ -10,8 +10,10 @@ use Rattle.word_code.specs.Code.{owed, holds_code, compares_code, number_code, t
 use Rattle.word_code.specs.Code.{waiting_after, test_code, block_code}
 use Rattle.code_paths.specs.Paths.{capped, forward_most}
 use Rattle.code_costs.specs.Dearest.{flush_most, leaf_most, turn_most}
+use Rattle.code_ways.specs.Choices.{counts_from}
 use Rattle.code_ways.specs.Ways.{WayValue, WaysValue, ForksValue, straight_ways, choice_ways, leaving_ways, ways_behind, all_turns, forked_ways, both_forks}
 use Rattle.code_ways.specs.Ways.{one_of_forks, turned_forks, chosen_ways, most_of}
+use Rattle.dearest_ways.specs.declared.program.DearestWay.{DearestWay}
 
 -- how many choices there are
 abbrev mutual
@@ -70,10 +72,14 @@ abbrev mutual
       one_of_forks (test_forks bs k t true (size (test_code bs u when d) + (if when then d else 0))) (test_forks bs (k + test_choices t) u when d)
   test_forks bs k (fails t) when d = turned_forks (test_forks bs k t (not when) d)
 
-  -- those of steps, one after another
+  -- those of steps, one after another, behind these
+  pub ways_further : List Bound → List Waiting → ℕ → WaysValue → Program → WaysValue
+  ways_further bs os k w nothing = w
+  ways_further bs os k w (step first more) =
+      ways_further bs (waiting_behind os first) (k + step_choices first) (ways_behind w (step_ways bs os k first)) more
+
   pub steps_ways : List Bound → List Waiting → ℕ → Program → WaysValue
-  steps_ways bs os k nothing = straight_ways 0
-  steps_ways bs os k (step first more) = ways_behind (step_ways bs os k first) (steps_ways bs (waiting_behind os first) (k + step_choices first) more)
+  steps_ways bs os k p = ways_further bs os k (straight_ways 0) p
 
   -- with no word waiting in front of them or behind them
   pub block_ways : List Bound → ℕ → Program → WaysValue
@@ -82,3 +88,9 @@ abbrev mutual
 -- the dearest way through the code of a program, by whether it takes events
 abbrev pub dearest_way : Bool → Program → WayValue
 dearest_way events p = most_of (ways_behind (straight_cost (forward_most (stack_set events (locals_of p)) 2)) (block_ways [] 0 p))
+
+-- the cycles of the dearest way, and how often it takes each choice of the program, by whether its test holds
+pub record IsDearestWay (w : DearestWay) (events : Bool) (p : Program) : Type 0 where
+  pub cycles : w.cycles ≡ (dearest_way events p).cycles
+  pub held : w.held.items ≡ counts_from true 0 (program_choices p) (dearest_way events p).taken
+  pub failed : w.failed.items ≡ counts_from false 0 (program_choices p) (dearest_way events p).taken

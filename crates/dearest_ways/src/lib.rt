@@ -1,9 +1,7 @@
-//! The cycles of the dearest way of a word program's code, as they are computed: each step's code is made and priced by itself, and joined by how
+//! The dearest way of a word program's code, its cycles and its choices, as they are computed: each step's code is made and priced by itself, and joined by how
 //! tests, choices and loops go on.
 #![tactic(auto)]
 
 mod program;
-mod ways;
 
-pub use program::most_spent;
-pub use ways::{Forks, Ways};
+pub use program::{DearestWay, dearest_way};

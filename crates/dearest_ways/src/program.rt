@@ -11,11 +11,16 @@ ghost use Rattle.code_paths.specs.Paths.{capped, forward_most};
 ghost use Rattle.code_costs.specs.Dearest.{any_most, bits_in, by_number_most, product_most, flush_most, leaf_most};
 ghost use Rattle.code_costs.specs.Dearest.{back_cycles, turn_most, turns_most, step_most};
 ghost use Rattle.code_costs.specs.Dearest.{test_most, steps_most, block_most, most_spent};
-ghost use Rattle.dearest_ways.specs.Ways.{straight_of, ways_cost, AreWaysOf, AreForksOf};
+ghost use Rattle.code_ways.specs.Ways.{choice_ways, forks_of, ways_behind, ways_of};
+ghost use Rattle.dearest_ways.specs.Ways.{straight_cost, step_choices, test_choices, program_choices, step_ways, test_forks};
+ghost use Rattle.dearest_ways.specs.Ways.{steps_ways, block_ways, IsDearestWay};
 
-use crate::ways::{Forks, Ways, all_turns, behind, both, chosen, forked, one_of, straight, turned};
 use array_versions::{BinaryOperation, Comparison, WordProgram, WordStep, WordTest};
-use code_paths::{dearer, forward_most, plus};
+use code_paths::{forward_most, plus};
+use code_ways::{
+    Forks, Ways, all_turns, behind, both, choice, chosen, counts_of, forked, leaving, most_of, one_of,
+    straight, turned,
+};
 use codegen::parts::{
     bounds_within, code_words, emit_all, emit_block, emit_compares, emit_flushed, emit_holds,
     emit_number, emit_pass_over, emit_stack_set, emit_step, emit_test, emit_turn_end, steps_locals,
@@ -49,7 +54,7 @@ fn owed(waiting: &[Waiting]) -> u64
 
 // Code without jumps out of it, which costs so much at most whatever it is.
 fn priced(alloc: Global, code: &[Form], most: u64) -> Result<Ways, AllocError>
-    ensures { IfOk result (λ w. w ≡ straight_of (capped (forward_most code.now most))) }
+    ensures { IfOk result (λ w. ways_of w ≡ straight_cost (forward_most code.now most)) }
 {
     let cycles = forward_most(alloc, code, most)?;
     Ok(straight(cycles))
@@ -57,7 +62,7 @@ fn priced(alloc: Global, code: &[Form], most: u64) -> Result<Ways, AllocError>
 
 // The words that wait are pushed, and then none waits.
 fn flush(alloc: Global, waiting: &mut Vec<Waiting>) -> Result<Ways, AllocError>
-    ensures ways { IfOk result (λ w. w ≡ straight_of (capped (flush_most waiting.old.items))) }
+    ensures ways { IfOk result (λ w. ways_of w ≡ straight_cost (flush_most waiting.old.items)) }
     ensures waiting { OnOk result (waiting.new.items ≡ []) }
 {
     let most = owed(waiting);
@@ -136,7 +141,7 @@ fn leaf(
 ) -> Result<Ways, AllocError>
     requires room { step_words (step_of step.now) ≤ 0x7FFF }
     requires locals { StepLocalsBelow 1016 (step_of step.now) }
-    ensures ways { IfOk result (λ w. w ≡ straight_of (capped (leaf_most bounds.now waiting.old.items (step_of step.now)))) }
+    ensures ways { IfOk result (λ w. ways_of w ≡ straight_cost (leaf_most bounds.now waiting.old.items (step_of step.now))) }
     ensures waiting { OnOk result (waiting.new.items ≡ waiting_behind waiting.old.items (step_of step.now)) }
 {
     let most = plus(any_most(waiting, step), owed(waiting));
@@ -153,7 +158,7 @@ fn holds_asked(
     waiting: &mut Vec<Waiting>,
 ) -> Result<Ways, AllocError>
     requires { 2 * over ≤ 0xFFFE }
-    ensures { IfOk result (λ w. w ≡ straight_of (capped (forward_most (holds_code waiting.old.items when over) (8 + owed waiting.old.items)))) }
+    ensures { IfOk result (λ w. ways_of w ≡ straight_cost (forward_most (holds_code waiting.old.items when over) (8 + owed waiting.old.items))) }
 {
     let most = plus(8, owed(waiting));
     let mut code = Vec::new(alloc);
@@ -170,8 +175,8 @@ fn compares_asked(
     waiting: &mut Vec<Waiting>,
 ) -> Result<Ways, AllocError>
     requires { 2 * over ≤ 0xFFFE }
-    ensures { IfOk result (λ w. w ≡ straight_of (capped (forward_most (compares_code waiting.old.items comparison when over)
-        (10 + owed waiting.old.items)))) }
+    ensures { IfOk result (λ w. ways_of w ≡ straight_cost (forward_most (compares_code waiting.old.items comparison when over)
+        (10 + owed waiting.old.items))) }
 {
     let most = plus(10, owed(waiting));
     let mut code = Vec::new(alloc);
@@ -201,7 +206,7 @@ fn over_both(
 // What goes over a block to its end, where another block stands behind it: its words with it, and what it costs.
 fn pass(alloc: Global, other: u16) -> Result<Ways, AllocError>
     requires { 2 * other ≤ 0xFFFE }
-    ensures { IfOk result (λ w. w ≡ straight_of (capped (forward_most (pass_over other) 3))) }
+    ensures { IfOk result (λ w. ways_of w ≡ straight_cost (forward_most (pass_over other) 3)) }
 {
     let mut code = Vec::new(alloc);
     emit_pass_over(other, &mut code)?;
@@ -211,7 +216,7 @@ fn pass(alloc: Global, other: u16) -> Result<Ways, AllocError>
 // A local becomes a number.
 fn number_set(alloc: Global, local: u16, number: u16) -> Result<Ways, AllocError>
     requires { local < 1016 }
-    ensures { IfOk result (λ w. w ≡ straight_of (capped (forward_most (number_code local number) 5))) }
+    ensures { IfOk result (λ w. ways_of w ≡ straight_cost (forward_most (number_code local number) 5)) }
 {
     let mut code = Vec::new(alloc);
     emit_number(local, number, &mut code)?;
@@ -235,8 +240,8 @@ fn turn_ended(
     requires room { words_of (steps_of body.now) + 15 ≤ 0x7FFF }
     requires low { own.local < 1016 }
     requires locals { LocalsBelow 1016 (steps_of body.now) }
-    ensures { IfOk result (λ w. w ≡ straight_of (capped (turn_most own.local own.below
-        (size (block_code inner.now (steps_of body.now) ++ turn_end own.local own.below))))) }
+    ensures { IfOk result (λ w. ways_of w ≡ straight_cost (turn_most own.local own.below
+        (size (block_code inner.now (steps_of body.now) ++ turn_end own.local own.below)))) }
 {
     let mut turn = Vec::new(alloc);
     emit_block(alloc, inner, body, &mut turn)?;
@@ -247,29 +252,8 @@ fn turn_ended(
     Ok(straight(plus(cycles, back_cycles(code_words(turn.as_slice())))))
 }
 
-// A jump out of the program.
-fn leaving() -> Ways
-    ensures goes { result.goes ≡ None }
-    ensures leaves { result.leaves ≡ 3 }
-{
-    Ways {
-        goes: None,
-        leaves: 3,
-    }
-}
-
-// The dearest of all ways.
-fn most_of(ways: Ways) -> u64
-    ensures { result ≡ capped (ways_cost ways 0) }
-{
-    let goes = match ways.goes {
-        None => 0,
-        Some(cycles) => cycles,
-    };
-    dearer(goes, ways.leaves)
-}
-
-// A test, whose code goes over so many words where its truth is the flag.
+// A test, whose code goes over so many words where its truth is the flag. Its first choice has the number that `choices` says, which becomes that of the
+// next behind it; so with what follows.
 #[cycle(ways)]
 fn test_forks(
     alloc: Global,
@@ -277,38 +261,41 @@ fn test_forks(
     test: &WordTest,
     when: bool,
     over: u16,
+    choices: &mut u32,
 ) -> Result<Forks, AllocError>
     requires room { over + test_words (test_of test.now) ≤ 0x7FFF }
     requires locals { TestLocalsBelow 1016 (test_of test.now) }
-    ensures { IfOk result (AreForksOf (test_most bounds.now (test_of test.now) when over)) }
+    requires few { choices.old + test_choices (test_of test.now) < 2 ^ 32 }
+    ensures forks { IfOk result (λ t. forks_of t ≡ test_forks bounds.now choices.old (test_of test.now) when over) }
+    ensures choices { OnOk result (choices.new ≡ choices.old + test_choices (test_of test.now)) }
 {
     match test {
         WordTest::Holds(steps) => {
             let mut waiting = Vec::new(alloc);
-            let first = steps_ways(alloc, bounds, steps, &mut waiting)?;
+            let first = steps_ways(alloc, bounds, steps, &mut waiting, choices)?;
             let asked = holds_asked(alloc, when, over, &mut waiting)?;
-            Ok(forked(behind(first, asked)))
+            forked(behind(alloc, first, asked)?)
         }
         WordTest::Compares(comparison, steps) => {
             let mut waiting = Vec::new(alloc);
-            let first = steps_ways(alloc, bounds, steps, &mut waiting)?;
+            let first = steps_ways(alloc, bounds, steps, &mut waiting, choices)?;
             let asked = compares_asked(alloc, *comparison, when, over, &mut waiting)?;
-            Ok(forked(behind(first, asked)))
+            forked(behind(alloc, first, asked)?)
         }
         WordTest::Both(first, second) => {
             let further = over_both(alloc, bounds, second, when, over, !when)?;
-            let one = test_forks(alloc, bounds, first, false, further)?;
-            let other = test_forks(alloc, bounds, second, when, over)?;
-            Ok(both(one, other))
+            let one = test_forks(alloc, bounds, first, false, further, choices)?;
+            let other = test_forks(alloc, bounds, second, when, over, choices)?;
+            both(alloc, one, other)
         }
         WordTest::Either(first, second) => {
             let further = over_both(alloc, bounds, second, when, over, when)?;
-            let one = test_forks(alloc, bounds, first, true, further)?;
-            let other = test_forks(alloc, bounds, second, when, over)?;
-            Ok(one_of(one, other))
+            let one = test_forks(alloc, bounds, first, true, further, choices)?;
+            let other = test_forks(alloc, bounds, second, when, over, choices)?;
+            one_of(alloc, one, other)
         }
         WordTest::Fails(test) => {
-            let other = test_forks(alloc, bounds, test, !when, over)?;
+            let other = test_forks(alloc, bounds, test, !when, over, choices)?;
             Ok(turned(other))
         }
     }
@@ -321,15 +308,62 @@ fn truth_ways(
     bounds: &[Bound],
     test: &WordTest,
     waiting: &mut Vec<Waiting>,
+    choices: &mut u32,
 ) -> Result<Ways, AllocError>
     requires room { step_words (truth (test_of test.now)) ≤ 0x7FFF }
     requires locals { TestLocalsBelow 1016 (test_of test.now) }
-    ensures ways { IfOk result (AreWaysOf (step_most bounds.now waiting.old.items (truth (test_of test.now)))) }
+    requires few { choices.old + test_choices (test_of test.now) < 2 ^ 32 }
+    ensures ways { IfOk result (λ w. ways_of w ≡ step_ways bounds.now waiting.old.items choices.old (truth (test_of test.now))) }
     ensures waiting { OnOk result (waiting.new.items ≡ []) }
+    ensures choices { OnOk result (choices.new ≡ choices.old + test_choices (test_of test.now)) }
 {
     let front = flush(alloc, waiting)?;
-    let test = test_forks(alloc, bounds, test, false, 2)?;
-    Ok(behind(front, chosen(test, straight(5), straight(3))))
+    let test = test_forks(alloc, bounds, test, false, 2, choices)?;
+    behind(alloc, front, chosen(alloc, test, straight(5), straight(3))?)
+}
+
+// A block under a choice of a number, and what goes over another block behind it.
+#[cycle(ways)]
+fn held_ways(
+    alloc: Global,
+    bounds: &[Bound],
+    number: u32,
+    block: &[WordStep],
+    other: u16,
+    choices: &mut u32,
+) -> Result<Ways, AllocError>
+    requires room { words_of (steps_of block.now) ≤ 0x7FFF }
+    requires locals { LocalsBelow 1016 (steps_of block.now) }
+    requires few { choices.old + program_choices (steps_of block.now) < 2 ^ 32 }
+    requires over { 2 * other ≤ 0xFFFE }
+    ensures ways { IfOk result (λ w. ways_of w ≡ ways_behind (choice_ways number true)
+        (ways_behind (block_ways bounds.now choices.old (steps_of block.now)) (straight_cost (forward_most (pass_over other) 3)))) }
+    ensures choices { OnOk result (choices.new ≡ choices.old + program_choices (steps_of block.now)) }
+{
+    let holds = choice(alloc, number, true)?;
+    let block = block_ways(alloc, bounds, block, choices)?;
+    let over = pass(alloc, other)?;
+    behind(alloc, holds, behind(alloc, block, over)?)
+}
+
+// A block under a choice of a number, where its test fails.
+#[cycle(ways)]
+fn failed_ways(
+    alloc: Global,
+    bounds: &[Bound],
+    number: u32,
+    block: &[WordStep],
+    choices: &mut u32,
+) -> Result<Ways, AllocError>
+    requires room { words_of (steps_of block.now) ≤ 0x7FFF }
+    requires locals { LocalsBelow 1016 (steps_of block.now) }
+    requires few { choices.old + program_choices (steps_of block.now) < 2 ^ 32 }
+    ensures ways { IfOk result (λ w. ways_of w ≡ ways_behind (choice_ways number false) (block_ways bounds.now choices.old (steps_of block.now))) }
+    ensures choices { OnOk result (choices.new ≡ choices.old + program_choices (steps_of block.now)) }
+{
+    let fails = choice(alloc, number, false)?;
+    let block = block_ways(alloc, bounds, block, choices)?;
+    behind(alloc, fails, block)
 }
 
 // A loop, by the bound in its body.
@@ -341,20 +375,25 @@ fn loop_ways(
     from: u16,
     body: &[WordStep],
     waiting: &mut Vec<Waiting>,
+    choices: &mut u32,
 ) -> Result<Ways, AllocError>
     requires room { step_words (repeat own.local from own.below (steps_of body.now)) ≤ 0x7FFF }
     requires low { own.local < 1016 }
     requires locals { LocalsBelow 1016 (steps_of body.now) }
-    ensures ways { IfOk result (AreWaysOf (step_most bounds.now waiting.old.items (repeat own.local from own.below (steps_of body.now)))) }
+    requires few { choices.old + program_choices (steps_of body.now) < 2 ^ 32 }
+    ensures ways { IfOk result (λ w. ways_of w
+        ≡ step_ways bounds.now waiting.old.items choices.old (repeat own.local from own.below (steps_of body.now))) }
     ensures waiting { OnOk result (waiting.new.items ≡ []) }
+    ensures choices { OnOk result (choices.new ≡ choices.old + program_choices (steps_of body.now)) }
 {
     let front = flush(alloc, waiting)?;
     let set = number_set(alloc, own.local, from)?;
     let inner = bounds_within(alloc, own, bounds)?;
-    let turn = block_ways(alloc, &inner, body)?;
+    let turn = block_ways(alloc, &inner, body, choices)?;
     let end = turn_ended(alloc, &inner, own, body)?;
-    let turns = all_turns(own.below.saturating_sub(from), behind(turn, end));
-    Ok(behind(front, behind(set, turns)))
+    let turn = behind(alloc, turn, end)?;
+    let turns = all_turns(alloc, own.below.saturating_sub(from), turn)?;
+    behind(alloc, front, behind(alloc, set, turns)?)
 }
 
 // A step; the words that wait in front of it become those that wait behind it.
@@ -364,14 +403,17 @@ fn step_ways(
     bounds: &[Bound],
     step: &WordStep,
     waiting: &mut Vec<Waiting>,
+    choices: &mut u32,
 ) -> Result<Ways, AllocError>
     requires room { step_words (step_of step.now) ≤ 0x7FFF }
     requires locals { StepLocalsBelow 1016 (step_of step.now) }
-    ensures ways { IfOk result (AreWaysOf (step_most bounds.now waiting.old.items (step_of step.now))) }
+    requires few { choices.old + step_choices (step_of step.now) < 2 ^ 32 }
+    ensures ways { IfOk result (λ w. ways_of w ≡ step_ways bounds.now waiting.old.items choices.old (step_of step.now)) }
     ensures waiting { OnOk result (waiting.new.items ≡ waiting_behind waiting.old.items (step_of step.now)) }
+    ensures choices { OnOk result (choices.new ≡ choices.old + step_choices (step_of step.now)) }
 {
     match step {
-        WordStep::Truth(test) => truth_ways(alloc, bounds, test, waiting),
+        WordStep::Truth(test) => truth_ways(alloc, bounds, test, waiting, choices),
         WordStep::Choose(test, taken, otherwise) => {
             let front = flush(alloc, waiting)?;
             let mut other = Vec::new(alloc);
@@ -380,10 +422,12 @@ fn step_ways(
             let mut first = Vec::new(alloc);
             emit_block(alloc, bounds, taken, &mut first)?;
             emit_pass_over(passed, &mut first)?;
-            let forks = test_forks(alloc, bounds, test, false, code_words(first.as_slice()))?;
-            let held = behind(block_ways(alloc, bounds, taken)?, pass(alloc, passed)?);
-            let failed = block_ways(alloc, bounds, otherwise)?;
-            Ok(behind(front, chosen(forks, held, failed)))
+            let number = *choices;
+            *choices += 1;
+            let asked = test_forks(alloc, bounds, test, false, code_words(first.as_slice()), choices)?;
+            let held = held_ways(alloc, bounds, number, taken, passed, choices)?;
+            let failed = failed_ways(alloc, bounds, number, otherwise, choices)?;
+            behind(alloc, front, chosen(alloc, asked, held, failed)?)
         }
         WordStep::Repeat {
             local,
@@ -395,11 +439,11 @@ fn step_ways(
                 local: *local,
                 below: *below,
             };
-            loop_ways(alloc, bounds, own, *from, body, waiting)
+            loop_ways(alloc, bounds, own, *from, body, waiting, choices)
         }
         WordStep::Jump(_) => {
             let front = flush(alloc, waiting)?;
-            Ok(behind(front, leaving()))
+            behind(alloc, front, leaving(3))
         }
         _ => leaf(alloc, bounds, step, waiting),
     }
@@ -412,43 +456,74 @@ fn steps_ways(
     bounds: &[Bound],
     steps: &[WordStep],
     waiting: &mut Vec<Waiting>,
+    choices: &mut u32,
 ) -> Result<Ways, AllocError>
     requires room { words_of (steps_of steps.now) ≤ 0x7FFF }
     requires locals { LocalsBelow 1016 (steps_of steps.now) }
-    ensures ways { IfOk result (AreWaysOf (steps_most bounds.now waiting.old.items (steps_of steps.now))) }
+    requires few { choices.old + program_choices (steps_of steps.now) < 2 ^ 32 }
+    ensures ways { IfOk result (λ w. ways_of w ≡ steps_ways bounds.now waiting.old.items choices.old (steps_of steps.now)) }
     ensures waiting { OnOk result (waiting.new.items ≡ waiting_after waiting.old.items (steps_of steps.now)) }
+    ensures choices { OnOk result (choices.new ≡ choices.old + program_choices (steps_of steps.now)) }
 {
     let mut ways = straight(0);
     for step in steps {
-        let next = step_ways(alloc, bounds, step, waiting)?;
-        ways = behind(ways, next);
+        let next = step_ways(alloc, bounds, step, waiting, choices)?;
+        ways = behind(alloc, ways, next)?;
     }
     Ok(ways)
 }
 
 // Steps with no word waiting in front of them or behind them.
 #[cycle(ways)]
-fn block_ways(alloc: Global, bounds: &[Bound], steps: &[WordStep]) -> Result<Ways, AllocError>
+fn block_ways(
+    alloc: Global,
+    bounds: &[Bound],
+    steps: &[WordStep],
+    choices: &mut u32,
+) -> Result<Ways, AllocError>
     requires room { words_of (steps_of steps.now) ≤ 0x7FFF }
     requires locals { LocalsBelow 1016 (steps_of steps.now) }
-    ensures { IfOk result (AreWaysOf (block_most bounds.now (steps_of steps.now))) }
+    requires few { choices.old + program_choices (steps_of steps.now) < 2 ^ 32 }
+    ensures ways { IfOk result (λ w. ways_of w ≡ block_ways bounds.now choices.old (steps_of steps.now)) }
+    ensures choices { OnOk result (choices.new ≡ choices.old + program_choices (steps_of steps.now)) }
 {
     let mut waiting = Vec::new(alloc);
-    let ways = steps_ways(alloc, bounds, steps, &mut waiting)?;
+    let ways = steps_ways(alloc, bounds, steps, &mut waiting, choices)?;
     let end = flush(alloc, &mut waiting)?;
-    Ok(behind(ways, end))
+    behind(alloc, ways, end)
 }
 
-/// The cycles that the code of a whole program, which takes events or not, takes at most, whatever the words are that decide its ways; 2^64 - 1
-/// where they are more.
-pub fn most_spent(alloc: Global, events: bool, program: &WordProgram) -> Result<u64, AllocError>
+/// The dearest way of a program.
+#[derive(Drop)]
+pub struct DearestWay {
+    /// The cycles that the program's code takes on it; 2^64 - 1 where they are more.
+    pub cycles: u64,
+    /// How often the test of each choice holds on it.
+    pub held: Vec<u64>,
+    /// How often it fails.
+    pub failed: Vec<u64>,
+}
+
+/// The dearest way of the code of a whole program, which takes events or not: no way takes more cycles, whatever the words are that decide it. Choices
+/// stand in the order in which the program has them.
+///
+/// # Errors
+/// `AllocError` where memory was refused.
+pub fn dearest_way(alloc: Global, events: bool, program: &WordProgram) -> Result<DearestWay, AllocError>
     requires room { words_of (program_of program.now) ≤ 0x7FFF }
     requires whole { IsWhole (program_of program.now) }
-    ensures { IfOk result (λ n. n ≡ capped (most_spent events (program_of program.now))) }
+    ensures cycles { IfOk result (λ w. w.cycles ≡ capped (most_spent events (program_of program.now))) }
+    ensures way { IfOk result (λ w. IsDearestWay w events (program_of program.now)) }
 {
     let mut set = Vec::new(alloc);
     emit_stack_set(events, steps_locals(&program.steps), &mut set)?;
     let front = priced(alloc, set.as_slice(), 2)?;
-    let ways = behind(front, block_ways(alloc, &[], &program.steps)?);
-    Ok(most_of(ways))
+    let mut choices = 0;
+    let block = block_ways(alloc, &[], &program.steps, &mut choices)?;
+    let way = most_of(behind(alloc, front, block)?);
+    Ok(DearestWay {
+        cycles: way.cycles,
+        held: counts_of(alloc, &way.taken, true, choices)?,
+        failed: counts_of(alloc, &way.taken, false, choices)?,
+    })
 }
