@@ -3,9 +3,10 @@ use Rattle.std.proofs.Common.{◌≡◌, ◌∙◌, ℕ, suc, ◌+◌, ◌<◌, 
 use Rattle.std.proofs.Common.{length, map, drop, get_or, drop-cons, append_assoc, append-nil, refl, sym, ap, arith}
 use Rattle.text_parts.specs.Printed.{spaced, printed}
 use Rattle.text_parts.proofs.Interface.{printed_append}
+use Rattle.need_lines.specs.declared.needs.IfWay.{IfWay}
 use Rattle.need_lines.specs.declared.needs.TaskNeed.{TaskNeed}
 use Rattle.need_lines.specs.Rows.{NeedRow, row_of, greatest}
-use Rattle.need_lines.specs.Lines.{task_fields, parts_fields, rows_fields, last_fields, needs_text, tail_text}
+use Rattle.need_lines.specs.Lines.{task_fields, parts_fields, way_fields, rows_fields, last_fields, needs_text, tail_text}
 
 spaced_tail : (v : List ℕ) (ws : List (List ℕ)) → spaced (v ∷ ws) ≡ v ++ tail_text ws
 unfolding tail_text
@@ -22,22 +23,43 @@ line_written first ws a b c d e f g =
 abbrev line_text : List (List ℕ) → List ℕ
 line_text l = spaced l ++ 10 ∷ []
 
-two_lines : (l m : List (List ℕ)) (ls : List (List (List ℕ))) → printed (l ∷ m ∷ ls) ≡ line_text l ++ (line_text m ++ printed ls)
+first_line : (l : List (List ℕ)) (ls : List (List (List ℕ))) → printed (l ∷ ls) ≡ line_text l ++ printed ls
 unfolding printed
-two_lines l m ls = refl
+first_line l ls = refl
 
--- both lines of one task more are written
-pub task_written : (ts : List TaskNeed) (i : ℕ) (d : TaskNeed) (a b c : List ℕ) → i < length ts
+-- one way more is written
+pub way_written : (ws : List IfWay) (i : ℕ) (d : IfWay) (a b : List ℕ) → i < length ws → b ≡ a ++ (spaced (way_fields (get_or ws i d)) ++ 10 ∷ [])
+    → b ++ printed (map way_fields (drop (i + 1) ws)) ≡ a ++ printed (map way_fields (drop i ws))
+way_written ws i d a b h f =
+    let w = get_or ws i d in
+    let next : i + 1 ≡ suc i = omega arith in
+    let rest : List ℕ = printed (map way_fields (drop (i + 1) ws)) in
+    ap (λ x. x ++ rest) f ∙ append_assoc a (line_text (way_fields w)) rest
+    ∙ ap (λ x. a ++ x) (sym (first_line (way_fields w) (map way_fields (drop (i + 1) ws))))
+    ∙ ap (λ ws. a ++ printed (map way_fields ws)) (ap (λ j. w ∷ drop j ws) next ∙ sym (drop-cons ws i d h))
+
+pub no_ways_written : (a : List ℕ) → a ++ printed (map way_fields []) ≡ a
+unfolding printed
+no_ways_written a = append-nil a
+
+-- the lines of one task more are written
+pub task_written : (ts : List TaskNeed) (i : ℕ) (d : TaskNeed) (a b c e : List ℕ) → i < length ts
     → b ≡ a ++ (spaced (task_fields (row_of (get_or ts i d))) ++ 10 ∷ []) → c ≡ b ++ (spaced (parts_fields (row_of (get_or ts i d))) ++ 10 ∷ [])
-    → c ++ printed (rows_fields (map row_of (drop (i + 1) ts))) ≡ a ++ printed (rows_fields (map row_of (drop i ts)))
-task_written ts i d a b c h f g =
+    → e ≡ c ++ printed (map way_fields (get_or ts i d).ways.items)
+    → e ++ printed (rows_fields (map row_of (drop (i + 1) ts))) ≡ a ++ printed (rows_fields (map row_of (drop i ts)))
+task_written ts i d a b c e h f g k =
     let t = get_or ts i d in
     let next : i + 1 ≡ suc i = omega arith in
-    let rest : List ℕ = printed (rows_fields (map row_of (drop (i + 1) ts))) in
+    let more : List (List (List ℕ)) = rows_fields (map row_of (drop (i + 1) ts)) in
+    let ways : List (List (List ℕ)) = map way_fields t.ways.items in
+    let rest : List ℕ = printed ways ++ printed more in
     let first : List ℕ = line_text (task_fields (row_of t)) in
     let second : List ℕ = line_text (parts_fields (row_of t)) in
-    ap (λ x. x ++ rest) (g ∙ ap (λ x. x ++ second) f) ∙ append_assoc (a ++ first) second rest ∙ append_assoc a first (second ++ rest)
-    ∙ ap (λ x. a ++ x) (sym (two_lines (task_fields (row_of t)) (parts_fields (row_of t)) (rows_fields (map row_of (drop (i + 1) ts)))))
+    ap (λ x. x ++ printed more) k ∙ append_assoc c (printed ways) (printed more)
+    ∙ ap (λ x. x ++ rest) (g ∙ ap (λ x. x ++ second) f) ∙ append_assoc (a ++ first) second rest ∙ append_assoc a first (second ++ rest)
+    ∙ ap (λ x. a ++ (first ++ (second ++ x))) (sym (printed_append ways more))
+    ∙ ap (λ x. a ++ (first ++ x)) (sym (first_line (parts_fields (row_of t)) (ways ++ more)))
+    ∙ ap (λ x. a ++ x) (sym (first_line (task_fields (row_of t)) (parts_fields (row_of t) ∷ (ways ++ more))))
     ∙ ap (λ ts. a ++ printed (rows_fields (map row_of ts))) (ap (λ j. t ∷ drop j ts) next ∙ sym (drop-cons ts i d h))
 
 pub no_tasks_written : (a : List ℕ) → a ++ printed (rows_fields []) ≡ a

@@ -1,6 +1,7 @@
 -- The lines that tell what tasks need of a charge.
-use Rattle.std.specs.Prelude.{ℕ, List, [], ◌∷◌, ◌++◌, codes, decimal}
+use Rattle.std.specs.Prelude.{ℕ, List, [], ◌∷◌, ◌++◌, codes, decimal, map}
 use Rattle.text_parts.specs.Printed.{printed}
+use Rattle.need_lines.specs.declared.needs.IfWay.{IfWay}
 use Rattle.need_lines.specs.Rows.{NeedRow, need_in, greatest}
 
 -- `task NAME NEED TABLE WORDS`
@@ -11,10 +12,14 @@ task_fields r = codes "task" ∷ r.name ∷ decimal (need_in r) ∷ decimal r.ta
 abbrev pub parts_fields : NeedRow → List (List ℕ)
 parts_fields r = codes "parts" ∷ decimal r.boot ∷ decimal r.start ∷ decimal r.path ∷ decimal r.commit ∷ []
 
--- both lines of each task
+-- `way LINE WAY TIMES`
+abbrev pub way_fields : IfWay → List (List ℕ)
+way_fields w = codes "way" ∷ decimal w.line ∷ decimal w.way ∷ decimal w.times ∷ []
+
+-- the lines of each task
 abbrev pub rows_fields : List NeedRow → List (List (List ℕ))
 rows_fields [] = []
-rows_fields (r ∷ rs) = task_fields r ∷ parts_fields r ∷ rows_fields rs
+rows_fields (r ∷ rs) = task_fields r ∷ parts_fields r ∷ (map way_fields r.ways ++ rows_fields rs)
 
 -- `need N of B`
 abbrev pub last_fields : ℕ → ℕ → List (List ℕ)

@@ -1,9 +1,10 @@
 -- What a task needs of a charge, as its lines tell it.
 use Rattle.std.specs.Prelude.{ℕ, ◌+◌, max, List, [], ◌∷◌}
+use Rattle.need_lines.specs.declared.needs.IfWay.{IfWay}
 use Rattle.need_lines.specs.declared.needs.TaskNeed.{TaskNeed}
 
 -- a task's name; the parts of its need, in cycles: from a power-up to the start of an attempt, with the version words cleared, up to the store that
--- decides, to the end of the commit; what the table of allowances has for it, and its words
+-- decides, to the end of the commit; what the table of allowances has for it, and its words; which ways the dearest one through it goes at its `if`s
 pub record NeedRow : Type 0 where
   pub name : List ℕ
   pub boot : ℕ
@@ -12,6 +13,7 @@ pub record NeedRow : Type 0 where
   pub commit : ℕ
   pub table : ℕ
   pub words : ℕ
+  pub ways : List IfWay
 
 abbrev pub row_of : TaskNeed → NeedRow
 row_of t = record {
@@ -22,6 +24,7 @@ row_of t = record {
   commit = t.commit;
   table = t.table;
   words = t.words;
+  ways = t.ways.items;
 }
 
 -- in all

@@ -5,4 +5,4 @@ mod lines;
 mod needs;
 
 pub use lines::push_needs;
-pub use needs::{TaskNeed, greatest};
+pub use needs::{IfWay, TaskNeed, greatest};

@@ -3,9 +3,9 @@
 ghost use Rattle.std.specs.Prelude.{◌≡◌, ◌++◌, ◌∷◌, [], OnOk, decimal, codes, map};
 ghost use Rattle.text_parts.specs.Printed.{spaced, printed};
 ghost use Rattle.need_lines.specs.Rows.{row_of};
-ghost use Rattle.need_lines.specs.Lines.{task_fields, parts_fields, rows_fields, last_fields, needs_text, tail_text};
+ghost use Rattle.need_lines.specs.Lines.{task_fields, parts_fields, way_fields, rows_fields, last_fields, needs_text, tail_text};
 
-use crate::needs::{TaskNeed, greatest};
+use crate::needs::{IfWay, TaskNeed, greatest};
 use alp_text::print_u64;
 use std::alloc::AllocError;
 
@@ -72,13 +72,37 @@ fn push_parts(out: &mut Vec<u8>, task: &TaskNeed<'_>) -> Result<(), AllocError>
     )
 }
 
-// Both lines of each task.
+fn push_way(out: &mut Vec<u8>, way: &IfWay) -> Result<(), AllocError>
+    ensures { OnOk result (out.new.items ≡ out.old.items ++ (spaced (way_fields way.now) ++ 10 ∷ [])) }
+{
+    let line = print_u64(way.line as u64);
+    let number = print_u64(way.way as u64);
+    let times = print_u64(way.times);
+    push_line(
+        out,
+        b"way",
+        &[line.as_bytes(), number.as_bytes(), times.as_bytes()],
+    )
+}
+
+// A line for each way.
+fn push_ways(out: &mut Vec<u8>, ways: &[IfWay]) -> Result<(), AllocError>
+    ensures { OnOk result (out.new.items ≡ out.old.items ++ printed (map way_fields ways.now)) }
+{
+    for way in ways {
+        push_way(out, way)?;
+    }
+    Ok(())
+}
+
+// The lines of each task.
 fn push_tasks(out: &mut Vec<u8>, tasks: &[TaskNeed<'_>]) -> Result<(), AllocError>
     ensures { OnOk result (out.new.items ≡ out.old.items ++ printed (rows_fields (map row_of tasks.now))) }
 {
     for task in tasks {
         push_task(out, task)?;
         push_parts(out, task)?;
+        push_ways(out, &task.ways)?;
     }
     Ok(())
 }
@@ -91,7 +115,7 @@ fn push_last(out: &mut Vec<u8>, most: u64, bound: u32) -> Result<(), AllocError>
     push_line(out, b"need", &[most.as_bytes(), b"of", bound.as_bytes()])
 }
 
-/// Writes behind a text two lines for each task, and the greatest need of them with the bound.
+/// Writes behind a text the lines of each task, its need, its parts and its ways, and the greatest need of them with the bound.
 pub fn push_needs(out: &mut Vec<u8>, tasks: &[TaskNeed<'_>], bound: u32) -> Result<(), AllocError>
     ensures { OnOk result (out.new.items ≡ out.old.items ++ needs_text (map row_of tasks.now) bound) }
 {

@@ -3,8 +3,18 @@
 ghost use Rattle.std.specs.Prelude.{◌≡◌, max, map};
 ghost use Rattle.need_lines.specs.Rows.{need_in, greatest, row_of};
 
-/// What a task needs of a charge, in cycles, part by part; and what the table of allowances says of it.
+/// A way that the dearest one through a task goes at an `if`, and how often.
 #[derive(Clone, Copy)]
+pub struct IfWay {
+    /// The line of the `if`, from 1.
+    pub line: u32,
+    /// The number, from 1, of the condition that holds; 0 where none does.
+    pub way: u32,
+    pub times: u64,
+}
+
+/// What a task needs of a charge, in cycles, part by part; what the table of allowances says of it; and the dearest way through it.
+#[derive(Drop)]
 pub struct TaskNeed<'t> {
     /// The task's name.
     pub name: &'t [u8],
@@ -20,6 +30,8 @@ pub struct TaskNeed<'t> {
     pub table: u32,
     /// Its words of the 22,000.
     pub words: u32,
+    /// Which ways the dearest one goes at the `if`s on it, in the order of the text.
+    pub ways: Vec<IfWay>,
 }
 
 impl TaskNeed<'_> {

@@ -8,7 +8,8 @@ use Rattle.need_lines.proofs.lines.push_tasks.Goals as goal
 
 pub loop-task-preserved : goal.loop-task-preserved
 loop-task-preserved c =
-    task_written c.args.tasks.now c.loop-task.task-index _ _ _ _ c.loop-task-test.true c.in_ok-push_task.ensures c.in_ok-push_parts.ensures
+    task_written c.args.tasks.now c.loop-task.task-index _ _ _ _ _ c.loop-task-test.true c.in_ok-push_task.ensures c.in_ok-push_parts.ensures
+    (rw c.deref.ensures.value at c.in_ok-push_ways.ensures)
     ∙ c.loop-task.invariant
 
 pub returns : goal.returns
