@@ -76,7 +76,7 @@ fn push_way(out: &mut Vec<u8>, way: &IfWay) -> Result<(), AllocError>
     ensures { OnOk result (out.new.items ≡ out.old.items ++ (spaced (way_fields way.now) ++ 10 ∷ [])) }
 {
     let line = print_u64(way.line as u64);
-    let number = print_u64(way.way as u64);
+    let number = print_u64(way.way);
     let times = print_u64(way.times);
     push_line(
         out,

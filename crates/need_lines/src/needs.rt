@@ -9,7 +9,7 @@ pub struct IfWay {
     /// The line of the `if`, from 1.
     pub line: u32,
     /// The number, from 1, of the condition that holds; 0 where none does.
-    pub way: u32,
+    pub way: u64,
     pub times: u64,
 }
 
