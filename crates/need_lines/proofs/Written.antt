@@ -43,12 +43,11 @@ unfolding printed
 no_ways_written a = append-nil a
 
 -- the lines of one task more are written
-pub task_written : (ts : List TaskNeed) (i : ℕ) (d : TaskNeed) (a b c e : List ℕ) → i < length ts
-    → b ≡ a ++ (spaced (task_fields (row_of (get_or ts i d))) ++ 10 ∷ []) → c ≡ b ++ (spaced (parts_fields (row_of (get_or ts i d))) ++ 10 ∷ [])
-    → e ≡ c ++ printed (map way_fields (get_or ts i d).ways.items)
+pub task_written : (ts : List TaskNeed) (i : ℕ) (t : TaskNeed) (a b c e : List ℕ) → i < length ts → t ≡ get_or ts i t
+    → b ≡ a ++ (spaced (task_fields (row_of t)) ++ 10 ∷ []) → c ≡ b ++ (spaced (parts_fields (row_of t)) ++ 10 ∷ [])
+    → e ≡ c ++ printed (map way_fields t.ways.items)
     → e ++ printed (rows_fields (map row_of (drop (i + 1) ts))) ≡ a ++ printed (rows_fields (map row_of (drop i ts)))
-task_written ts i d a b c e h f g k =
-    let t = get_or ts i d in
+task_written ts i t a b c e h is f g k =
     let next : i + 1 ≡ suc i = omega arith in
     let more : List (List (List ℕ)) = rows_fields (map row_of (drop (i + 1) ts)) in
     let ways : List (List (List ℕ)) = map way_fields t.ways.items in
@@ -60,7 +59,7 @@ task_written ts i d a b c e h f g k =
     ∙ ap (λ x. a ++ (first ++ (second ++ x))) (sym (printed_append ways more))
     ∙ ap (λ x. a ++ (first ++ x)) (sym (first_line (parts_fields (row_of t)) (ways ++ more)))
     ∙ ap (λ x. a ++ x) (sym (first_line (task_fields (row_of t)) (parts_fields (row_of t) ∷ (ways ++ more))))
-    ∙ ap (λ ts. a ++ printed (rows_fields (map row_of ts))) (ap (λ j. t ∷ drop j ts) next ∙ sym (drop-cons ts i d h))
+    ∙ ap (λ ts. a ++ printed (rows_fields (map row_of ts))) (ap (λ j. t ∷ drop j ts) next ∙ ap (λ u. u ∷ drop (suc i) ts) is ∙ sym (drop-cons ts i t h))
 
 pub no_tasks_written : (a : List ℕ) → a ++ printed (rows_fields []) ≡ a
 unfolding printed
