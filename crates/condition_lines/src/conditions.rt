@@ -1,8 +1,8 @@
 //! The numbers of a task's conditions.
 
-ghost use Rattle.std.specs.Prelude.{◌≡◌, ◌∷◌, ◌++◌, ◌+◌, ◌<◌, ◌^◌, IfOk, Option, length, map};
-ghost use Rattle.task_ast.specs.Tree.{Block, choice_of};
-ghost use Rattle.task_ast.specs.View.{block_view, choice_view, last_view, statement_of, tested_of};
+ghost use Rattle.std.specs.Prelude.{◌≡◌, ◌++◌, ◌+◌, ◌<◌, ◌^◌, [], IfOk};
+ghost use Rattle.task_ast.specs.Tree.{choice_of};
+ghost use Rattle.task_ast.specs.View.{block_view, choice_view, last_view, statement_of};
 ghost use Rattle.condition_lines.specs.Conditions.{block_conditions, block_ifs, choice_conditions, choice_ifs, lists_of, own_numbers};
 ghost use Rattle.condition_lines.specs.Conditions.{statement_conditions, statement_ifs};
 
@@ -58,10 +58,27 @@ fn push_choice(
         *number += 1;
         push_block(alloc, &arm.block, number, ifs)?;
     }
-    if let Some(block) = last {
-        push_block(alloc, block, number, ifs)?;
-    }
+    push_last(alloc, last, number, ifs)?;
     Ok(own)
+}
+
+// Those of the last block of an `if`, which has no condition of its own.
+#[cycle(ifs)]
+fn push_last(
+    alloc: Global,
+    last: &Option<Vec<Stmt<VariableName, TaskName>>>,
+    number: &mut u32,
+    ifs: &mut Vec<Vec<u32>>,
+) -> Result<(), AllocError>
+    requires { number.old + choice_conditions (choice_of [] (last_view last.now)) < 2 ^ 32 }
+    ensures own { own_numbers number.old (choice_of [] (last_view last.now)) ≡ [] }
+    ensures ifs { IfOk result (λ _. lists_of ifs.new.items ≡ lists_of ifs.old.items ++ choice_ifs number.old (choice_of [] (last_view last.now))) }
+    ensures number { IfOk result (λ _. number.new ≡ number.old + choice_conditions (choice_of [] (last_view last.now))) }
+{
+    match last {
+        Some(block) => push_block(alloc, block, number, ifs),
+        None => Ok(()),
+    }
 }
 
 // Those of a block.

@@ -41,6 +41,7 @@ fn push_held(
 }
 
 // The way where none holds.
+#[tactic(auto, using(crate::proofs::Last::none_fails, crate::proofs::Last::last_fails))]
 fn push_failed(
     ways: &mut Vec<IfWay>,
     line: u32,
@@ -49,9 +50,10 @@ fn push_failed(
 ) -> Result<(), AllocError>
     ensures { OnOk result (ways.new.items ≡ ways.old.items ++ failed_way line failed.now numbers.now) }
 {
-    match numbers.last() {
-        Some(number) => push_way(ways, line, 0, count(failed, *number)),
-        None => Ok(()),
+    if numbers.is_empty() {
+        Ok(())
+    } else {
+        push_way(ways, line, 0, count(failed, numbers[numbers.len() - 1]))
     }
 }
 
@@ -74,6 +76,7 @@ fn push_if(
 ///
 /// # Errors
 /// `AllocError` where memory was refused.
+#[tactic(auto, using(crate::proofs::Last::no_ifs))]
 pub fn task_ways(
     alloc: Global,
     lines: &[u32],
