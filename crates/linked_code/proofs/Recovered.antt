@@ -2,6 +2,7 @@
 -- code; the commit.
 use Rattle.std.proofs.Common.{◌≡◌, ◌<◌, ◌≤◌, ◌+◌, ◌*◌, ℕ, zero, suc, List, [], ◌∷◌, length, map, get_or, refl, sym, ap, ◌∙◌, subst, arith}
 use Rattle.std.specs.Prelude.{All}
+use Rattle.boot_runtime.specs.fram_board.Effects.{Effect}
 use Rattle.boot_runtime.specs.machine_effects.World.{fram_after}
 use Rattle.boot_runtime.specs.machine_effects.Inputs.{Inputs}
 use Rattle.boot_runtime.specs.code_forms.Forms.{Core}
@@ -25,7 +26,7 @@ use Rattle.undo_runtime.specs.Listing.{commit_steps, commit_cycles}
 use Rattle.undo_runtime.specs.Needs.{CanRecover, CanClose}
 use Rattle.undo_runtime.specs.Laws.{IsUndoBoot}
 use Rattle.undo_runtime.proofs.Interface.{undo_commit_is_found, recovery_is_made, undo_start_is_made, undo_commit_is_made}
-use Rattle.linked_code.specs.Linked.{boot_code, bytes_of_boot, start_by, commit_code, bytes_of_commit, StartsFit}
+use Rattle.linked_code.specs.Linked.{boot_code, bytes_of_boot, start_by, attempt_start, commit_code, bytes_of_commit, StartsFit}
 use Rattle.linked_code.specs.Linked.{linked_code, CodeFits, ProgramsAreWhole}
 use Rattle.linked_code.proofs.Stretches.{programs_count, code, parts, is_linked}
 use Rattle.linked_code.proofs.Reached.{list_stands, tasks_are_reached}
@@ -46,6 +47,11 @@ module _ (l : MemoryMap) (programs : List Program) (fits : CodeFits l programs) 
 
   abbrev start_at : ℕ
   start_at = start_by Undo l
+
+  -- this is where attempts start by the map
+  at_start : (es : List Effect) (n c : ℕ) (u : Core) (f : ℕ → ℕ) (inputs : Inputs) → Comes (code l programs fits whole) es n c u (IsAt start_at f inputs)
+      → Comes (code l programs fits whole) es n c u (IsAt (attempt_start l) f inputs)
+  at_start es n c u f inputs k = subst (λ g. Comes (code l programs fits whole) es n c u (IsAt (start_by g l) f inputs)) (sym logs) k
 
   boot_stands : Stands (code l programs fits whole) l.boot.address (boot_code Undo l)
   boot_stands = subst (λ g. Stands (code l programs fits whole) l.boot.address (boot_code g l)) logs (parts l programs fits whole).boot
@@ -84,9 +90,13 @@ module _ (l : MemoryMap) (programs : List Program) (fits : CodeFits l programs) 
       let n = u.fram (word_place l ListLength) in
       let es = recovery l u.fram in
       Comes (code l programs fits whole) es (with_events events 2 + 2 + recovery_steps n) (with_events events 3 + 6 + recovery_cycles n) u
-      (IsAt start_at (fram_after es u.fram) u.inputs)
+      (IsAt (attempt_start l) (fram_after es u.fram) u.inputs)
   to_recovered u e named z can =
-      recovery_is_made (code l programs fits whole) l l.commit.address tasks l.boot.address u is_boot e named (omega (arith, z)) (λ q. omega (arith, z, q)) can
+      let events = l.runtime.events in
+      let n = u.fram (word_place l ListLength) in
+      let es = recovery l u.fram in
+      at_start es (with_events events 2 + 2 + recovery_steps n) (with_events events 3 + 6 + recovery_cycles n) u (fram_after es u.fram) u.inputs
+      (recovery_is_made (code l programs fits whole) l l.commit.address tasks l.boot.address u is_boot e named (omega (arith, z)) (λ q. omega (arith, z, q)) can)
 
   -- from the start of an attempt, where nothing is listed, to the code of the task that CUR names
   abbrev pub FromStart : Core → (ℕ → ℕ) → Inputs → Type 0
@@ -99,7 +109,7 @@ module _ (l : MemoryMap) (programs : List Program) (fits : CodeFits l programs) 
       (start_cycles events clears l.versions.words (length t.privates)) v
       (Enters (entry_at (task_entries l) k).code (stack_origin events) (fram_after es f) inputs)
 
-  pub logged_start_there : (v : Core) (f : ℕ → ℕ) (inputs : Inputs) → IsAt start_at f inputs v → f (word_place l CurrentTask) < length programs
+  pub logged_start_there : (v : Core) (f : ℕ → ℕ) (inputs : Inputs) → IsAt (attempt_start l) f inputs v → f (word_place l CurrentTask) < length programs
       → f (word_place l Version) < 0x10000 → f (word_place l ListLength) ≡ 0 → FromStart v f inputs
   logged_start_there v f inputs h named word none =
       let count = programs_count l.tasks programs fits.tasks in
@@ -111,7 +121,7 @@ module _ (l : MemoryMap) (programs : List Program) (fits : CodeFits l programs) 
       let P : ℕ → Type 0 = λ address. Comes (code l programs fits whole) es (start_steps events clears l.versions.words (length t.privates))
       (start_cycles events clears l.versions.words (length t.privates)) v (Enters address (stack_origin events) (fram_after es f) inputs) in
       subst P (same_code l.tasks k)
-      (from_there v h (undo_start_is_made (code l programs fits whole) l l.commit.address tasks l.boot.address (core_at start_at f inputs v) is_boot refl
+      (from_there v (subst (λ g. IsAt (start_by g l) f inputs v) logs h) (undo_start_is_made (code l programs fits whole) l l.commit.address tasks l.boot.address (core_at start_at f inputs v) is_boot refl
       (omega (arith, named, count, e)) word none))
 
   -- the commit on FRAM
@@ -120,7 +130,7 @@ module _ (l : MemoryMap) (programs : List Program) (fits : CodeFits l programs) 
       let es = undo_commit l f in
       let k = f (word_place l EmitCount) in
       let events = l.runtime.events in
-      Comes (code l programs fits whole) es (commit_steps events k) (commit_cycles events k) v (IsAt start_at (fram_after es f) inputs)
+      Comes (code l programs fits whole) es (commit_steps events k) (commit_cycles events k) v (IsAt (attempt_start l) (fram_after es f) inputs)
 
   -- where the commit is entered and can be made, its code makes it
   pub logged_commit_there : (v : Core) (f : ℕ → ℕ) (inputs : Inputs) → IsAt l.commit.address f inputs v → CanClose l f → DoesCommit v f inputs
@@ -128,8 +138,11 @@ module _ (l : MemoryMap) (programs : List Program) (fits : CodeFits l programs) 
       let c = commit_fits in let d = (apart_of l fits.rules).code in let k = (apart_of l fits.rules).high in
       let even = (even_of l fits.rules).boot in
       let enabling = with_events_even l.runtime.events 6 refl in
-      from_there v h (undo_commit_is_made (code l programs fits whole) l l.commit.address start_at (core_at l.commit.address f inputs v)
-      (is_linked l programs fits whole).tidy is_boot.places (omega (arith, c, d, k)) (omega (arith, even, enabling)) commit_stands refl can)
+      let es = undo_commit l f in
+      let o = f (word_place l EmitCount) in
+      at_start es (commit_steps l.runtime.events o) (commit_cycles l.runtime.events o) v (fram_after es f) inputs
+      (from_there v h (undo_commit_is_made (code l programs fits whole) l l.commit.address start_at (core_at l.commit.address f inputs v)
+      (is_linked l programs fits whole).tidy is_boot.places (omega (arith, c, d, k)) (omega (arith, even, enabling)) commit_stands refl can))
 
   -- from the boot to the commit, where GATE is 1, and through it
   pub to_logged_commit : (u : Core) → u.pc ≡ l.boot.address → NamesHandler l u.fram → u.fram (word_place l Gate) ≡ 1 → CanClose l u.fram
@@ -137,7 +150,7 @@ module _ (l : MemoryMap) (programs : List Program) (fits : CodeFits l programs) 
       let k = u.fram (word_place l EmitCount) in
       let events = l.runtime.events in
       Comes (code l programs fits whole) es (with_events events 2 + 3 + commit_steps events k) (with_events events 3 + 9 + commit_cycles events k) u
-      (IsAt start_at (fram_after es u.fram) u.inputs)
+      (IsAt (attempt_start l) (fram_after es u.fram) u.inputs)
   to_logged_commit u e named one can =
       comes_on (undo_commit_is_found (code l programs fits whole) l l.commit.address tasks l.boot.address u is_boot e named one)
       (λ v h. logged_commit_there v u.fram u.inputs h can)

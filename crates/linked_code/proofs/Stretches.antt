@@ -2,7 +2,7 @@
 -- from there to a task, and the commit.
 use Rattle.std.proofs.Common.{◌≡◌, ◌<◌, ◌≤◌, ◌+◌, ◌*◌, ℕ, zero, suc, Bool, true, false, List, [], ◌∷◌, length, map, get_or, refl, sym, ap, ◌∙◌, subst, arith}
 use Rattle.std.proofs.lemmas.Option.{slice_get-get_or}
-use Rattle.boot_runtime.specs.fram_board.Effects.{Store}
+use Rattle.boot_runtime.specs.fram_board.Effects.{Effect, Store}
 use Rattle.boot_runtime.specs.machine_effects.World.{put, fram_after}
 use Rattle.boot_runtime.specs.machine_effects.Inputs.{Inputs, InputsAreWords}
 use Rattle.boot_runtime.specs.machine_effects.Machine.{Code}
@@ -25,7 +25,7 @@ use Rattle.boot_runtime.specs.Laws.{IsBoot, NamesHandler}
 use Rattle.boot_runtime.proofs.Interface.{pending_commit_is_found, attempt_is_found, start_is_made, version_is_raised, tasks_are_entered}
 use Rattle.commit_runtime.specs.Listing.{commit_steps, commit_cycles}
 use Rattle.commit_runtime.proofs.Interface.{commit_is_made}
-use Rattle.linked_code.specs.Linked.{boot_code, bytes_of_boot, start_by, commit_code, bytes_of_commit}
+use Rattle.linked_code.specs.Linked.{boot_code, bytes_of_boot, start_by, attempt_start, commit_code, bytes_of_commit}
 use Rattle.linked_code.specs.Linked.{linked_code, ProgramsFit, CodeFits, ProgramsAreWhole}
 use Rattle.linked_code.specs.Laws.{IsLinkedCode, PartsStand}
 use Rattle.linked_code.proofs.Linked.{linked_is_code, linked_stands}
@@ -115,8 +115,13 @@ module _ (l : MemoryMap) (programs : List Program) (fits : CodeFits l programs) 
   -- ---- under redo
 
   module _ (logs : l.runtime.logging ≡ Redo) where
-    abbrev pub start_at : ℕ
+    abbrev start_at : ℕ
     start_at = start_by Redo l
+
+    -- this is where attempts start by the map
+    at_start : (es : List Effect) (n c : ℕ) (u : Core) (f : ℕ → ℕ) (inputs : Inputs) → Comes code es n c u (IsAt start_at f inputs)
+        → Comes code es n c u (IsAt (attempt_start l) f inputs)
+    at_start es n c u f inputs k = subst (λ g. Comes code es n c u (IsAt (start_by g l) f inputs)) (sym logs) k
 
     boot_stands : Stands code l.boot.address (boot_code Redo l)
     boot_stands = subst (λ g. Stands code l.boot.address (boot_code g l)) logs parts.boot
@@ -147,8 +152,10 @@ module _ (l : MemoryMap) (programs : List Program) (fits : CodeFits l programs) 
 
     -- from the boot to the start of an attempt
     pub to_start : (u : Core) → u.pc ≡ l.boot.address → NamesHandler l u.fram → u.fram (word_place l Gate) ≡ 0
-        → let events = l.runtime.events in Comes code [] (with_events events 2 + 2) (with_events events 3 + 6) u (IsAt start_at u.fram u.inputs)
-    to_start u e named z = attempt_is_found code l l.commit.address tasks l.boot.address u is_boot e named (omega (arith, z)) (λ q. omega (arith, z, q))
+        → let events = l.runtime.events in Comes code [] (with_events events 2 + 2) (with_events events 3 + 6) u (IsAt (attempt_start l) u.fram u.inputs)
+    to_start u e named z =
+        at_start [] (with_events l.runtime.events 2 + 2) (with_events l.runtime.events 3 + 6) u u.fram u.inputs
+        (attempt_is_found code l l.commit.address tasks l.boot.address u is_boot e named (omega (arith, z)) (λ q. omega (arith, z, q)))
 
     -- from the boot to the store to VER, where it isn't at its end
     pub to_raised : (u : Core) → u.pc ≡ l.boot.address → NamesHandler l u.fram → u.fram (word_place l Gate) ≡ 0 → u.fram (word_place l Version) < 0xFFFF
@@ -168,24 +175,14 @@ module _ (l : MemoryMap) (programs : List Program) (fits : CodeFits l programs) 
         Comes code es (start_steps events clears l.versions.words (length t.privates)) (start_cycles events clears l.versions.words (length t.privates)) v
         (Enters t.code (stack_origin events) (fram_after es f) inputs)
 
-    start_there : (v : Core) (f : ℕ → ℕ) (inputs : Inputs) → IsAt start_at f inputs v → f (word_place l CurrentTask) < length tasks
+    -- to the task that CUR names
+    pub start_there : (v : Core) (f : ℕ → ℕ) (inputs : Inputs) → IsAt (attempt_start l) f inputs v → f (word_place l CurrentTask) < length programs
         → f (word_place l Version) < 0x10000 → FromStart v f inputs
     start_there v f inputs h named word =
-        from_there v h (start_is_made code l l.commit.address tasks l.boot.address (core_at start_at f inputs v) is_boot refl named word)
-
-    -- from where a board enters to the code of the task that CUR names
-    pub to_task : (u : Core) (steps cycles : ℕ) → Comes code [] steps cycles u (IsAt start_at u.fram u.inputs)
-        → u.fram (word_place l CurrentTask) < length programs → u.fram (word_place l Version) < 0x10000
-        → let t = entry_at tasks (u.fram (word_place l CurrentTask)) in
-        let events = l.runtime.events in let clears = is_at_end l u.fram in
-        let es = start_effects l (privates_in tasks) u.fram in
-        Comes code es (steps + start_steps events clears l.versions.words (length t.privates))
-        (cycles + start_cycles events clears l.versions.words (length t.privates)) u
-        (Enters t.code (stack_origin events) (fram_after es u.fram) u.inputs)
-    to_task u steps cycles a named word =
         let count = programs_count l.tasks programs fits.tasks in
         let e = entries_count l.tasks in
-        comes_on a (λ v h. start_there v u.fram u.inputs h (omega (arith, named, count, e)) word)
+        from_there v (subst (λ g. IsAt (start_by g l) f inputs v) logs h)
+        (start_is_made code l l.commit.address tasks l.boot.address (core_at start_at f inputs v) is_boot refl (omega (arith, named, count, e)) word)
 
     -- the commit on FRAM
     abbrev pub DoesCommit : Core → (ℕ → ℕ) → Inputs → Type 0
@@ -194,7 +191,7 @@ module _ (l : MemoryMap) (programs : List Program) (fits : CodeFits l programs) 
         let n = f (word_place l ListLength) in let ws = length (listed l f) in let k = f (word_place l EmitCount) in
         let events = l.runtime.events in
         Comes code es (commit_steps events n ws k) (commit_cycles events n ws k) v
-        (IsAt start_at (fram_after es f) inputs)
+        (IsAt (attempt_start l) (fram_after es f) inputs)
 
     -- where the commit is entered and can be made, its code makes it
     pub commit_there : (v : Core) (f : ℕ → ℕ) (inputs : Inputs) → IsAt l.commit.address f inputs v → CanCommit l f
@@ -203,8 +200,11 @@ module _ (l : MemoryMap) (programs : List Program) (fits : CodeFits l programs) 
         let c = commit_fits in let d = (apart_of l fits.rules).code in let k = (apart_of l fits.rules).high in
         let even = (even_of l fits.rules).boot in
         let enabling = with_events_even l.runtime.events 6 refl in
-        from_there v h (commit_is_made code l l.commit.address start_at (core_at l.commit.address f inputs v) is_linked.tidy is_boot.places
-        (omega (arith, c, d, k)) (omega (arith, even, enabling)) commit_stands refl can word)
+        let n = f (word_place l ListLength) in let ws = length (listed l f) in let o = f (word_place l EmitCount) in
+        let es = commit_effects l f in
+        at_start es (commit_steps l.runtime.events n ws o) (commit_cycles l.runtime.events n ws o) v (fram_after es f) inputs
+        (from_there v h (commit_is_made code l l.commit.address start_at (core_at l.commit.address f inputs v) is_linked.tidy is_boot.places
+        (omega (arith, c, d, k)) (omega (arith, even, enabling)) commit_stands refl can word))
 
     -- from the boot to the commit, where GATE is 1
     pub to_commit : (u : Core) → u.pc ≡ l.boot.address → NamesHandler l u.fram → u.fram (word_place l Gate) ≡ 1 → CanCommit l u.fram
@@ -213,7 +213,7 @@ module _ (l : MemoryMap) (programs : List Program) (fits : CodeFits l programs) 
         let n = u.fram (word_place l ListLength) in let ws = length (listed l u.fram) in let k = u.fram (word_place l EmitCount) in
         let events = l.runtime.events in
         Comes code es (with_events events 2 + 3 + commit_steps events n ws k) (with_events events 3 + 9 + commit_cycles events n ws k) u
-        (IsAt start_at (fram_after es u.fram) u.inputs)
+        (IsAt (attempt_start l) (fram_after es u.fram) u.inputs)
     to_commit u e named one can word =
         comes_on (pending_commit_is_found code l l.commit.address tasks l.boot.address u is_boot e named one)
         (λ v h. commit_there v u.fram u.inputs h can word)
