@@ -1,5 +1,6 @@
 mod Steps
 mod Costs
+mod Attempts
 mod Program
 mod Bound
 mod NeedsModel

@@ -8,10 +8,11 @@ use Rattle.cost_bound.specs.declared.allowance.Allow.{Allow}
 use Rattle.cost_bound.specs.Allowance.{IsAllowed}
 use Rattle.war_analysis.specs.PlanValue.{TaskPlanValue}
 use Rattle.source_values.specs.Runs.{CheckedProgram, State}
+use Rattle.memory_map.specs.declared.runtime.Logging.{Logging}
 use Rattle.memory_map.specs.declared.runtime.Logging.TheVariants.{Redo}
 use Rattle.memory_map.specs.declared.words.RuntimeWord.TheVariants.{Gate, Version}
 use Rattle.memory_map.specs.MemoryMap.{MemoryMap, word_place, with_events}
-use Rattle.privatise.specs.Layouts.{IsLayout}
+use Rattle.privatise.specs.Layouts.{IsLayoutFor}
 use Rattle.boot_runtime.specs.Entries.{task_entries}
 use Rattle.boot_runtime.specs.Listing.{privates_in}
 use Rattle.lower.specs.Lowered.{lowered}
@@ -75,7 +76,8 @@ RunsLeaveTheCode = (p : CheckedProgram) (l : MemoryMap) → CanRun p l → Model
     → AlwaysLeaves (compiled_program p l) l.boot.address (length (words_of (source_code p l))) (compiled_model p l).marks s
     (first_history (compiled_model p l).marks x)
 
--- the layout of a source that costs no more than it may has room for its code
+-- the layout of a source that costs no more than it may has room for its code, whichever its runtime is
 abbrev pub SourcesHaveRoom : Type 0
-SourcesHaveRoom = (p : CheckedProgram) (allow : Allow) (plans : List TaskPlanValue) (l : MemoryMap) → IsAllowed p allow → IsLayout p allow plans l
+SourcesHaveRoom = {logging : Logging} (p : CheckedProgram) (allow : Allow) (plans : List TaskPlanValue) (l : MemoryMap) → IsAllowed p allow
+    → IsLayoutFor logging p allow plans l
     → length plans ≡ length p.tasks → PrivatesAreCounted p l → CodeFits l (lowered l p)
