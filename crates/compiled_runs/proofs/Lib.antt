@@ -3,6 +3,7 @@ mod Costs
 mod Attempts
 mod Program
 mod Bound
+mod Logged
 mod NeedsModel
 mod Needs
 mod Raises

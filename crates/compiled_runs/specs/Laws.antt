@@ -9,7 +9,7 @@ use Rattle.cost_bound.specs.Allowance.{IsAllowed}
 use Rattle.war_analysis.specs.PlanValue.{TaskPlanValue}
 use Rattle.source_values.specs.Runs.{CheckedProgram, State}
 use Rattle.memory_map.specs.declared.runtime.Logging.{Logging}
-use Rattle.memory_map.specs.declared.runtime.Logging.TheVariants.{Redo}
+use Rattle.memory_map.specs.declared.runtime.Logging.TheVariants.{Redo, Undo}
 use Rattle.memory_map.specs.declared.words.RuntimeWord.TheVariants.{Gate, Version}
 use Rattle.memory_map.specs.MemoryMap.{MemoryMap, word_place, with_events}
 use Rattle.privatise.specs.Layouts.{IsLayoutFor}
@@ -26,8 +26,9 @@ use Rattle.stands_for.specs.Layout.{HaveRoom, ArePrivate}
 use Rattle.linked_code.specs.Linked.{CodeFits}
 use Rattle.linked_code.specs.Rooms.{PrivatesAreCounted}
 use Rattle.compiled_model.specs.Places.{program_places}
-use Rattle.compiled_model.specs.Parts.{compiled_model}
-use Rattle.compiled_model.specs.Needs.{CostsAreWithin, TasksLeave, ProgramsAreWhole, AttemptsStoreBelow}
+use Rattle.undo_states.specs.States.{AreLogged}
+use Rattle.compiled_model.specs.Parts.{private_homes, compiled_model}
+use Rattle.compiled_model.specs.Needs.{CostsAreWithin, LoggedCostsAreWithin, TasksLeave, ProgramsAreWhole, AttemptsStoreBelow}
 use Rattle.task_needs.specs.Lists.{TasksListFew, NeedsAreWithin, with_needs}
 use Rattle.compiled_runs.specs.Program.{source_code, IsBooting, compiled_program}
 
@@ -43,9 +44,26 @@ pub record CanRun (p : CheckedProgram) (l : MemoryMap) : Type 0 where
   pub leave : TasksLeave p l
   pub costs : CostsAreWithin p l
 
+-- the same under undo
+pub record CanRunLogged (p : CheckedProgram) (l : MemoryMap) : Type 0 where
+  pub logging : l.runtime.logging ≡ Undo
+  pub fits : CodeFits l (lowered l p)
+  pub count : length l.tasks ≡ length p.tasks
+  pub apart : AreApart l
+  pub room : HaveRoom (program_places p l)
+  pub privates : (k : ℕ) → AreLogged (program_places p l) k (private_homes l k)
+  pub programs : ProgramsAreWhole p l
+  pub leave : TasksLeave p l
+  pub costs : LoggedCostsAreWithin p l
+
 -- the code makes each attempt and each commit within the task's bound, from a power-up on and from the end of a commit on
 abbrev pub CodeKeepsTheLaws : Type 0
 CodeKeepsTheLaws = (p : CheckedProgram) (l : MemoryMap) → CanRun p l → ModelLaws (compiled_model p l)
+    → ProgramLaws (compiled_model p l) (compiled_program p l)
+
+-- so it does under undo, with the recovery in front of an attempt behind a power-up
+abbrev pub LoggedCodeKeepsTheLaws : Type 0
+LoggedCodeKeepsTheLaws = (p : CheckedProgram) (l : MemoryMap) → CanRunLogged p l → ModelLaws (compiled_model p l)
     → ProgramLaws (compiled_model p l) (compiled_program p l)
 
 -- a source with its tasks' needs as their costs is a model as before, where each task lists few words
