@@ -76,6 +76,7 @@ use Rattle.event_orders.specs.Answers.{AnswersInOrder}
 use Rattle.event_orders.specs.Waiting.{words_behind, TakesInOrder}
 use Rattle.event_orders.specs.Laws.{TakesEvents}
 use Rattle.event_orders.proofs.Interface.{rings_keep_order}
+use Rattle.charge_limits.proofs.Interface.{readings_are_few, words_are_few}
 use Rattle.image_reports.proofs.Capacities.{attempts_fit}
 use Rattle.image_reports.proofs.CompiledTold.{models_are_of_sources}
 use Rattle.image_reports.proofs.Told.{source}
@@ -438,6 +439,8 @@ module _ (onward : Onward) where
           never_lost = λ decided. let kept = never_lost model ready.model readings origin h lawful decided in
               (ap (λ f. f (word_place l Gate)) same ∙ kept.0, kept.1);
           accepted = sent_once model ready.model readings origin h lawful.stands;
+          takes_few = readings_are_few p l ready.code.logging readings h lawful.follows;
+          offers_few = words_are_few p l ready.code.logging ready.model readings origin h lawful.follows lawful.stands;
           sent = λ to is none.
               let P : Origin State → Type 0 = λ o. Begins model readings o x (outside_of b) in
               pending_sends model program ready.model bearing.program readings to at.end h
