@@ -2,7 +2,6 @@
 
 -- The code makes each attempt and each commit within the task's bound.
 pub use Rattle.compiled_runs.proofs.Bound.{code_keeps_the_laws}
-pub use Rattle.compiled_runs.proofs.Logged.{logged_code_keeps_the_laws}
 -- And within its need, which is a cost of the same tasks.
 pub use Rattle.compiled_runs.proofs.NeedsModel.{needs_keep_the_laws}
 pub use Rattle.compiled_runs.proofs.Needs.{code_keeps_to_needs}

@@ -2,8 +2,8 @@ mod Steps
 mod Costs
 mod Attempts
 mod Program
-mod Bound
 mod Logged
+mod Bound
 mod NeedsModel
 mod Needs
 mod Raises

@@ -13,6 +13,7 @@ use Rattle.source_values.specs.Runs.{CheckedProgram, State, task_body}
 use Rattle.array_versions.specs.Behaviour.{Behaviour, behaviour, started}
 use Rattle.word_code.specs.Code.{code_spent}
 use Rattle.memory_map.specs.declared.runtime.Logging.{Logging}
+use Rattle.memory_map.specs.declared.runtime.Logging.TheVariants.{Undo}
 use Rattle.memory_map.specs.declared.runtime.Role.{Role}
 use Rattle.memory_map.specs.declared.words.RuntimeWord.TheVariants.{CurrentTask, Gate, ListLength, EmitCount, SentBase, Version}
 use Rattle.memory_map.specs.MemoryMap.{MemoryMap, word_place, with_events}
@@ -38,11 +39,11 @@ use Rattle.compiled_model.specs.Parts.{has_jumped, task_program, private_homes, 
 use Rattle.compiled_model.specs.Needs.{LeavesFor, boot_cycles, logged_cycles}
 use Rattle.compiled_model.proofs.Interface.{is_logged, under_map}
 use Rattle.linked_code.specs.Linked.{ProgramsAreWhole, attempt_start}
-use Rattle.linked_code.proofs.Interface.{programs_count, body_there, to_recovered, logged_start_there, logged_commit_there, to_logged_commit}
+use Rattle.linked_code.proofs.Interface.{body_there, to_recovered, logged_start_there, logged_commit_there, to_logged_commit}
 use Rattle.compiled_runs.specs.Program.{placed_code, IsBooting, IsStarting, compiled_program}
-use Rattle.compiled_runs.specs.Laws.{CanRunLogged, LoggedCodeKeepsTheLaws}
+use Rattle.compiled_runs.specs.Laws.{CanRun}
 use Rattle.compiled_runs.proofs.Steps.{code_takes}
-use Rattle.compiled_runs.proofs.Costs.{decided_behind}
+use Rattle.compiled_runs.proofs.Costs.{by_undo, programs_are, are_whole, decided_behind}
 use Rattle.compiled_runs.proofs.Attempts.{Arrival, Stretches, attempt_made}
 
 -- more entries take more to be put back, and a start takes the most where it clears
@@ -56,7 +57,7 @@ clearing_is_dearest : (events clears : Bool) (versions privates : ℕ) → start
 clearing_is_dearest events true versions privates = omega arith
 clearing_is_dearest events false versions privates = omega arith
 
-module _ (p : CheckedProgram) (l : MemoryMap) (r : CanRunLogged p l) (laws : ModelLaws (logged_model p l)) where
+module _ (p : CheckedProgram) (l : MemoryMap) (logs : l.runtime.logging ≡ Undo) (r : CanRun p l) (laws : ModelLaws (logged_model p l)) where
   abbrev m : Model State
   m = logged_model p l
 
@@ -75,16 +76,11 @@ module _ (p : CheckedProgram) (l : MemoryMap) (r : CanRunLogged p l) (laws : Mod
   abbrev emits : ℕ → ℕ
   emits t = emits_of (task_body p t)
 
-  programs_are : length (lowered l p) ≡ length p.tasks
-  programs_are = let a = programs_count l.tasks (lowered l p) r.fits.tasks in a ∙ r.count
-
   whole : ProgramsAreWhole (lowered l p)
-  whole =
-      let n = programs_are in
-      record { whole = λ k h. r.programs.whole k (omega (arith, h, n)); of_words = λ k h. r.programs.of_words k (omega (arith, h, n)) }
+  whole = are_whole p l r
 
   start_keeps : LoggingContract (program_places p l) (state_view p l) (private_homes l) start
-  start_keeps = logging_starts State (program_places p l) (state_view p l) (private_homes l) r.apart r.room r.privates
+  start_keeps = logging_starts State (program_places p l) (state_view p l) (private_homes l) r.apart r.room (by_undo p l logs r).privates
 
   -- ---- what FRAM has for a recovery and for a commit
 
@@ -163,7 +159,7 @@ module _ (p : CheckedProgram) (l : MemoryMap) (r : CanRunLogged p l) (laws : Mod
     named = let e = is_current in let t = is_task in omega (arith, e, t)
 
     program_named : k < length (lowered l p)
-    program_named = let h = named in let n = programs_are in omega (arith, h, n)
+    program_named = let h = named in let n = programs_are p l r in omega (arith, h, n)
 
     is_started : LoggingAt (program_places p l) (state_view p l) s (private_homes l s.task) (world_after es x)
     is_started = start_keeps.started s x settled
@@ -174,7 +170,7 @@ module _ (p : CheckedProgram) (l : MemoryMap) (r : CanRunLogged p l) (laws : Mod
     leaves : LeavesFor l.commit.address b.end
     leaves =
         let P : Logging → Role → Type 0 = λ logging role. started_under logging p l s (world_after es x) in
-        let a = r.leave.leave s (world_after es x) u.inputs words (under_map l P r.logging is_started) in
+        let a = r.leave.leave s (world_after es x) u.inputs words (under_map l P logs is_started) in
         subst (λ t. LeavesFor l.commit.address (behaviour (task_program p l t) (started g u.inputs)).end) (sym is_current)
         (subst (λ h. LeavesFor l.commit.address (behaviour (task_program p l s.task) (started h u.inputs)).end) (world_fram es x) a)
 
@@ -206,7 +202,7 @@ module _ (p : CheckedProgram) (l : MemoryMap) (r : CanRunLogged p l) (laws : Mod
     few_here = subst (λ t. arrival.cycles ≤ with_events l.runtime.events 3 + 6 + recovery_cycles (list t)) (sym is_current) few
 
     whole_cost : logged_cycles p l k g u.inputs ≤ m.task_cost k
-    whole_cost = r.costs.within k g u.inputs named start_words words
+    whole_cost = (by_undo p l logs r).costs.within k g u.inputs named start_words words
 
     start_most : start_time ≤ start_cycles l.runtime.events true l.versions.words (length (private_homes l k))
     start_most = clearing_is_dearest l.runtime.events clears l.versions.words (length (private_homes l k))
@@ -221,14 +217,14 @@ module _ (p : CheckedProgram) (l : MemoryMap) (r : CanRunLogged p l) (laws : Mod
     stretches = record {
       start_steps = start_steps l.runtime.events clears l.versions.words (length (private_homes l k));
       start_cycles = start_time;
-      starts = λ v h. logged_start_there l (lowered l p) r.fits whole r.logging v here u.inputs h program_named
+      starts = λ v h. logged_start_there l (lowered l p) r.fits whole logs v here u.inputs h program_named
           (settled.undecided.words (word_place l Version)) settled.none;
       most = spent;
       body = λ v h. body_there l (lowered l p) r.fits whole v k g u.inputs h program_named start_words words;
       leaves = leaves;
       commit_steps = commit_steps l.runtime.events (f (word_place l EmitCount));
       commit_cycles = commit_time;
-      commits = λ ends v h. logged_commit_there l (lowered l p) r.fits whole r.logging v f v.inputs h (closes ends).0;
+      commits = λ ends v h. logged_commit_there l (lowered l p) r.fits whole logs v f v.inputs h (closes ends).0;
       within = let front = few_here in let paid = whole_cost in let most = start_most in omega (arith, front, paid, most);
       all_within = all_paid;
     }
@@ -249,7 +245,7 @@ module _ (p : CheckedProgram) (l : MemoryMap) (r : CanRunLogged p l) (laws : Mod
       let x : World = record { fram = u.fram; accepted = accepted } in
       let back = recovery l u.fram in
       let n = u.fram (word_place l ListLength) in
-      let comes = to_recovered l (lowered l p) r.fits whole r.logging u at handler (laws.undecided_gate s x und) (can_recover s x und) in
+      let comes = to_recovered l (lowered l p) r.fits whole logs u at handler (laws.undecided_gate s x und) (can_recover s x und) in
       let keeps = laws.recovers s x und in
       let within = und.within in
       let grows = recovery_grows n (list s.task) within in
@@ -315,7 +311,7 @@ module _ (p : CheckedProgram) (l : MemoryMap) (r : CanRunLogged p l) (laws : Mod
       → Makes c m.delay most (program_effects (m.commit u.fram u.inputs) true) (board_of u)
   commit_made s next accepted u at handler d most within =
       let x : World = record { fram = u.fram; accepted = accepted } in
-      let a = to_logged_commit l (lowered l p) r.fits whole r.logging u at handler d.closes.sends.gate (can_close s next x d) in
+      let a = to_logged_commit l (lowered l p) r.fits whole logs u at handler d.closes.sends.gate (can_close s next x d) in
       let n = u.fram (word_place l EmitCount) in
       record {
         steps = with_events l.runtime.events 2 + 3 + commit_steps l.runtime.events n;
@@ -345,7 +341,7 @@ module _ (p : CheckedProgram) (l : MemoryMap) (r : CanRunLogged p l) (laws : Mod
   own_commit : (t : ℕ) → t < length p.tasks → boot_cycles l + commit_cycles l.runtime.events (emits t) ≤ m.task_cost t
   own_commit t named =
       let zeros : ℕ → ℕ = λ a. 0 in
-      let paid : logged_cycles p l t zeros no_inputs ≤ m.task_cost t = r.costs.within t zeros no_inputs named (λ a. omega arith) (record {
+      let paid : logged_cycles p l t zeros no_inputs ≤ m.task_cost t = (by_undo p l logs r).costs.within t zeros no_inputs named (λ a. omega arith) (record {
         readings = All-nil (λ w. w < 0x10000);
         looks = All-nil (λ (look : Look). (n : ℕ) → look n < 0x10000);
       }) in
@@ -357,19 +353,20 @@ module _ (p : CheckedProgram) (l : MemoryMap) (r : CanRunLogged p l) (laws : Mod
   any_commit t named most room =
       let dearest = commit_grows l.runtime.events (emits t) l.emits.words (r.room.emits t named) in omega (arith, dearest, room)
 
-pub logged_code_keeps_the_laws : LoggedCodeKeepsTheLaws
-logged_code_keeps_the_laws p l r laws =
+pub under_undo : (p : CheckedProgram) (l : MemoryMap) → l.runtime.logging ≡ Undo → CanRun p l → ModelLaws (compiled_model p l)
+    → ProgramLaws (compiled_model p l) (compiled_program p l)
+under_undo p l logs r laws =
     let L : Model State → Type 0 = λ m. ModelLaws m in
     let P : Model State → Type 0 = λ m. ProgramLaws m (compiled_program p l) in
-    let own = subst L (is_logged p l r.logging) laws in
-    subst P (sym (is_logged p l r.logging)) (record {
+    let own = subst L (is_logged p l logs) laws in
+    subst P (sym (is_logged p l logs)) (record {
       changes = λ s. code_changes_by_effects (placed_code p l) s;
       takes_cycles = λ s. code_takes (placed_code p l) s;
-      makes_boot = makes_boot p l r own;
-      makes_attempt = makes_attempt p l r own;
+      makes_boot = makes_boot p l logs r own;
+      makes_attempt = makes_attempt p l logs r own;
       makes_decided = λ s next x b k e d.
-          makes_within p l r own s next x b k e d _ (own_commit p l r own s.task d.closes.sends.is_task);
+          makes_within p l logs r own s next x b k e d _ (own_commit p l logs r own s.task d.closes.sends.is_task);
       makes_commit = λ to x b k e d.
           let from = d.from in let task = d.decided.closes.sends.is_task in
-          makes_within p l r own from to x b k e d.decided _ (any_commit p l r own from.task task _ (r.costs.commits from.task task));
+          makes_within p l logs r own from to x b k e d.decided _ (any_commit p l logs r own from.task task _ ((by_undo p l logs r).costs.commits from.task task));
     })

@@ -28,6 +28,7 @@ use Rattle.stands_for.proofs.Interface.{numbered_starts, pending_can_commit}
 use Rattle.compiled_model.specs.Places.{program_places}
 use Rattle.compiled_model.specs.View.{state_view}
 use Rattle.memory_map.specs.declared.runtime.Logging.{Logging}
+use Rattle.memory_map.specs.declared.runtime.Logging.TheVariants.{Redo}
 use Rattle.memory_map.specs.declared.runtime.Role.{Role}
 use Rattle.compiled_model.specs.Parts.{has_jumped, task_program, redo_model, started_under}
 use Rattle.compiled_model.proofs.Interface.{under_map}
@@ -39,19 +40,20 @@ use Rattle.compiled_runs.specs.Program.{placed_code, IsBooting, IsStarting, comp
 use Rattle.compiled_runs.specs.Laws.{CanRun}
 use Rattle.cost_bound.specs.Counts.{emits_of}
 use Rattle.source_values.specs.Runs.{task_body}
-use Rattle.compiled_runs.proofs.Costs.{FitsCommit, BodyWithin, Costs, programs_are, are_whole}
+use Rattle.compiled_runs.proofs.Costs.{FitsCommit, BodyWithin, Costs, by_redo, programs_are, are_whole}
 use Rattle.compiled_runs.proofs.Attempts.{Arrival, Stretches, attempt_made}
 
 -- a source with its layout, whose code can run and which keeps the laws of redo's model, and what its tasks cost
 record Source : Type 0 where
   program : CheckedProgram
   map : MemoryMap
+  logs : map.runtime.logging ≡ Redo
   can : CanRun program map
   laws : ModelLaws (redo_model program map)
   costs : Costs program map
 
 module _ (source : Source) where
-  open source use {program as p, map as l, can as r, laws, costs}
+  open source use {program as p, map as l, logs, can as r, laws, costs}
 
   abbrev m : Model State
   m = redo_model p l
@@ -89,7 +91,7 @@ module _ (source : Source) where
         steps = with_events l.runtime.events 2 + 2;
         cycles = with_events l.runtime.events 3 + 6;
         within = omega arith;
-        comes = to_start l (lowered l p) r.fits whole r.logging k.core k.pc k.named zero;
+        comes = to_start l (lowered l p) r.fits whole logs k.core k.pc k.named zero;
       }
 
   from_start : (b : MachineBoard) → IsStarting l b → ReachesStart b
@@ -103,7 +105,7 @@ module _ (source : Source) where
 
   -- what the start of an attempt keeps
   start_keeps : StartContract (program_places p l) (state_view p l) privates (start_effects l privates)
-  start_keeps = numbered_starts State (program_places p l) (state_view p l) privates r.apart r.privates
+  start_keeps = numbered_starts State (program_places p l) (state_view p l) privates r.apart (by_redo p l logs r).privates
 
   -- what a commit takes behind a boot, at most
   abbrev CommitWithin : (ℕ → ℕ) → ℕ → Type 0
@@ -117,7 +119,7 @@ module _ (source : Source) where
   commit_from_boot to accepted u e named d most within =
       let x : World = record { fram = u.fram; accepted = accepted } in
       let q = d.pending in
-      let a = to_commit l (lowered l p) r.fits whole r.logging u e named q.gate (pending_can_commit (program_places p l) x r.apart q)
+      let a = to_commit l (lowered l p) r.fits whole logs u e named q.gate (pending_can_commit (program_places p l) x r.apart q)
       (q.words (word_place l SentBase)) in
       let n = u.fram (word_place l ListLength) in let ws = length (listed l u.fram) in let k = u.fram (word_place l EmitCount) in
       record {
@@ -218,7 +220,7 @@ module _ (source : Source) where
     leaves : LeavesFor l.commit.address b.end
     leaves =
         let P : Logging → Role → Type 0 = λ logging role. started_under logging p l s (world_after es x) in
-        let a = r.leave.leave s (world_after es x) u.inputs words (under_map l P r.logging is_started) in
+        let a = r.leave.leave s (world_after es x) u.inputs words (under_map l P logs is_started) in
         subst (λ t. LeavesFor l.commit.address (behaviour (task_program p l t) (started g u.inputs)).end) (sym is_current)
         (subst (λ h. LeavesFor l.commit.address (behaviour (task_program p l s.task) (started h u.inputs)).end) started_fram a)
 
@@ -271,14 +273,14 @@ module _ (source : Source) where
     stretches = record {
       start_steps = start_steps l.runtime.events clears l.versions.words (length (privates k));
       start_cycles = start_time;
-      starts = λ v h. start_there l (lowered l p) r.fits whole r.logging v u.fram u.inputs h program_named (und.is_open.words (word_place l Version));
+      starts = λ v h. start_there l (lowered l p) r.fits whole logs v u.fram u.inputs h program_named (und.is_open.words (word_place l Version));
       most = paid.most;
       body = λ v h. paid.comes v h;
       leaves = leaves;
       commit_steps = commit_steps l.runtime.events listed_entries listed_words to_send;
       commit_cycles = commit_time;
       commits = λ ends v h. let fits : FitsAt k f = fits_there ends in
-          commit_there l (lowered l p) r.fits whole r.logging v f v.inputs h fits.can fits.base;
+          commit_there l (lowered l p) r.fits whole logs v f v.inputs h fits.can fits.base;
       within = let most = paid.within in let start_most = at_most in omega (arith, few, most, start_most);
       all_within = all_paid;
     }
@@ -329,9 +331,9 @@ pub record CodeMakes (p : CheckedProgram) (l : MemoryMap) (costs : Costs p l) : 
       → boot_cycles l + commit_cycles l.runtime.events l.entries l.entries l.emits.words ≤ most
       → Makes (compiled_program p l) (redo_model p l).delay most (program_effects ((redo_model p l).commit b.fram b.inputs) true) b
 
-pub code_makes : (p : CheckedProgram) (l : MemoryMap) → CanRun p l → ModelLaws (redo_model p l) → (costs : Costs p l) → CodeMakes p l costs
-code_makes p l r laws costs =
-    let source : Source = record { program = p; map = l; can = r; laws = laws; costs = costs } in
+pub code_makes : (p : CheckedProgram) (l : MemoryMap) → l.runtime.logging ≡ Redo → CanRun p l → ModelLaws (redo_model p l) → (costs : Costs p l) → CodeMakes p l costs
+code_makes p l logs r laws costs =
+    let source : Source = record { program = p; map = l; logs = logs; can = r; laws = laws; costs = costs } in
     record {
       boot = makes_boot source;
       attempt = λ s x b k. makes_from source s x b (from_start source b k);

@@ -1,19 +1,13 @@
 //! Laws of compiled code that runs. The functions do nothing: their contracts are the laws.
 
 ghost use Rattle.compiled_runs.specs.Laws.{CodeKeepsTheLaws, CodeKeepsToNeeds, CodeIsPlaced, NeedsKeepTheLaws, PowerUpsRaiseVersion, RunsLeaveTheCode};
-ghost use Rattle.compiled_runs.specs.Laws.{LoggedCodeKeepsTheLaws, SourcesHaveRoom};
+ghost use Rattle.compiled_runs.specs.Laws.{SourcesHaveRoom};
 
 /// From a power-up on, and from the end of a commit on, the code makes the attempt or the commit that is due, within the bound of
 /// the state's task.
 #[tactic(auto, using(crate::proofs::Bound::code_keeps_the_laws))]
 pub fn code_keeps_the_laws()
     ensures { CodeKeepsTheLaws }
-{}
-
-/// The same under undo, with the recovery in front of an attempt behind a power-up.
-#[tactic(auto, using(crate::proofs::Logged::logged_code_keeps_the_laws))]
-pub fn logged_code_keeps_the_laws()
-    ensures { LoggedCodeKeepsTheLaws }
 {}
 
 /// With what its tasks need as their costs a source keeps what the crash theorem asks of a model.

@@ -4,6 +4,6 @@
 mod laws;
 
 pub use laws::{
-    code_is_placed, code_keeps_the_laws, code_keeps_to_needs, logged_code_keeps_the_laws, needs_keep_the_laws,
+    code_is_placed, code_keeps_the_laws, code_keeps_to_needs, needs_keep_the_laws,
     power_ups_raise_version, runs_leave_the_code, sources_have_room,
 };

@@ -92,7 +92,7 @@ no_plan : TaskPlanValue
 no_plan = record { private_scalars = []; versioned_arrays = [] }
 
 pub layouts_have_room : LayoutsHaveRoom
-layouts_have_room p allow plans l programs allowed is count privates keep =
+layouts_have_room logging p allow plans l programs allowed is count privates keep =
     let planned : (k : ℕ) (task : CheckedTask) → slice_get p.tasks k ≡ Some task → slice_get plans k ≡ Some (get_or plans k no_plan) =
     λ k task a. slice_get-get_or plans k no_plan (let w = slice_get_within p.tasks k task a in omega (arith, w, count)) in
     let are = are_counted p.shared p.tasks l.tasks is.tasks.count (λ k task t a b. record {

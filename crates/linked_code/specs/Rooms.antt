@@ -27,6 +27,6 @@ PrivatesAreCounted p l = (k : ℕ) (task : CheckedTask) (t : TaskPlace) → slic
 
 -- the layout of a source that costs no more than it may has room for the code, whichever its runtime is
 abbrev pub LayoutsHaveRoom : Type 0
-LayoutsHaveRoom = {logging : Logging} (p : CheckedProgram) (allow : Allow) (plans : List TaskPlanValue) (l : MemoryMap) (programs : List Program)
+LayoutsHaveRoom = (logging : Logging) (p : CheckedProgram) (allow : Allow) (plans : List TaskPlanValue) (l : MemoryMap) (programs : List Program)
     → IsAllowed p allow → IsLayoutFor logging p allow plans l → length plans ≡ length p.tasks → PrivatesAreCounted p l → ProgramsKeep p.shared p.tasks programs
     → CodeFits l programs
