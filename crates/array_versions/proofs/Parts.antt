@@ -3,11 +3,13 @@ use Rattle.std.proofs.Common.{◌≡◌, ℕ, zero, suc, ◌+◌, ◌*◌, ◌%�
 use Rattle.machine_effects.specs.fram_board.Effects.{Effect, Store}
 use Rattle.array_versions.specs.declared.program.ArrayPlace.{ArrayPlace}
 use Rattle.array_versions.specs.declared.program.ListPlace.{ListPlace}
+use Rattle.array_versions.specs.declared.program.LoggedPlace.{LoggedPlace}
 use Rattle.array_versions.specs.declared.operations.PlainOperation.{PlainOperation}
 use Rattle.array_versions.specs.Operations.{plain_word}
 use Rattle.array_versions.specs.Behaviour.{WordState, End, GoesOn, Strays, Behaviour, goes_on, strays, is_place, at_place, pushed, stored, behind_effects}
 use Rattle.array_versions.specs.Behaviour.{word_stored, element_pushed, word_emitted, raised, entry_stored, ends_before, listed_behind, own_element}
 use Rattle.array_versions.specs.Behaviour.{versioned_pushed, first_stored, own_stored, versioned_stored, own_place, own_kept, own_updated, versioned_updated}
+use Rattle.array_versions.specs.Behaviour.{first_logged, own_logged, logged_stored, logged_updated}
 use Rattle.array_versions.specs.Laws.{IsStateOfWords}
 use Rattle.array_versions.proofs.Words.{plain_small, stored_words, place_high}
 
@@ -155,4 +157,63 @@ module _ (W : Type 0) where
           let a = own_place c place i in
           writes_at (is_place list.ver) s _ (λ e. writes_at (is_place m) s _ (λ f. writes_at (is_place a) s _ (λ g.
           kept_writes c place list i (plain_word op (s.fram a) v) s (λ x. plain_small op (s.fram a) v ((k x).fram a) (l x)) k)))
+      by false = done
+
+  -- an element is logged in front of what writes behind it
+  logged_first_writes : (list : ListPlace) (element version : ℕ) (s : WordState) (next : WordState → Behaviour) → element < 0x10000 → Known s
+      → ((t : WordState) → Known t → WritesBy t (next t)) → WritesBy s (first_logged list element version s next)
+  logged_first_writes list element version s next small k f =
+      let a = list.list + 4 * s.fram list.cln in
+      let t = stored a element s in
+      let u = stored (a + 2) (t.fram element) t in
+      let n = (u.fram list.cln + 1) % 65536 in
+      let x = stored list.cln n u in
+      let words : Known t = λ y. stored_words s a element (k y) small in
+      let more : Known u = λ y. stored_words t (a + 2) (t.fram element) (words y) ((words y).fram element) in
+      let counted : Known x = λ y. stored_words u list.cln n (more y) (omega arith) in
+      let y = stored version (x.fram list.ver) x in
+      writes_at (is_place list.cln) s _ (λ e. writes_at (is_place a) s _ (λ g. writes_at (is_place (a + 2)) s _ (λ h.
+      writes a element (λ z. small) (writes (a + 2) (t.fram element) (λ z. (words z).fram element) (writes list.cln n (λ z. omega arith)
+      (writes version (x.fram list.ver) (λ z. (counted z).fram list.ver)
+      (f y (λ z. stored_words x version (x.fram list.ver) (counted z) ((counted z).fram list.ver)))))))))
+
+  -- what writes a word of this state
+  abbrev keeps : ℕ → (WordState → ℕ) → WordState → Behaviour
+  keeps e word t = goes_on (Store e (word t) ∷ []) (stored e (word t) t)
+
+  keeps_writes : (e : ℕ) (word : WordState → ℕ) → ((t : WordState) → Known t → W → word t < 0x10000) → (t : WordState) → Known t
+      → WritesBy t (keeps e word t)
+  keeps_writes e word l t j = writes e (word t) (l t j) done
+
+  -- a store to an element in its place, logged or not
+  kept_logged_writes : (b : Bool) (list : ListPlace) (e m : ℕ) (word : WordState → ℕ) (s : WordState) → e < 0x10000
+      → ((t : WordState) → Known t → W → word t < 0x10000) → Known s
+      → WritesBy s (if b then keeps e word s else first_logged list e m s (keeps e word))
+  kept_logged_writes true list e m word s small l k = keeps_writes e word l s k
+  kept_logged_writes false list e m word s small l k = logged_first_writes list e m s (keeps e word) small k (keeps_writes e word l)
+
+  own_logged_writes : (place : LoggedPlace) (list : ListPlace) (i : ℕ) (word : WordState → ℕ) (s : WordState)
+      → ((t : WordState) → Known t → W → word t < 0x10000) → Known s → WritesBy s (own_logged place list i word s)
+  own_logged_writes place list i word s l k =
+      let e = 2 * i + place.elements in
+      let m = 2 * i + place.versions in
+      writes_at (is_place e) s _ (λ f. writes_at (is_place list.ver) s _ (λ g. writes_at (is_place m) s _ (λ h.
+      kept_logged_writes (s.fram list.ver == s.fram m) list e m word s (place_high e f) l k)))
+
+  pub logged_writes : (place : LoggedPlace) (list : ListPlace) (i v : ℕ) (s : WordState) → (W → v < 0x10000) → Known s
+      → WritesBy s (logged_stored place list i v s)
+  logged_writes place list i v s l k = by (nat_lt i place.length)
+    where
+      by : (b : Bool) → WritesBy s (if b then own_logged place list i (λ t. v) s else goes_on [] s)
+      by true = own_logged_writes place list i (λ t. v) s (λ t j. l) k
+      by false = done
+
+  pub logged_update_writes : (op : PlainOperation) (place : LoggedPlace) (list : ListPlace) (i v : ℕ) (s : WordState) → (W → v < 0x10000) → Known s
+      → WritesBy s (logged_updated op place list i v s)
+  logged_update_writes op place list i v s l k = by (nat_lt i place.length)
+    where
+      by : (b : Bool) → WritesBy s (if b then own_logged place list i (λ t. plain_word op (t.fram (2 * i + place.elements)) v) s else goes_on [] s)
+      by true =
+          let e = 2 * i + place.elements in
+          own_logged_writes place list i (λ t. plain_word op (t.fram e) v) s (λ t j x. plain_small op (t.fram e) v ((j x).fram e) (l x)) k
       by false = done

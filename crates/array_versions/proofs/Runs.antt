@@ -9,20 +9,21 @@ use Rattle.machine_effects.proofs.Interface.{taken_is_word}
 use Rattle.array_versions.specs.declared.operations.PlainOperation.{PlainOperation}
 use Rattle.array_versions.specs.Operations.{unary_word, plain_word, binary_word, shift_word, is_true, compare_words, long_pops, long_result}
 use Rattle.array_versions.specs.Program.{Step, Test, Program, number, load, keep, update, local, set_local, update_local, unary, binary, shift, long, element}
-use Rattle.array_versions.specs.Program.{emit_word, list_entry, versioned_read, versioned_write, versioned_update, sense, next_event, freeze_events}
-use Rattle.array_versions.specs.Program.{truth, choose, repeat, store_number}
+use Rattle.array_versions.specs.Program.{emit_word, list_entry, versioned_read, versioned_write, versioned_update, logged_write, logged_update, sense}
+use Rattle.array_versions.specs.Program.{next_event, freeze_events, truth, choose, repeat, store_number}
 use Rattle.array_versions.specs.Program.{move_word, jump, holds, compares, both, either, fails, nothing, step}
 use Rattle.array_versions.specs.Behaviour.{WordState, End, GoesOn, Jumps, Short, Strays, Broken, Behaviour, behaves, goes_on, strays, broken, then_on, is_place}
 use Rattle.array_versions.specs.Behaviour.{with_top, with_two, with_words, with_stack, pushed, stored, with_local, local_pushed, local_updated, reading_pushed}
 use Rattle.array_versions.specs.Behaviour.{event_index, none_answered, word_answered, event_answered, with_looks, event_pushed}
 use Rattle.array_versions.specs.Behaviour.{word_stored, element_pushed, word_emitted, versioned_pushed, versioned_stored, versioned_updated, number_pushed}
+use Rattle.array_versions.specs.Behaviour.{logged_stored, logged_updated}
 use Rattle.array_versions.specs.Behaviour.{way_by_top, way_by_two, turns, step_behaviour, tested, behaviour}
 use Rattle.array_versions.specs.Form.{StepSpares, TestSpares, Spares, StepOfWords, TestOfWords, OfWords}
 use Rattle.array_versions.specs.Laws.{IsStateOfWords}
 use Rattle.array_versions.proofs.Words.{unary_small, plain_small, binary_small, shift_small, long_words, on_words, stack_words, stored_words, local_words}
 use Rattle.array_versions.proofs.Words.{input_words, second_look_words}
 use Rattle.array_versions.proofs.Parts.{Writes, astray, done, writes, Pushes, off, on_top, Known, loads, element_pushes, versioned_pushes, word_writes}
-use Rattle.array_versions.proofs.Parts.{emitted_writes, entry_writes, versioned_writes, updated_writes}
+use Rattle.array_versions.proofs.Parts.{emitted_writes, entry_writes, versioned_writes, updated_writes, logged_writes, logged_update_writes}
 
 -- A chain from a state to another by effects: other words on the stack, a local set, a word stored in FRAM, a reading or a look taken. Where `W` is
 -- given, each word in it is one; a local that is set is none that is spared
@@ -239,6 +240,10 @@ module _ (W : Type 0) (spared : ℕ → Type 0) where
         two_popped s (versioned_stored place list) i (λ u v k l t j. part_writes (versioned_writes W place list u v t l j))
     step_does (versioned_update op place list) s h d i =
         two_popped s (versioned_updated op place list) i (λ u v k l t j. part_writes (updated_writes W op place list u v t l j))
+    step_does (logged_write place list) s h d i =
+        two_popped s (logged_stored place list) i (λ u v k l t j. part_writes (logged_writes W place list u v t l j))
+    step_does (logged_update op place list) s h d i =
+        two_popped s (logged_updated op place list) i (λ u v k l t j. part_writes (logged_update_writes W op place list u v t l j))
     step_does sense s h d i = reading_does s.inputs.readings s refl i
     step_does next_event s h d i = event_does s.inputs.looks s refl i
     step_does freeze_events s h d i = part_writes (writes sent_place (event_index s.fram) (λ x. omega arith) done)

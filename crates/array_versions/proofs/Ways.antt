@@ -12,7 +12,8 @@ use Rattle.array_versions.specs.Operations.{plain_word, is_true, compare_words, 
 use Rattle.array_versions.specs.Program.{Step, Test, Program, number, load, keep, update, local, set_local, update_local, unary, binary, shift, long, element}
 use Rattle.array_versions.specs.Program.{emit_word}
 use Rattle.array_versions.specs.Program.{list_entry}
-use Rattle.array_versions.specs.Program.{versioned_read, versioned_write, versioned_update, sense, next_event, freeze_events, truth, choose, repeat}
+use Rattle.array_versions.specs.Program.{versioned_read, versioned_write, versioned_update, logged_write, logged_update, sense, next_event, freeze_events}
+use Rattle.array_versions.specs.Program.{truth, choose, repeat}
 use Rattle.array_versions.specs.Program.{store_number}
 use Rattle.array_versions.specs.Program.{move_word, jump, holds}
 use Rattle.array_versions.specs.Program.{compares}
@@ -26,7 +27,7 @@ use Rattle.array_versions.specs.Behaviour.{number_pushed, way_by_top, way_by_two
 use Rattle.array_versions.specs.Form.{Place, start, assigning, Moves, EachTurn, EachStepWay, EachTestWay, EachWay}
 use Rattle.array_versions.specs.Laws.{IsSound, WholeEndsSoundly}
 use Rattle.array_versions.proofs.Parts.{Writes, astray, done, writes, Pushes, off, on_top, Known, loads, element_pushes, versioned_pushes, word_writes}
-use Rattle.array_versions.proofs.Parts.{emitted_writes, entry_writes, versioned_writes, updated_writes}
+use Rattle.array_versions.proofs.Parts.{emitted_writes, entry_writes, versioned_writes, updated_writes, logged_writes, logged_update_writes}
 
 -- a local that is assigned has a word
 pub record HasWord (o : Option ℕ) : Type 0 where
@@ -257,6 +258,15 @@ mutual
       two_well next s.stack _ (omega (arith, h.0, m.depth)) (λ i v vs e.
       let t = with_stack vs s in
       written_well next (updated_writes ⊥ op place list i v t (λ x. absurd x) (unknown t)) (λ f. moved_well room 2 0 next q s _ h m (omega arith) refl))
+  step_well room (logged_write place list) next q s h m =
+      two_well next s.stack _ (omega (arith, h.0, m.depth)) (λ i v vs e.
+      let t = with_stack vs s in
+      written_well next (logged_writes ⊥ place list i v t (λ x. absurd x) (unknown t)) (λ f. moved_well room 2 0 next q s _ h m (omega arith) refl))
+  step_well room (logged_update op place list) next q s h m =
+      two_well next s.stack _ (omega (arith, h.0, m.depth)) (λ i v vs e.
+      let t = with_stack vs s in
+      written_well next (logged_update_writes ⊥ op place list i v t (λ x. absurd x) (unknown t))
+      (λ f. moved_well room 2 0 next q s _ h m (omega arith) refl))
   step_well room sense next q s h m = reading_well room s.inputs.readings next q s h m
   step_well room next_event next q s h m = event_well room s.inputs.looks next q s h m
   step_well room freeze_events next q s h m = same_well next q s _ h m refl refl

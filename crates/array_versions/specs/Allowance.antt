@@ -7,7 +7,8 @@ use Rattle.array_versions.specs.declared.operations.LongOperation.TheVariants.{S
 use Rattle.array_versions.specs.Program.{Step, Test, number, load, keep, update, local, set_local, update_local, unary, binary, shift, long, element}
 use Rattle.array_versions.specs.Program.{emit_word}
 use Rattle.array_versions.specs.Program.{list_entry}
-use Rattle.array_versions.specs.Program.{versioned_read, versioned_write, versioned_update, sense, next_event, freeze_events, truth, choose, repeat}
+use Rattle.array_versions.specs.Program.{versioned_read, versioned_write, versioned_update, logged_write, logged_update, sense, next_event, freeze_events}
+use Rattle.array_versions.specs.Program.{truth, choose, repeat}
 use Rattle.array_versions.specs.Program.{store_number}
 use Rattle.array_versions.specs.Program.{move_word, jump, holds}
 use Rattle.array_versions.specs.Program.{compares}
@@ -47,6 +48,8 @@ allowed_cycles (list_entry count list home copy words) = 40
 allowed_cycles (versioned_read place list) = 60
 allowed_cycles (versioned_write place list) = 120
 allowed_cycles (versioned_update op place list) = 220
+allowed_cycles (logged_write place list) = 120
+allowed_cycles (logged_update op place list) = 220
 allowed_cycles sense = 40
 allowed_cycles next_event = 80
 allowed_cycles freeze_events = 15
@@ -80,6 +83,8 @@ allowed_words (list_entry count list home copy words) = entry_allowance words
 allowed_words (versioned_read place list) = 24
 allowed_words (versioned_write place list) = 60
 allowed_words (versioned_update op place list) = 100
+allowed_words (logged_write place list) = 60
+allowed_words (logged_update op place list) = 100
 allowed_words sense = 16
 allowed_words next_event = 40
 allowed_words freeze_events = 8

@@ -9,13 +9,15 @@ use Rattle.machine_effects.specs.World.{put}
 use Rattle.machine_effects.specs.Inputs.{Look, Inputs, first_look, other_looks, look_effects}
 use Rattle.array_versions.specs.declared.program.ArrayPlace.{ArrayPlace}
 use Rattle.array_versions.specs.declared.program.ListPlace.{ListPlace}
+use Rattle.array_versions.specs.declared.program.LoggedPlace.{LoggedPlace}
 use Rattle.array_versions.specs.declared.operations.PlainOperation.{PlainOperation}
 use Rattle.array_versions.specs.declared.operations.Comparison.{Comparison}
 use Rattle.array_versions.specs.Operations.{unary_word, plain_word, binary_word, shift_word, is_true, compare_words, long_pops, long_result}
 use Rattle.array_versions.specs.Program.{Step, Test, Program, number, load, keep, update, local, set_local, update_local, unary, binary, shift, long, element}
 use Rattle.array_versions.specs.Program.{emit_word}
 use Rattle.array_versions.specs.Program.{list_entry}
-use Rattle.array_versions.specs.Program.{versioned_read, versioned_write, versioned_update, sense, next_event, freeze_events, truth, choose, repeat}
+use Rattle.array_versions.specs.Program.{versioned_read, versioned_write, versioned_update, logged_write, logged_update, sense, next_event, freeze_events}
+use Rattle.array_versions.specs.Program.{truth, choose, repeat}
 use Rattle.array_versions.specs.Program.{store_number}
 use Rattle.array_versions.specs.Program.{move_word, jump, holds}
 use Rattle.array_versions.specs.Program.{compares}
@@ -276,6 +278,37 @@ own_updated op place list i v s =
 abbrev pub versioned_updated : PlainOperation → ArrayPlace → ListPlace → ℕ → ℕ → WordState → Behaviour
 versioned_updated op place list i v s = if nat_lt i place.length then own_updated op place list i v s else goes_on [] s
 
+-- in front of the first store of an attempt to an element, which it goes on with: the element's address and the word there are an entry behind those
+-- that are counted, and the count goes up; then the version word is the attempt's number
+abbrev pub first_logged : ListPlace → ℕ → ℕ → WordState → (WordState → Behaviour) → Behaviour
+first_logged list element version s next =
+    let a = list.list + 4 * s.fram list.cln in
+    let t = stored a element s in
+    let u = stored (a + 2) (t.fram element) t in
+    let n = (u.fram list.cln + 1) % 65536 in
+    let x = stored list.cln n u in
+    let logging = Store a element ∷ Store (a + 2) (t.fram element) ∷ Store list.cln n ∷ Store version (x.fram list.ver) ∷ [] in
+    at_place list.cln (at_place a (at_place (a + 2) (behind_effects logging (next (stored version (x.fram list.ver) x)))))
+
+-- a store of an attempt to an element, of a word by the state right in front of it; where the version word isn't the attempt's number, the element is
+-- logged first
+abbrev pub own_logged : LoggedPlace → ListPlace → ℕ → (WordState → ℕ) → WordState → Behaviour
+own_logged place list i word s =
+    let e = 2 * i + place.elements in
+    let m = 2 * i + place.versions in
+    let next : WordState → Behaviour = λ t. goes_on (Store e (word t) ∷ []) (stored e (word t) t) in
+    at_place e (at_place list.ver (at_place m (if s.fram list.ver == s.fram m then next s else first_logged list e m s next)))
+
+-- stores an element of a logged array in its place: nothing past its end
+abbrev pub logged_stored : LoggedPlace → ListPlace → ℕ → ℕ → WordState → Behaviour
+logged_stored place list i v s = if nat_lt i place.length then own_logged place list i (λ t. v) s else goes_on [] s
+
+-- stores there what an operation gives of the element and of a word: nothing past its end
+abbrev pub logged_updated : PlainOperation → LoggedPlace → ListPlace → ℕ → ℕ → WordState → Behaviour
+logged_updated op place list i v s =
+    let e = 2 * i + place.elements in
+    if nat_lt i place.length then own_logged place list i (λ t. plain_word op (t.fram e) v) s else goes_on [] s
+
 -- pushes a number
 abbrev pub number_pushed : ℕ → WordState → Behaviour
 number_pushed n s = goes_on [] (pushed n s)
@@ -318,6 +351,8 @@ abbrev mutual
   step_behaviour (versioned_read place list) s = with_top s.stack (λ i vs. versioned_pushed place list i (with_stack vs s))
   step_behaviour (versioned_write place list) s = with_two s.stack (λ i v vs. versioned_stored place list i v (with_stack vs s))
   step_behaviour (versioned_update op place list) s = with_two s.stack (λ i v vs. versioned_updated op place list i v (with_stack vs s))
+  step_behaviour (logged_write place list) s = with_two s.stack (λ i v vs. logged_stored place list i v (with_stack vs s))
+  step_behaviour (logged_update op place list) s = with_two s.stack (λ i v vs. logged_updated op place list i v (with_stack vs s))
   step_behaviour sense s = reading_pushed s.inputs.readings s
   step_behaviour next_event s = event_pushed s.inputs.looks s
   step_behaviour freeze_events s = events_frozen s

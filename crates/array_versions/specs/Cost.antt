@@ -13,7 +13,8 @@ use Rattle.array_versions.specs.Operations.{is_true, compare_words}
 use Rattle.array_versions.specs.Program.{Step, Test, Program, number, load, keep, update, local, set_local, update_local, unary, binary, shift, long, element}
 use Rattle.array_versions.specs.Program.{emit_word}
 use Rattle.array_versions.specs.Program.{list_entry}
-use Rattle.array_versions.specs.Program.{versioned_read, versioned_write, versioned_update, sense, next_event, freeze_events, truth, choose, repeat}
+use Rattle.array_versions.specs.Program.{versioned_read, versioned_write, versioned_update, logged_write, logged_update, sense, next_event, freeze_events}
+use Rattle.array_versions.specs.Program.{truth, choose, repeat}
 use Rattle.array_versions.specs.Program.{store_number}
 use Rattle.array_versions.specs.Program.{move_word, jump, holds}
 use Rattle.array_versions.specs.Program.{compares}
@@ -106,6 +107,8 @@ abbrev mutual
   step_cycles (versioned_read place list) = 23
   step_cycles (versioned_write place list) = 79
   step_cycles (versioned_update op place list) = 86
+  step_cycles (logged_write place list) = 49
+  step_cycles (logged_update op place list) = 53
   step_cycles sense = 6
   step_cycles next_event = 31
   step_cycles freeze_events = 10
@@ -149,6 +152,8 @@ abbrev mutual
   step_words (versioned_read place list) = 18
   step_words (versioned_write place list) = 59
   step_words (versioned_update op place list) = 70
+  step_words (logged_write place list) = 30
+  step_words (logged_update op place list) = 33
   step_words sense = 3
   step_words next_event = 20
   step_words freeze_events = 6
@@ -222,6 +227,8 @@ abbrev mutual
   step_spent (versioned_read place list) s = step_cycles (versioned_read place list)
   step_spent (versioned_write place list) s = step_cycles (versioned_write place list)
   step_spent (versioned_update op place list) s = step_cycles (versioned_update op place list)
+  step_spent (logged_write place list) s = step_cycles (logged_write place list)
+  step_spent (logged_update op place list) s = step_cycles (logged_update op place list)
   step_spent sense s = step_cycles sense
   step_spent next_event s = step_cycles next_event
   step_spent freeze_events s = step_cycles freeze_events

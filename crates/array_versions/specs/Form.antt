@@ -5,13 +5,15 @@ use Rattle.machine_effects.specs.address_space.Limits.{stack_top, stack_start, H
 use Rattle.machine_effects.specs.alp_words.Words.{IsWord}
 use Rattle.array_versions.specs.declared.program.ArrayPlace.{ArrayPlace}
 use Rattle.array_versions.specs.declared.program.ListPlace.{ListPlace}
+use Rattle.array_versions.specs.declared.program.LoggedPlace.{LoggedPlace}
 use Rattle.array_versions.specs.declared.operations.LongOperation.{LongOperation}
 use Rattle.array_versions.specs.declared.operations.LongOperation.TheVariants as with_longs
 use Rattle.array_versions.specs.Operations.{long_pops, long_pushes}
 use Rattle.array_versions.specs.Program.{Step, Test, Program, number, load, keep, update, local, set_local, update_local, unary, binary, shift, long, element}
 use Rattle.array_versions.specs.Program.{emit_word}
 use Rattle.array_versions.specs.Program.{list_entry}
-use Rattle.array_versions.specs.Program.{versioned_read, versioned_write, versioned_update, sense, next_event, freeze_events, truth, choose, repeat}
+use Rattle.array_versions.specs.Program.{versioned_read, versioned_write, versioned_update, logged_write, logged_update, sense, next_event, freeze_events}
+use Rattle.array_versions.specs.Program.{truth, choose, repeat}
 use Rattle.array_versions.specs.Program.{store_number}
 use Rattle.array_versions.specs.Program.{move_word, jump, holds}
 use Rattle.array_versions.specs.Program.{compares}
@@ -60,6 +62,8 @@ abbrev mutual
   EachStepWay room (versioned_read place list) next p = Moves room 1 1 next p
   EachStepWay room (versioned_write place list) next p = Moves room 2 0 next p
   EachStepWay room (versioned_update op place list) next p = Moves room 2 0 next p
+  EachStepWay room (logged_write place list) next p = Moves room 2 0 next p
+  EachStepWay room (logged_update op place list) next p = Moves room 2 0 next p
   EachStepWay room sense next p = Moves room 0 1 next p
   EachStepWay room next_event next p = Moves room 0 1 next p
   EachStepWay room freeze_events next p = next p
@@ -179,6 +183,10 @@ abbrev mutual
 abbrev pub ArrayOfWords : ArrayPlace → Type 0
 ArrayOfWords place = IsWord place.elements × IsWord place.copies × IsWord place.versions × IsWord place.length
 
+-- so are those of a logged array
+abbrev pub LoggedOfWords : LoggedPlace → Type 0
+LoggedOfWords place = IsWord place.elements × IsWord place.versions × IsWord place.length
+
 -- the places of a list of copies are words
 abbrev pub ListOfWords : ListPlace → Type 0
 ListOfWords list = IsWord list.ver × IsWord list.cln × IsWord list.list
@@ -209,6 +217,8 @@ abbrev mutual
   StepOfWords (versioned_read place list) = ArrayOfWords place × ListOfWords list
   StepOfWords (versioned_write place list) = ArrayOfWords place × ListOfWords list
   StepOfWords (versioned_update op place list) = ArrayOfWords place × ListOfWords list
+  StepOfWords (logged_write place list) = LoggedOfWords place × ListOfWords list
+  StepOfWords (logged_update op place list) = LoggedOfWords place × ListOfWords list
   StepOfWords sense = Unit {0}
   StepOfWords next_event = Unit {0}
   StepOfWords freeze_events = Unit {0}

@@ -7,6 +7,7 @@ use Rattle.array_versions.specs.declared.operations.Comparison.{Comparison}
 use Rattle.array_versions.specs.declared.operations.ShiftOperation.{ShiftOperation}
 use Rattle.array_versions.specs.declared.operations.LongOperation.{LongOperation}
 use Rattle.array_versions.specs.declared.program.ArrayPlace.{ArrayPlace}
+use Rattle.array_versions.specs.declared.program.LoggedPlace.{LoggedPlace}
 use Rattle.array_versions.specs.declared.program.ListPlace.{ListPlace}
 
 mutual
@@ -29,6 +30,8 @@ mutual
     versioned_read : (place : ArrayPlace) → (list : ListPlace) → Step
     versioned_write : (place : ArrayPlace) → (list : ListPlace) → Step
     versioned_update : (operation : PlainOperation) → (place : ArrayPlace) → (list : ListPlace) → Step
+    logged_write : (place : LoggedPlace) → (list : ListPlace) → Step
+    logged_update : (operation : PlainOperation) → (place : LoggedPlace) → (list : ListPlace) → Step
     sense : Step
     next_event : Step
     freeze_events : Step

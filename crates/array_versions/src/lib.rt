@@ -9,4 +9,4 @@ mod program;
 pub use operations::{
     BinaryOperation, Comparison, LongOperation, PlainOperation, ShiftOperation, UnaryOperation,
 };
-pub use program::{ArrayPlace, ListPlace, WordProgram, WordStep, WordTest};
+pub use program::{ArrayPlace, ListPlace, LoggedPlace, WordProgram, WordStep, WordTest};

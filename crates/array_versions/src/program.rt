@@ -20,6 +20,15 @@ pub struct ArrayPlace {
     pub length: u16,
 }
 
+/// The places of an array that is stored to in place and logged: the addresses of its elements and of their version words, and
+/// its length in words.
+#[derive(Clone, Copy)]
+pub struct LoggedPlace {
+    pub elements: u16,
+    pub versions: u16,
+    pub length: u16,
+}
+
 /// The addresses of the number of this attempt, of the count of the commit list's entries, and of the list.
 #[derive(Clone, Copy)]
 pub struct ListPlace {
@@ -83,6 +92,14 @@ pub enum WordStep {
     /// attempt has it, and of that word; the first time in the attempt with what a `VersionedWrite` then stores. Nothing is
     /// stored where the index isn't below the length.
     VersionedUpdate(PlainOperation, ArrayPlace, ListPlace),
+    /// Pops a word and the index below it, and stores the word in the element itself. The first time in the attempt it first
+    /// lists the element: it stores an entry of its address and of its word behind those that are counted, raises the count, and
+    /// stores the attempt's number as the version word. Nothing is stored where the index isn't below the length.
+    LoggedWrite(LoggedPlace, ListPlace),
+    /// Pops a word and the index below it, and stores in the element itself what an operation gives of the element and of that
+    /// word; the first time in the attempt behind what a `LoggedWrite` then stores. Nothing is stored where the index isn't below
+    /// the length.
+    LoggedUpdate(PlainOperation, LoggedPlace, ListPlace),
     /// Takes the next reading and pushes it.
     Sense,
     /// Takes the next word of the ring, stores it as the answer, raises the count of those that the attempt has taken, and pushes
@@ -363,6 +380,34 @@ impl WordProgram {
         ensures err { OnErr result (program_of self.new ≡ program_of self.old) }
     {
         self.push(WordStep::VersionedUpdate(operation, *place, *list))
+    }
+
+    /// Pops a word and the index below it, and stores the word in the element; where its version word isn't the word at `list.ver`,
+    /// it first stores an entry of the element's address and of its word in the list at `list.list`, of two words each, behind as many
+    /// as the word at `list.cln` says, raises that word by one, and stores the word at `list.ver` as the version word. Nothing is
+    /// stored where the index isn't below the length.
+    pub fn logged_write(&mut self, place: &LoggedPlace, list: &ListPlace) -> Result<(), AllocError>
+        ensures ok { OnOk result
+            (program_of self.new ≡ behind (program_of self.old) (value.logged_write place.now list.now)) }
+        ensures err { OnErr result (program_of self.new ≡ program_of self.old) }
+    {
+        self.push(WordStep::LoggedWrite(*place, *list))
+    }
+
+    /// Pops a word and the index below it, and stores in the element what the operation gives of the element and of that word; where
+    /// its version word isn't the word at `list.ver`, behind what `logged_write` then stores. Nothing is stored where the index isn't
+    /// below the length.
+    pub fn logged_update(
+        &mut self,
+        operation: PlainOperation,
+        place: &LoggedPlace,
+        list: &ListPlace,
+    ) -> Result<(), AllocError>
+        ensures ok { OnOk result
+            (program_of self.new ≡ behind (program_of self.old) (value.logged_update operation place.now list.now)) }
+        ensures err { OnErr result (program_of self.new ≡ program_of self.old) }
+    {
+        self.push(WordStep::LoggedUpdate(operation, *place, *list))
     }
 
     /// Takes the next reading and pushes it.

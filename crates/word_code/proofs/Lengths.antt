@@ -7,7 +7,8 @@ use Rattle.word_code.proofs.Names.{SetStack, instruction_of, forms_bytes, instru
 use Rattle.word_code.proofs.Names.{Multiply, Divide, Remainder, Plain, PlainOperation, And, Left, Right, Comparison, Above, SignedAbove, ArrayPlace, ListPlace}
 use Rattle.word_code.proofs.Names.{Step, Test, Program, number, load, keep, update, local, set_local, update_local, unary, binary, shift, long, element}
 use Rattle.word_code.proofs.Names.{emit_word, list_entry, versioned_read, versioned_write, versioned_update, sense, truth, choose, repeat, store_number}
-use Rattle.word_code.proofs.Names.{next_event, freeze_events, event_code, freeze_code}
+use Rattle.word_code.proofs.Names.{next_event, freeze_events, event_code, freeze_code, logged_write, logged_update, LoggedPlace, logged_first, logged_code}
+use Rattle.word_code.proofs.Names.{kept_in, made_in}
 use Rattle.word_code.proofs.Names.{move_word, jump, holds, compares, both, either, fails, nothing, step, unary_words, binary_words, right_words, step_words}
 use Rattle.word_code.proofs.Names.{test_words, words_of, Bound, Waiting, local_register, local_address, flushed, top_of, source_from, below_top, kept, stays}
 use Rattle.word_code.proofs.Names.{right_source, top_power, two_code, power_code, power_result, two_to_registers, unary_middle, binary_middle, binary_result}
@@ -87,6 +88,16 @@ module _ {k : ℕ} where
   write_takes : (b : Bool) (place : ArrayPlace) (list : ListPlace) → Takes k (write_code b place list) 0 114
   write_takes true place list = so_takes (stored_takes place list) (omega arith)
   write_takes false place list = checked_takes place.length 54 (omega arith) (stored_takes place list)
+
+  -- a logged element, by what stores it
+  logged_takes : {n : ℕ} (b : Bool) (place : LoggedPlace) (list : ListPlace) (last : List Form) → n ≤ 20 → Takes k last 0 n
+      → Takes k (logged_code b place list last) 0 (52 + n)
+  logged_takes true place list last l x =
+      joined (made_of (logged_first place list) 46 (search arith) (omega arith)) x (omega arith)
+  logged_takes false place list last l x =
+      let inside = behind (made_of (logged_first place list) 46 (search arith) (omega arith)) x in
+      let ms = logged_first place list ++ last in
+      so_takes (checked_takes place.length (size ms) (omega (arith, near_size ms 66 (omega (arith, inside.bytes, l)) (omega arith))) inside) (omega arith)
 
   -- ---- jumps
 
@@ -288,6 +299,16 @@ module _ {k : ℕ} where
       let decide = behind (compare_takes c (top_of os)) (decision_takes when d (holding c) (failing c)) in
       joined (behind (compare_sides_take (is_turned c) os) (flushed_takes (kept (below_top (below_top os))))) decide (omega arith)
 
+  -- with what brings the index and the word
+  logged_step_takes : {n : ℕ} (bs : List Bound) (place : LoggedPlace) (list : ListPlace) (os : List Waiting) (last : List Form) → n ≤ 20 → Takes k last 0 n
+      → (let under = below_top os in
+      Takes k ((two_to_registers os ++ flushed (kept (below_top under))) ++ logged_code (is_inside bs (top_of under) place.length) place list last) 0
+      (56 + n + kept_bytes os))
+  logged_step_takes bs place list os last l x =
+      let under = below_top os in
+      joined (behind (two_takes os) (flushed_takes (kept (below_top under)))) (logged_takes (is_inside bs (top_of under) place.length) place list last l x)
+      (omega arith)
+
   -- steps leave the bytes with which the place of the stack is set, where they name a local that stands in RAM
   mutual
     step_takes : (bs : List Bound) (s : Step) (os : List Waiting) → StepLocalsBelow k s
@@ -321,6 +342,12 @@ module _ {k : ℕ} where
         joined front (write_takes (is_inside bs (top_of under) place.length) place list) (omega arith)
     step_takes bs (versioned_update o place list) os l =
         in_place_takes (known_index os place.length) (is_inside bs (top_of (below_top os)) place.length) o place list os
+    step_takes bs (logged_write place list) os l =
+        let last = made_of (kept_in place.elements) 4 (search arith) (omega arith) in
+        logged_step_takes bs place list os (kept_in place.elements) (omega arith) last
+    step_takes bs (logged_update o place list) os l =
+        let last = made_of (made_in o place.elements) 10 (search arith) (omega arith) in
+        logged_step_takes bs place list os (made_in o place.elements) (omega arith) last
     step_takes bs sense os l = joined (cleared_takes os) (made_of (forms.Sense R4 ∷ []) 4 (tt, tt) (omega arith)) (omega arith)
     step_takes bs next_event os l = so_takes (behind_flushed os (made_of event_code 38 (search arith) (omega arith))) (omega arith)
     step_takes bs freeze_events os l = behind_flushed os (made_of freeze_code 12 (search arith) (omega arith))

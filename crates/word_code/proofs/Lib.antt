@@ -26,6 +26,7 @@ mod VersionParts
 mod UpdateBytes
 mod Sides
 mod VersionUpdates
+mod Logged
 mod Events
 mod ShiftParts
 mod Products

@@ -49,6 +49,7 @@ pub use Rattle.array_versions.specs.Behaviour.{step_behaviour, behaviour, with_l
 pub use Rattle.array_versions.specs.Behaviour.{with_two, at_place, element_pushed, own_element, versioned_pushed, versioned_stored, with_readings}
 pub use Rattle.array_versions.specs.Behaviour.{reading_pushed, own_stored, event_index, none_answered, word_answered, event_pushed}
 pub use Rattle.array_versions.specs.Behaviour.{events_frozen, with_looks}
+pub use Rattle.array_versions.specs.Behaviour.{first_logged, own_logged, logged_stored, logged_updated}
 pub use Rattle.array_versions.specs.Behaviour.{own_place, own_kept, own_updated, versioned_updated, started, local_pushed, local_updated, number_pushed}
 pub use Rattle.array_versions.specs.Behaviour.{way_by_top, way_by_two, then_on, tested}
 pub use Rattle.array_versions.specs.Cost.{spent_on, unary_words, binary_words, right_words, shift_words, step_words, test_words, words_of, turns_spent}
@@ -59,7 +60,7 @@ pub use Rattle.array_versions.specs.Form.{OfWords, step_locals, test_locals, loc
 pub use Rattle.array_versions.specs.Operations.{is_true, compare_words, unary_word, plain_word, binary_word, shift_word, shifted_word}
 pub use Rattle.array_versions.specs.Program.{Step, Test, Program, number, load, keep, update, local, set_local, update_local, unary, binary, shift, long}
 pub use Rattle.array_versions.specs.Program.{element, emit_word, list_entry, versioned_read, versioned_write, versioned_update, sense, next_event}
-pub use Rattle.array_versions.specs.Program.{freeze_events, truth, choose, repeat}
+pub use Rattle.array_versions.specs.Program.{logged_write, logged_update, freeze_events, truth, choose, repeat}
 pub use Rattle.array_versions.specs.Program.{store_number, move_word, jump, holds, compares, both, either, fails, nothing, step}
 pub use Rattle.array_versions.specs.declared.operations.BinaryOperation.{BinaryOperation}
 pub use Rattle.array_versions.specs.declared.operations.BinaryOperation.TheVariants.{Multiply, Divide, Remainder, Plain}
@@ -73,6 +74,7 @@ pub use Rattle.array_versions.specs.declared.operations.UnaryOperation.{UnaryOpe
 pub use Rattle.array_versions.specs.declared.operations.UnaryOperation.TheVariants.{Negate, Complement}
 pub use Rattle.array_versions.specs.declared.program.ArrayPlace.{ArrayPlace}
 pub use Rattle.array_versions.specs.declared.program.ListPlace.{ListPlace}
+pub use Rattle.array_versions.specs.declared.program.LoggedPlace.{LoggedPlace}
 -- this room's own definitions
 pub use Rattle.word_code.specs.Code.{number_source, check_code, zero_code, fetch_code, element_code, emit_code, pair_code, entry_code, compare_form, holding}
 pub use Rattle.word_code.specs.Code.{failing, jump_over, decision, waiting_source, flushed, top_of, below_top, any_held, repeated, size, waiting_behind}
@@ -83,6 +85,7 @@ pub use Rattle.word_code.specs.Code.{binary_middle, plain_instruction, update_co
 pub use Rattle.word_code.specs.Code.{own_code, read_code, stored_code, write_code, pass_over, jump_back, holds_code, compares_code, truth_code, number_code}
 pub use Rattle.word_code.specs.Code.{turn_end, turns_code, waiting_after, bound_of, is_inside, test_code, block_code, code_of, rests, rest_source, to_rest}
 pub use Rattle.word_code.specs.Code.{right_to_rest, update_sides, made_code, first_update, by_version, inside_update, checked_update, indexed_update}
+pub use Rattle.word_code.specs.Code.{log_code, logged_first, logged_code, kept_in, made_in}
 pub use Rattle.word_code.specs.Code.{known_update, known_index, update_at, local_register, power, power_result, binary_result, ram_update, mark_code, next_code}
 pub use Rattle.word_code.specs.Code.{word_code, first_code, is_bounded, ram_turn_end, multiply_turn, divide_middle, divide_turn, known_element, attempt_form}
 pub use Rattle.word_code.specs.Laws.{HasJumped, CodeIsInstructions, CodeHasItsBytes, CodeHasItsWords, IsWithin, RunsStayWithin, StarvingStaysWithin, ComesTo}

@@ -69,7 +69,7 @@ pub record Aiming (six : Bool) (x : Source) (k v : ℕ) (f g : ℕ → ℕ) : Ty
   pub four : g 4 ≡ k
   pub gives : GivesOn six x v f g
 
-five_gives : (six : Bool) (v : ℕ) (f g : ℕ → ℕ) → g 5 ≡ v → GivesOn six (Register R5) v f g
+pub five_gives : (six : Bool) (v : ℕ) (f g : ℕ → ℕ) → g 5 ≡ v → GivesOn six (Register R5) v f g
 five_gives six v f g e = record { word = λ s a l. ap (λ ws. get_or ws 0 0) l ∙ e; needs = λ events s. tt; quiet = λ s. refl; still = λ s. refl }
 
 -- it stays where it waits, in R6 too where this is said

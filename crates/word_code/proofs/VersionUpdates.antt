@@ -78,7 +78,7 @@ module _ (z : Setting) (o : PlainOperation) (x : Source) (r : ℕ) (reads : sour
       })
 
   -- a copy becomes what the operation gives of a word and of the source
-  made_part : (from pc i v : ℕ) (w : WordState) (t : Core) → HoldsWords w.fram → v < 0x10000 → IsPlace (2 * i + from) → IsPlace (2 * i + place.copies)
+  pub made_part : (from pc i v : ℕ) (w : WordState) (t : Core) → HoldsWords w.fram → v < 0x10000 → IsPlace (2 * i + from) → IsPlace (2 * i + place.copies)
       → (let ms = made_code o x from place.copies in Stands z.code pc ms → Aims z x pc w (2 * i) v t
       → (let c = 2 * i + place.copies in let y = plain_word o (w.fram (2 * i + from)) v in
       Runs z.code (Store c y ∷ []) (7 + r) t (Has z R4 (pc + forms_bytes ms) (stored c y w) (2 * i))))

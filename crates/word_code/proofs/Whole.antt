@@ -4,6 +4,7 @@ use Rattle.word_code.proofs.Names.{nat_lt, if◌then◌else◌, List, [], ◌∷
 use Rattle.word_code.proofs.Names.{Effect, Core, Form, form_bytes, Move, Branch, Fram, ToFram, Stands, forms_bytes, stands_front, stands_back, forms_behind}
 use Rattle.word_code.proofs.Names.{forms_bytes-append, Comparison, is_true, compare_words, Step, Test, Program, number, load, keep, update, local, set_local}
 use Rattle.word_code.proofs.Names.{update_local, unary, binary, shift, long, element, emit_word, list_entry, versioned_read, versioned_write, versioned_update}
+use Rattle.word_code.proofs.Names.{logged_write, logged_update}
 use Rattle.word_code.proofs.Names.{next_event, freeze_events, sense, truth, choose, repeat, store_number, move_word, jump, holds, compares, both, either}
 use Rattle.word_code.proofs.Names.{fails, nothing, step, WordState}
 use Rattle.word_code.proofs.Names.{started, End, GoesOn, Jumps, Short, Strays, Broken, Behaviour, with_stack, with_local, with_top, with_two, is_place}
@@ -39,6 +40,7 @@ use Rattle.word_code.proofs.Loops.{loop_by}
 use Rattle.word_code.proofs.Access.{entry_part}
 use Rattle.word_code.proofs.LoopBounds.{Bounded, Spared, spared_so, bounded_with, bounded_on, step_bounded}
 use Rattle.word_code.proofs.VersionUpdates.{in_place_reaches}
+use Rattle.word_code.proofs.Logged.{logged_write_reaches, logged_update_reaches}
 use Rattle.word_code.proofs.Events.{look_small, event_part, freeze_part}
 use Rattle.word_code.proofs.LongResults.{long_reaches}
 
@@ -307,6 +309,10 @@ module _ (z : Setting) where
         write_reaches z bs place list os pc w w.stack u known.of_words.0.3 r.words_in.fram r.bounded (refl, r.words_in.stack) h d
     step_follows bs (versioned_update op place list) next os pc w u r known h d =
         in_place_reaches z op place list known.of_words.0.3 bs os pc w w.stack u r.words_in.fram r.bounded refl r.words_in.stack h d
+    step_follows bs (logged_write place list) next os pc w u r known h d =
+        logged_write_reaches z bs place list known.of_words.0.2 os pc w u r.words_in.fram r.bounded w.stack (refl, r.words_in.stack) h d
+    step_follows bs (logged_update op place list) next os pc w u r known h d =
+        logged_update_reaches z bs place list known.of_words.0.2 os pc w u r.words_in.fram r.bounded op w.stack (refl, r.words_in.stack) h d
     step_follows bs sense next os pc w u r known h d = sense_part z os pc w w.inputs.readings u (omega (arith, r.fit.1, r.matches.depth)) refl h d
     step_follows bs next_event next os pc w u r known h d =
         event_part z os pc w u (omega (arith, r.fit.1, r.matches.depth)) (look_small w.inputs.looks r.words_in.inputs.looks) h d

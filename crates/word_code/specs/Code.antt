@@ -37,11 +37,12 @@ use Rattle.array_versions.specs.declared.operations.ShiftOperation.{ShiftOperati
 use Rattle.array_versions.specs.declared.operations.ShiftOperation.TheVariants.{Left, Right, SignedRight}
 use Rattle.array_versions.specs.declared.program.ArrayPlace.{ArrayPlace}
 use Rattle.array_versions.specs.declared.program.ListPlace.{ListPlace}
+use Rattle.array_versions.specs.declared.program.LoggedPlace.{LoggedPlace}
 use Rattle.array_versions.specs.declared.operations.LongOperation.{LongOperation}
 use Rattle.array_versions.specs.declared.operations.LongOperation.TheVariants as with_longs
 use Rattle.array_versions.specs.Program.{Step, Test, Program, number, load, keep, update, local, set_local, update_local, unary, binary, shift, long, element}
-use Rattle.array_versions.specs.Program.{emit_word, list_entry, versioned_read, versioned_write, versioned_update, sense, next_event}
-use Rattle.array_versions.specs.Program.{freeze_events, truth, choose, repeat, store_number, move_word, jump, holds, compares, both, either, fails}
+use Rattle.array_versions.specs.Program.{emit_word, list_entry, versioned_read, versioned_write, versioned_update, logged_write, logged_update, sense}
+use Rattle.array_versions.specs.Program.{next_event, freeze_events, truth, choose, repeat, store_number, move_word, jump, holds, compares, both, either, fails}
 use Rattle.array_versions.specs.Program.{nothing, step}
 use Rattle.array_versions.specs.Form.{locals_of}
 pub use Rattle.array_versions.specs.Form.{stack_base}
@@ -687,6 +688,36 @@ abbrev pub update_at : Option ℕ → Bool → List Waiting → PlainOperation �
 update_at (Some k) sure os o place list = right_to_rest os ++ known_update o (rest_source (top_of os)) place list k
 update_at None sure os o place list = update_sides os ++ indexed_update sure o (rest_source (top_of os)) place list
 
+-- ---- an element that is logged and stored in its place
+
+-- the element at the offset in R4 is logged: R7 becomes where the entry stands from the list on, and R6 the element's address. The entry is of both the
+-- address and the word there; then it counts, and the version word is the attempt's number
+abbrev pub log_code : LoggedPlace → ListPlace → List Form
+log_code place list =
+    Move (Fram list.cln) (ToRegister R7) ∷ Calculate op.Add (Register R7) R7 ∷ Calculate op.Add (Register R7) R7
+    ∷ Move (Register R4) (ToRegister R6) ∷ Calculate op.Add (Number place.elements) R6 ∷ Move (Register R6) (ToIndexed R7 list.list)
+    ∷ Move (Indexed R4 place.elements) (ToIndexed R7 (word_sum list.list 2)) ∷ Update op.Add (Constant konst.One) list.cln
+    ∷ Move (Fram list.ver) (ToIndexed R4 place.versions) ∷ []
+
+-- the index in R4 becomes the offset; where the version word is the attempt's number, that is passed over
+abbrev pub logged_first : LoggedPlace → ListPlace → List Form
+logged_first place list =
+    double ∷ attempt_form list ∷ Calculate op.Cmp (Indexed R4 place.versions) R6 ∷ over condition.Equal (log_code place list) ∷ log_code place list
+
+-- then what stores the element, by whether the index is surely below the length; else nothing is stored where the index isn't
+abbrev pub logged_code : Bool → LoggedPlace → ListPlace → List Form → List Form
+logged_code true place list last = logged_first place list ++ last
+logged_code false place list last =
+    let inside = logged_first place list ++ last in check_code place.length (size inside) ++ inside
+
+-- the word in R5 is the element
+abbrev pub kept_in : ℕ → List Form
+kept_in elements = Move (Register R5) (ToIndexed R4 elements) ∷ []
+
+-- what an operation gives of the element and of the word in R5 is
+abbrev pub made_in : PlainOperation → ℕ → List Form
+made_in o elements = made_code o (Register R5) elements elements
+
 -- ---- longs: the high word of a long is above its low one
 
 -- a long result waits: its high word in R6, its low one in R4
@@ -991,6 +1022,12 @@ abbrev mutual
       (two_to_registers os ++ flushed (kept (below_top (below_top os)))) ++ write_code (is_inside bs (top_of (below_top os)) place.length) place list
   step_code bs os (versioned_update o place list) =
       update_at (known_index os place.length) (is_inside bs (top_of (below_top os)) place.length) os o place list
+  step_code bs os (logged_write place list) =
+      (two_to_registers os ++ flushed (kept (below_top (below_top os))))
+      ++ logged_code (is_inside bs (top_of (below_top os)) place.length) place list (kept_in place.elements)
+  step_code bs os (logged_update o place list) =
+      (two_to_registers os ++ flushed (kept (below_top (below_top os))))
+      ++ logged_code (is_inside bs (top_of (below_top os)) place.length) place list (made_in o place.elements)
   step_code bs os sense = cleared os ++ forms.Sense R4 ∷ []
   step_code bs os next_event = flushed os ++ event_code
   step_code bs os freeze_events = flushed os ++ freeze_code

@@ -1,0 +1,340 @@
+-- Elements that are logged and stored in their place.
+use Rattle.word_code.proofs.Names.{◌≡◌, ℕ, ◌+◌, ◌-◌, ◌*◌, ◌%◌, ◌<◌, ◌≤◌, ◌==◌, Bool, true, false, nat_lt, if◌then◌else◌, List, [], ◌∷◌, ◌++◌, refl, sym}
+use Rattle.word_code.proofs.Names.{ap, ◌∙◌, subst, arith, word_sum, sum16, distance, Effect, Store, put, IsPlace, R5, Core, Register, ToIndexed, Form, Move}
+use Rattle.word_code.proofs.Names.{Stands, forms_bytes, forms_bytes-append, stands_front, stands_back, Runs, PlainOperation, ArrayPlace, ListPlace, LoggedPlace, plain_word}
+use Rattle.word_code.proofs.Names.{WordState, Behaviour, goes_on, behind_effects, with_two, with_stack, is_place, at_place, stored, first_logged, own_logged, logged_stored}
+use Rattle.word_code.proofs.Names.{logged_updated, logged_write, logged_update, put_words, Bound, Waiting, top_of, below_top, flushed, kept, two_to_registers}
+use Rattle.word_code.proofs.Names.{check_code, size, is_inside, log_code, logged_first, logged_code, kept_in, made_in, step_code}
+use Rattle.word_code.proofs.Memory.{HoldsWords, AreWords, place_is, address_small}
+use Rattle.word_code.proofs.Registers.{HasSides, HasTwo, store_line}
+use Rattle.word_code.proofs.Stretches.{Setting, runs_on, dearer, so_runs}
+use Rattle.word_code.proofs.Follows.{StandsFor, Follows, more_cycles, then_end, ends_at, guarded}
+use Rattle.word_code.proofs.Jumps.{whole_size, near_distance, stands_low}
+use Rattle.word_code.proofs.Access.{twice, doubled_fits, check_part}
+use Rattle.word_code.proofs.ListParts.{at_offset, plus_none, plus_small}
+use Rattle.word_code.proofs.Operands.{owed, owed_kept, load_owed, Describes}
+use Rattle.word_code.proofs.Sides.{Aiming, five_gives, two_to_registers_part}
+use Rattle.word_code.proofs.Results.{StepDoes, Does, alone_behind, gathered}
+use Rattle.word_code.proofs.LoopBounds.{Bounded, under_inside}
+use Rattle.word_code.proofs.Routes.{on, jump, route, store_route, starts}
+use Rattle.word_code.proofs.VersionParts.{marked}
+use Rattle.word_code.proofs.VersionUpdates.{made_part}
+
+-- four times a count, as the code has it
+abbrev fourfold : ℕ → ℕ
+fourfold n = let two = (n + n + 0) % 0x10000 in (two + two + 0) % 0x10000
+
+fourth : (n list : ℕ) → list + 4 * n < 0x10000 → fourfold n + list ≡ list + 4 * n
+fourth n list h = omega arith
+
+behind_fourth : (n list : ℕ) → list + 4 * n + 2 < 0x10000 → fourfold n + word_sum list 2 ≡ list + 4 * n + 2
+behind_fourth n list h = omega arith
+
+module _ (z : Setting) (place : LoggedPlace) (list : ListPlace) (p : ℕ) (h : Stands z.code p (logged_first place list)) where
+  abbrev code : List Form
+  code = logged_first place list
+
+  module _ (i v : ℕ) (w : WordState) (t : Core) (wl : HoldsWords w.fram) (fe : IsPlace (2 * i + place.elements)) (fv : IsPlace list.ver)
+      (fm : IsPlace (2 * i + place.versions)) (j : HasTwo z p w i v t) where
+    abbrev e : ℕ
+    e = 2 * i + place.elements
+
+    abbrev m : ℕ
+    m = 2 * i + place.versions
+
+    -- twice the index, as the code has it
+    abbrev offset : ℕ
+    offset = (i + i + 0) % 0x10000
+
+    offset_is : offset ≡ 2 * i
+    offset_is = twice i place.elements (address_small fe)
+
+    -- the version word is the attempt's number
+    again : (w.fram list.ver == w.fram m) ≡ true → Runs z.code [] 9 t (HasTwo z (p + 46) w (2 * i) v)
+    again b =
+        route z p code h 0 (starts z j.is) (j.held.four, j.held.five, refl, refl) (on 3 ∷ jump true ∷ []) 9 _ (
+          _,
+          ((tt, tt), ((fv, tt), ((tt, doubled_fits i place.versions fm), tt))),
+          (
+            refl,
+            (
+              refl,
+              marked w.fram list.ver place.versions i wl
+                  (address_small fm) b,
+              refl,
+              tt,
+            ),
+          ),
+        ) refl refl
+        (λ s. record { is = s; held = record { four = offset_is; five = refl } })
+
+    -- it isn't: the element is logged
+    module _ (fc : IsPlace list.cln) (f1 : IsPlace (list.list + 4 * w.fram list.cln)) (f2 : IsPlace (list.list + 4 * w.fram list.cln + 2)) where
+      abbrev a : ℕ
+      a = list.list + 4 * w.fram list.cln
+
+      abbrev addressed : WordState
+      addressed = stored a e w
+
+      abbrev entered : WordState
+      entered = stored (a + 2) (addressed.fram e) addressed
+
+      abbrev entries : ℕ
+      entries = (entered.fram list.cln + 1) % 65536
+
+      abbrev counted : WordState
+      counted = stored list.cln entries entered
+
+      abbrev logged : WordState
+      logged = stored m (counted.fram list.ver) counted
+
+      abbrev logging : List Effect
+      logging = Store a e ∷ Store (a + 2) (addressed.fram e) ∷ Store list.cln entries ∷ Store m (counted.fram list.ver) ∷ []
+
+      logged_words : HoldsWords logged.fram
+      logged_words =
+          let high = address_small fe in
+          let one = put_words w.fram a e wl high in
+          let two = put_words addressed.fram (a + 2) (addressed.fram e) one (one e) in
+          let three = put_words entered.fram list.cln entries two (omega arith) in
+          put_words counted.fram m (counted.fram list.ver) three (three list.ver)
+
+      -- the addresses and words, as the code has them
+      first : fourfold (w.fram list.cln) + list.list ≡ a
+      first = fourth (w.fram list.cln) list.list (address_small f1)
+
+      second : fourfold (w.fram list.cln) + word_sum list.list 2 ≡ a + 2
+      second = behind_fourth (w.fram list.cln) list.list (address_small f2)
+
+      read : offset + place.elements ≡ e
+      read = ap (λ q. q + place.elements) offset_is
+
+      version : offset + place.versions ≡ m
+      version = ap (λ q. q + place.versions) offset_is
+
+      address : (offset + place.elements + 0) % 0x10000 ≡ e
+      address = ap (λ q. (q + place.elements + 0) % 0x10000) offset_is ∙ plus_small i place.elements (address_small fe)
+
+      abbrev first_fram : ℕ → ℕ
+      first_fram = put w.fram (fourfold (w.fram list.cln) + list.list) ((offset + place.elements + 0) % 0x10000)
+
+      abbrev second_fram : ℕ → ℕ
+      second_fram = put first_fram (fourfold (w.fram list.cln) + word_sum list.list 2) (first_fram (offset + place.elements))
+
+      abbrev third_fram : ℕ → ℕ
+      third_fram = put second_fram list.cln ((second_fram list.cln + 1 + 0) % 0x10000)
+
+      first_is : first_fram ≡ addressed.fram
+      first_is = λ k. put w.fram (first k) (address k)
+
+      second_is : second_fram ≡ entered.fram
+      second_is = λ k. put (first_is k) (second k) (first_is k (read k))
+
+      count_is : (second_fram list.cln + 1 + 0) % 0x10000 ≡ entries
+      count_is = ap (λ (f : ℕ → ℕ). (f list.cln + 1 + 0) % 0x10000) second_is ∙ plus_none (entered.fram list.cln) 1
+
+      third_is : third_fram ≡ counted.fram
+      third_is = λ k. put (second_is k) list.cln (count_is k)
+
+      first_time : (w.fram list.ver == w.fram m) ≡ false → Runs z.code logging 37 t (HasTwo z (p + 46) logged (2 * i) v)
+      first_time b =
+          store_route z p code h 0 (starts z j.is) (j.held.four, j.held.five, refl, refl) (on 3 ∷ jump false ∷ on 9 ∷ []) logging logged.fram 37 _ (
+            _,
+            ((tt, tt), ((fv, tt), ((tt, doubled_fits i place.versions fm), tt))),
+            (
+              refl,
+              (
+                refl,
+                marked w.fram list.ver place.versions i wl (address_small fm) b,
+                refl,
+                (
+                  _,
+                  (
+                    (fc, tt),
+                    (
+                      (tt, tt),
+                      (
+                        (tt, tt),
+                        (
+                          (tt, tt),
+                          (
+                            (tt, tt),
+                            (
+                              (tt, subst IsPlace (sym first) f1),
+                              (
+                                (subst IsPlace (sym read) fe, subst IsPlace (sym second) f2),
+                                ((tt, refl, tt, fc), ((fv, subst IsPlace (sym version) fm), tt)),
+                              ),
+                            ),
+                          ),
+                        ),
+                      ),
+                    ),
+                  ),
+                  (refl, tt),
+                ),
+              ),
+            ),
+          ) refl refl
+          (λ k. Store (first k) (address k) ∷ Store (second k) (first_is k (read k)) ∷ Store list.cln (count_is k)
+          ∷ Store (version k) (third_is k list.ver) ∷ [])
+          (λ k. put (third_is k) (version k) (third_is k list.ver))
+          (λ s. record { is = s; held = record { four = offset_is; five = refl } })
+
+  -- what stores a word of the state in front of it, behind the log
+  abbrev pub Keeps : ℕ → ℕ → ℕ → ℕ → (WordState → ℕ) → Type 0
+  Keeps i v r end word =
+      let e = 2 * i + place.elements in
+      (w : WordState) (t : Core) → IsPlace e → HoldsWords w.fram → HasTwo z (p + 46) w (2 * i) v t
+      → Runs z.code (Store e (word w) ∷ []) r t (StandsFor z end (stored e (word w) w))
+
+  pub logged_part : (word : WordState → ℕ) (i v r end : ℕ) (w : WordState) (t : Core) → HoldsWords w.fram → HasTwo z p w i v t → Keeps i v r end word
+      → Follows z end (37 + r) t (own_logged place list i word w)
+  logged_part word i v r end w t wl j keeps =
+      let e = 2 * i + place.elements in
+      let m = 2 * i + place.versions in
+      guarded z (is_place e) end (37 + r) t _ (λ g1. guarded z (is_place list.ver) end (37 + r) t _ (λ g2. guarded z (is_place m) end (37 + r) t _ (λ g3.
+      by (place_is e g1) (place_is list.ver g2) (place_is m g3) (w.fram list.ver == w.fram m) refl)))
+    where
+      by : IsPlace (2 * i + place.elements) → IsPlace list.ver → IsPlace (2 * i + place.versions) → (b : Bool)
+          → (w.fram list.ver == w.fram (2 * i + place.versions)) ≡ b
+          → (let e = 2 * i + place.elements in let next : WordState → Behaviour = λ s. goes_on (Store e (word s) ∷ []) (stored e (word s) s) in
+          Follows z end (37 + r) t (if b then next w else first_logged list e (2 * i + place.versions) w next))
+      by fe fv fm true q = dearer z (omega arith) (runs_on z (again i v w t wl fe fv fm j q) (λ u k. keeps w u fe wl k))
+      by fe fv fm false q =
+          let e = 2 * i + place.elements in
+          let a = list.list + 4 * w.fram list.cln in
+          guarded z (is_place list.cln) end (37 + r) t _ (λ g1. guarded z (is_place a) end (37 + r) t _ (λ g2.
+          guarded z (is_place (a + 2)) end (37 + r) t _ (λ g3.
+          let fc = place_is list.cln g1 in
+          let f1 = place_is a g2 in
+          let f2 = place_is (a + 2) g3 in
+          runs_on z (first_time i v w t wl fe fv fm j fc f1 f2 q)
+          (λ u k. keeps (logged i v w t wl fe fv fm j fc f1 f2) u fe (logged_words i v w t wl fe fv fm j fc f1 f2) k))))
+
+-- ---- behind the log
+
+module _ (z : Setting) (place : LoggedPlace) (p : ℕ) where
+  -- the word in R5 is the element
+  word_kept : (i v : ℕ) → Stands z.code (p + 46) (kept_in place.elements) → Keeps z place p i v 4 (p + 46 + 4) (λ s. v)
+  word_kept i v h w t fe wl j =
+      let e = 2 * i + place.elements in
+      let at : t.work 4 + place.elements ≡ e = ap (λ q. q + place.elements) j.held.four in
+      store_line z (kept_in place.elements) (Store e v ∷ []) (put w.fram e v) 4 (p + 46 + 4) _ j.is (tt, tt) h ((tt, subst IsPlace (sym at) fe), tt) refl refl
+      (omega (arith, j.is.at)) (λ k. Store (at k) (j.held.five k) ∷ []) (λ k. put (j.is.fram k) (at k) (j.held.five k)) (λ s. s)
+
+  -- so is what an operation gives of the element and of the word in R5
+  word_made : (o : PlainOperation) (list : ListPlace) (i v : ℕ) → v < 0x10000 → Stands z.code (p + 46) (made_in o place.elements)
+      → Keeps z place p i v 8 (p + 46 + 10) (λ s. plain_word o (s.fram (2 * i + place.elements)) v)
+  word_made o list i v small h w t fe wl j =
+      let both : ArrayPlace = record { elements = place.elements; copies = place.elements; versions = place.versions; length = place.length } in
+      so_runs (made_part z o (Register R5) 1 (omega arith) both list place.elements (p + 46) i v w t wl small fe fe h
+      (record { is = j.is; held = record { four = j.held.four; gives = five_gives false v w.fram t.work j.held.five } })) (λ u k. k.is)
+
+-- ---- at any index
+
+module _ (z : Setting) (place : LoggedPlace) (list : ListPlace) (small : place.length < 0x10000) (last : List Form) (bytes : ℕ)
+    (last_bytes : forms_bytes last ≡ bytes) (few : bytes ≤ 100) (word : WordState → ℕ) (r : ℕ) where
+  abbrev inside : List Form
+  inside = logged_first place list ++ last
+
+  -- what stores the element does it, wherever its code stands
+  abbrev pub Stores : ℕ → ℕ → Type 0
+  Stores i v = (p : ℕ) → Stands z.code (p + 46) last → Keeps z place p i v r (p + 46 + bytes) word
+
+  inside_bytes : forms_bytes inside ≡ 46 + bytes
+  inside_bytes = omega (arith, forms_bytes-append (logged_first place list) last, last_bytes)
+
+  inside_part : (p i v : ℕ) (w : WordState) (t : Core) → HoldsWords w.fram → Stores i v → Stands z.code p inside → HasTwo z p w i v t
+      → Follows z (p + forms_bytes inside) (37 + r) t (own_logged place list i word w)
+  inside_part p i v w t wl stores h j =
+      let front = stands_front z.code p (logged_first place list) last h in
+      let back = stands_back z.code p (logged_first place list) last h in
+      ends_at z (p + 46 + bytes) (p + forms_bytes inside) (37 + r) t (own_logged place list i word w) (omega (arith, inside_bytes))
+      (logged_part z place list p front word i v r (p + 46 + bytes) w t wl j (stores p back))
+
+  -- behind the check, by whether the index is below the length
+  checked_by : (b : Bool) (pc i v : ℕ) (w : WordState) (t : Core) → nat_lt i place.length ≡ b → i < 0x10000 → HoldsWords w.fram → Stores i v
+      → Stands z.code pc (logged_code false place list last) → HasTwo z pc w i v t
+      → Follows z (pc + forms_bytes (logged_code false place list last)) (41 + r) t (if b then own_logged place list i word w else goes_on [] w)
+  checked_by false pc i v w t lt index wl stores h j =
+      let check = check_code place.length (size inside) in
+      let at = pc + forms_bytes check in
+      let front = stands_front z.code pc check inside h in
+      let back = stands_back z.code pc check inside h in
+      let high = (z.tidy at _ back.0).high in
+      let low = stands_low z at inside back (omega (arith, high)) in
+      let words = whole_size inside in
+      let near = near_distance (size inside) (omega (arith, words, inside_bytes, few)) in
+      let to : sum16 at (distance (size inside)) ≡ pc + forms_bytes (logged_code false place list last) =
+      omega (arith, near, words, low, forms_bytes-append check inside) in
+      dearer z (omega arith)
+      (so_runs (check_part z place.length (size inside) pc small front false _ i w t lt index to j.held.four j.is) (λ u k. k.is))
+  checked_by true pc i v w t lt index wl stores h j =
+      let check = check_code place.length (size inside) in
+      let at = pc + forms_bytes check in
+      let front = stands_front z.code pc check inside h in
+      let back = stands_back z.code pc check inside h in
+      let b = own_logged place list i word w in
+      let end : at + forms_bytes inside ≡ pc + forms_bytes (logged_code false place list last) = omega (arith, forms_bytes-append check inside) in
+      ends_at z (at + forms_bytes inside) _ (41 + r) t b end
+      (more_cycles z (at + forms_bytes inside) (4 + (37 + r)) (41 + r) t b.effects b.end (omega arith)
+      (then_end z (at + forms_bytes inside) (37 + r) b.effects b.end
+      (check_part z place.length (size inside) pc small front true at i w t lt index refl j.held.four j.is)
+      (λ u k. inside_part at i v w u wl stores back (record { is = k.is; held = subst (HasSides i v) (sym k.held) j.held }))))
+
+  -- by whether the index is surely below the length
+  code_part : (sure : Bool) (pc i v : ℕ) (w : WordState) (t : Core) → (sure ≡ true → nat_lt i place.length ≡ true) → i < 0x10000 → HoldsWords w.fram
+      → Stores i v → Stands z.code pc (logged_code sure place list last) → HasTwo z pc w i v t
+      → Follows z (pc + forms_bytes (logged_code sure place list last)) (41 + r) t
+      (if nat_lt i place.length then own_logged place list i word w else goes_on [] w)
+  code_part true pc i v w t sure index wl stores h j =
+      let b = own_logged place list i word w in
+      let end = pc + forms_bytes inside in
+      subst (λ c. Follows z end (41 + r) t (if c then b else goes_on [] w)) (sym (sure refl))
+      (more_cycles z end (37 + r) (41 + r) t b.effects b.end (omega arith) (inside_part pc i v w t wl stores h j))
+  code_part false pc i v w t sure index wl stores h j = checked_by (nat_lt i place.length) pc i v w t refl index wl stores h j
+
+-- ---- the steps
+
+module _ (z : Setting) (bs : List Bound) (place : LoggedPlace) (list : ListPlace) (small : place.length < 0x10000) (os : List Waiting) (pc : ℕ)
+    (w : WordState) (u : Core) (wl : HoldsWords w.fram) (lb : Bounded bs w.locals) where
+  -- what brings the index and the word to their registers
+  abbrev front : List Form
+  front = two_to_registers os ++ flushed (kept (below_top (below_top os)))
+
+  abbrev sure : Bool
+  sure = is_inside bs (top_of (below_top os)) place.length
+
+  -- and then what stores
+  sides_brought : (last : List Form) (r v i : ℕ) (rest : List ℕ) (b : Behaviour) → w.stack ≡ v ∷ (i ∷ rest)
+      → (let ms = front ++ logged_code sure place list last in Stands z.code pc ms → Describes z os pc w u
+      → ((t : Core) → Stands z.code (pc + forms_bytes front) (logged_code sure place list last)
+      → HasTwo z (pc + forms_bytes front) (with_stack rest w) i v t
+      → Follows z (pc + forms_bytes front + forms_bytes (logged_code sure place list last)) (41 + r) t b)
+      → Does z [] (pc + forms_bytes ms) (45 + r + owed os) u b)
+  sides_brought last r v i rest b e h d follows =
+      let ks = kept (below_top (below_top os)) in
+      alone_behind z front (logged_code sure place list last) (41 + r) (45 + r + owed os) pc u b
+      (omega (arith, owed_kept (below_top (below_top os)), load_owed os, load_owed (below_top os))) h
+      (λ q. gathered z (two_to_registers os) ks pc q (λ q. two_to_registers_part z os pc w i v rest u e q d)) (λ t q k. follows t q k)
+
+  pub logged_write_reaches : (vs : List ℕ) → (w.stack ≡ vs) × AreWords vs
+      → StepDoes z bs os (logged_write place list) 49 pc w u (with_two vs (λ i v us. logged_stored place list i v (with_stack us w)))
+  logged_write_reaches [] e h d = tt
+  logged_write_reaches (v ∷ []) e h d = tt
+  logged_write_reaches (v ∷ (i ∷ rest)) e h d =
+      let is = under_inside z bs pc u place.length os w i v rest lb e.0 d in
+      sides_brought (kept_in place.elements) 4 v i rest (logged_stored place list i v (with_stack rest w)) e.0 h d (λ t q k.
+      code_part z place list small (kept_in place.elements) 4 refl (omega arith) (λ s. v) 4 sure (pc + forms_bytes front) i v (with_stack rest w) t is
+      e.1.1.0 wl (λ p s. word_kept z place p i v s) q k)
+
+  pub logged_update_reaches : (o : PlainOperation) (vs : List ℕ) → (w.stack ≡ vs) × AreWords vs
+      → StepDoes z bs os (logged_update o place list) 53 pc w u (with_two vs (λ i v us. logged_updated o place list i v (with_stack us w)))
+  logged_update_reaches o [] e h d = tt
+  logged_update_reaches o (v ∷ []) e h d = tt
+  logged_update_reaches o (v ∷ (i ∷ rest)) e h d =
+      let is = under_inside z bs pc u place.length os w i v rest lb e.0 d in
+      sides_brought (made_in o place.elements) 8 v i rest (logged_updated o place list i v (with_stack rest w)) e.0 h d (λ t q k.
+      code_part z place list small (made_in o place.elements) 10 (omega arith) (omega arith) (λ s. plain_word o (s.fram (2 * i + place.elements)) v) 8 sure
+      (pc + forms_bytes front) i v (with_stack rest w) t is e.1.1.0 wl (λ p s. word_made z place p o list i v e.1.0 s) q k)
