@@ -105,7 +105,20 @@ pub use Rattle.array_versions.specs.declared.operations.UnaryOperation.TheVarian
 pub use Rattle.array_versions.specs.declared.program.ArrayPlace.{ArrayPlace}
 pub use Rattle.array_versions.specs.declared.program.ListPlace.{ListPlace}
 pub use Rattle.array_versions.specs.declared.program.WordStep.{WordStep}
+pub use Rattle.array_versions.specs.Behaviour.{own_logged, logged_stored, logged_updated}
+pub use Rattle.array_versions.specs.Behaviour.{first_logged as logged_before}
+pub use Rattle.array_versions.specs.Program.{logged_update, logged_write}
+pub use Rattle.array_versions.specs.declared.program.LoggedPlace.{LoggedPlace}
+-- undo
+pub use Rattle.memory_map.specs.declared.runtime.Logging.{Logging}
+pub use Rattle.memory_map.specs.declared.runtime.Logging.TheVariants.{Redo, Undo}
+pub use Rattle.undo_effects.specs.Stages.{element_stored, first_logged}
 -- this room
+pub use Rattle.lower.specs.Agreement.{DidWithin, own_by}
+pub use Rattle.lower.specs.Lowered.{logged_place, own_read, own_update, own_write, stored_array}
+pub use Rattle.lower.specs.Stores.{Act, AreActs, AreMadeByActs, Did, IsAct, IsPlainStore, act_effects, acts_effects, alone, at_element, to_answer}
+pub use Rattle.lower.specs.Stores.{to_buffer, to_element, to_emit_count, to_variable}
+pub use Rattle.lower.specs.Spots.{HasRoomBehind, IsRedo, IsUndo}
 pub use Rattle.lower.specs.Agreement.{Agrees, AgreesAt, Answering, AsDeclared, BlocksAgree, EndsAs, EndsAt, ExpressionsAgree, HasCopies, HoldEmits, HoldList}
 pub use Rattle.lower.specs.Agreement.{IsAnswerStore, IsFit, IsLeft, answered_by, answers_told, at_answer, by_answers, freeze_effects, made_by}
 pub use Rattle.lower.specs.Agreement.{HoldVariables, IsArray, IsTaskStore, IsWrittenArray, Left, LongsAgree, OnlyTakes, Scene, StandsFor, TakesAndStores}

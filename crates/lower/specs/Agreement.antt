@@ -38,7 +38,7 @@ use Rattle.array_versions.specs.Program.{truth}
 use Rattle.lower.specs.Events.{AdmitsExpression, AdmitsBlock}
 use Rattle.lower.specs.Lowered.{one, lowered_expression, lowered_long, lowered_test, lowered_block}
 pub use Rattle.lower.specs.Stores.{TakesAndStores, IsAnswerStore, OnlyTakes, IsTaskStore, at_variable, at_copy, at_element, at_version, in_list}
-pub use Rattle.lower.specs.Stores.{at_list_length, at_emit_count, in_buffer, at_answer, AreMadeByActs}
+pub use Rattle.lower.specs.Stores.{at_list_length, at_emit_count, in_buffer, at_answer, AreMadeByActs, Did}
 
 -- ---- what is asked of the places of a task: the variables of its source have such as were declared
 
@@ -268,18 +268,13 @@ pub record Bounds : Type 0 where
 abbrev pub bounds : Scene → (ℕ → ℕ) → (ℕ → ℕ) → Bounds
 bounds z start most = record { start = start; written = z.written; room = z.room; first = z.first; ver = z.ver; most = most }
 
--- the stores that statements may make within these bounds
-abbrev pub IsStore : Places → Bounds → ℕ → ℕ → Type 0
-IsStore p b = IsTaskStore p b.written b.room b.ver
-
--- what statements did, all of it such stores, and under undo one act after another
-pub record Did (p : Places) (b : Bounds) (es : List Effect) : Type 0 where
-  pub stores : TakesAndStores (IsStore p b) es
-  pub acts : IsUndo p → AreMadeByActs p b.written b.room b.start es
+-- what statements may do within these bounds
+abbrev pub DidWithin : Places → Bounds → List Effect → Type 0
+DidWithin p b = Did p b.written b.room b.ver b.start
 
 -- statements that went on, with these answers left
 pub record WentOn (p : Places) (b : Bounds) (stack left : List ℕ) (es : List Effect) (s : WordState) (m : Attempt) : Type 0 where
-  pub did : Did p b es
+  pub did : DidWithin p b es
   pub stack_kept : s.stack ≡ stack
   pub listed : List Element
   pub stands : StandsFor p b.first m listed s
@@ -294,7 +289,7 @@ pub record Left (p : Places) (b : Bounds) (left : List ℕ) (es : List Effect) (
   pub listed : List Element
   pub effects : es ≡ body ++ (transition_effects p task (there.fram (word_place p.map ListLength)) (there.fram (word_place p.map Base))
       (event_index there.fram) ++ Store (word_place p.map Gate) 1 ∷ [])
-  pub did : Did p b body
+  pub did : DidWithin p b body
   pub arrived : there.fram ≡ fram_after body b.start
   pub stands : StandsFor p b.first m listed there
   pub few : (v : ℕ) → listed_of v listed ≤ b.most v
@@ -312,7 +307,7 @@ EndsAs p b stack left es (Jumps to s) (to_task task m) = Left p b left es to s t
 EndsAs p b stack left es (Jumps to s) short = ⊥
 EndsAs p b stack left es Short (goes_on m) = ⊥
 EndsAs p b stack left es Short (to_task task m) = ⊥
-EndsAs p b stack left es Short short = Did p b es
+EndsAs p b stack left es Short short = DidWithin p b es
 EndsAs p b stack left es Strays o = ⊥
 EndsAs p b stack left es Broken o = Unit {0}
 

@@ -51,17 +51,17 @@ pub data IsPlainStore (p : Places) (written : ℕ → Bool) (room : Room) (a w :
 -- one act: an effect alone, or a word stored in an element, with the entry in front of it where it is the first
 pub data Act : Type 0 where
   alone : (e : Effect) → Act
-  stores : (x : Element) → (w : ℕ) → Act
+  to_element : (x : Element) → (w : ℕ) → Act
 
 -- its effects, on this FRAM
 abbrev pub act_effects : Places → Act → (ℕ → ℕ) → List Effect
 act_effects p (alone e) f = e ∷ []
-act_effects p (stores x w) f = element_stored p.map (element_address p x) (version_address p x) w f
+act_effects p (to_element x w) f = element_stored p.map (element_address p x) (version_address p x) w f
 
 -- an effect alone stores nothing that wants an entry; an element's array may be written, and the list has room for its entry, if it isn't listed
 abbrev pub IsAct : Places → (ℕ → Bool) → Room → (ℕ → ℕ) → Act → Type 0
 IsAct p written room f (alone e) = TakesAndStores (IsPlainStore p written room) (e ∷ [])
-IsAct p written room f (stores x w) =
+IsAct p written room f (to_element x w) =
     IsCopied p x × ((f (version_address p x) ≡ f (word_place p.map Version) → ⊥) → f (word_place p.map ListLength) < room.list)
 
 -- acts one after another, each on what FRAM then is
@@ -79,3 +79,10 @@ pub record AreMadeByActs (p : Places) (written : ℕ → Bool) (room : Room) (f 
   pub acts : List Act
   pub each : AreActs p written room f acts
   pub is : es ≡ acts_effects p acts f
+
+-- ---- from a state on
+
+-- what statements did from this FRAM on: such stores, and under undo one act after another
+pub record Did (p : Places) (written : ℕ → Bool) (room : Room) (ver : ℕ) (start : ℕ → ℕ) (es : List Effect) : Type 0 where
+  pub stores : TakesAndStores (IsTaskStore p written room ver) es
+  pub acts : IsUndo p → AreMadeByActs p written room start es
