@@ -112,7 +112,7 @@ pub use Rattle.array_versions.specs.declared.program.LoggedPlace.{LoggedPlace}
 -- undo
 pub use Rattle.memory_map.specs.declared.runtime.Logging.{Logging}
 pub use Rattle.memory_map.specs.declared.runtime.Logging.TheVariants.{Redo, Undo}
-pub use Rattle.undo_effects.specs.Stages.{element_stored, first_logged}
+pub use Rattle.undo_effects.specs.Stages.{element_stored, first_logged, word_logged}
 -- this room
 pub use Rattle.lower.specs.Agreement.{DidWithin, own_by}
 pub use Rattle.lower.specs.Lowered.{logged_place, own_read, own_update, own_write, stored_array}
