@@ -135,7 +135,8 @@ pub use Rattle.lower.specs.Lowered.{unary_lowering, update_element_step, update_
 pub use Rattle.lower.specs.Lowered.{write_step, written_array}
 pub use Rattle.lower.specs.Operations.{binary_meaning, long_meaning, long_shift, operand_type, plain_operation, shift_operation}
 pub use Rattle.lower.specs.Runs.{is_followed_by, longer, run_at, runs_from, runs_of}
-pub use Rattle.lower.specs.Seen.{place_seen, places_seen}
+pub use Rattle.lower.specs.Seen.{place_seen, places_seen, task_seen}
+pub use Rattle.std.proofs.lemmas.List.Elements.{All-nil}
 pub use Rattle.lower.specs.Sizes.{BlocksKeepToCycles, BlocksKeepToWords, entry_cycles}
 pub use Rattle.lower.specs.Spots.{AreApart, AreDifferent, AreEven, AreListed, Room, listed_of}
 pub use Rattle.lower.specs.declared.operations.BinaryMeaning.{BinaryMeaning}
