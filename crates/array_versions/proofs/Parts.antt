@@ -160,22 +160,22 @@ module _ (W : Type 0) where
       by false = done
 
   -- an element is logged in front of what writes behind it
-  logged_first_writes : (list : ListPlace) (element version : ℕ) (s : WordState) (next : WordState → Behaviour) → element < 0x10000 → Known s
-      → ((t : WordState) → Known t → WritesBy t (next t)) → WritesBy s (first_logged list element version s next)
-  logged_first_writes list element version s next small k f =
+  logged_first_writes : (list : ListPlace) (e m : ℕ) (s : WordState) (next : WordState → Behaviour) → e < 0x10000 → Known s
+      → ((t : WordState) → Known t → WritesBy t (next t)) → WritesBy s (first_logged list e m s next)
+  logged_first_writes list e m s next small k follows =
       let a = list.list + 4 * s.fram list.cln in
-      let t = stored a element s in
-      let u = stored (a + 2) (t.fram element) t in
+      let t = stored a e s in
+      let u = stored (a + 2) (t.fram e) t in
       let n = (u.fram list.cln + 1) % 65536 in
       let x = stored list.cln n u in
-      let words : Known t = λ y. stored_words s a element (k y) small in
-      let more : Known u = λ y. stored_words t (a + 2) (t.fram element) (words y) ((words y).fram element) in
+      let words : Known t = λ y. stored_words s a e (k y) small in
+      let more : Known u = λ y. stored_words t (a + 2) (t.fram e) (words y) ((words y).fram e) in
       let counted : Known x = λ y. stored_words u list.cln n (more y) (omega arith) in
-      let y = stored version (x.fram list.ver) x in
-      writes_at (is_place list.cln) s _ (λ e. writes_at (is_place a) s _ (λ g. writes_at (is_place (a + 2)) s _ (λ h.
-      writes a element (λ z. small) (writes (a + 2) (t.fram element) (λ z. (words z).fram element) (writes list.cln n (λ z. omega arith)
-      (writes version (x.fram list.ver) (λ z. (counted z).fram list.ver)
-      (f y (λ z. stored_words x version (x.fram list.ver) (counted z) ((counted z).fram list.ver)))))))))
+      let y = stored m (x.fram list.ver) x in
+      writes_at (is_place list.cln) s _ (λ f. writes_at (is_place a) s _ (λ g. writes_at (is_place (a + 2)) s _ (λ h.
+      writes a e (λ z. small) (writes (a + 2) (t.fram e) (λ z. (words z).fram e) (writes list.cln n (λ z. omega arith)
+      (writes m (x.fram list.ver) (λ z. (counted z).fram list.ver)
+      (follows y (λ z. stored_words x m (x.fram list.ver) (counted z) ((counted z).fram list.ver)))))))))
 
   -- what writes a word of this state
   abbrev keeps : ℕ → (WordState → ℕ) → WordState → Behaviour

@@ -278,17 +278,17 @@ own_updated op place list i v s =
 abbrev pub versioned_updated : PlainOperation → ArrayPlace → ListPlace → ℕ → ℕ → WordState → Behaviour
 versioned_updated op place list i v s = if nat_lt i place.length then own_updated op place list i v s else goes_on [] s
 
--- in front of the first store of an attempt to an element, which it goes on with: the element's address and the word there are an entry behind those
--- that are counted, and the count goes up; then the version word is the attempt's number
+-- in front of the first store of an attempt to the element at e, which it goes on with: its address and the word there are an entry behind those that
+-- are counted, and the count goes up; then its version word, at m, is the attempt's number
 abbrev pub first_logged : ListPlace → ℕ → ℕ → WordState → (WordState → Behaviour) → Behaviour
-first_logged list element version s next =
+first_logged list e m s next =
     let a = list.list + 4 * s.fram list.cln in
-    let t = stored a element s in
-    let u = stored (a + 2) (t.fram element) t in
+    let t = stored a e s in
+    let u = stored (a + 2) (t.fram e) t in
     let n = (u.fram list.cln + 1) % 65536 in
     let x = stored list.cln n u in
-    let logging = Store a element ∷ Store (a + 2) (t.fram element) ∷ Store list.cln n ∷ Store version (x.fram list.ver) ∷ [] in
-    at_place list.cln (at_place a (at_place (a + 2) (behind_effects logging (next (stored version (x.fram list.ver) x)))))
+    let logging = Store a e ∷ Store (a + 2) (t.fram e) ∷ Store list.cln n ∷ Store m (x.fram list.ver) ∷ [] in
+    at_place list.cln (at_place a (at_place (a + 2) (behind_effects logging (next (stored m (x.fram list.ver) x)))))
 
 -- a store of an attempt to an element, of a word by the state right in front of it; where the version word isn't the attempt's number, the element is
 -- logged first

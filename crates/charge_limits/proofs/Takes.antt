@@ -9,18 +9,20 @@ use Rattle.machine_effects.specs.event_places.Places.{head_place, slot_place, an
 use Rattle.machine_effects.proofs.Interface.{readings_taken-append}
 use Rattle.array_versions.specs.declared.program.ArrayPlace.{ArrayPlace}
 use Rattle.array_versions.specs.declared.program.ListPlace.{ListPlace}
+use Rattle.array_versions.specs.declared.program.LoggedPlace.{LoggedPlace}
 use Rattle.array_versions.specs.declared.operations.PlainOperation.{PlainOperation}
 use Rattle.array_versions.specs.Operations.{unary_word, plain_word, binary_word, shift_word, is_true, compare_words, long_pops, long_result}
 use Rattle.array_versions.specs.Program.{Step, Test, Program, number, load, keep, update, local, set_local, update_local, unary, binary, shift, long, element}
-use Rattle.array_versions.specs.Program.{emit_word, list_entry, versioned_read, versioned_write, versioned_update, sense, next_event, freeze_events, truth}
-use Rattle.array_versions.specs.Program.{choose, repeat, store_number, move_word, jump, holds, compares, both, either, fails, nothing, step}
+use Rattle.array_versions.specs.Program.{emit_word, list_entry, versioned_read, versioned_write, versioned_update, logged_write, logged_update, sense}
+use Rattle.array_versions.specs.Program.{next_event, freeze_events, truth, choose, repeat, store_number, move_word, jump, holds, compares, both, either, fails}
+use Rattle.array_versions.specs.Program.{nothing, step}
 use Rattle.array_versions.specs.Behaviour.{WordState, End, GoesOn, Jumps, Short, Strays, Broken, Behaviour, behaves, goes_on, behind_effects, on_end, then_on}
 use Rattle.array_versions.specs.Behaviour.{is_place, at_place, with_top, with_two, with_words, with_stack, pushed, stored, with_local, local_pushed, strays}
 use Rattle.array_versions.specs.Behaviour.{local_updated, reading_pushed, raised, event_index, none_answered, word_answered, event_answered}
 use Rattle.array_versions.specs.Behaviour.{with_looks, event_pushed, word_stored, element_pushed, word_emitted, entry_stored, ends_before}
 use Rattle.array_versions.specs.Behaviour.{listed_behind, word_listed, own_element, versioned_pushed, first_stored, own_stored, versioned_stored, own_place}
 use Rattle.array_versions.specs.Behaviour.{own_kept, own_updated, versioned_updated, number_pushed, way_by_top, way_by_two, turns, jumped, step_behaviour}
-use Rattle.array_versions.specs.Behaviour.{tested, behaviour, broken}
+use Rattle.array_versions.specs.Behaviour.{tested, behaviour, broken, first_logged, own_logged, logged_stored, logged_updated}
 use Rattle.charge_limits.proofs.Senses.{step_senses, test_senses, senses}
 
 -- how many readings effects take
@@ -169,6 +171,27 @@ versioned_updated_none op place list i v s =
     (at_takes 0 list.ver (at_place m (at_place a made)) (at_takes 0 m (at_place a made) (at_takes 0 a made
     (own_kept_none b place list i (plain_word op (s.fram a) v) s)))) (omega arith)
 
+first_logged_none : (list : ListPlace) (e m : ℕ) (word : WordState → ℕ) (s : WordState)
+    → None0 (first_logged list e m s (λ t. goes_on (Store e (word t) ∷ []) (stored e (word t) t)))
+first_logged_none list e m word s =
+    let a = list.list + 4 * s.fram list.cln in at_takes 0 list.cln _ (at_takes 0 a _ (at_takes 0 (a + 2) _ (omega arith)))
+
+own_logged_none : (place : LoggedPlace) (list : ListPlace) (i : ℕ) (word : WordState → ℕ) (s : WordState) → None0 (own_logged place list i word s)
+own_logged_none place list i word s =
+    let e = 2 * i + place.elements in
+    let m = 2 * i + place.versions in
+    at_takes 0 e _ (at_takes 0 list.ver _ (at_takes 0 m _
+    (if_takes 0 (s.fram list.ver == s.fram m) _ _ (omega arith) (first_logged_none list e m word s))))
+
+logged_stored_none : (place : LoggedPlace) (list : ListPlace) (i v : ℕ) (s : WordState) → None0 (logged_stored place list i v s)
+logged_stored_none place list i v s =
+    if_takes 0 (nat_lt i place.length) _ (goes_on [] s) (own_logged_none place list i (λ t. v) s) (omega arith)
+
+logged_updated_none : (op : PlainOperation) (place : LoggedPlace) (list : ListPlace) (i v : ℕ) (s : WordState) → None0 (logged_updated op place list i v s)
+logged_updated_none op place list i v s =
+    let e = 2 * i + place.elements in
+    if_takes 0 (nat_lt i place.length) _ (goes_on [] s) (own_logged_none place list i (λ t. plain_word op (t.fram e) v) s) (omega arith)
+
 emitted_none : (count buffer v : ℕ) (s : WordState) → None0 (word_emitted count buffer v s)
 emitted_none count buffer v s =
     let n = s.fram count in
@@ -250,6 +273,10 @@ mutual
       (λ i v vs. versioned_stored_none place list i v (with_stack vs s))
   step_takes (versioned_update op place list) s = two_take 0 s.stack (λ i v vs. versioned_updated op place list i v (with_stack vs s))
       (λ i v vs. versioned_updated_none op place list i v (with_stack vs s))
+  step_takes (logged_write place list) s = two_take 0 s.stack (λ i v vs. logged_stored place list i v (with_stack vs s))
+      (λ i v vs. logged_stored_none place list i v (with_stack vs s))
+  step_takes (logged_update op place list) s = two_take 0 s.stack (λ i v vs. logged_updated op place list i v (with_stack vs s))
+      (λ i v vs. logged_updated_none op place list i v (with_stack vs s))
   step_takes sense s = reading_takes s.inputs.readings s
   step_takes next_event s = event_none s.inputs.looks s
   step_takes freeze_events s = omega arith

@@ -40,7 +40,8 @@ pub use Rattle.word_code.specs.array_versions.Laws.{IsStateOfWords, EndsInWords,
 pub use Rattle.word_code.specs.array_versions.declared.operations.Comparison.{Comparison}
 pub use Rattle.word_code.specs.declared.bounds.Bound.{Bound}
 pub use Rattle.word_code.specs.declared.waiting.Waiting.{Waiting}
-pub use Rattle.word_code.specs.Code.{power, flushed, top_of, below_top, kept, top_to_four, compare_form, is_turned, compare_sides, compare_source, holding, failing}
+pub use Rattle.word_code.specs.Code.{power, flushed, top_of, below_top, kept, top_to_four, compare_form, is_turned, compare_sides, compare_source, holding}
+pub use Rattle.word_code.specs.Code.{failing}
 pub use Rattle.word_code.specs.Code.{decision, holds_code, compares_code, truth_code, number_code, turn_end, turns_code, jump_back, pass_over, size, bound_of}
 pub use Rattle.word_code.specs.Code.{stack_base, stack_set, waiting_behind, waiting_after, step_code, test_code, steps_code, block_code, code_of}
 pub use Rattle.word_code.specs.array_versions.machine_effects.address_space.Limits.{stack_start}

@@ -83,27 +83,29 @@ module _ (z : Setting) where
       let y = alone z pc (step_code bs os first) h in
       leaf_by bs first os pc w u (step_spent first w) least h d next (λ s i. step_follows y bs first fits os pc w u r known s i)
 
-  -- a product by a number that waits, by whether that is a power of two
-  number_leaf : (p : Option ℕ) (bs : List Bound) (fits : Place → Type 0) (n : ℕ) (os : List Waiting) (pc : ℕ) (w : WordState) (u : Core) → power n ≡ p
-      → Ready bs (EachStepWay z.room (binary Multiply) fits) w → KnownStep z bs (binary Multiply)
-      → Stands z.code pc (step_code bs (waiting.Number n ∷ os) (binary Multiply)) → Describes z (waiting.Number n ∷ os) pc w u → (next : ℕ)
-      → (let all = waiting.Number n ∷ os in let first = binary Multiply in let b = step_behaviour first w in
-      Reaches z next (Describes z (waiting_behind all first) (pc + forms_bytes (step_code bs all first))) (leaf_most bs all first + next) u b.effects b.end)
-  number_leaf None bs fits n os pc w u is r known h d next =
-      let all = waiting.Number n ∷ os in
-      let turns = bits_in 15 (n / 2) in
-      let y = alone z pc (step_code bs all (binary Multiply)) h in
-      leaf_by bs (binary Multiply) all pc w u (8 + suc turns * 9) (subst (λ p. 8 + suc turns * 9 ≤ by_number_most p n) (sym is) (omega arith)) h d next
-      (λ s i. product_part y turns n os pc w w.stack u is (λ small. has_bits n small) refl r.words_in.stack s i)
-  number_leaf (Some k) bs fits n os pc w u is r known h d next =
-      leaf bs (binary Multiply) fits (waiting.Number n ∷ os) pc w u (subst (λ p. 152 ≤ by_number_most p n) (sym is) (omega arith)) r known h d next
+  module _ (bs : List Bound) (fits : Place → Type 0) (n : ℕ) (os : List Waiting) (pc : ℕ) (w : WordState) (u : Core) where
+    abbrev all : List Waiting
+    all = waiting.Number n ∷ os
+
+    -- a product by a number that waits, by whether that is a power of two
+    number_leaf : (p : Option ℕ) → power n ≡ p → Ready bs (EachStepWay z.room (binary Multiply) fits) w → KnownStep z bs (binary Multiply)
+        → Stands z.code pc (step_code bs all (binary Multiply)) → Describes z all pc w u → (next : ℕ)
+        → (let first = binary Multiply in let b = step_behaviour first w in
+        Reaches z next (Describes z (waiting_behind all first) (pc + forms_bytes (step_code bs all first))) (leaf_most bs all first + next) u b.effects b.end)
+    number_leaf None is r known h d next =
+        let turns = bits_in 15 (n / 2) in
+        let y = alone z pc (step_code bs all (binary Multiply)) h in
+        leaf_by bs (binary Multiply) all pc w u (8 + suc turns * 9) (subst (λ p. 8 + suc turns * 9 ≤ by_number_most p n) (sym is) (omega arith)) h d next
+        (λ s i. product_part y turns n os pc w w.stack u is (λ small. has_bits n small) refl r.words_in.stack s i)
+    number_leaf (Some k) is r known h d next =
+        leaf bs (binary Multiply) fits all pc w u (subst (λ p. 152 ≤ by_number_most p n) (sym is) (omega arith)) r known h d next
 
   -- an operation on two words
   binary_leaf : (op : BinaryOperation) (bs : List Bound) (fits : Place → Type 0) (os : List Waiting) (pc : ℕ) (w : WordState) (u : Core)
       → Ready bs (EachStepWay z.room (binary op) fits) w → KnownStep z bs (binary op) → Stands z.code pc (step_code bs os (binary op))
       → Describes z os pc w u → (next : ℕ) → (let first = binary op in let b = step_behaviour first w in
       Reaches z next (Describes z (waiting_behind os first) (pc + forms_bytes (step_code bs os first))) (leaf_most bs os first + next) u b.effects b.end)
-  binary_leaf Multiply bs fits (waiting.Number n ∷ os) pc w u r known h d next = number_leaf (power n) bs fits n os pc w u refl r known h d next
+  binary_leaf Multiply bs fits (waiting.Number n ∷ os) pc w u r known h d next = number_leaf bs fits n os pc w u (power n) refl r known h d next
   binary_leaf Multiply bs fits os pc w u r known h d next = leaf bs (binary Multiply) fits os pc w u (omega arith) r known h d next
   binary_leaf Divide bs fits os pc w u r known h d next = leaf bs (binary Divide) fits os pc w u (omega arith) r known h d next
   binary_leaf Remainder bs fits os pc w u r known h d next = leaf bs (binary Remainder) fits os pc w u (omega arith) r known h d next

@@ -3,12 +3,13 @@ use Rattle.codegen.proofs.Names.{◌≡◌, ℕ, zero, suc, ◌+◌, ◌-◌, �
 use Rattle.codegen.proofs.Names.{drop-cons, refl}
 use Rattle.codegen.proofs.Names.{Some, ◌==◌, add-one, rules, subst, Bool, true, false, if◌then◌else◌, Result, Ok, Err, is_ok, test_code, test_words, remove}
 use Rattle.codegen.proofs.Names.{slice_index_or, on_ok_weaker, Condition, Source, Form, Push, Jump, forms_bytes-append, times_code}
-use Rattle.codegen.proofs.Names.{Comparison, PlainOperation, ArrayPlace, ListPlace, Step, Test, Program}
-use Rattle.codegen.proofs.Names.{versioned_read, versioned_write, versioned_update, choose, holds, compares, both, either, step}
+use Rattle.codegen.proofs.Names.{Comparison, PlainOperation, ArrayPlace, ListPlace, LoggedPlace, Step, Test, Program}
+use Rattle.codegen.proofs.Names.{versioned_read, versioned_write, versioned_update, logged_write, logged_update, choose, holds, compares, both, either, step}
 use Rattle.codegen.proofs.Names.{step_of, steps_of, test_of, Bound, Waiting, waiting_source, flushed, top_of}
 use Rattle.codegen.proofs.Names.{below_top, repeated, size, waiting_behind, step_code, steps_code}
 use Rattle.word_code.specs.array_versions.declared.program.WordStep.{WordStep, the_lemmas}
-use Rattle.word_code.specs.array_versions.declared.program.WordStep.TheVariants.{VersionedRead, VersionedWrite, VersionedUpdate, Choose}
+use Rattle.word_code.specs.array_versions.declared.program.WordStep.TheVariants.{VersionedRead, VersionedWrite, VersionedUpdate}
+use Rattle.word_code.specs.array_versions.declared.program.WordStep.TheVariants.{LoggedWrite, LoggedUpdate, Choose}
 use Rattle.word_code.specs.array_versions.declared.program.WordTest.{WordTest}
 use Rattle.word_code.specs.array_versions.declared.program.WordTest.TheVariants.{Holds, Compares, Both, Either}
 use Rattle.std.specs.Result.{OnOk}
@@ -28,6 +29,12 @@ step_of-write place list = search (rules, the_lemmas)
 
 pub step_of-update : (o : PlainOperation) (place : ArrayPlace) (list : ListPlace) → step_of (VersionedUpdate o place list) ≡ versioned_update o place list
 step_of-update o place list = search (rules, the_lemmas)
+
+pub step_of-logged_write : (place : LoggedPlace) (list : ListPlace) → step_of (LoggedWrite place list) ≡ logged_write place list
+step_of-logged_write place list = search (rules, the_lemmas)
+
+pub step_of-logged_update : (o : PlainOperation) (place : LoggedPlace) (list : ListPlace) → step_of (LoggedUpdate o place list) ≡ logged_update o place list
+step_of-logged_update o place list = search (rules, the_lemmas)
 
 pub step_of-choose : (t : WordTest) (p q : Vec WordStep Global) → step_of (Choose t p q) ≡ choose (test_of t) (steps_of p.items) (steps_of q.items)
 step_of-choose t p q = search (rules, the_lemmas)

@@ -15,6 +15,7 @@ pub use Rattle.word_code.specs.code_forms.Forms.{Source, Form, Push, Jump, Calcu
 pub use Rattle.word_code.specs.array_versions.Cost.{step_words, test_words, words_of}
 pub use Rattle.word_code.specs.array_versions.Form.{StepLocalsBelow, TestLocalsBelow, LocalsBelow, locals_of, OfWords}
 pub use Rattle.word_code.specs.array_versions.Program.{Step, Test, Program, local, set_local, update_local, versioned_read, versioned_write, versioned_update}
+pub use Rattle.word_code.specs.array_versions.Program.{logged_write, logged_update}
 pub use Rattle.word_code.specs.array_versions.Program.{truth, choose, repeat, holds, compares, both, either, fails, nothing, step}
 pub use Rattle.word_code.specs.array_versions.View.{step_of, steps_of, test_of}
 pub use Rattle.word_code.specs.array_versions.declared.operations.Comparison.{Comparison}
@@ -22,6 +23,7 @@ pub use Rattle.word_code.specs.array_versions.declared.operations.PlainOperation
 pub use Rattle.word_code.specs.array_versions.declared.operations.ShiftOperation.TheVariants.{Left, Right}
 pub use Rattle.word_code.specs.array_versions.declared.program.ArrayPlace.{ArrayPlace}
 pub use Rattle.word_code.specs.array_versions.declared.program.ListPlace.{ListPlace}
+pub use Rattle.word_code.specs.array_versions.declared.program.LoggedPlace.{LoggedPlace}
 -- this room's own definitions
 pub use Rattle.word_code.specs.Code.{times_code, number_source, check_code, zero_code, fetch_code, element_code, emit_code, entry_code, compare_form, holding}
 pub use Rattle.word_code.specs.Code.{failing}

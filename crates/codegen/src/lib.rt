@@ -6,6 +6,7 @@ mod decisions;
 mod forms;
 mod in_place;
 mod locals;
+mod logged;
 mod longs;
 mod operations;
 pub mod parts;

@@ -11,6 +11,7 @@ use crate::bounds::bounds_within;
 use crate::decisions::{code_words, emit_compares, emit_holds, emit_jump_back, emit_pass_over};
 use crate::in_place::emit_versioned_update;
 use crate::locals::{emit_stack_set, steps_locals};
+use crate::logged::{emit_logged_update, emit_logged_write};
 use crate::longs::emit_long;
 use crate::operations::{emit_binary, emit_unary};
 use crate::shifts::emit_shift;
@@ -181,6 +182,12 @@ pub fn emit_step(
         }
         WordStep::VersionedUpdate(operation, place, list) => {
             emit_versioned_update(alloc, bounds, *operation, *place, *list, waiting, code)
+        }
+        WordStep::LoggedWrite(place, list) => {
+            emit_logged_write(bounds, *place, *list, waiting, code)
+        }
+        WordStep::LoggedUpdate(operation, place, list) => {
+            emit_logged_update(bounds, *operation, *place, *list, waiting, code)
         }
         WordStep::Sense => emit_sense(waiting, code),
         WordStep::NextEvent => emit_next_event(waiting, code),

@@ -7,19 +7,20 @@ use Rattle.memory_map.specs.event_places.Places.{head_place, slot_place}
 use Rattle.array_versions.specs.declared.operations.PlainOperation.{PlainOperation}
 use Rattle.array_versions.specs.Operations.{unary_word, plain_word, binary_word, shift_word, is_true, compare_words, long_pops}
 use Rattle.array_versions.specs.Program.{Step, Test, Program, number, load, keep, update, local, set_local, update_local, unary, binary, shift, long, element}
-use Rattle.array_versions.specs.Program.{emit_word, list_entry, versioned_read, versioned_write, versioned_update, sense, next_event, freeze_events}
-use Rattle.array_versions.specs.Program.{truth, choose, repeat, store_number, move_word, jump, holds, compares, both, either, fails, nothing, step}
+use Rattle.array_versions.specs.Program.{emit_word, list_entry, versioned_read, versioned_write, versioned_update, logged_write, logged_update, sense}
+use Rattle.array_versions.specs.Program.{next_event, freeze_events, truth, choose, repeat, store_number, move_word, jump, holds, compares, both, either, fails}
+use Rattle.array_versions.specs.Program.{nothing, step}
 use Rattle.machine_effects.specs.fram_board.Effects.{Effect}
 use Rattle.array_versions.specs.Behaviour.{WordState, End, GoesOn, Jumps, Behaviour, behaves, goes_on, strays, broken, behind_effects, is_place, with_top}
 use Rattle.array_versions.specs.Behaviour.{with_two}
 use Rattle.array_versions.specs.Behaviour.{with_words, with_stack, pushed, with_local, local_pushed, local_updated, reading_pushed, event_index, none_answered}
 use Rattle.array_versions.specs.Behaviour.{word_answered, with_looks, event_pushed, word_stored, element_pushed, word_emitted, versioned_pushed}
-use Rattle.array_versions.specs.Behaviour.{versioned_stored}
+use Rattle.array_versions.specs.Behaviour.{versioned_stored, logged_stored, logged_updated}
 use Rattle.array_versions.specs.Behaviour.{versioned_updated, number_pushed, way_by_top, way_by_two, turns, step_behaviour, tested, behaviour}
 use Rattle.event_rules.specs.Taking.{Ended, Next, Blind}
 use Rattle.task_attempts.proofs.Asks.{Takes, Looks, Sees, AnswersNone, AnswersWord, Counts, Freezes, AsksFrom, Reaches, Does, Leads, does_behind, then_does}
 use Rattle.task_attempts.proofs.Asks.{still, one_does, loads, element_pushes, versioned_pushes, word_stores, emitted_stores, entry_stores, versioned_stores}
-use Rattle.task_attempts.proofs.Asks.{versioned_updates}
+use Rattle.task_attempts.proofs.Asks.{versioned_updates, logged_stores, logged_updates}
 
 -- ---- an answer
 
@@ -122,6 +123,8 @@ mutual
   step_does (versioned_read place list) s = popped s (versioned_pushed place list) (λ v t. versioned_pushes place list v t)
   step_does (versioned_write place list) s = two_popped s (versioned_stored place list) (λ u v t. versioned_stores place list u v t)
   step_does (versioned_update op place list) s = two_popped s (versioned_updated op place list) (λ u v t. versioned_updates op place list u v t)
+  step_does (logged_write place list) s = two_popped s (logged_stored place list) (λ u v t. logged_stores place list u v t)
+  step_does (logged_update op place list) s = two_popped s (logged_updated op place list) (λ u v t. logged_updates op place list u v t)
   step_does sense s = reading_does s.inputs.readings s
   step_does next_event s = event_does s
   step_does freeze_events s = record { asks = Next (Freezes refl refl) Ended; fram = refl; looks = refl }

@@ -9,13 +9,14 @@ use Rattle.machine_effects.proofs.Interface.{fram_after-append}
 use Rattle.memory_map.specs.event_places.Places.{tail_place, count_place, sent_place, answer_place, head_place, slot_place}
 use Rattle.array_versions.specs.declared.program.ArrayPlace.{ArrayPlace}
 use Rattle.array_versions.specs.declared.program.ListPlace.{ListPlace}
+use Rattle.array_versions.specs.declared.program.LoggedPlace.{LoggedPlace}
 use Rattle.array_versions.specs.declared.operations.PlainOperation.{PlainOperation}
 use Rattle.array_versions.specs.Operations.{plain_word}
 use Rattle.array_versions.specs.Behaviour.{WordState, End, GoesOn, Jumps, Short, Strays, Broken, Behaviour, behaves, goes_on, strays, is_place, at_place}
 use Rattle.array_versions.specs.Behaviour.{pushed, stored, behind_effects, then_on, word_stored, element_pushed, word_emitted, raised, entry_stored}
 use Rattle.array_versions.specs.Behaviour.{ends_before}
 use Rattle.array_versions.specs.Behaviour.{listed_behind, own_element, versioned_pushed, first_stored, own_stored, versioned_stored, own_place, own_updated}
-use Rattle.array_versions.specs.Behaviour.{versioned_updated}
+use Rattle.array_versions.specs.Behaviour.{versioned_updated, first_logged, own_logged, logged_stored, logged_updated}
 use Rattle.event_rules.specs.Taking.{Taking, Open, SawHead, SawSlot, Took, next_index, looks_behind, FollowsSeeing, Ended, Next}
 use Rattle.event_rules.proofs.Interface.{looks_after, joined}
 
@@ -213,3 +214,39 @@ own_updates op place list i v s =
 
 pub versioned_updates : (op : PlainOperation) (place : ArrayPlace) (list : ListPlace) (i v : ℕ) (s : WordState) → Does s (versioned_updated op place list i v s)
 versioned_updates op place list i v s = one_does (nat_lt i place.length) s _ _ (own_updates op place list i v s) (still refl refl)
+
+-- ---- elements that are logged
+
+logged_first_stores : (list : ListPlace) (e m : ℕ) (word : WordState → ℕ) (s : WordState) → is_place e ≡ true → is_place m ≡ true
+    → Does s (first_logged list e m s (λ t. goes_on (Store e (word t) ∷ []) (stored e (word t) t)))
+logged_first_stores list e m word s e_place m_place =
+    let a = list.list + 4 * s.fram list.cln in
+    let s1 = stored a e s in
+    let s2 = stored (a + 2) (s1.fram e) s1 in
+    let n = (s2.fram list.cln + 1) % 65536 in
+    let s3 = stored list.cln n s2 in
+    let s4 = stored m (s3.fram list.ver) s3 in
+    let end = GoesOn (stored e (word s4) s4) in
+    let kept = Store e (word s4) ∷ [] in
+    let marked = Store m (s3.fram list.ver) ∷ kept in
+    let counted = Store list.cln n ∷ marked in
+    does_at (is_place list.cln) s _ (λ c. does_at (is_place a) s _ (λ f. does_at (is_place (a + 2)) s _ (λ g.
+    stores_first s (Store (a + 2) (s1.fram e) ∷ counted) a e end (place_low a f)
+    (stores_first s1 counted (a + 2) (s1.fram e) end (place_low (a + 2) g)
+    (stores_first s2 marked list.cln n end (place_low list.cln c)
+    (stores_first s3 kept m (s3.fram list.ver) end (place_low m m_place) (stores_last e (word s4) s4 (place_low e e_place))))))))
+
+own_logged_stores : (place : LoggedPlace) (list : ListPlace) (i : ℕ) (word : WordState → ℕ) (s : WordState) → Does s (own_logged place list i word s)
+own_logged_stores place list i word s =
+    let e = 2 * i + place.elements in
+    let m = 2 * i + place.versions in
+    does_at (is_place e) s _ (λ f. does_at (is_place list.ver) s _ (λ g. does_at (is_place m) s _ (λ h.
+    one_does (s.fram list.ver == s.fram m) s _ _ (stores_last e (word s) s (place_low e f)) (logged_first_stores list e m word s f h))))
+
+pub logged_stores : (place : LoggedPlace) (list : ListPlace) (i v : ℕ) (s : WordState) → Does s (logged_stored place list i v s)
+logged_stores place list i v s = one_does (nat_lt i place.length) s _ _ (own_logged_stores place list i (λ t. v) s) (still refl refl)
+
+pub logged_updates : (op : PlainOperation) (place : LoggedPlace) (list : ListPlace) (i v : ℕ) (s : WordState) → Does s (logged_updated op place list i v s)
+logged_updates op place list i v s =
+    let e = 2 * i + place.elements in
+    one_does (nat_lt i place.length) s _ _ (own_logged_stores place list i (λ t. plain_word op (t.fram e) v) s) (still refl refl)

@@ -4,7 +4,5 @@
 pub use Rattle.undo_runtime.proofs.Boot.{undo_commit_is_found, recovery_is_made, undo_start_is_made}
 -- The commit.
 pub use Rattle.undo_runtime.proofs.Commit.{undo_commit_is_made}
--- A store to an element.
-pub use Rattle.undo_runtime.proofs.ElementStores.{element_is_stored}
 -- The length of the code.
 pub use Rattle.undo_runtime.proofs.Words.{undo_boot_is_short, undo_boot_is_code, undo_boot_fits, undo_commit_is_short, undo_commit_is_code}

@@ -3,7 +3,6 @@ mod Opening
 mod Entering
 mod Boot
 mod Commit
-mod ElementStores
 mod Words
 mod Writing
 pub mod Interface

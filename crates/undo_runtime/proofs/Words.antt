@@ -1,5 +1,5 @@
--- The length of the code, and what starts and first stores cost at most.
-use Rattle.std.proofs.Common.{◌≡◌, ℕ, suc, ◌+◌, ◌*◌, ◌≤◌, List, [], ◌∷◌, ◌++◌, length, refl, ◌∙◌, arith, true, false}
+-- The length of the code, and what starts cost at most.
+use Rattle.std.proofs.Common.{◌≡◌, ℕ, suc, ◌+◌, ◌*◌, ◌≤◌, List, [], ◌∷◌, ◌++◌, length, refl, ◌∙◌, arith}
 use Rattle.std.proofs.lemmas.List.{length-map}
 use Rattle.runtime_code.specs.code_forms.Forms.{Branch}
 use Rattle.runtime_code.specs.code_forms.Code.{forms_bytes}
@@ -14,7 +14,7 @@ use Rattle.commit_runtime.specs.Listing.{tail_set, events_taken}
 use Rattle.memory_map.specs.MemoryMap.{MemoryMap}
 use Rattle.undo_runtime.specs.Listing.{recovering, numbers_set, opening, logs_in, LoggedTask, rung_for, rungs, stub_bytes, stubs_bytes, stubs_place}
 use Rattle.undo_runtime.specs.Listing.{gated_forms, ladder_forms, boot_forms, closing, undo_commit_forms}
-use Rattle.undo_runtime.specs.Laws.{UndoStartsAreShort, FirstStoresAreShort, UndoBootIsShort, UndoBootIsCode, UndoBootFits, entry_room}
+use Rattle.undo_runtime.specs.Laws.{UndoStartsAreShort, UndoBootIsShort, UndoBootIsCode, UndoBootFits, entry_room}
 use Rattle.undo_runtime.specs.Laws.{UndoCommitIsShort, UndoCommitIsCode, UndoCommitFits}
 use Rattle.undo_runtime.proofs.Entering.{stub_size}
 
@@ -121,7 +121,3 @@ undo_commit_fits events = let few = with_events_most events 6 in omega (arith, f
 
 pub undo_starts_are_short : UndoStartsAreShort
 undo_starts_are_short events versions privates = let once = if_any_most privates 3 in omega (arith, once)
-
-pub first_stores_are_short : FirstStoresAreShort
-first_stores_are_short true = omega arith
-first_stores_are_short false = omega arith

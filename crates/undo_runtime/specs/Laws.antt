@@ -1,5 +1,5 @@
 -- What the code of the undo runtime does.
-use Rattle.std.specs.Prelude.{◌≡◌, ◌≢◌, ℕ, ◌+◌, ◌*◌, ◌%◌, ◌<◌, ◌≤◌, ◌==◌, Bool, false, List, [], ◌∷◌, length, All}
+use Rattle.std.specs.Prelude.{◌≡◌, ◌≢◌, ℕ, ◌+◌, ◌*◌, ◌%◌, ◌<◌, ◌≤◌, Bool, false, List, [], ◌∷◌, length, All}
 use Rattle.runtime_code.specs.machine_effects.World.{fram_after}
 use Rattle.runtime_code.specs.machine_effects.Machine.{Code}
 use Rattle.runtime_code.specs.code_forms.Forms.{Core}
@@ -13,11 +13,10 @@ use Rattle.runtime_code.specs.Addresses.{stack_origin}
 use Rattle.runtime_code.specs.Comes.{Comes, IsAt, Enters}
 use Rattle.privatise.specs.Sizes.{own_boot_words, commit_words}
 use Rattle.boot_runtime.specs.Laws.{NamesHandler}
-use Rattle.undo_effects.specs.Stages.{element_stored, recovery, undo_start, undo_commit}
+use Rattle.undo_effects.specs.Stages.{recovery, undo_start, undo_commit}
 use Rattle.undo_runtime.specs.Listing.{LoggedTask, task_at, privates_in, boot_forms, boot_bytes, start_place, start_steps, start_cycles}
 use Rattle.undo_runtime.specs.Listing.{recovery_steps, recovery_cycles, undo_commit_forms, commit_bytes, commit_steps, commit_cycles}
-use Rattle.undo_runtime.specs.Listing.{logged_write, first_bytes, first_steps, first_cycles}
-use Rattle.undo_runtime.specs.Needs.{ListStands, IsLoggable, CanRecover, CanClose, CanLog}
+use Rattle.undo_runtime.specs.Needs.{ListStands, IsLoggable, CanRecover, CanClose}
 
 -- a task that the boot can come to: the words of its private scalars can be logged, and the list has room for them
 pub record IsReached (m : MemoryMap) (t : LoggedTask) : Type 0 where
@@ -77,22 +76,9 @@ UndoCommitIsMade = (code : Code) (m : MemoryMap) (at start : ℕ) (u : Core) →
     let events = m.runtime.events in
     Comes code es (commit_steps events emits) (commit_cycles events emits) u (IsAt start (fram_after es u.fram) u.inputs)
 
--- from where the listing stands, with 2 * i in R4 and a word in R5, the code makes exactly the store of that word to element i of an array
-abbrev pub ElementIsStored : Type 0
-ElementIsStored = (code : Code) (m : MemoryMap) (elements versions i at : ℕ) (u : Core) → IsTidy code → AreInFram m → ListStands m
-    → at + first_bytes + 4 < 0x10000 → Stands code at (logged_write m elements versions) → u.pc ≡ at → u.work 4 ≡ 2 * i
-    → CanLog m (2 * i + elements) (2 * i + versions) u.fram
-    → let later = u.fram (2 * i + versions) == u.fram (word_place m Version) in
-    let es = element_stored m (2 * i + elements) (2 * i + versions) (u.work 5) u.fram in
-    Comes code es (first_steps later + 1) (first_cycles later + 4) u (IsAt (at + first_bytes + 4) (fram_after es u.fram) u.inputs)
-
 -- a start without clearing takes 29 cycles at most, 4 more where there are events, and 15 for each word of a private scalar, whatever the arrays
 abbrev pub UndoStartsAreShort : Type 0
 UndoStartsAreShort = (events : Bool) (versions privates : ℕ) → start_cycles events false versions privates ≤ 29 + with_events events 4 + 15 * privates
-
--- a first store to an element takes 45 cycles at most
-abbrev pub FirstStoresAreShort : Type 0
-FirstStoresAreShort = (later : Bool) → first_cycles later + 4 ≤ 45
 
 -- the code's length
 abbrev pub UndoBootIsShort : Type 0

@@ -1,11 +1,9 @@
--- The code of boot, start, commit and stores to elements under undo: its listing.
+-- The code of boot, start and commit under undo: its listing.
 use Rattle.std.specs.Prelude.{ℕ, suc, ◌+◌, ◌-◌, ◌*◌, Bool, if◌then◌else◌, List, [], ◌∷◌, ◌++◌, length, get_or, map}
-use Rattle.runtime_code.specs.msp_isa.declared.instructions.TwoOp.{TwoOp}
-use Rattle.runtime_code.specs.msp_isa.declared.instructions.TwoOp.TheVariants.{Add, Cmp}
-use Rattle.runtime_code.specs.msp_isa.declared.instructions.Condition.TheVariants.{Equal}
+use Rattle.runtime_code.specs.msp_isa.declared.instructions.TwoOp.TheVariants.{Add}
 use Rattle.runtime_code.specs.msp_isa.declared.operands.Konst.TheVariants.{Zero, One}
-use Rattle.runtime_code.specs.code_forms.Forms.{Form, Move, Calculate, Update, Branch, R4, R5, R6, R7}
-use Rattle.runtime_code.specs.code_forms.Forms.{Register, Number, Constant, Fram, Indexed, ToRegister, ToFram, ToPointed, ToIndexed}
+use Rattle.runtime_code.specs.code_forms.Forms.{Form, Move, Calculate, Update, Branch, R4, R6, R7}
+use Rattle.runtime_code.specs.code_forms.Forms.{Register, Number, Constant, Fram, Indexed, ToRegister, ToFram, ToPointed}
 use Rattle.memory_map.specs.declared.words.RuntimeWord.TheVariants.{CurrentTask, NextTask, Gate, ListLength, EmitCount, Base, Version}
 use Rattle.memory_map.specs.MemoryMap.{MemoryMap, word_place, with_events}
 use Rattle.runtime_code.specs.Addresses.{gate_address}
@@ -168,42 +166,3 @@ commit_steps events emits = 9 + with_events events 1 + (if_any emits 1 + 5 * emi
 
 abbrev pub commit_cycles : Bool → ℕ → ℕ
 commit_cycles events emits = 30 + with_events events 6 + (if_any emits 2 + 13 * emits)
-
--- ---- a store to an element: 2 * its index is in R4, and the word in R5
-
--- the element is logged, and its version word becomes VER
-abbrev pub first_forms : MemoryMap → ℕ → ℕ → List Form
-first_forms m elements versions =
-    Move (Fram (word_place m ListLength)) (ToRegister R7) ∷ Calculate Add (Register R7) R7 ∷ Calculate Add (Register R7) R7
-    ∷ Move (Register R4) (ToRegister R6) ∷ Calculate Add (Number elements) R6 ∷ Move (Register R6) (ToIndexed R7 m.list.address)
-    ∷ Move (Indexed R4 elements) (ToIndexed R7 (m.list.address + 2)) ∷ Update Add (Constant One) (word_place m ListLength)
-    ∷ Move (Fram (word_place m Version)) (ToIndexed R4 versions) ∷ []
-
--- where its version word is VER, over that
-abbrev pub version_tested : MemoryMap → ℕ → ℕ → List Form
-version_tested m elements versions =
-    Move (Fram (word_place m Version)) (ToRegister R6) ∷ Calculate Cmp (Indexed R4 versions) R6 ∷ over Equal (first_forms m elements versions) ∷ []
-
--- in front of a store
-abbrev pub logged_first : MemoryMap → ℕ → ℕ → List Form
-logged_first m elements versions = version_tested m elements versions ++ first_forms m elements versions
-
--- the word in R5 goes to the element
-abbrev pub logged_write : MemoryMap → ℕ → ℕ → List Form
-logged_write m elements versions = logged_first m elements versions ++ (Move (Register R5) (ToIndexed R4 elements) ∷ [])
-
--- the word in R5 is calculated with the element's
-abbrev pub logged_update : TwoOp → MemoryMap → ℕ → ℕ → List Form
-logged_update op m elements versions =
-    logged_first m elements versions
-    ++ (Move (Indexed R4 elements) (ToRegister R6) ∷ Calculate op (Register R5) R6 ∷ Move (Register R6) (ToIndexed R4 elements) ∷ [])
-
--- the bytes of what stands in front of the store, its steps and its cycles, by whether the version word is VER
-abbrev pub first_bytes : ℕ
-first_bytes = 44
-
-abbrev pub first_steps : Bool → ℕ
-first_steps later = if later then 3 else 12
-
-abbrev pub first_cycles : Bool → ℕ
-first_cycles later = if later then 8 else 36

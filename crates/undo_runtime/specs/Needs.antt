@@ -30,11 +30,3 @@ pub record CanRecover (m : MemoryMap) (f : ℕ → ℕ) : Type 0 where
 pub record CanClose (m : MemoryMap) (f : ℕ → ℕ) : Type 0 where
   pub emit_count : f (word_place m EmitCount) ≤ m.emits.words
   pub sent_base : f (word_place m SentBase) < 0x10000
-
--- an element of an array with its version word, and FRAM on which it can be logged
-pub record CanLog (m : MemoryMap) (element version : ℕ) (f : ℕ → ℕ) : Type 0 where
-  pub element_is : IsLoggable m element
-  pub version_is : IsPlace version
-  pub version_word : f version < 0x10000
-  pub number_word : f (word_place m Version) < 0x10000
-  pub first : f version ≢ f (word_place m Version) → f (word_place m ListLength) < m.entries

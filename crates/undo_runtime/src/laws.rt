@@ -1,7 +1,7 @@
 //! Laws of the undo runtime's code. The functions do nothing: their contracts are the laws.
 
-ghost use Rattle.undo_runtime.specs.Laws.{UndoCommitIsFound, RecoveryIsMade, UndoStartIsMade, UndoCommitIsMade, ElementIsStored, UndoStartsAreShort};
-ghost use Rattle.undo_runtime.specs.Laws.{FirstStoresAreShort, UndoBootIsShort, UndoBootIsCode, UndoBootFits, UndoCommitIsShort, UndoCommitIsCode};
+ghost use Rattle.undo_runtime.specs.Laws.{UndoCommitIsFound, RecoveryIsMade, UndoStartIsMade, UndoCommitIsMade, UndoStartsAreShort, UndoBootIsShort};
+ghost use Rattle.undo_runtime.specs.Laws.{UndoBootIsCode, UndoBootFits, UndoCommitIsShort, UndoCommitIsCode};
 ghost use Rattle.undo_runtime.specs.Laws.{UndoCommitFits};
 
 /// From its first instruction on, the boot comes to the commit where GATE is 1, and does nothing else; else it puts the entries of the list back, the last
@@ -25,19 +25,10 @@ pub fn undo_commit_is_made()
     ensures { UndoCommitIsMade }
 {}
 
-/// The code of a store to an element makes exactly that: the first of an attempt lists the element's address and its word, counts the entry, stores VER to
-/// the element's version word, and then the word to the element.
-#[tactic(auto, using(crate::proofs::ElementStores::element_is_stored))]
-pub fn element_is_stored()
-    ensures { ElementIsStored }
-{}
-
-/// The start of an attempt takes 29 cycles at most, 4 more where there are events, and 15 for each word of its private scalars, but for the clearing; a
-/// store to an element takes 45 at most.
-#[tactic(auto, using(crate::proofs::Words::undo_starts_are_short, crate::proofs::Words::first_stores_are_short))]
+/// The start of an attempt takes 29 cycles at most, 4 more where there are events, and 15 for each word of its private scalars, but for the clearing.
+#[tactic(auto, using(crate::proofs::Words::undo_starts_are_short))]
 pub fn undo_starts_are_short()
-    ensures short { UndoStartsAreShort }
-    ensures first { FirstStoresAreShort }
+    ensures { UndoStartsAreShort }
 {}
 
 /// The code of the boot is 50 words long, 5 more where there are events, and for each task 2, and where it has private scalars 2 more and 8 for each of

@@ -1,9 +1,8 @@
 //! The code of the undo runtime: the boot, which finishes a commit that is pending and else puts back what a cut attempt changed; the start of an attempt,
-//! which logs the words of the task's private scalars; the commit; and the stores to elements, of which the first of an attempt logs.
+//! which logs the words of the task's private scalars; and the commit.
 #![tactic(auto)]
 
 mod closing;
-mod elements;
 mod laws;
 mod recovering;
 mod stubs;
@@ -18,10 +17,9 @@ use boot_runtime::{
     push_interrupts_enabled, version_cleared,
 };
 pub use closing::commit_code;
-pub use elements::{logged_update, logged_write};
 pub use laws::{
-    element_is_stored, recovery_is_made, undo_boot_is_short, undo_commit_is_made,
-    undo_commit_is_short, undo_start_is_made, undo_starts_are_short,
+    recovery_is_made, undo_boot_is_short, undo_commit_is_made, undo_commit_is_short,
+    undo_start_is_made, undo_starts_are_short,
 };
 use memory_map::{Layout, RuntimeWord};
 use recovering::push_recovering;

@@ -1,8 +1,10 @@
 -- Elements that are logged and stored in their place.
 use Rattle.word_code.proofs.Names.{◌≡◌, ℕ, ◌+◌, ◌-◌, ◌*◌, ◌%◌, ◌<◌, ◌≤◌, ◌==◌, Bool, true, false, nat_lt, if◌then◌else◌, List, [], ◌∷◌, ◌++◌, refl, sym}
 use Rattle.word_code.proofs.Names.{ap, ◌∙◌, subst, arith, word_sum, sum16, distance, Effect, Store, put, IsPlace, R5, Core, Register, ToIndexed, Form, Move}
-use Rattle.word_code.proofs.Names.{Stands, forms_bytes, forms_bytes-append, stands_front, stands_back, Runs, PlainOperation, ArrayPlace, ListPlace, LoggedPlace, plain_word}
-use Rattle.word_code.proofs.Names.{WordState, Behaviour, goes_on, behind_effects, with_two, with_stack, is_place, at_place, stored, first_logged, own_logged, logged_stored}
+use Rattle.word_code.proofs.Names.{Stands, forms_bytes, forms_bytes-append, stands_front, stands_back, Runs, PlainOperation, ArrayPlace, ListPlace}
+use Rattle.word_code.proofs.Names.{LoggedPlace, plain_word}
+use Rattle.word_code.proofs.Names.{WordState, Behaviour, goes_on, behind_effects, with_two, with_stack, is_place, at_place, stored}
+use Rattle.word_code.proofs.Names.{first_logged, own_logged, logged_stored}
 use Rattle.word_code.proofs.Names.{logged_updated, logged_write, logged_update, put_words, Bound, Waiting, top_of, below_top, flushed, kept, two_to_registers}
 use Rattle.word_code.proofs.Names.{check_code, size, is_inside, log_code, logged_first, logged_code, kept_in, made_in, step_code}
 use Rattle.word_code.proofs.Memory.{HoldsWords, AreWords, place_is, address_small}

@@ -1,7 +1,8 @@
 -- Steps where words wait: values that come to wait in a register, and statements behind which none waits.
 use Rattle.word_code.proofs.Names.{AllByRecursion, stays, ◌≡◌, ℕ, ◌+◌, ◌*◌, ◌<◌, ◌≤◌, ◌-◌, ◌/◌, ◌%◌, ◌^◌, ◌==◌, ◌&&◌, Bool, true, false, nat_lt, if◌then◌else◌}
-use Rattle.word_code.proofs.Names.{suc, List, [], ◌∷◌, ◌++◌, length, Option, Some, None, refl, sym, ap, ◌∙◌, subst, arith, bit_and, w16, ltb-true, eqb-true, ne_eqb}
-use Rattle.word_code.proofs.Names.{le-leb, Step, and_parts, same_Some, and_mask, pow_pos, word_sum, word_product, quotient, remainder, unwrap_or, Take, put}
+use Rattle.word_code.proofs.Names.{suc, List, [], ◌∷◌, ◌++◌, length, Option, Some, None, refl, sym, ap, ◌∙◌, subst, arith, bit_and, w16, ltb-true, eqb-true}
+use Rattle.word_code.proofs.Names.{ne_eqb, le-leb, Step, and_parts, same_Some, and_mask, pow_pos, word_sum, word_product, quotient, remainder}
+use Rattle.word_code.proofs.Names.{unwrap_or, Take, put}
 use Rattle.word_code.proofs.Names.{IsPlace, R4, R5, R6, Core, Form, Move, Calculate, Update, Push, Ram, ToFram, sensed, Stands, forms_bytes, Runs, stands_front}
 use Rattle.word_code.proofs.Names.{stands_back, forms_bytes-append, ArrayPlace, ListPlace, UnaryOperation, Negate, Complement, BinaryOperation, Multiply}
 use Rattle.word_code.proofs.Names.{Divide, Remainder, Plain, PlainOperation, And, ShiftOperation, Left, Right, unary_word, plain_word, binary_word, shift_word}

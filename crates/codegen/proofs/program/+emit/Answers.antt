@@ -3,7 +3,8 @@ use Rattle.codegen.proofs.Names.{StepLocalsBelow, TestLocalsBelow, LocalsBelow, 
 use Rattle.codegen.proofs.Names.{flushed, false, pass_over, jump_back, number_code, truth_code, turn_end, waiting_after, steps_code, test_code, block_code}
 use Rattle.word_code.specs.msp_isa.declared.instructions.Condition.TheVariants as condition
 use Rattle.word_code.specs.array_versions.declared.program.WordStep as word_step
-use Rattle.codegen.proofs.Emitted.{behind, on_ok_items, test_size, step_of-choose, step_of-read, step_of-write, step_of-update, test_of-holds}
+use Rattle.codegen.proofs.Emitted.{behind, on_ok_items, test_size, step_of-choose, step_of-read, step_of-write, step_of-update}
+use Rattle.codegen.proofs.Emitted.{step_of-logged_write, step_of-logged_update, test_of-holds}
 use Rattle.codegen.proofs.Emitted.{test_of-compares, test_of-both, test_of-either, words_at_most, step_owed, left_front}
 use Rattle.word_code.proofs.Interface.{pass_takes, turn_end_takes, inner_takes}
 use Rattle.codegen.proofs.program.+emit.Goals as goal
@@ -96,6 +97,36 @@ pub emit_step-returns-in-VersionedUpdate-clause-of_words : goal.emit_step-return
 emit_step-returns-in-VersionedUpdate-clause-of_words t c =
     let of = c.in-VersionedUpdate in
     rw (ap step_of of.is ∙ step_of-update of.operation of.place of.list) c.emit_versioned_update.ensures.of_words
+
+pub emit_step-returns-in-LoggedWrite-clause-code : goal.emit_step-returns-in-LoggedWrite-clause-code
+emit_step-returns-in-LoggedWrite-clause-code t c =
+    let of = c.in-LoggedWrite in
+    rw (ap step_of of.is ∙ step_of-logged_write of.place of.list) c.emit_logged_write.ensures.code
+
+pub emit_step-returns-in-LoggedWrite-clause-waiting : goal.emit_step-returns-in-LoggedWrite-clause-waiting
+emit_step-returns-in-LoggedWrite-clause-waiting t c =
+    let of = c.in-LoggedWrite in
+    rw (ap step_of of.is ∙ step_of-logged_write of.place of.list) c.emit_logged_write.ensures.waiting
+
+pub emit_step-returns-in-LoggedWrite-clause-of_words : goal.emit_step-returns-in-LoggedWrite-clause-of_words
+emit_step-returns-in-LoggedWrite-clause-of_words t c =
+    let of = c.in-LoggedWrite in
+    rw (ap step_of of.is ∙ step_of-logged_write of.place of.list) c.emit_logged_write.ensures.of_words
+
+pub emit_step-returns-in-LoggedUpdate-clause-code : goal.emit_step-returns-in-LoggedUpdate-clause-code
+emit_step-returns-in-LoggedUpdate-clause-code t c =
+    let of = c.in-LoggedUpdate in
+    rw (ap step_of of.is ∙ step_of-logged_update of.operation of.place of.list) c.emit_logged_update.ensures.code
+
+pub emit_step-returns-in-LoggedUpdate-clause-waiting : goal.emit_step-returns-in-LoggedUpdate-clause-waiting
+emit_step-returns-in-LoggedUpdate-clause-waiting t c =
+    let of = c.in-LoggedUpdate in
+    rw (ap step_of of.is ∙ step_of-logged_update of.operation of.place of.list) c.emit_logged_update.ensures.waiting
+
+pub emit_step-returns-in-LoggedUpdate-clause-of_words : goal.emit_step-returns-in-LoggedUpdate-clause-of_words
+emit_step-returns-in-LoggedUpdate-clause-of_words t c =
+    let of = c.in-LoggedUpdate in
+    rw (ap step_of of.is ∙ step_of-logged_update of.operation of.place of.list) c.emit_logged_update.ensures.of_words
 
 pub emit_test-code_words-requires : goal.emit_test-code_words-requires
 emit_test-code_words-requires t c =

@@ -1,0 +1,7 @@
+use Rattle.codegen.proofs.Emitted.{behind, on_ok_items}
+use Rattle.codegen.proofs.logged.emit_made.Goals as goal
+
+pub returns : goal.returns
+returns c =
+    let added = on_ok_items c.extend_from_slice.result _ _ _ c.extend_from_slice.ensures.items in
+    behind c.extend_from_slice.result _ _ _ _ _ c.in_ok-emit_first.ensures added

@@ -1,0 +1,141 @@
+//! The code of elements that are logged and stored in their place.
+
+ghost use Rattle.std.specs.Prelude.{◌≡◌, [], ◌++◌, OnOk};
+ghost use Rattle.word_code.specs.array_versions.Form.{LoggedOfWords, ListOfWords};
+ghost use Rattle.word_code.specs.array_versions.Program as value;
+ghost use Rattle.word_code.specs.Code.{logged_first, logged_code, kept_in, made_in, step_code};
+
+use crate::bounds::{emit_check, is_inside};
+use crate::operations::plain_instruction;
+use crate::waiting::{emit_all, emit_two_to_registers, under_top};
+use array_versions::{ListPlace, LoggedPlace, PlainOperation};
+use std::alloc::AllocError;
+use word_code::forms::Form::{Calculate, Move, Update};
+use word_code::forms::Source::{Constant, Fram, Indexed, Number, Register};
+use word_code::forms::Target::{ToIndexed, ToRegister};
+use word_code::forms::WorkRegister::{R4, R5, R6, R7};
+use word_code::forms::{Condition, Form, Konst, TwoOp, jump};
+use word_code::{Bound, Waiting};
+
+// The index in R4 becomes the element's offset; where its version word isn't the attempt's number, the element is logged.
+fn emit_first(place: LoggedPlace, list: ListPlace, code: &mut Vec<Form>) -> Result<(), AllocError>
+    ensures { OnOk result (code.new.items ≡ code.old.items ++ logged_first place list) }
+{
+    let words = list.list.wrapping_add(2);
+    code.extend_from_slice(&[
+        Calculate(TwoOp::Add, Register(R4), R4),
+        Move(Fram(list.ver), ToRegister(R6)),
+        Calculate(TwoOp::Cmp, Indexed(R4, place.versions), R6),
+        jump(Condition::Equal, 17),
+        Move(Fram(list.cln), ToRegister(R7)),
+        Calculate(TwoOp::Add, Register(R7), R7),
+        Calculate(TwoOp::Add, Register(R7), R7),
+        Move(Register(R4), ToRegister(R6)),
+        Calculate(TwoOp::Add, Number(place.elements), R6),
+        Move(Register(R6), ToIndexed(R7, list.list)),
+        Move(Indexed(R4, place.elements), ToIndexed(R7, words)),
+        Update(TwoOp::Add, Constant(Konst::One), list.cln),
+        Move(Fram(list.ver), ToIndexed(R4, place.versions)),
+    ])
+}
+
+// The word in R5 to the element at the index in R4, which is below the length.
+fn emit_kept(place: LoggedPlace, list: ListPlace, code: &mut Vec<Form>) -> Result<(), AllocError>
+    ensures { OnOk result (code.new.items ≡ code.old.items ++ (logged_first place list ++ kept_in place.elements)) }
+{
+    emit_first(place, list, code)?;
+    code.extend_from_slice(&[Move(Register(R5), ToIndexed(R4, place.elements))])
+}
+
+// The same, by whether the index in R4 is surely below the length.
+#[tactic(auto, using(std::proofs::Common::append_assoc))]
+fn emit_write(
+    inside: bool,
+    place: LoggedPlace,
+    list: ListPlace,
+    code: &mut Vec<Form>,
+) -> Result<(), AllocError>
+    ensures code { OnOk result (code.new.items ≡ code.old.items ++ logged_code inside place list (kept_in place.elements)) }
+    ensures of_words { OnOk result (LoggedOfWords place × ListOfWords list) }
+{
+    if inside {
+        return emit_kept(place, list, code);
+    }
+    emit_check(place.length, 25, code)?;
+    emit_kept(place, list, code)
+}
+
+// What the operation gives of the element at the index in R4, which is below the length, and of the word in R5 to the element.
+fn emit_made(
+    operation: PlainOperation,
+    place: LoggedPlace,
+    list: ListPlace,
+    code: &mut Vec<Form>,
+) -> Result<(), AllocError>
+    ensures { OnOk result (code.new.items ≡ code.old.items ++ (logged_first place list ++ made_in operation place.elements)) }
+{
+    emit_first(place, list, code)?;
+    code.extend_from_slice(&[
+        Move(Indexed(R4, place.elements), ToRegister(R7)),
+        Calculate(plain_instruction(operation), Register(R5), R7),
+        Move(Register(R7), ToIndexed(R4, place.elements)),
+    ])
+}
+
+// The same, by whether the index in R4 is surely below the length.
+#[tactic(auto, using(std::proofs::Common::append_assoc))]
+fn emit_update(
+    inside: bool,
+    operation: PlainOperation,
+    place: LoggedPlace,
+    list: ListPlace,
+    code: &mut Vec<Form>,
+) -> Result<(), AllocError>
+    ensures code { OnOk result (code.new.items ≡ code.old.items ++ logged_code inside place list (made_in operation place.elements)) }
+    ensures of_words { OnOk result (LoggedOfWords place × ListOfWords list) }
+{
+    if inside {
+        return emit_made(operation, place, list, code);
+    }
+    emit_check(place.length, 28, code)?;
+    emit_made(operation, place, list, code)
+}
+
+/// Appends the code of a store to an element that is logged.
+#[tactic(auto, using(std::proofs::Common::append_assoc))]
+pub fn emit_logged_write(
+    bounds: &[Bound],
+    place: LoggedPlace,
+    list: ListPlace,
+    waiting: &mut Vec<Waiting>,
+    code: &mut Vec<Form>,
+) -> Result<(), AllocError>
+    ensures code { OnOk result (code.new.items ≡ code.old.items ++ step_code bounds.now waiting.old.items (value.logged_write place list)) }
+    ensures waiting { OnOk result (waiting.new.items ≡ []) }
+    ensures of_words { OnOk result (LoggedOfWords place × ListOfWords list) }
+{
+    let inside = is_inside(bounds, under_top(waiting), place.length);
+    emit_two_to_registers(waiting, code)?;
+    emit_all(waiting, code)?;
+    emit_write(inside, place, list, code)
+}
+
+/// Appends the code of an update of an element that is logged.
+#[tactic(auto, using(std::proofs::Common::append_assoc))]
+pub fn emit_logged_update(
+    bounds: &[Bound],
+    operation: PlainOperation,
+    place: LoggedPlace,
+    list: ListPlace,
+    waiting: &mut Vec<Waiting>,
+    code: &mut Vec<Form>,
+) -> Result<(), AllocError>
+    ensures code { OnOk result (code.new.items ≡ code.old.items ++ step_code bounds.now waiting.old.items (value.logged_update operation place list)) }
+    ensures waiting { OnOk result (waiting.new.items ≡ []) }
+    ensures of_words { OnOk result (LoggedOfWords place × ListOfWords list) }
+{
+    let inside = is_inside(bounds, under_top(waiting), place.length);
+    emit_two_to_registers(waiting, code)?;
+    emit_all(waiting, code)?;
+    emit_update(inside, operation, place, list, code)
+}
