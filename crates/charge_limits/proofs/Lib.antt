@@ -1,4 +1,5 @@
 mod Senses
+mod Weights
 mod Takes
 mod Lowered
 mod Scripts

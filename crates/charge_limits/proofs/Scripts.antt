@@ -1,8 +1,10 @@
--- What a run follows from a power-up or a done on takes no more readings than a task's text has.
-use Rattle.std.proofs.Common.{ℕ, zero, suc, ◌+◌, ◌≤◌, ◌==◌, Bool, true, false, if◌then◌else◌, List, [], ◌∷◌, ◌++◌, ap, subst, arith}
-use Rattle.machine_effects.specs.fram_board.Effects.{Effect}
-use Rattle.machine_effects.specs.World.{fram_after, looks_taken, IsPrefix}
-use Rattle.machine_effects.specs.Inputs.{Inputs}
+-- What a run follows from a power-up or a done on takes no more readings, and offers no more words, than a task's text has.
+use Rattle.std.proofs.Common.{◌≡◌, ℕ, zero, suc, ◌+◌, ◌%◌, ◌≤◌, ◌==◌, Bool, true, false, if◌then◌else◌, List, [], ◌∷◌, ◌++◌, length, sym, ap, ◌∙◌, subst, arith}
+use Rattle.machine_effects.specs.fram_board.Effects.{Effect, Store}
+use Rattle.machine_effects.specs.World.{World, world_after_one, world_after, fram_after, readings_taken, looks_taken}
+use Rattle.machine_effects.specs.Inputs.{Inputs, InputsAreWords}
+use Rattle.machine_effects.proofs.Interface.{world_after-append}
+use Rattle.cost_bound.specs.Counts.{emits_of}
 use Rattle.source_values.specs.Runs.{CheckedProgram, State, task_body}
 use Rattle.array_versions.specs.Behaviour.{behaviour, started}
 use Rattle.memory_map.specs.declared.words.RuntimeWord.TheVariants.{CurrentTask, Gate, EmitCount, SentBase}
@@ -12,116 +14,254 @@ use Rattle.runtime_effects.specs.Stages.{copied_home, sends, emits_sent, commit_
 use Rattle.runtime_effects.specs.Stages.{copied_in, start_effects, is_at_end, tail_moved}
 use Rattle.boot_runtime.specs.Entries.{task_entries}
 use Rattle.boot_runtime.specs.Listing.{privates_in}
-use Rattle.crash_rules.specs.Model.{Model, ProgramEffects, program_effects, with_commit, attempt_from, script}
-use Rattle.crash_rules.specs.History.{History, inputs_from}
-use Rattle.crash_rules.specs.Laws.{FollowsScript}
-use Rattle.compiled_model.specs.Parts.{redo_model, task_program, has_jumped}
+use Rattle.crash_rules.specs.Model.{Model, ModelLaws, ProgramEffects, program_effects, with_commit, attempt_from, script}
+use Rattle.crash_rules.specs.Model.{AttemptContract, Comes, Lacks}
+use Rattle.crash_rules.specs.History.{Done, History, inputs_from}
+use Rattle.crash_rules.specs.Laws.{Origin, Resting, Pending, IsPending, IsSettled, StartsFrom, FromUndecided, FromDecided, FromCommitting}
+use Rattle.crash_rules.specs.Laws.{StandsFor, FollowsScript}
+use Rattle.crash_rules.proofs.Interface.{world_fram}
+use Rattle.compiled_model.specs.Parts.{redo_model, task_program}
 use Rattle.compiled_model.proofs.Interface.{is_redo}
 use Rattle.task_readings.specs.Readings.{block_readings}
-use Rattle.charge_limits.specs.Laws.{readings_from, ReadingsAreFew}
-use Rattle.charge_limits.proofs.Takes.{taken, taken-append, program_takes}
+use Rattle.charge_limits.specs.Laws.{readings_from, ReadingsAreFew, words_offered, words_from, WordsAreFew}
+use Rattle.charge_limits.proofs.Weights.{weighed, weighed-append, readings_weigh, words_weigh, none_offered, offered-append}
+use Rattle.charge_limits.proofs.Takes.{program_takes}
 use Rattle.charge_limits.proofs.Lowered.{task_few}
 
--- ---- the runtime takes none
+-- ---- the runtime takes no reading, and its starts offer no word
 
-two_none : (a b : List Effect) → taken a ≤ 0 → taken b ≤ 0 → taken (a ++ b) ≤ 0
-two_none a b h k = let all = taken-append a b in omega (arith, all, h, k)
+module _ (weight : ℕ) where
+  abbrev Weighs : ℕ → List Effect → Type 0
+  Weighs n es = weighed weight es ≤ n
 
-where_none : (events : Bool) (es : List Effect) → taken es ≤ 0 → taken (where_events events es) ≤ 0
-where_none true es h = h
-where_none false es h = omega arith
+  two_weigh : (n : ℕ) (a b : List Effect) → Weighs 0 a → Weighs n b → Weighs n (a ++ b)
+  two_weigh n a b h k = let all = weighed-append weight a b in omega (arith, all, h, k)
 
-home_none : (ps : List CopyPair) (f : ℕ → ℕ) → taken (copied_home ps f) ≤ 0
-home_none [] f = omega arith
-home_none (x ∷ xs) f = home_none xs _
+  where_none : (events : Bool) (es : List Effect) → Weighs 0 es → Weighs 0 (where_events events es)
+  where_none true es h = h
+  where_none false es h = omega arith
 
-sends_none : (n number p : ℕ) (f : ℕ → ℕ) → taken (sends n number p f) ≤ 0
-sends_none zero number p f = omega arith
-sends_none (suc n) number p f = sends_none n _ (p + 2) f
+  home_none : (ps : List CopyPair) (f : ℕ → ℕ) → Weighs 0 (copied_home ps f)
+  home_none [] f = omega arith
+  home_none (x ∷ xs) f = home_none xs _
 
-commit_none : (l : MemoryMap) (f : ℕ → ℕ) → taken (commit_effects l f) ≤ 0
-commit_none l f =
-    let closes = two_none (tail_moved l f) _ (where_none l.runtime.events _ (omega arith)) (omega arith) in
-    two_none (copied_home (listed l f) f) (emits_sent l f ++ commit_closed l f) (home_none (listed l f) f)
-    (two_none (emits_sent l f) (commit_closed l f) (sends_none (f (word_place l EmitCount)) (f (word_place l SentBase)) l.emits.address f) closes)
+  closed_none : (l : MemoryMap) (f : ℕ → ℕ) → Weighs 0 (commit_closed l f)
+  closed_none l f = two_weigh 0 (tail_moved l f) _ (where_none l.runtime.events _ (omega arith)) (omega arith)
 
-cleared_none : (n p : ℕ) → taken (cleared n p) ≤ 0
-cleared_none zero p = omega arith
-cleared_none (suc n) p = cleared_none n (p + 2)
+  -- of a commit only the words that it sends have a weight
+  commit_weighs : (l : MemoryMap) (n : ℕ) (f : ℕ → ℕ) → Weighs n (emits_sent l f) → Weighs n (commit_effects l f)
+  commit_weighs l n f sent =
+      let closes = closed_none l f in
+      let all = weighed-append weight (emits_sent l f) (commit_closed l f) in
+      two_weigh n (copied_home (listed l f) f) (emits_sent l f ++ commit_closed l f) (home_none (listed l f) f) (omega (arith, all, sent, closes))
 
-clearing_none : (l : MemoryMap) (comes : Bool) → taken (clearing_if l comes) ≤ 0
-clearing_none l true = two_none (cleared l.versions.words l.versions.address) _ (cleared_none l.versions.words l.versions.address) (omega arith)
-clearing_none l false = omega arith
+  cleared_none : (n p : ℕ) → Weighs 0 (cleared n p)
+  cleared_none zero p = omega arith
+  cleared_none (suc n) p = cleared_none n (p + 2)
 
-in_none : (ps : List CopyPair) (f : ℕ → ℕ) → taken (copied_in ps f) ≤ 0
-in_none [] f = omega arith
-in_none (x ∷ xs) f = in_none xs _
+  clearing_none : (l : MemoryMap) (comes : Bool) → Weighs 0 (clearing_if l comes)
+  clearing_none l true = two_weigh 0 (cleared l.versions.words l.versions.address) _ (cleared_none l.versions.words l.versions.address) (omega arith)
+  clearing_none l false = omega arith
 
-opening_none : (l : MemoryMap) (f : ℕ → ℕ) → taken (opening_effects l f) ≤ 0
-opening_none l f =
-    two_none (clearing_if l (is_at_end l f)) _ (clearing_none l (is_at_end l f)) (where_none l.runtime.events _ (omega arith))
+  in_none : (ps : List CopyPair) (f : ℕ → ℕ) → Weighs 0 (copied_in ps f)
+  in_none [] f = omega arith
+  in_none (x ∷ xs) f = in_none xs _
 
-start_none : (l : MemoryMap) (privates : ℕ → List CopyPair) (f : ℕ → ℕ) → taken (start_effects l privates f) ≤ 0
-start_none l privates f =
-    let ps = privates (f (word_place l CurrentTask)) in
-    let g = fram_after (opening_effects l f) f in
-    two_none (opening_effects l f) (copied_in ps g) (opening_none l f) (in_none ps g)
+  opening_none : (l : MemoryMap) (f : ℕ → ℕ) → Weighs 0 (opening_effects l f)
+  opening_none l f = two_weigh 0 (clearing_if l (is_at_end l f)) _ (clearing_none l (is_at_end l f)) (where_none l.runtime.events _ (omega arith))
+
+  start_none : (l : MemoryMap) (privates : ℕ → List CopyPair) (f : ℕ → ℕ) → Weighs 0 (start_effects l privates f)
+  start_none l privates f =
+      let ps = privates (f (word_place l CurrentTask)) in
+      let g = fram_after (opening_effects l f) f in
+      two_weigh 0 (opening_effects l f) (copied_in ps g) (opening_none l f) (in_none ps g)
+
+  -- an attempt weighs no more than its task's text has readings, whatever a word weighs
+  attempt_weighs : (p : CheckedProgram) (l : MemoryMap) (f : ℕ → ℕ) (inputs : Inputs)
+      → Weighs (block_readings (task_body p (f (word_place l CurrentTask)))) ((redo_model p l).attempt f inputs).effects
+  attempt_weighs p l f inputs =
+      let k = f (word_place l CurrentTask) in
+      let es = start_effects l (privates_in (task_entries l)) f in
+      let own = program_takes weight (task_program p l k) (started (fram_after es f) inputs) in
+      let text = task_few p l k in
+      two_weigh (block_readings (task_body p k)) es _ (start_none l (privates_in (task_entries l)) f) (omega (arith, own, text))
+
+-- ---- readings
+
+sends_no_reading : (n number p : ℕ) (f : ℕ → ℕ) → weighed 0 (sends n number p f) ≤ 0
+sends_no_reading zero number p f = omega arith
+sends_no_reading (suc n) number p f = sends_no_reading n _ (p + 2) f
+
+commit_none : (l : MemoryMap) (f : ℕ → ℕ) → weighed 0 (commit_effects l f) ≤ 0
+commit_none l f = commit_weighs 0 l 0 f (sends_no_reading (f (word_place l EmitCount)) (f (word_place l SentBase)) l.emits.address f)
+
+-- ---- words
+
+sends_few : (n number p : ℕ) (f : ℕ → ℕ) → weighed 1 (sends n number p f) ≤ n
+sends_few zero number p f = omega arith
+sends_few (suc n) number p f = let rest = sends_few n ((number + 1) % 0x10000) (p + 2) f in omega (arith, rest)
+
+offered : List Effect → ℕ
+offered es = length (words_offered es)
 
 -- ---- scripts
+
+-- the commit, or an attempt
+either_few : (count : List Effect → ℕ) (pending : Bool) (a b : ProgramEffects) (n : ℕ) → count a.effects ≤ 0 → count b.effects ≤ n
+    → count (if pending then a else b).effects ≤ (if pending then 0 else n)
+either_few count true a b n h k = h
+either_few count false a b n h k = k
 
 module _ (p : CheckedProgram) (l : MemoryMap) where
   abbrev m : Model State
   m = redo_model p l
 
-  -- an attempt, with its commit if it comes to its end
-  attempt_few : (f : ℕ → ℕ) (inputs : Inputs)
-      → taken (with_commit m f inputs (m.attempt f inputs)).effects ≤ block_readings (task_body p (f (word_place l CurrentTask)))
-  attempt_few f inputs =
-      let k = f (word_place l CurrentTask) in
-      let es = start_effects l (privates_in (task_entries l)) f in
-      let b = behaviour (task_program p l k) (started (fram_after es f) inputs) in
-      let tail : Bool → List Effect = λ ends. if ends then commit_effects l (fram_after (es ++ b.effects) f) else [] in
-      let none : (ends : Bool) → taken (tail ends) ≤ 0 = λ ends. commit_if ends (commit_effects l (fram_after (es ++ b.effects) f))
-      (commit_none l (fram_after (es ++ b.effects) f)) in
-      let start = start_none l (privates_in (task_entries l)) f in
-      let own = program_takes (task_program p l k) (started (fram_after es f) inputs) in
-      let text = task_few p l k in
-      let first = taken-append es b.effects in
-      let all = taken-append (es ++ b.effects) (tail (has_jumped b.end)) in
-      let last = none (has_jumped b.end) in
-      omega (arith, start, own, text, first, all, last)
+  abbrev text_of : (ℕ → ℕ) → ℕ
+  text_of f = block_readings (task_body p (f (word_place l CurrentTask)))
+
+  -- ---- readings
+
+  taken_few : (f : ℕ → ℕ) (inputs : Inputs) (a : ProgramEffects) → weighed 0 a.effects ≤ text_of f → weighed 0 (with_commit m f inputs a).effects ≤ text_of f
+  taken_few f inputs a few =
+      let tail : Bool → List Effect = λ ends. if ends then commit_effects l (fram_after a.effects f) else [] in
+      let all = weighed-append 0 a.effects (tail a.ends) in
+      let last = last_none a.ends in
+      omega (arith, all, few, last)
     where
-      commit_if : (ends : Bool) (es : List Effect) → taken es ≤ 0 → taken (if ends then es else []) ≤ 0
-      commit_if true es h = h
-      commit_if false es h = omega arith
+      last_none : (ends : Bool) → weighed 0 (if ends then commit_effects l (fram_after a.effects f) else []) ≤ 0
+      last_none true = commit_none l (fram_after a.effects f)
+      last_none false = omega arith
 
-  booted_few : (booted : Bool) (f : ℕ → ℕ) (inputs : Inputs)
-      → taken (with_commit m f inputs (attempt_from m booted f inputs)).effects ≤ block_readings (task_body p (f (word_place l CurrentTask)))
-  booted_few true f inputs = attempt_few f inputs
-  booted_few false f inputs = attempt_few f inputs
+  booted_few : (booted : Bool) (f : ℕ → ℕ) (inputs : Inputs) → weighed 0 (with_commit m f inputs (attempt_from m booted f inputs)).effects ≤ text_of f
+  booted_few true f inputs = taken_few f inputs (m.attempt f inputs) (attempt_weighs 0 p l f inputs)
+  booted_few false f inputs = taken_few f inputs (m.attempt f inputs) (attempt_weighs 0 p l f inputs)
 
-  -- the commit, or an attempt
-  either_few : (pending : Bool) (a b : ProgramEffects) (n : ℕ) → taken a.effects ≤ 0 → taken b.effects ≤ n
-      → taken (if pending then a else b).effects ≤ (if pending then 0 else n)
-  either_few true a b n h k = h
-  either_few false a b n h k = k
-
-  script_few : (booted : Bool) (f : ℕ → ℕ) (inputs : Inputs) → taken (script m booted f inputs).effects ≤ readings_from p l f
+  script_few : (booted : Bool) (f : ℕ → ℕ) (inputs : Inputs) → weighed 0 (script m booted f inputs).effects ≤ readings_from p l f
   script_few booted f inputs =
-      either_few (f (word_place l Gate) == 1) (program_effects (m.commit f inputs) true) (with_commit m f inputs (attempt_from m booted f inputs))
-      (block_readings (task_body p (f (word_place l CurrentTask)))) (commit_none l f) (booted_few booted f inputs)
+      either_few (weighed 0) (f (word_place l Gate) == 1) (program_effects (m.commit f inputs) true) (with_commit m f inputs (attempt_from m booted f inputs))
+      (text_of f) (commit_none l f) (booted_few booted f inputs)
 
-  -- and each prefix
-  prefix_few : (es fs : List Effect) → IsPrefix es fs → taken es ≤ taken fs
-  prefix_few es fs h = let all = taken-append es h.rest in let same = ap taken h.joins in omega (arith, all, same)
-
-  follows_few : (readings : List ℕ) (h : History) → FollowsScript m readings h → taken h.effects ≤ readings_from p l h.start.fram
+  follows_few : (readings : List ℕ) (h : History) → FollowsScript m readings h → length (readings_taken h.effects) ≤ readings_from p l h.start.fram
   follows_few readings h follows =
       let inputs = inputs_from readings h.since (looks_taken h.effects ++ follows.left) in
-      let part = prefix_few h.effects (script m h.booted h.start.fram inputs).effects follows.follows in
+      let all = weighed-append 0 h.effects follows.follows.rest in
+      let same = ap (weighed 0) follows.follows.joins in
       let whole = script_few h.booted h.start.fram inputs in
-      omega (arith, part, whole)
+      let count = readings_weigh 0 h.effects in
+      omega (arith, all, same, whole, count)
+
+  -- ---- words
+
+  -- an attempt offers none
+  attempt_offers_none : (f : ℕ → ℕ) (inputs : Inputs) → offered (m.attempt f inputs).effects ≡ 0
+  attempt_offers_none f inputs =
+      let light = attempt_weighs (suc (text_of f)) p l f inputs in
+      none_offered (suc (text_of f)) (m.attempt f inputs).effects (omega (arith, light))
+
+  -- a commit offers no more than the words that are emitted in FRAM
+  commit_offers_few : (f : ℕ → ℕ) → offered (commit_effects l f) ≤ f (word_place l EmitCount)
+  commit_offers_few f =
+      let n = f (word_place l EmitCount) in
+      let weight = commit_weighs 1 l n f (sends_few n (f (word_place l SentBase)) l.emits.address f) in
+      let words = words_weigh (commit_effects l f) in
+      omega (arith, weight, words)
+
+  -- and as many as a task emits at most, where the world was decided from its state
+  decided_offers_few : (s next : State) (x : World) → m.Decided s next x → offered (commit_effects l x.fram) ≤ emits_of (task_body p s.task)
+  decided_offers_few s next x d =
+      let few = commit_offers_few x.fram in
+      let count = d.decided.sends.emit_count in
+      let within = d.decided.sends.within_emits in
+      omega (arith, few, count, within)
+
+  -- an attempt with its commit, where it comes to its end
+  ended_offers_few : (s : State) (x : World) (inputs : Inputs) (a : ProgramEffects) → offered a.effects ≡ 0 → AttemptContract m s inputs x a
+      → offered (with_commit m x.fram inputs a).effects ≤ emits_of (task_body p s.task)
+  ended_offers_few s x inputs a none (Comes next c) =
+      let gate : List Effect = Store m.marks.gate 1 ∷ [] in
+      let es = c.before ++ gate in
+      let decided = decided_offers_few s next _ c.decided in
+      let there : (world_after_one (Store m.marks.gate 1) (world_after c.before x)).fram ≡ fram_after es x.fram =
+      ap (λ y. y.fram) (sym (world_after-append c.before gate x)) ∙ world_fram es x in
+      let same = ap (λ f. offered (commit_effects l f)) there in
+      let commit : offered (commit_effects l (fram_after es x.fram)) ≤ emits_of (task_body p s.task) = omega (arith, decided, same) in
+      let attempt : offered es ≡ 0 = ap (λ q. offered q.effects) (sym c.is) ∙ none in
+      let all = offered-append es (commit_effects l (fram_after es x.fram)) in
+      let made : offered (with_commit m x.fram inputs (program_effects es true)).effects ≤ emits_of (task_body p s.task) =
+      omega (arith, commit, attempt, all) in
+      subst (λ q. offered (with_commit m x.fram inputs q).effects ≤ emits_of (task_body p s.task)) (sym c.is) made
+  ended_offers_few s x inputs a none (Lacks c) =
+      let tail : Bool → List Effect = λ ends. if ends then commit_effects l (fram_after a.effects x.fram) else [] in
+      let all = offered-append a.effects (tail a.ends) in
+      let last = ap (λ ends. offered (tail ends)) c.is in
+      omega (arith, all, none, last)
+
+  module _ (laws : ModelLaws m) where
+    -- a world that is undecided at a state
+    undecided_few : (booted : Bool) (s : State) (x : World) (inputs : Inputs) → InputsAreWords inputs → m.Undecided s x
+        → offered (script m booted x.fram inputs).effects ≤ emits_of (task_body p s.task)
+    undecided_few booted s x inputs words u =
+        let commit = program_effects (m.commit x.fram inputs) true in
+        let attempt = with_commit m x.fram inputs (attempt_from m booted x.fram inputs) in
+        let is : script m booted x.fram inputs ≡ attempt = ap (λ gate. if gate == 1 then commit else attempt) (laws.undecided_gate s x u) in
+        subst (λ q. offered q.effects ≤ emits_of (task_body p s.task)) (sym is) (from booted)
+      where
+        made : offered (with_commit m x.fram inputs (m.attempt x.fram inputs)).effects ≤ emits_of (task_body p s.task)
+        made = ended_offers_few s x inputs (m.attempt x.fram inputs) (attempt_offers_none x.fram inputs) (laws.attempts s x inputs words u)
+
+        from : (b : Bool) → offered (with_commit m x.fram inputs (attempt_from m b x.fram inputs)).effects ≤ emits_of (task_body p s.task)
+        from true = made
+        from false = made
+
+    -- one with a commit that is due
+    committing_few : (booted : Bool) (to : State) (x : World) (inputs : Inputs) (n : ℕ) → m.Committing to x → offered (commit_effects l x.fram) ≤ n
+        → offered (script m booted x.fram inputs).effects ≤ n
+    committing_few booted to x inputs n c few =
+        let commit = program_effects (m.commit x.fram inputs) true in
+        let attempt = with_commit m x.fram inputs (attempt_from m booted x.fram inputs) in
+        let is : script m booted x.fram inputs ≡ commit = ap (λ gate. if gate == 1 then commit else attempt) (laws.committing_gate to x c) in
+        subst (λ q. offered q.effects ≤ n) (sym is) few
+
+    -- where nothing is pending the words are those of the state's task
+    settled_words : (n : ℕ) (origin : Origin State) (ds : List Done) (s : State) → IsSettled origin ds → n ≤ emits_of (task_body p s.task)
+        → n ≤ words_from p l origin ds s
+    settled_words n (Resting first) ds s settled h = h
+    settled_words n (Pending to) [] s settled h = absurd settled
+    settled_words n (Pending to) (d ∷ ds) s settled h = h
+
+    pending_words : (n : ℕ) (origin : Origin State) (ds : List Done) (s : State) → IsPending origin ds → n ≤ l.emits.words → n ≤ words_from p l origin ds s
+    pending_words n (Resting first) ds s pending h = absurd pending
+    pending_words n (Pending to) [] s pending h = h
+    pending_words n (Pending to) (d ∷ ds) s pending h = absurd pending
+
+    script_offers_few : (booted : Bool) (origin : Origin State) (ds : List Done) (s : State) (x : World) (inputs : Inputs) → InputsAreWords inputs
+        → StartsFrom m origin ds s x → offered (script m booted x.fram inputs).effects ≤ words_from p l origin ds s
+    script_offers_few booted origin ds s x inputs words (FromUndecided settled u) =
+        settled_words _ origin ds s settled (undecided_few booted s x inputs words u)
+    script_offers_few booted origin ds s x inputs words (FromDecided next settled d) =
+        settled_words _ origin ds s settled
+        (committing_few booted next x inputs _ (laws.decided_committing s next x d) (decided_offers_few s next x d))
+    script_offers_few booted origin ds s x inputs words (FromCommitting pending c) =
+        let few = commit_offers_few x.fram in
+        let room = c.pending.emit_count in
+        pending_words _ origin ds s pending (committing_few booted s x inputs l.emits.words c (omega (arith, few, room)))
+
+    words_follow : (readings : List ℕ) (origin : Origin State) (h : History) → FollowsScript m readings h → (stands : StandsFor m readings origin h)
+        → offered h.effects ≤ words_from p l origin h.completed stands.state
+    words_follow readings origin h follows stands =
+        let all = offered-append h.effects follows.follows.rest in
+        let same = ap offered follows.follows.joins in
+        let whole = script_offers_few h.booted origin h.completed stands.state h.start _ follows.words stands.starts in
+        omega (arith, all, same, whole)
 
 pub readings_are_few : ReadingsAreFew
-readings_are_few p l readings h follows =
-    follows_few p l readings h (subst (λ m. FollowsScript m readings h) (is_redo p l) follows)
+readings_are_few p l logs readings h follows =
+    follows_few p l readings h (subst (λ m. FollowsScript m readings h) (is_redo p l logs) follows)
+
+-- the law for a model
+abbrev WordsFollow : CheckedProgram → MemoryMap → Model State → Type 0
+WordsFollow p l m = ModelLaws m → (readings : List ℕ) (origin : Origin State) (h : History) → FollowsScript m readings h
+    → (stands : StandsFor m readings origin h) → offered h.effects ≤ words_from p l origin h.completed stands.state
+
+pub words_are_few : WordsAreFew
+words_are_few p l logs = subst (WordsFollow p l) (sym (is_redo p l logs)) (words_follow p l)

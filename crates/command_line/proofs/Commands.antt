@@ -23,7 +23,8 @@ use Rattle.command_line.specs.Commands.{IsPlainLine, NamesCommand, line_found, p
 use Rattle.command_line.specs.declared.Command.{Command}
 use Rattle.command_line.specs.declared.Command.TheVariants.{Mean, Try, Build, Run, Asm, Dis, Gen, Save, Resume, Migrate, Audit}
 use Rattle.command_line.proofs.Files.{files_said, said_length, IsGiven, IsInOrder, built_subcommand, file_row, given_row, more_given, rows_for}
-use Rattle.command_line.proofs.Lines.{Line, all_in_order, has_name, in_order, line_reads, line_says, line_there, named}
+use Rattle.command_line.proofs.FirstWord.{has_name, named}
+use Rattle.command_line.proofs.Lines.{Line, all_in_order, in_order, line_reads, line_says, line_there}
 
 -- ---- the program's words are texts
 
@@ -72,9 +73,15 @@ line_found_is words name rows l is =
     ∙ ap (option_map (λ texts. l.name ∷ texts)) l.said in
     ap (λ n. line_found n rows) (sym called ∙ word) ∙ found ∙ sym (line_says words l)
 
+-- the values of one file
+pub one_value : (name : Text) (rows : List Row) (file : Option (Bor Text)) → first_of name rows ≡ option_map (λ (f : Bor Text). f.now) file
+    → option_map (λ (f : Bor Text). f.now ∷ []) file ≡ values_of (name ∷ []) rows
+one_value name rows None is = rw is refl
+one_value name rows (Some f) is = rw is refl
+
 -- ---- each command has a line, and each line a command
 
-some_more : (word : Text) (o : Option (List Text)) (line : List Text) → option_map (λ fs. word ∷ fs) o ≡ Some line
+pub some_more : (word : Text) (o : Option (List Text)) (line : List Text) → option_map (λ fs. word ∷ fs) o ≡ Some line
     → (files : List Text) × (o ≡ Some files) × (line ≡ word ∷ files)
 some_more word None line e = cc
 some_more word (Some files) line e = (files, refl, ap (λ o. unwrap_or o []) (sym e))

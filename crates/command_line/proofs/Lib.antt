@@ -1,6 +1,7 @@
 pub mod Interface
 mod Files
 mod Numbers
+mod FirstWord
 mod Lines
 mod Commands
 mod Added

@@ -5,6 +5,7 @@ use Rattle.std.proofs.lemmas.List.Elements.{All-nil}
 use Rattle.machine_effects.specs.Inputs.{Look, Inputs, InputsAreWords, no_inputs}
 use Rattle.cost_bound.specs.Counts.{emits_of}
 use Rattle.crash_rules.specs.Model.{bound, greatest}
+use Rattle.crash_rules.proofs.Interface.{below_greatest}
 use Rattle.cost_bound.specs.Allowance.{CheckedProgram, CheckedTask, IsAllowed, bound_of, list_of, scalars_of, task_bound, uses_events, versions_of}
 use Rattle.cost_bound.specs.declared.allowance.Allow.{Allow}
 use Rattle.war_analysis.proofs.Interface.{element}
@@ -88,13 +89,6 @@ all_within cost most (suc n) h =
     let is : greatest cost (suc n) ≡ max (greatest cost n) (cost n) = greater (greatest cost n) (cost n) in
     omega (arith, rest, last, is)
 
-one_within : (cost : ℕ → ℕ) (n k : ℕ) → k < n → cost k ≤ greatest cost n
-one_within cost zero k below = absurd (omega (arith, below))
-one_within cost (suc n) k below =
-    let is : greatest cost (suc n) ≡ max (greatest cost n) (cost n) = greater (greatest cost n) (cost n) in
-    ⊎_elim {C = cost k ≤ greatest cost (suc n)} (λ less. let rest = one_within cost n k less in omega (arith, rest, is))
-    (λ last. let same : k ≡ n = omega (arith, below, last) in subst (λ j. cost j ≤ greatest cost (suc n)) (sym same) (omega (arith, is))) (cases_lt k n)
-
 pub needs_keep_to_the_bound : NeedsKeepToTheBound
 needs_keep_to_the_bound p l some costs needs =
     let n = with_needs p l (compiled_model p l) in
@@ -106,7 +100,7 @@ needs_keep_to_the_bound p l some costs needs =
       readings = All-nil (λ w. w < 0x10000);
       looks = All-nil (λ (look : Look). (n : ℕ) → look n < 0x10000);
     }) in
-    let own = one_within (program_parts p l).cost (length p.tasks) t below in
+    let own = below_greatest (program_parts p l).cost (length p.tasks) t below in
     omega (arith, beside, own) in
     let each : (t : ℕ) → t < suc (length p.tasks) → n.task_cost t ≤ most = λ t below.
     ⊎_elim {C = n.task_cost t ≤ most}

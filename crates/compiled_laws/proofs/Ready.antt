@@ -1,5 +1,5 @@
 -- An accepted source with its layout is ready to run.
-use Rattle.std.proofs.Common.{ℕ, ◌<◌, sym, subst, arith, List, length}
+use Rattle.std.proofs.Common.{ℕ, ◌<◌, sym, ap, subst, arith, List, length}
 use Rattle.cost_bound.specs.declared.allowance.Allow.{Allow}
 use Rattle.war_analysis.proofs.Interface.{element}
 use Rattle.source_values.specs.Runs.{CheckedProgram}
@@ -8,6 +8,8 @@ use Rattle.source_meaning.proofs.Interface.{accepted_texts_run}
 use Rattle.war_analysis.specs.PlanValue.{TaskPlanValue}
 use Rattle.array_versions.specs.Program.{Program}
 use Rattle.array_versions.specs.Form.{FitsTheStack, OfWords}
+use Rattle.memory_map.specs.declared.runtime.Logging.TheVariants.{Redo}
+use Rattle.memory_map.specs.declared.runtime.Runtime.{Runtime}
 use Rattle.memory_map.specs.MemoryMap.{MemoryMap}
 use Rattle.stands_for.proofs.Interface.{each_weaker}
 use Rattle.lower.proofs.Interface.{program_at}
@@ -28,7 +30,7 @@ module _ (text : List ℕ) (p : CheckedProgram) (allow : Allow) (plans : List Ta
   run = accepted_texts_run text p allow t.accepted
 
   laid : HasLayout p allow plans l
-  laid = record { allowed = t.accepted.allowed; plan = t.plan; layout = t.layout; few = privates_are_few text p allow plans l t }
+  laid = record { allowed = t.accepted.allowed; plan = t.plan; logging = Redo; layout = t.layout; few = privates_are_few text p allow plans l t }
 
   -- the program of a task is whole, and of words
   one_whole : (k : ℕ) → k < length p.tasks → FitsTheStack (task_program p l k) × OfWords (task_program p l k)
@@ -41,6 +43,7 @@ module _ (text : List ℕ) (p : CheckedProgram) (allow : Allow) (plans : List Ta
 
   code : CanRun p l
   code = record {
+    logging = ap (λ (r : Runtime). r.logging) t.layout.runtime;
     fits = sources_have_room p allow plans l t.accepted.allowed t.layout t.plan.count
         (λ k task own at own_at. (tasks_match p allow plans l laid k task own (record { is_task = at; is_layout = own_at })).count);
     count = t.layout.tasks.count;

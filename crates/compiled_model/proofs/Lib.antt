@@ -1,2 +1,2 @@
-mod Redo
+mod Runtimes
 pub mod Interface

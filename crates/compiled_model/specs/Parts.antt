@@ -7,7 +7,7 @@ use Rattle.source_values.specs.Runs.{CheckedProgram, State, Completion, completi
 use Rattle.array_versions.specs.Program.{Program, nothing}
 use Rattle.array_versions.specs.Behaviour.{Behaviour, End, GoesOn, Jumps, Short as Starves, Strays, Broken, behaviour, started}
 use Rattle.memory_map.specs.declared.runtime.Logging.{Logging}
-use Rattle.memory_map.specs.declared.runtime.Logging.TheVariants.{Redo}
+use Rattle.memory_map.specs.declared.runtime.Logging.TheVariants.{Redo, Undo}
 use Rattle.memory_map.specs.declared.runtime.Role.{Role}
 use Rattle.memory_map.specs.declared.runtime.Role.TheVariants.{Alone}
 use Rattle.memory_map.specs.declared.words.RuntimeWord.TheVariants.{Gate}
@@ -15,10 +15,15 @@ use Rattle.memory_map.specs.MemoryMap.{MemoryMap, word_place}
 use Rattle.runtime_effects.specs.Stages.{start_effects}
 use Rattle.boot_runtime.specs.Entries.{task_entries}
 use Rattle.boot_runtime.specs.Listing.{privates_in}
+use Rattle.undo_effects.specs.Stages.{undo_start}
+use Rattle.undo_runtime.specs.Entries.{logged_tasks}
+use Rattle.undo_runtime.specs.Listing.{privates_in as logged_in}
 use Rattle.lower.specs.Lowered.{lowered}
 use Rattle.crash_rules.specs.Model.{Model, Given, Outcome, Ends, Short, ProgramEffects, program_effects}
 use Rattle.stands_for.specs.Program.{ProgramParts, answer_word, program_model}
 use Rattle.stands_for.specs.StandsFor.{StartedAt}
+use Rattle.undo_states.specs.States.{LoggingAt}
+use Rattle.undo_states.specs.Program.{undo_model}
 use Rattle.compiled_model.specs.Places.{program_places}
 use Rattle.compiled_model.specs.View.{state_view}
 
@@ -64,18 +69,33 @@ program_parts p l = record {
 abbrev pub redo_model : CheckedProgram → MemoryMap → Model State
 redo_model p l = program_model (program_places p l) (state_view p l) (program_parts p l)
 
+-- the words that the undo runtime lists at the start of a task by its number: those of its private scalars
+abbrev pub private_homes : MemoryMap → ℕ → List ℕ
+private_homes l = logged_in (logged_tasks l)
+
+-- the same tasks and programs, started by the undo runtime
+abbrev pub logged_parts : CheckedProgram → MemoryMap → ProgramParts State
+logged_parts p l = record (program_parts p l) { start = undo_start l (private_homes l) }
+
+-- the source with its layout under undo
+abbrev pub logged_model : CheckedProgram → MemoryMap → Model State
+logged_model p l = undo_model (program_places p l) (state_view p l) (logged_parts p l)
+
 -- The same under each runtime. How attempts start, what recoveries do and what FRAM stands for are by how it logs; to whom commits send, and what
 -- they wait for, by the board's role: one that is alone sends to the receiver at its ports, and waits for nothing
 abbrev pub model_under : Logging → Role → CheckedProgram → MemoryMap → Model State
 model_under Redo Alone = redo_model
+model_under Undo Alone = logged_model
 
 -- the stores of an attempt's start, from FRAM
 abbrev pub start_under : Logging → MemoryMap → (ℕ → ℕ) → List Effect
 start_under Redo l = start_effects l (privates_in (task_entries l))
+start_under Undo l = undo_start l (private_homes l)
 
 -- what a world is behind them, with all of the state's task to come
 abbrev pub started_under : Logging → CheckedProgram → MemoryMap → State → World → Type 0
 started_under Redo p l s = StartedAt (program_places p l) (state_view p l) s (privates_in (task_entries l) s.task)
+started_under Undo p l s = LoggingAt (program_places p l) (state_view p l) s (private_homes l s.task)
 
 -- ---- the source with its layout and its runtime
 

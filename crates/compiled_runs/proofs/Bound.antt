@@ -68,9 +68,9 @@ pub code_keeps_the_laws : CodeKeepsTheLaws
 code_keeps_the_laws p l r laws =
     let L : Model State → Type 0 = λ m. ModelLaws m in
     let P : Model State → Type 0 = λ m. ProgramLaws m (compiled_program p l) in
-    let own = subst L (is_redo p l) laws in
+    let own = subst L (is_redo p l r.logging) laws in
     let makes = code_makes p l r own (bound_costs p l r own) in
-    subst P (sym (is_redo p l)) (record {
+    subst P (sym (is_redo p l r.logging)) (record {
       changes = λ s. code_changes_by_effects (placed_code p l) s;
       takes_cycles = λ s. code_takes (placed_code p l) s;
       makes_boot = makes.boot;

@@ -7,6 +7,7 @@ use Rattle.code_forms.specs.Forms.{core_of}
 use Rattle.code_forms.specs.Placed.{words_of, IsOutside}
 use Rattle.code_forms.proofs.Interface.{powered_has_a_core}
 use Rattle.source_values.specs.Runs.{CheckedProgram, State}
+use Rattle.memory_map.specs.declared.runtime.Logging.TheVariants.{Redo}
 use Rattle.memory_map.specs.MemoryMap.{MemoryMap}
 use Rattle.memory_map.specs.Laws.{AreApart}
 use Rattle.lower.specs.Lowered.{lowered}
@@ -46,12 +47,12 @@ code_is_placed p l f =
     }
 
 -- all that a run does stores in front of the code, or at a word that counts events
-pub scripts_store_below : (p : CheckedProgram) (l : MemoryMap) → AreApart l → AttemptsStoreBelow p l l.boot.address
+pub scripts_store_below : (p : CheckedProgram) (l : MemoryMap) → l.runtime.logging ≡ Redo → AreApart l → AttemptsStoreBelow p l l.boot.address
     → ScriptsStore (compiled_model p l) (StoresBelow l l.boot.address)
-scripts_store_below p l apart =
+scripts_store_below p l logs apart =
     let Below : ℕ → ℕ → Type 0 = StoresBelow l l.boot.address in
     let P : Model State → Type 0 = λ m. AttemptsStore m Below → ScriptsStore m Below in
-    subst P (sym (is_redo p l)) (λ attempts. record {
+    subst P (sym (is_redo p l logs)) (λ attempts. record {
       recoveries = λ s x u. tt;
       attempts = attempts;
       commits = λ to x inputs d. each_weaker _ Below
@@ -75,7 +76,7 @@ runs_leave_the_code p l r laws below readings origin x s begins charges t k char
     let end = (linked_is_code l (lowered l p) r.fits).end in
     let high = r.fits.high in
     let last = r.apart.high in
-    let stores = stores_only m c P laws own (scripts_store_below p l r.apart below) readings origin q up n in
+    let stores = stores_only m c P laws own (scripts_store_below p l r.logging r.apart below) readings origin q up n in
     record {
       code = record {
         stores = each_weaker P (IsOutside l.boot.address (length (words_of (source_code p l))))

@@ -112,4 +112,4 @@ pub code_keeps_to_needs : CodeKeepsToNeeds
 code_keeps_to_needs p l r few within laws =
     let L : Model State → Type 0 = λ m. ModelLaws m in
     let P : Model State → Type 0 = λ m. ProgramLaws (with_needs p l m) (compiled_program p l) in
-    subst P (sym (is_redo p l)) (code_needs p l r few within (subst L (is_redo p l) laws))
+    subst P (sym (is_redo p l r.logging)) (code_needs p l r few within (subst L (is_redo p l r.logging) laws))

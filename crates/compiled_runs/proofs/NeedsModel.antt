@@ -5,7 +5,7 @@ use Rattle.fram_board.specs.Effects.{Effect, Store, Take, Outside}
 use Rattle.machine_effects.specs.World.{World, fram_after, world_after, world_after_one, EachStore}
 use Rattle.machine_effects.specs.Inputs.{Inputs, InputsAreWords}
 use Rattle.machine_effects.proofs.Interface.{fram_after-append, each_store-front, put_other}
-use Rattle.crash_rules.proofs.Interface.{world_fram}
+use Rattle.crash_rules.proofs.Interface.{world_fram, holds_both}
 use Rattle.source_values.specs.Runs.{CheckedProgram, State}
 use Rattle.array_versions.specs.Behaviour.{Behaviour, End, GoesOn, Jumps, Short as Starving, Strays, Broken, behaviour, started}
 use Rattle.memory_map.specs.declared.runtime.Logging.{Logging}
@@ -28,12 +28,6 @@ use Rattle.task_needs.specs.Needs.{own_entries, own_words}
 use Rattle.task_needs.specs.Lists.{ListsWithin, ListsAtEnd, TasksListFew, DecidedWithin, with_needs}
 use Rattle.compiled_runs.specs.Laws.{CanRun, NeedsKeepTheLaws}
 use Rattle.compiled_runs.proofs.Costs.{decided_fram}
-
--- two facts of a world throughout are one that follows from both
-both : (P Q R : World → Type 0) → ((y : World) → P y → Q y → R y) → (es : List Effect) (x : World) → HoldsThroughout P es x → HoldsThroughout Q es x
-    → HoldsThroughout R es x
-both P Q R f [] x h k = f x h k
-both P Q R f (e ∷ es) x h k = (f x h.0 k.0, both P Q R f es (world_after_one e x) h.1 k.1)
 
 -- where a program jumps
 by_end : (p : CheckedProgram) (l : MemoryMap) (t : ℕ) (f : ℕ → ℕ) (e : End) → has_jumped e ≡ true → ListsAtEnd p l t f e → ListsWithin p l t f
@@ -67,7 +61,7 @@ module _ (p : CheckedProgram) (l : MemoryMap) (r : CanRun p l) where
       let P : Logging → Role → Type 0 = λ logging role. started_under logging p l s (world_after es x) in
       let At : ℕ → (ℕ → ℕ) → Type 0 = λ t h.
       let done = behaviour (task_program p l t) (started h inputs) in ListsAtEnd p l s.task (fram_after done.effects h) done.end in
-      let at_end : At s.task (world_after es x).fram = few.few s (world_after es x) inputs ready (under_map l P start) in
+      let at_end : At s.task (world_after es x).fram = few.few s (world_after es x) inputs ready (under_map l P r.logging start) in
       let there : At k g = subst (λ t. At t g) (sym und.is_open.current_task) (subst (At s.task) (world_fram es x) at_end) in
       let b : Behaviour = behaviour (task_program p l k) (started g inputs) in
       subst (ListsWithin p l s.task) (sym (fram_after-append es b.effects x.fram)) (by_end p l s.task (fram_after b.effects g) b.end ends there)
@@ -143,7 +137,7 @@ module _ (p : CheckedProgram) (l : MemoryMap) (r : CanRun p l) where
         is = k.is;
         elsewhere = k.elsewhere;
         takes_none = k.takes_none;
-        kept = both (m.Decided s next) (SameList x) (DecidedWithin m p l s next)
+        kept = holds_both (m.Decided s next) (SameList x) (DecidedWithin m p l s next)
             (λ y e same. record { decided = e; lists = lists_alike s.task x y pending.list_length same d.lists }) k.before x k.kept
             (throughout x k.before x front (refl, λ a from to. refl));
         rests = k.rests;
@@ -187,4 +181,4 @@ pub needs_keep_the_laws : NeedsKeepTheLaws
 needs_keep_the_laws p l r few laws =
     let L : Model State → Type 0 = λ m. ModelLaws m in
     let P : Model State → Type 0 = λ m. ModelLaws (with_needs p l m) in
-    subst P (sym (is_redo p l)) (needs_laws p l r few (subst L (is_redo p l) laws))
+    subst P (sym (is_redo p l r.logging)) (needs_laws p l r few (subst L (is_redo p l r.logging) laws))

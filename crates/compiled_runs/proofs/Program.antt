@@ -228,7 +228,7 @@ module _ (source : Source) where
     leaves : LeavesFor l.commit.address b.end
     leaves =
         let P : Logging → Role → Type 0 = λ logging role. started_under logging p l s (world_after es x) in
-        let a = r.leave.leave s (world_after es x) u.inputs words (under_map l P is_started) in
+        let a = r.leave.leave s (world_after es x) u.inputs words (under_map l P r.logging is_started) in
         subst (λ t. LeavesFor l.commit.address (behaviour (task_program p l t) (started g u.inputs)).end) (sym is_current)
         (subst (λ h. LeavesFor l.commit.address (behaviour (task_program p l s.task) (started h u.inputs)).end) started_fram a)
 

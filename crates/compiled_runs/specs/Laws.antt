@@ -8,6 +8,7 @@ use Rattle.cost_bound.specs.declared.allowance.Allow.{Allow}
 use Rattle.cost_bound.specs.Allowance.{IsAllowed}
 use Rattle.war_analysis.specs.PlanValue.{TaskPlanValue}
 use Rattle.source_values.specs.Runs.{CheckedProgram, State}
+use Rattle.memory_map.specs.declared.runtime.Logging.TheVariants.{Redo}
 use Rattle.memory_map.specs.declared.words.RuntimeWord.TheVariants.{Gate, Version}
 use Rattle.memory_map.specs.MemoryMap.{MemoryMap, word_place, with_events}
 use Rattle.privatise.specs.Layouts.{IsLayout}
@@ -31,6 +32,7 @@ use Rattle.compiled_runs.specs.Program.{source_code, IsBooting, compiled_program
 
 -- what is asked of a source and its layout
 pub record CanRun (p : CheckedProgram) (l : MemoryMap) : Type 0 where
+  pub logging : l.runtime.logging ≡ Redo
   pub fits : CodeFits l (lowered l p)
   pub count : length l.tasks ≡ length p.tasks
   pub apart : AreApart l

@@ -32,6 +32,7 @@ use Rattle.compiled_states.proofs.Ring.{fresh_keeps_ring, rule_of_ring, ring_of_
 use Rattle.compiled_states.proofs.Sound.{Saved, list_within, emits_within, versions_within, is_sound, keeps_rules, rules_of}
 use Rattle.compiled_states.proofs.Words.{fram_small}
 use Rattle.compiled_states.proofs.Names.{◌==◌, if◌then◌else◌, None, word_in, word_place, words_stand, Gate, IsSound, SoundAtRest, SoundPending, program_places}
+use Rattle.memory_map.specs.declared.runtime.Logging.TheVariants.{Redo}
 use Rattle.event_places.specs.Places.{tail_place}
 use Rattle.source_maps.specs.Maps.{event_ring}
 use Rattle.compiled_states.proofs.Ends.{run_saved}
@@ -58,6 +59,7 @@ module _ (text : List ℕ) (image : ImageValue) (of : IsImageOf text image) wher
     laid = record {
       allowed = ok.allowed;
       plan = c.is_plan;
+      logging = Redo;
       layout = c.is_layout;
       few = privates_are_few text p allow c.plans l (laid_out text p allow image ok c);
     };

@@ -6,12 +6,13 @@ use Rattle.machine_effects.specs.fram_board.Effects.{Effect, Store}
 use Rattle.machine_effects.specs.World.{World, world_after, fram_after, readings_taken, looks_taken, IsPrefix, EachStore}
 use Rattle.machine_effects.specs.Inputs.{Look, SeeWords}
 use Rattle.machine_effects.proofs.Interface.{world_after-append, readings_taken-append}
-use Rattle.crash_rules.specs.Model.{Model, ModelLaws, Given, nothing_given, given_by, answers_in, Ends, Short, ProgramEffects, program_effects, IsWord}
+use Rattle.crash_rules.specs.Model.{Model, ModelLaws, Given, nothing_given, given_by, answers_in, Ends, ProgramEffects, program_effects, IsWord}
 use Rattle.crash_rules.specs.Model.{IsElsewhere, Inputs, InputsAreWords, inputs_behind, with_commit, attempt_from, script, Decides, RunsShort}
 use Rattle.crash_rules.specs.Model.{AttemptContract, Comes, Lacks, CommitKeeps}
 use Rattle.crash_rules.specs.History.{Done, History, with_effect, behind_decide, behind_done, observe_one, observe, behind_boot, inputs_from}
 use Rattle.crash_rules.specs.History.{decided_given, done_given}
 use Rattle.crash_rules.specs.Laws.{Origin, Resting, Pending, SourceRun, HasNoSpan, Reaches, IsPending, IsSettled, Transits, Phase, UndecidedPhase, DecidedPhase}
+use Rattle.crash_rules.specs.Laws.{StartsFrom, FromUndecided, FromDecided, FromCommitting}
 use Rattle.crash_rules.specs.Laws.{CommittingPhase, StandsFor, IsOfScript, IsLawful, IsShort, AreConsecutive, TaskCosts, CoversTasks}
 use Rattle.crash_rules.proofs.Lists.{world_fram, each_prefix, holds_prefix, holds_end, prefix_cases, prefix_one, nothing_first, range_of}
 use Rattle.crash_rules.proofs.Front.{in_front}
@@ -104,23 +105,35 @@ module _ {St : Type 0} (given : Setting St) where
     pub undecided : k.decided ≡ false
     pub behind_done : k.booted ≡ false
 
+  pub none_seen : SeeWords []
+  none_seen = λ k d low. absurd (omega arith)
+
+  -- what is ready from a position on are words
+  pub words_from : (since : ℕ) (looks : List Look) → SeeWords looks → InputsAreWords (inputs_from readings since looks)
+  words_from since looks see = record { readings = All-drop IsWord since readings words; looks = see }
+
   pub point_lawful : (h : History) → Point h → IsLawful m readings origin h
   point_lawful h p =
       record {
         world = sym p.start ∙ ap (λ es. world_after es h.start) (sym p.none);
         stands = p.stands;
-        follows = subst (λ es. IsOfScript m readings h.since h.booted h.start.fram es) (sym p.none) (record { left = []; follows = nothing_first _ });
+        follows = subst (λ es. IsOfScript m readings h.since h.booted h.start.fram es) (sym p.none)
+            (record { left = []; words = words_from h.since [] none_seen; follows = nothing_first _ });
       }
+
+  -- where the transition began that a history is in
+  abbrev pub BeganAt : History → St → Type 0
+  BeganAt v s = StartsFrom m origin v.completed s v.start
 
   told_more : (v : History) (es : List Effect) → IsTold v → world_after es v.world ≡ world_after (v.effects ++ es) v.start
   told_more v es t = ap (world_after es) t ∙ sym (world_after-append v.effects es v.start)
 
   quiet_part : (s : St) (v : History) (es : List Effect) → EachStore (IsElsewhere m.marks.gate) es → IsTold v → MayGoOn v es
-      → Reaches m readings origin v.completed s → Phase m readings origin s (with_effects es v) → Part v (observe m.marks es v)
-  quiet_part s v es q told go reached phase =
+      → Reaches m readings origin v.completed s → BeganAt v s → Phase m readings origin s (with_effects es v) → Part v (observe m.marks es v)
+  quiet_part s v es q told go reached began phase =
       subst (Part v) (sym (observe_quiet m.marks es v q))
       (record {
-        lawful = record { world = told_more v es told; stands = record { state = s; reached = reached; phase = phase }; follows = go };
+        lawful = record { world = told_more v es told; stands = record { state = s; reached = reached; starts = began; phase = phase }; follows = go };
         grows = Stayed refl refl;
       })
 
@@ -128,6 +141,7 @@ module _ {St : Type 0} (given : Setting St) where
   pub record IsDue (v : History) (s next : St) (Kept : World → Type 0) : Type 0 where
     pub decided : v.decided ≡ true
     pub reached : Reaches m readings origin v.completed s
+    pub began : BeganAt v s
     pub holds : Kept v.world
     pub committing : (y : World) → Kept y → m.Committing next y
     pub contract : (inputs : Inputs) → CommitKeeps m Kept next inputs v.world
@@ -135,12 +149,13 @@ module _ {St : Type 0} (given : Setting St) where
     pub done : (y : World) → m.Rests next y → Reaches m readings origin (v.completed ++ done_of v y ∷ []) next
 
   -- behind a decide
-  due_decided : (v : History) (s next : St) → Reaches m readings origin v.completed s → v.decided ≡ true
+  due_decided : (v : History) (s next : St) → Reaches m readings origin v.completed s → BeganAt v s → v.decided ≡ true
       → Transits m origin v.completed (decided_given readings v) s next → m.Decided s next v.world → IsDue v s next (m.Decided s next)
-  due_decided v s next reached g t d =
+  due_decided v s next reached began g t d =
       record {
         decided = g;
         reached = reached;
+        began = began;
         holds = d;
         committing = laws.decided_committing s next;
         contract = laws.decided_commits s next v.world d;
@@ -149,12 +164,13 @@ module _ {St : Type 0} (given : Setting St) where
       }
 
   -- at the start of the run
-  due_first : (v : History) (to : St) → Reaches m readings origin v.completed to → v.decided ≡ true → IsPending origin v.completed
+  due_first : (v : History) (to : St) → Reaches m readings origin v.completed to → BeganAt v to → v.decided ≡ true → IsPending origin v.completed
       → HasNoSpan v.span_from v.span_to v.answers → m.Committing to v.world → IsDue v to to (m.Committing to)
-  due_first v to reached g p n d =
+  due_first v to reached began g p n d =
       record {
         decided = g;
         reached = reached;
+        began = began;
         holds = d;
         committing = λ y h. h;
         contract = λ inputs. laws.commits to v.world inputs d;
@@ -187,6 +203,7 @@ module _ {St : Type 0} (given : Setting St) where
             stands = record {
               state = next;
               reached = due.done k.world p.rests;
+              starts = FromUndecided (settled_more origin v.completed (done_of v k.world)) (laws.settled_undecided next k.world there);
               phase = UndecidedPhase refl (settled_more origin v.completed (done_of v k.world)) (laws.settled_undecided next k.world there);
             };
             since = refl;
@@ -205,7 +222,7 @@ module _ {St : Type 0} (given : Setting St) where
 
     commit_quiet : (es : List Effect) → IsPrefix es before → IsTold v → MayGoOn v es → Part v (observe m.marks es v)
     commit_quiet es h told go =
-        quiet_part s v es (each_prefix (IsElsewhere m.marks.gate) es before h keeps.elsewhere) told go due.reached
+        quiet_part s v es (each_prefix (IsElsewhere m.marks.gate) es before h keeps.elsewhere) told go due.reached due.began
         (due.phase es (holds_prefix Kept es before v.world h keeps.kept))
 
     whole_part : (k : History) → Whole v k → Part v k
@@ -244,11 +261,11 @@ module _ {St : Type 0} (given : Setting St) where
 
   -- effects that store nothing to GATE are part of a script that goes on, and no done
   quiet_cut : (s : St) (h : History) (es : List Effect) → EachStore (IsElsewhere m.marks.gate) es → IsTold h → MayGoOn h es
-      → Reaches m readings origin h.completed s → Phase m readings origin s (with_effects es h) → Cut h (observe m.marks es h)
-  quiet_cut s h es q told go reached phase =
+      → Reaches m readings origin h.completed s → BeganAt h s → Phase m readings origin s (with_effects es h) → Cut h (observe m.marks es h)
+  quiet_cut s h es q told go reached began phase =
       let is = observe_quiet m.marks es h q in
       record {
-        lawful = (quiet_part s h es q told go reached phase).lawful;
+        lawful = (quiet_part s h es q told go reached began phase).lawful;
         spans = record {
           dones = [];
           completed = ap (λ k. k.completed) is ∙ sym (append-nil h.completed);
@@ -288,6 +305,7 @@ module _ {St : Type 0} (given : Setting St) where
     pub point : Point h
     pub state : St
     pub reached : Reaches m readings origin h.completed state
+    pub began : BeganAt h state
     pub undecided : h.decided ≡ false
     pub settled : IsSettled origin h.completed
     pub holds : m.Undecided state h.world
@@ -338,7 +356,7 @@ module _ {St : Type 0} (given : Setting St) where
         transits_task origin h.completed _ s next u.settled (ap (m.task s) same ∙ c.exact)
 
     gate_due : IsDue at_gate s next (m.Decided s next)
-    gate_due = due_decided at_gate s next u.reached refl transits c.decided
+    gate_due = due_decided at_gate s next u.reached u.began refl transits c.decided
 
     gate_effects : at_gate.effects ≡ h.effects ++ to_gate
     gate_effects = append_assoc h.effects c.before (Store m.marks.gate 1 ∷ [])
@@ -372,7 +390,7 @@ module _ {St : Type 0} (given : Setting St) where
     -- up to it
     before_gate : (es : List Effect) → IsPrefix es c.before → MayGoOn h es → Cut h (observe m.marks es h)
     before_gate es p go =
-        quiet_cut s h es (each_prefix (IsElsewhere m.marks.gate) es c.before p c.elsewhere) (point_lawful h pt).world go u.reached
+        quiet_cut s h es (each_prefix (IsElsewhere m.marks.gate) es c.before p c.elsewhere) (point_lawful h pt).world go u.reached u.began
         (UndecidedPhase u.undecided u.settled (holds_prefix (m.Undecided s) es c.before h.world p c.undecided))
 
     decides_part : (es : List Effect) → IsPrefix es (with_commit m h.world.fram (inputs_at h looks) r).effects → MayGoOn h es
@@ -418,7 +436,7 @@ module _ {St : Type 0} (given : Setting St) where
   short_part : (h : History) (looks : List Look) (u : AtUndecided h) (r : ProgramEffects) (es : List Effect)
       → RunsShort m u.state (inputs_at h looks) h.world r → IsPrefix es r.effects → MayGoOn h es → Cut h (observe m.marks es h)
   short_part h looks u r es c p go =
-      quiet_cut u.state h es (each_prefix (IsElsewhere m.marks.gate) es r.effects p c.elsewhere) (point_lawful h u.point).world go u.reached
+      quiet_cut u.state h es (each_prefix (IsElsewhere m.marks.gate) es r.effects p c.elsewhere) (point_lawful h u.point).world go u.reached u.began
       (UndecidedPhase u.undecided u.settled (holds_prefix (m.Undecided u.state) es r.effects h.world p c.undecided))
 
   attempt_part : (h : History) (looks : List Look) (u : AtUndecided h) (es : List Effect) (r : ProgramEffects)
@@ -469,17 +487,18 @@ module _ {St : Type 0} (given : Setting St) where
       }
 
   pub phase_of : (h : History) → Point h → (AtUndecided h) ⊎ (AtCommit h)
-  phase_of h p = by_phase p.stands.state p.stands.reached p.stands.phase p.ready
+  phase_of h p = by_phase p.stands.state p.stands.reached p.stands.starts p.stands.phase p.ready
     where
-      by_phase : (s : St) → Reaches m readings origin h.completed s → Phase m readings origin s h → (h.booted ≡ false → IsReady h s)
+      by_phase : (s : St) → Reaches m readings origin h.completed s → BeganAt h s → Phase m readings origin s h → (h.booted ≡ false → IsReady h s)
           → (AtUndecided h) ⊎ (AtCommit h)
-      by_phase s r (UndecidedPhase d k u) w =
-          inl (record { point = p; state = s; reached = r; undecided = d; settled = k; holds = u; ready = λ z. (w z).settled })
-      by_phase s r (DecidedPhase next d t u) w =
+      by_phase s r b (UndecidedPhase d k u) w =
+          inl (record { point = p; state = s; reached = r; began = b; undecided = d; settled = k; holds = u; ready = λ z. (w z).settled })
+      by_phase s r b (DecidedPhase next d t u) w =
           inr (at_commit h s next (m.Decided s next)
           (OfTask s next r (transits_settled origin h.completed (decided_given readings h) s next t) u)
-          (due_decided h s next r d t u) (λ z. (w z).undecided))
-      by_phase s r (CommittingPhase d p n u) w = inr (at_commit h s s (m.Committing s) (OfStart p) (due_first h s r d p n u) (λ z. (w z).undecided))
+          (due_decided h s next r b d t u) (λ z. (w z).undecided))
+      by_phase s r b (CommittingPhase d p n u) w =
+          inr (at_commit h s s (m.Committing s) (OfStart p) (due_first h s r b d p n u) (λ z. (w z).undecided))
 
   -- what the script is, by GATE
   abbrev undecided_script : Bool → (ℕ → ℕ) → Inputs → ProgramEffects
@@ -501,7 +520,7 @@ module _ {St : Type 0} (given : Setting St) where
   attempt_at h looks = attempt_from m h.booted h.world.fram (inputs_at h looks)
 
   pub words_left : (h : History) (looks : List Look) → SeeWords looks → InputsAreWords (inputs_at h looks)
-  words_left h looks see = record { readings = All-drop IsWord h.taken readings words; looks = see }
+  words_left h looks see = words_from h.taken looks see
 
   -- behind a boot as behind a done an attempt keeps the contract
   pub owed_from : (booted : Bool) (s : St) (x : World) (inputs : Inputs) → InputsAreWords inputs → m.Undecided s x
@@ -533,12 +552,14 @@ module _ {St : Type 0} (given : Setting St) where
         → ChargeEffects (observe m.marks (script_at h looks).effects h) left es
         → ChargeEffects h looks ((script_at h looks).effects ++ es)
 
-  may_go_on : (h : History) (looks : List Look) (es : List Effect) → Point h → IsPrefix es (script_at h looks).effects → TakesFirst es looks → MayGoOn h es
-  may_go_on h looks es p pre first =
+  may_go_on : (h : History) (looks : List Look) (es : List Effect) → SeeWords looks → Point h → IsPrefix es (script_at h looks).effects
+      → TakesFirst es looks → MayGoOn h es
+  may_go_on h looks es see p pre first =
       let all = looks_taken es ++ first.0 in
       let P : List Effect → Type 0 = λ l. IsOfScript m readings h.since h.booted h.start.fram (l ++ es) in
       subst P (sym p.none) (record {
         left = first.0;
+        words = words_from h.since all (subst SeeWords (sym first.1) see);
         follows =
             subst (λ x. IsPrefix es (script m h.booted x.fram (inputs_from readings h.since all)).effects) (sym p.start)
             (subst (λ n. IsPrefix es (script m h.booted h.world.fram (inputs_from readings n all)).effects) (sym p.since)
@@ -549,7 +570,7 @@ module _ {St : Type 0} (given : Setting St) where
   pub point_part : (h : History) (looks : List Look) (es : List Effect) → SeeWords looks → Point h → IsPrefix es (script_at h looks).effects
       → TakesFirst es looks → Cut h (observe m.marks es h)
   point_part h looks es see p pre first =
-      let go = may_go_on h looks es p pre first in
+      let go = may_go_on h looks es see p pre first in
       ⊎_elim
       (λ u. attempt_part h looks u es _ (owed h looks see u) (subst (λ q. IsPrefix es q.effects) (script_u h looks u) pre) go)
       (λ d.
@@ -558,14 +579,14 @@ module _ {St : Type 0} (given : Setting St) where
       (phase_of h p)
 
   -- from a pending commit on no done comes, or one, at which no reading more was taken
-  pub point_grows : (h : History) (looks : List Look) (es : List Effect) → Point h → h.decided ≡ true → IsPrefix es (script_at h looks).effects
-      → TakesFirst es looks → Grows h (observe m.marks es h)
-  point_grows h looks es p decided pre first =
+  pub point_grows : (h : History) (looks : List Look) (es : List Effect) → SeeWords looks → Point h → h.decided ≡ true
+      → IsPrefix es (script_at h looks).effects → TakesFirst es looks → Grows h (observe m.marks es h)
+  point_grows h looks es see p decided pre first =
       ⊎_elim {C = Grows h (observe m.marks es h)}
       (λ u. absurd (cc (u.undecided, decided)))
       (λ d.
       (d.part (inputs_at h looks) es (subst (λ q. IsPrefix es q.effects) (script_d h looks d) pre) (point_lawful h p).world
-      (may_go_on h looks es p pre first)).grows)
+      (may_go_on h looks es see p pre first)).grows)
       (phase_of h p)
 
   -- and the whole script
@@ -626,6 +647,7 @@ module _ {St : Type 0} (given : Setting St) where
         stands = record {
           state = u.state;
           reached = u.reached;
+          starts = u.began;
           phase = UndecidedPhase u.undecided u.settled (holds_end (m.Undecided u.state) r.effects h.world c.undecided);
         };
         undecided = u.undecided;
@@ -649,7 +671,7 @@ module _ {St : Type 0} (given : Setting St) where
   -- a boot
   pub booted : (h : History) → StandsFor m readings origin h → Point (behind_boot h)
   booted h st = record {
-    stands = record { state = st.state; reached = st.reached; phase = same st.phase };
+    stands = record { state = st.state; reached = st.reached; starts = from st.phase; phase = same st.phase };
     since = refl;
     start = refl;
     none = refl;
@@ -660,3 +682,9 @@ module _ {St : Type 0} (given : Setting St) where
       same (UndecidedPhase d k u) = UndecidedPhase d k u
       same (DecidedPhase next d t u) = DecidedPhase next d t u
       same (CommittingPhase d p n u) = CommittingPhase d p n u
+
+      from : Phase m readings origin st.state h → BeganAt (behind_boot h) st.state
+      from (UndecidedPhase d k u) = FromUndecided k u
+      from (DecidedPhase next d t u) =
+          FromDecided next (transits_settled origin h.completed (decided_given readings h) st.state next t) u
+      from (CommittingPhase d p n u) = FromCommitting p u

@@ -3,7 +3,7 @@ use Rattle.std.proofs.Common.{◌≡◌, List, [], ◌∷◌, ◌++◌, sym, ap,
 use Rattle.machine_effects.specs.fram_board.Effects.{Effect, Store}
 use Rattle.machine_effects.specs.World.{World, world_after_one, world_after, readings_taken}
 use Rattle.machine_effects.proofs.Interface.{taken_behind_none, readings_taken-append, world_after-append, each_store-append}
-use Rattle.crash_rules.specs.Model.{Model, Marks, Given, given_by, answers_in, ProgramEffects, program_effects, behind_effects, Inputs, inputs_taken, no_inputs}
+use Rattle.crash_rules.specs.Model.{Model, Marks, given_by, answers_in, ProgramEffects, program_effects, behind_effects, Inputs, inputs_taken, no_inputs}
 use Rattle.crash_rules.specs.Model.{IsElsewhere, Decides, RunsShort, AttemptContract, Comes, Lacks, StaysUndecided}
 use Rattle.crash_rules.proofs.Lists.{holds-append}
 use Rattle.crash_rules.proofs.Observed.{answers-append}

@@ -1,7 +1,9 @@
 -- What the proofs of other crates cite.
 
 -- Prefixes of effects, worlds behind them, and positions of readings.
-pub use Rattle.crash_rules.proofs.Lists.{world_fram, holds-append}
+pub use Rattle.crash_rules.proofs.Lists.{world_fram, holds-append, holds_both}
+-- A task's cost is within the greatest.
+pub use Rattle.crash_rules.proofs.Plays.{below_greatest}
 -- Effects in front of an attempt.
 pub use Rattle.crash_rules.proofs.Front.{in_front}
 -- The words that effects store at an address, and the answers among them.

@@ -41,6 +41,12 @@ pub holds-append : (P : World → Type 0) (es fs : List Effect) (x : World) → 
 holds-append P [] fs x a b = b
 holds-append P (e ∷ es) fs x a b = (a.0, holds-append P es fs (world_after_one e x) a.1 b)
 
+-- two facts that hold throughout are one that follows from both
+pub holds_both : (P Q R : World → Type 0) → ((y : World) → P y → Q y → R y) → (es : List Effect) (x : World) → HoldsThroughout P es x
+    → HoldsThroughout Q es x → HoldsThroughout R es x
+holds_both P Q R f [] x h k = f x h k
+holds_both P Q R f (e ∷ es) x h k = (f x h.0 k.0, holds_both P Q R f es (world_after_one e x) h.1 k.1)
+
 -- a prefix of two parts ends in the first one or in the second
 pub prefix_cases : (es a b : List Effect) → IsPrefix es (a ++ b) → (IsPrefix es a) ⊎ ((fs : List Effect) × (es ≡ a ++ fs) × IsPrefix fs b)
 prefix_cases es [] b p = inr (es, refl, p)

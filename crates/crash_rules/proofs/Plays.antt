@@ -310,7 +310,7 @@ module _ {St : Type 0} (given : Setting St) (c : Program) (code : ProgramLaws gi
 
   pub charge_past : (h : History) (looks : List Look) (es : List Effect) → IsCharge h looks es → SeeWords looks → AtPoint h → h.decided ≡ true
       → SpansPast h (observe m.marks es h)
-  charge_past h looks es (partial pre first) see p u = past (point_grows given h looks es p u pre first)
+  charge_past h looks es (partial pre first) see p u = past (point_grows given h looks es see p u pre first)
     where
       past : Grows given h (observe m.marks es h) → SpansPast h (observe m.marks es h)
       past (Stayed a b) = NoDone a

@@ -12,10 +12,10 @@ use Rattle.crash_rules.specs.Runs.{Program, ProgramLaws, Charge, IsPoweredFrom, 
 use Rattle.crash_rules.specs.Laws.{Origin, Resting, Pending, Reaches, IsPending, IsSettled, Transits, Phase, UndecidedPhase, DecidedPhase, CommittingPhase}
 use Rattle.crash_rules.specs.Laws.{StandsFor, IsLawful, Matches, Begins, HasRun, PowersUpBehind, AcceptedDecided, AcceptedWords, AreConsecutive, CrashTheorem}
 use Rattle.crash_rules.specs.Laws.{StopsShort, NeverLost, SentOnce, PendingSends, SpansFollow, FollowFirst, PendingSpansFollow, ProgressLaw, StoresOnly}
-use Rattle.crash_rules.specs.Laws.{RunsMayBegin, TaskCosts, IsFirstWithin, CoversTasks, TasksPay, InstructionsPay}
+use Rattle.crash_rules.specs.Laws.{RunsMayBegin, FromUndecided, FromCommitting, TaskCosts, IsFirstWithin, CoversTasks, TasksPay, InstructionsPay}
 use Rattle.crash_rules.proofs.Lists.{nothing_first}
 use Rattle.crash_rules.proofs.Observed.{accepted_more}
-use Rattle.crash_rules.proofs.Cuts.{Setting, booted}
+use Rattle.crash_rules.proofs.Cuts.{Setting, none_seen, words_from, booted}
 use Rattle.crash_rules.proofs.Plays.{AtPoint, IsThere, IsCharge, plays_from, lawful_from, matches_more, charge_spans, SpansPast, NoDone, PastDone, charge_past}
 use Rattle.crash_rules.proofs.Plays.{charge_stores, HaltsShort, halted_from, below_greatest}
 use Rattle.crash_rules.proofs.Progress.{bounds_count, steps_cost, all_spent, spent_from}
@@ -57,7 +57,7 @@ module _ {St : Type 0} (given : Setting St) (c : Program) (code : ProgramLaws gi
   begun : (x : World) (s : MachineBoard) → Begins m readings origin x s
       → IsLawful m readings origin (first_history m.marks x) × Matches readings s (first_history m.marks x)
   begun x s b = (
-    record { world = refl; stands = b.stands; follows = record { left = []; follows = nothing_first _ } },
+    record { world = refl; stands = b.stands; follows = record { left = []; words = words_from given 0 [] (none_seen given); follows = nothing_first _ } },
     record { fram = b.fram; readings_left = b.readings_left },
   )
 
@@ -291,10 +291,16 @@ stores_only m c P laws code scripts readings origin p up n =
 -- a run may begin with any readings
 pub runs_may_begin : {St : Type 0} (m : Model St) → RunsMayBegin m
 runs_may_begin m laws readings = record {
-  resting = λ s x u. record { state = s; reached = refl; phase = UndecidedPhase (ap (λ n. n == 1) (laws.undecided_gate s x u)) tt u };
+  resting = λ s x u. record {
+    state = s;
+    reached = refl;
+    starts = FromUndecided tt u;
+    phase = UndecidedPhase (ap (λ n. n == 1) (laws.undecided_gate s x u)) tt u;
+  };
   pending = λ to x d. record {
     state = to;
     reached = refl;
+    starts = FromCommitting tt d;
     phase = CommittingPhase (ap (λ n. n == 1) (laws.committing_gate to x d)) tt (refl, refl, refl) d;
   };
 }

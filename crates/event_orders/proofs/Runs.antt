@@ -66,21 +66,32 @@ module _ (marks : Marks) (low : marks.gate < tail_place) (ans : marks.answer ≡
     word : hand.word ≡ held s
     over : Over at pre b h hand rest
 
-  steps_keep : (on : PlacedProgram) (b : BoardValue) (ms rest : List Moment) (s t : Option (BoardValue × Stage)) → MoveOn on b ms s t → AreMoments b ms
-      → AreInstructionMoments ms → IsWhole b → IsOfWords b → b.line.heard ≡ heard.Nothing → (h : History) (hand : Hand) → hand.word ≡ held s
-      → (v : Taking) (pre : List Moment) → Over v pre b h hand (ms ++ rest)
+  -- moments of instructions of a program, from a board that has read nothing of EVENT; from here on the handler has this in hand, and behind them that
+  record Steps (on : PlacedProgram) (b : BoardValue) (ms : List Moment) (s t : Option (BoardValue × Stage)) : Type 0 where
+    moves : MoveOn on b ms s t
+    moments : AreMoments b ms
+    instructions : AreInstructionMoments ms
+    whole : IsWhole b
+    words : IsOfWords b
+    silent : b.line.heard ≡ heard.Nothing
+
+  steps_keep : (on : PlacedProgram) (b : BoardValue) (ms rest : List Moment) (s t : Option (BoardValue × Stage)) → Steps on b ms s t
+      → (h : History) (hand : Hand) → hand.word ≡ held s → (v : Taking) (pre : List Moment) → Over v pre b h hand (ms ++ rest)
       → OverSteps (pre ++ ms) rest t (last_board b ms) (observed marks ms h) (after ms hand)
-  steps_keep on b [] rest s t moves are is whole words silent h hand holds v pre over = record {
+  steps_keep on b [] rest s t steps h hand holds v pre over = record {
     at = v;
-    word = holds ∙ ap held moves;
+    word = holds ∙ ap held steps.moves;
     over = subst (λ l. Over v l b h hand rest) (sym (append-nil pre)) over;
   }
-  steps_keep on b (m ∷ ms) rest s t moves are is whole words silent h hand holds v pre over =
+  steps_keep on b (m ∷ ms) rest s t steps h hand holds v pre over =
       let c = m.before in
+      let moves = steps.moves in
+      let are = steps.moments in
+      let is = steps.instructions in
       let same : c ≡ b = are.0.same in
-      let whole_there = subst IsWhole (sym same) whole in
-      let words_there = subst IsOfWords (sym same) words in
-      let here : c.line.heard ≡ heard.Nothing = subst (λ (y : BoardValue). y.line.heard ≡ heard.Nothing) (sym same) silent in
+      let whole_there = subst IsWhole (sym same) steps.whole in
+      let words_there = subst IsOfWords (sym same) steps.words in
+      let here : c.line.heard ≡ heard.Nothing = subst (λ (y : BoardValue). y.line.heard ≡ heard.Nothing) (sym same) steps.silent in
       let next = whole_behind c m whole_there words_there are.1 in
       let one = moves_hand on c m is.0 here hand s moves.0 moves.1 are.1 holds in
       let before : Over v pre c h hand (m ∷ (ms ++ rest)) = subst (λ (y : BoardValue). Over v pre y h hand (m ∷ (ms ++ rest))) (sym same) over in
@@ -98,8 +109,9 @@ module _ (marks : Marks) (low : marks.gate < tail_place) (ans : marks.answer ≡
         place = last_more start pre m;
         saw = step_saw marks.gate start pre m before.place is.0 whole_there words_there are.1 v u before.follows.1 before.saw;
       } in
-      let all = steps_keep on m.after ms rest moves.0 t moves.2 are.2 is.1 next.0 next.1 (silent_behind c m are.1) k (hand_behind (Some head_place) m hand)
-      one.holds u (pre ++ m ∷ []) behind in
+      let others : Steps on m.after ms moves.0 t =
+      record { moves = moves.2; moments = are.2; instructions = is.1; whole = next.0; words = next.1; silent = silent_behind c m are.1 } in
+      let all = steps_keep on m.after ms rest moves.0 t others k (hand_behind (Some head_place) m hand) one.holds u (pre ++ m ∷ []) behind in
       subst (λ l. OverSteps l rest t (last_board m.after ms) (observed marks ms k) (after ms (hand_behind (Some head_place) m hand)))
       (append_assoc pre (m ∷ []) ms) all
 
@@ -181,8 +193,16 @@ module _ (marks : Marks) (low : marks.gate < tail_place) (ans : marks.answer ≡
       (subst (λ t. EachFollows marks.gate t ((ms ++ moments_of fs) ++ rest)) over.follows.1 over.follows.2) in
       let behind : Over Before (pre ++ boot ∷ []) (board_powered f) (behind_boot h) up (ms ++ (moments_of fs ++ rest)) =
       record { holds = begun; told = told; follows = follows; place = last_more start pre boot; saw = tt } in
-      let steps = steps_keep on (board_powered f) ms (moments_of fs ++ rest) None (stage_of own.end.stands) own.moves c.moments c.instructions
-      run.whole run.words (powered_heard f.before f.start) (behind_boot h) up (power_up_empties f.before f.start hand) Before (pre ++ boot ∷ []) behind in
+      let made : Steps on (board_powered f) ms None (stage_of own.end.stands) = record {
+        moves = own.moves;
+        moments = c.moments;
+        instructions = c.instructions;
+        whole = run.whole;
+        words = run.words;
+        silent = powered_heard f.before f.start;
+      } in
+      let steps = steps_keep on (board_powered f) ms (moments_of fs ++ rest) None (stage_of own.end.stands) made (behind_boot h) up
+      (power_up_empties f.before f.start hand) Before (pre ++ boot ∷ []) behind in
       let k = observed marks ms (behind_boot h) in
       let ready_next : Ready on (board_behind f) k =
       subst (λ (n : Marks). Ready on (board_behind f) (observed n ms (behind_boot h))) same

@@ -16,13 +16,14 @@ use Rattle.lower.specs.Lowered.{lowered}
 use Rattle.linked_code.specs.Linked.{CodeFits}
 use Rattle.linked_code.proofs.Interface.{linked_is_code}
 use Rattle.compiled_runs.proofs.Interface.{sources_have_room}
+use Rattle.memory_map.specs.declared.runtime.Logging.TheVariants.{Redo}
 use Rattle.memory_map.specs.declared.words.RuntimeWord.{RuntimeWord}
 use Rattle.memory_map.proofs.Interface.{apart_of, even_of}
 use Rattle.runtime_code.proofs.Interface.{places_are_in_fram}
 use Rattle.image_laws.proofs.Fram.{place_in_fram, within, outside_before, outside_behind, none_before, none_behind, holds_by}
 use Rattle.image_laws.proofs.Initial.{initial_rows_are}
 use Rattle.image_laws.proofs.States.{finds_state}
-use Rattle.image_laws.proofs.Laid.{laid_out}
+use Rattle.image_laws.proofs.Laid.{laid_out, logs_redo}
 
 holds_words : (words : List ℕ) → All (λ w. w < 0x10000) words → HoldsWords (fram_of words)
 holds_words words all a = zero_unless ((a % 2 == 0) && is_fram a) (slice_index words (place_of a)) (index_small words (place_of a) all)
@@ -66,6 +67,7 @@ module _ (text : List ℕ) (p : CheckedProgram) (allow : Allow) (image : ImageVa
   laid = record {
     allowed = ok.allowed;
     plan = c.is_plan;
+    logging = Redo;
     layout = c.is_layout;
     few = privates_are_few text p allow c.plans l (laid_out text p allow image ok c);
   }
@@ -224,7 +226,7 @@ module _ (text : List ℕ) (p : CheckedProgram) (allow : Allow) (image : ImageVa
     vector = vector;
     handler = handler;
     ring = ring;
-    rests = (let P : Model State → Type 0 = λ m. m.Rests (first_state p) (fresh_world image) in subst P (sym (is_redo p l)) rests);
+    rests = (let P : Model State → Type 0 = λ m. m.Rests (first_state p) (fresh_world image) in subst P (sym (is_redo p l (logs_redo text p allow image c))) rests);
     has_words = finds_state text p allow c.plans l laid (first_state p) (fresh_world image) rests;
   }
 

@@ -5,9 +5,10 @@ use Rattle.image_laws.proofs.Names.{program_places, Model, state_view, state_in,
 use Rattle.image_laws.proofs.Names.{view_has_their_words, worlds_have_states, map_of, of_kind, ImageValue, IsAcceptedText, IsCompiled, MapsFindStates}
 use Rattle.image_laws.proofs.Names.{ImagesHaveStates}
 use Rattle.war_analysis.specs.PlanValue.{TaskPlanValue}
+use Rattle.memory_map.specs.declared.runtime.Logging.TheVariants.{Redo}
 use Rattle.memory_map.specs.Spots.{IsWordOf}
 use Rattle.image_laws.proofs.Rows.{RowStands, all_rows}
-use Rattle.image_laws.proofs.Laid.{laid_out}
+use Rattle.image_laws.proofs.Laid.{laid_out, logs_redo}
 
 module _ (text : List ℕ) (p : CheckedProgram) (allow : Allow) (plans : List TaskPlanValue) (l : MemoryMap) (laid : HasLayout p allow plans l)
     (s : State) (x : World) (is_state : (state_view p l).is_state s ≡ true)
@@ -36,6 +37,7 @@ layout_of : (text : List ℕ) (p : CheckedProgram) (allow : Allow) (image : Imag
 layout_of text p allow image ok c = record {
   allowed = ok.allowed;
   plan = c.is_plan;
+  logging = Redo;
   layout = c.is_layout;
   few = privates_are_few text p allow c.plans c.layout (laid_out text p allow image ok c);
 }
@@ -43,7 +45,7 @@ layout_of text p allow image ok c = record {
 pub maps_find_states : MapsFindStates
 maps_find_states text p allow image ok c s x rests =
     let P : Model State → Type 0 = λ m. m.Rests s x in
-    finds_state text p allow c.plans c.layout (layout_of text p allow image ok c) s x (subst P (is_redo p c.layout) rests)
+    finds_state text p allow c.plans c.layout (layout_of text p allow image ok c) s x (subst P (is_redo p c.layout (logs_redo text p allow image c)) rests)
 
 -- what stands in each world is a state, and the map finds it
 pub worlds_stand : ImagesHaveStates
@@ -52,6 +54,6 @@ worlds_stand text p allow image ok c =
     let w = worlds_have_states p allow c.plans c.layout laid in
     record {
       words = λ x words. finds_words text p allow c.plans c.layout laid (state_in c.layout x) x (w.is_state x words) (w.shared x) refl refl;
-      rest = w.rest;
-      commit = w.commit;
+      rest = w.rest (logs_redo text p allow image c);
+      commit = w.commit (logs_redo text p allow image c);
     }

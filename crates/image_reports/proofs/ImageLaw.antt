@@ -2,7 +2,7 @@
 use Rattle.image_reports.proofs.Names.{◌<◌, length, runs_may_begin}
 use Rattle.image_reports.proofs.Names.{ℕ, subst, arith, List, ImageValue, BoardValue, fresh, Moment, last_board, CheckedProgram, State, first_state}
 use Rattle.image_reports.proofs.Names.{MemoryMap, Model, History, Resting, trace_inputs, traces_are_few, stops_where_short, SoundAtRest, compiled_model}
-use Rattle.image_reports.proofs.Names.{is_redo, false, map_of, word_place, CurrentTask, Allow, IsCompiled, IsAcceptedText, IsTaskWithin, cost_of, state_within}
+use Rattle.image_reports.proofs.Names.{is_redo, logs_redo, false, map_of, word_place, CurrentTask, Allow, IsCompiled, IsAcceptedText, IsTaskWithin, cost_of, state_within}
 use Rattle.image_reports.proofs.Names.{KeepsCapacities, compiled_program, sources_are_ready, [], world_with, laid_out, images_are_fresh, known_behind}
 use Rattle.image_reports.proofs.Names.{KeepsCode}
 use Rattle.image_reports.proofs.Names.{HoldsAt, ImagesKeepTheLaws, ImagesAreTold, ImagesKeepCapacities, HoldsFrom, ImagesBelong}
@@ -38,7 +38,7 @@ images_belong text p allow image ok c =
     let ready = sources_are_ready text p allow c.plans c.layout (laid_out text p allow image ok c) in
     let new = images_are_fresh text p allow image ok c in
     let P : Model State → Type 0 = λ m. m.Rests (first_state p) (world_with image.words []) in
-    let o = (subst P (is_redo p c.layout) (rests text p allow image c ready new)).is_open in
+    let o = (subst P (is_redo p c.layout (logs_redo text p allow image c)) (rests text p allow image c ready new)).is_open in
     let cur = o.current_task in let task = o.is_task in
     record {
       code = own_code text p allow image c ready new;
@@ -58,6 +58,8 @@ held_at p l image readings b ms h k =
       stands = k.stands;
       never_lost = k.never_lost;
       accepted = k.accepted;
+      takes_few = k.takes_few;
+      offers_few = k.offers_few;
       capacities = subst Capacities k.fram k.belongs.capacities;
       versions = k.versions;
       code = subst Code k.fram k.belongs.code;

@@ -48,6 +48,7 @@ use Rattle.run_charges.proofs.Interface.{no_instruction, last-append, sees, reac
 use Rattle.board_run.specs.Events.{NeverReads, hand_after, head_of, no_hand}
 use Rattle.model_runs.specs.EventLaws.{StartsWith}
 use Rattle.model_runs.proofs.Interface.{moments_wait, never_reads, runs_so, runs_alone}
+use Rattle.memory_map.specs.declared.runtime.Logging.TheVariants.{Redo}
 use Rattle.memory_map.specs.declared.runtime.Logging.{Logging}
 use Rattle.memory_map.specs.declared.runtime.Role.{Role}
 use Rattle.compiled_model.specs.Parts.{start_of as start_due}
@@ -75,6 +76,7 @@ use Rattle.event_orders.specs.Answers.{AnswersInOrder}
 use Rattle.event_orders.specs.Waiting.{words_behind, TakesInOrder}
 use Rattle.event_orders.specs.Laws.{TakesEvents}
 use Rattle.event_orders.proofs.Interface.{rings_keep_order}
+use Rattle.charge_limits.proofs.Interface.{readings_are_few, words_are_few}
 use Rattle.image_reports.proofs.Capacities.{attempts_fit}
 use Rattle.image_reports.proofs.CompiledTold.{models_are_of_sources}
 use Rattle.image_reports.proofs.Told.{source}
@@ -92,11 +94,11 @@ front_are [] rest are = tt
 front_are (m ∷ ms) rest are = (are.0, front_are ms rest are.1)
 
 -- what a run stands for is sound
-phase_sound : (p : CheckedProgram) (l : MemoryMap) → ModelLaws (compiled_model p l) → (readings : List ℕ) (origin : Origin State) (s : State) (h : History)
+phase_sound : (p : CheckedProgram) (l : MemoryMap) → l.runtime.logging ≡ Redo → ModelLaws (compiled_model p l) → (readings : List ℕ) (origin : Origin State) (s : State) (h : History)
     → Phase (compiled_model p l) readings origin s h → IsSound (program_places p l) h.world
-phase_sound p l laws readings origin s h phase =
+phase_sound p l logs laws readings origin s h phase =
     let P : Model State → Type 0 = λ m. ModelLaws m → Phase m readings origin s h → IsSound (program_places p l) h.world in
-    subst P (sym (is_redo p l)) under_redo laws phase
+    subst P (sym (is_redo p l logs)) under_redo laws phase
   where
     under_redo : ModelLaws (redo_model p l) → Phase (redo_model p l) readings origin s h → IsSound (program_places p l) h.world
     under_redo own (UndecidedPhase d settled w) =
@@ -178,7 +180,7 @@ module _ (onward : Onward) where
   never_there : (a : ℕ) → l.boot.address ≤ a → (IsEventWord l a → ⊥) → NeverThere a program bearing.program.changes (runtime_marks l) (outside_of b) first
   never_there a from no_counter es t k charged q up there n =
       let P : ℕ → ℕ → Type 0 = StoresBelow l l.boot.address in
-      let scripts = scripts_store_below p l ready.code.apart ready.stores in
+      let scripts = scripts_store_below p l ready.code.logging ready.code.apart ready.stores in
       each_weaker P (IsElsewhere a)
       (λ d w h e. ⊎_elim {C = ⊥} (λ low. omega (arith, low, from, e)) (λ counter. no_counter (subst (IsEventWord l) e counter)) h) _
       (stores_only model program P ready.model bearing.program scripts readings origin q
@@ -367,7 +369,7 @@ module _ (onward : Onward) where
   keeps_versions : (ms rest : List Moment) → r.moments ≡ ms ++ rest → KeepsVersions p l (known_from l x ms).world.fram
   keeps_versions ms rest e =
       let stands = (fronts_are_lawful model program readings origin x cs b r run bearing ms rest e).0.stands in
-      phase_keeps_versions p l readings origin stands.state (known_from l x ms) stands.phase
+      phase_keeps_versions p l ready.code.apart readings origin stands.state (known_from l x ms) stands.phase
 
   -- and so at the last boot or done
   began : (ms rest : List Moment) → r.moments ≡ ms ++ rest → KeepsVersions p l (known_from l x ms).start.fram
@@ -437,6 +439,8 @@ module _ (onward : Onward) where
           never_lost = λ decided. let kept = never_lost model ready.model readings origin h lawful decided in
               (ap (λ f. f (word_place l Gate)) same ∙ kept.0, kept.1);
           accepted = sent_once model ready.model readings origin h lawful.stands;
+          takes_few = readings_are_few p l ready.code.logging readings h lawful.follows;
+          offers_few = words_are_few p l ready.code.logging ready.model readings origin h lawful.follows lawful.stands;
           sent = λ to is none.
               let P : Origin State → Type 0 = λ o. Begins model readings o x (outside_of b) in
               pending_sends model program ready.model bearing.program readings to at.end h
@@ -447,12 +451,12 @@ module _ (onward : Onward) where
               let f : (outside_of t).fram ≡ fram_after (start_due l h.start.fram) h.start.fram =
               same ∙ ap (λ w. w.fram) lawful.world ∙ world_fram h.effects h.start ∙ ap (λ es. fram_after es h.start.fram) made in
               let kept = began ms rest e in
-              subst P (sym f) (under_map l Raised (versions_below (program_places p l) ready.code.apart (privates_in (task_entries l)) ready.code.privates
+              subst P (sym f) (under_map l Raised ready.code.logging (versions_below (program_places p l) ready.code.apart (privates_in (task_entries l)) ready.code.privates
               h.start.fram kept.versions (kept.words (word_place l Version))));
           belongs = record {
             code = subst Code same keeps_code;
             capacities = subst Capacities same keeps_capacities;
-            sound = phase_sound p l ready.model readings origin lawful.stands.state h lawful.stands.phase;
+            sound = phase_sound p l ready.code.logging ready.model readings origin lawful.stands.state h lawful.stands.phase;
           };
           kept = kept;
           fetches = fetches t h at (standing ms rest e);

@@ -21,7 +21,7 @@ use Rattle.fram_board.specs.Run.{BoardCharge, PowerUp, Moment, Stopped, RunOutco
 use Rattle.board_run.specs.History.{start_of}
 use Rattle.board_run.specs.Events.{Hand, NeverReads, hand_after, head_of, no_hand}
 use Rattle.board_run.specs.Report.{report_of}
-use Rattle.machine_effects.specs.World.{World}
+use Rattle.machine_effects.specs.World.{World, readings_taken}
 use Rattle.machine_effects.specs.Machine.{fram_of}
 use Rattle.machine_effects.specs.Runs.{last_board}
 use Rattle.event_handler.specs.Handler.{Stage, HasHandler, instruction_at, place_at}
@@ -48,6 +48,7 @@ use Rattle.stands_for.specs.Program.{answer_word}
 use Rattle.compiled_bounds.specs.Capacities.{KeepsCapacities}
 use Rattle.model_runs.specs.Runs.{IsShort, all_amounts}
 use Rattle.task_needs.specs.Needs.{need_of}
+use Rattle.charge_limits.specs.Laws.{readings_from, words_offered, words_from}
 use Rattle.image_laws.specs.Words.{code_words}
 use Rattle.image_laws.specs.Compiled.{IsCompiled}
 use Rattle.image_laws.specs.Laws.{fresh_world}
@@ -155,6 +156,10 @@ pub record HoldsAt (p : CheckedProgram) (l : MemoryMap) (image : ImageValue) (re
       × ((s : State) → (compiled_model p l).Undecided s h.world → ⊥)
   -- between a done, or the start, and the next decide no word is accepted; between a decide and its done a prefix of that task's
   pub accepted : AcceptedWords (compiled_model p l) readings (Resting (first_state p)) h stands.state h.decided
+  -- since the last boot or done no more readings were taken than the text of the task has that CUR named there, and no more words were offered than
+  -- that of the state of the last done emits; each on the path with the most
+  pub takes_few : length (readings_taken h.effects) ≤ readings_from p l h.start.fram
+  pub offers_few : length (words_offered h.effects) ≤ words_from p l (Resting (first_state p)) h.completed stands.state
   -- CLN and EN are within the map's capacities, and version words at most VER
   pub capacities : KeepsCapacities l (outside_of b).fram
   -- as a task's first own instruction runs, whose start is made and which has done nothing yet, each version word is below VER. (With

@@ -17,7 +17,7 @@ use Rattle.fram_board.specs.Run.{BoardCharge, Moment, Stopped, RunOutcome, Run, 
 use Rattle.board_run.specs.History.{start_of}
 use Rattle.board_run.specs.Events.{NeverReads, hand_after, head_of, no_hand}
 use Rattle.board_run.specs.Report.{report_of}
-use Rattle.machine_effects.specs.World.{World, world_after}
+use Rattle.machine_effects.specs.World.{World, world_after, readings_taken}
 use Rattle.machine_effects.specs.View.{IsWhole}
 use Rattle.machine_effects.specs.Runs.{last_board}
 use Rattle.cost_bound.specs.declared.allowance.Allow.{Allow}
@@ -44,6 +44,7 @@ use Rattle.compiled_bounds.specs.Capacities.{KeepsCapacities}
 use Rattle.model_runs.specs.Events.{words_between}
 use Rattle.model_runs.specs.Runs.{IsShort, all_amounts}
 use Rattle.task_needs.specs.Needs.{need_of}
+use Rattle.charge_limits.specs.Laws.{readings_from, words_offered, words_from}
 use Rattle.image_laws.specs.Compiled.{IsCompiled}
 use Rattle.image_reports.specs.ImageLaw.{runtime_marks, world_with, VersionsBelow, KeepsCode, StepsOn, EventsHold, HasRoom, RaisesVersion, StaysOpen}
 use Rattle.image_reports.specs.ImageLaw.{RingsHold, AnswersHold}
@@ -98,6 +99,8 @@ pub record HoldsFrom (p : CheckedProgram) (l : MemoryMap) (image : ImageValue) (
   pub never_lost : h.decided ≡ true → ((outside_of b).fram (word_place l Gate) ≡ 1)
       × ((s : State) → (compiled_model p l).Undecided s h.world → ⊥)
   pub accepted : AcceptedWords (compiled_model p l) readings origin h stands.state h.decided
+  pub takes_few : length (readings_taken h.effects) ≤ readings_from p l h.start.fram
+  pub offers_few : length (words_offered h.effects) ≤ words_from p l origin h.completed stands.state
   pub sent : (to : State) → origin ≡ Pending to → h.completed ≡ [] → IsBetween x.accepted to.emitted h.world.accepted
   pub versions : h.effects ≡ start_due l h.start.fram → VersionsBelow l (outside_of b).fram
   pub belongs : BelongsTo p l image h.world

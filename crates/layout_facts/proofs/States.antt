@@ -88,8 +88,8 @@ worlds_have_states p allow plans l h =
     record {
       is_state = is_state p allow plans l h;
       shared = λ x a s. shared_in p allow plans l h x.fram a s;
-      rest = subst Rest (sym (is_redo p l)) (rests p allow plans l h);
-      commit = subst Commit (sym (is_redo p l)) (λ x d. record {
+      rest = λ logs. subst Rest (sym (is_redo p l logs)) (rests p allow plans l h);
+      commit = λ logs. subst Commit (sym (is_redo p l logs)) (λ x d. record {
         pending = d;
         rests = rests p allow plans l h _ (commit_rests places (places_are_apart p allow plans l h) x d (tasks_have_room p allow plans l h));
       });

@@ -5,18 +5,21 @@ use Rattle.cost_bound.specs.Counts.{emits_of}
 use Rattle.cost_bound.specs.Allowance.{CheckedProgram, CheckedTask, IsAllowed, list_of}
 use Rattle.war_analysis.specs.PlanValue.{TaskPlanValue}
 use Rattle.war_analysis.specs.Plans.{IsPlan}
+use Rattle.memory_map.specs.declared.runtime.Logging.{Logging}
 use Rattle.memory_map.specs.MemoryMap.{MemoryMap, TaskPlace}
-use Rattle.privatise.specs.Layouts.{IsLayout}
+use Rattle.privatise.specs.Layouts.{IsLayoutFor}
 use Rattle.linked_code.specs.Rooms.{PrivatesAreCounted}
 use Rattle.memory_map.specs.Spots.{Places, places_of}
 use Rattle.lower.specs.Seen.{map_seen}
 use Rattle.lower.specs.Spots.{Room}
 
--- a source costs no more than it may, and has this plan and this layout, and no task's private scalars have more words than its allowance counts
+-- a source costs no more than it may, and has this plan and this layout for some runtime, and no task's private scalars have more words than its
+-- allowance counts
 pub record HasLayout (p : CheckedProgram) (allow : Allow) (plans : List TaskPlanValue) (l : MemoryMap) : Type 0 where
   pub allowed : IsAllowed p allow
   pub plan : IsPlan p plans
-  pub layout : IsLayout p allow plans l
+  pub logging : Logging
+  pub layout : IsLayoutFor logging p allow plans l
   pub few : PrivatesAreCounted p l
 
 -- a task by its number, with its layout

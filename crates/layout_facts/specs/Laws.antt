@@ -14,6 +14,7 @@ use Rattle.memory_map.specs.declared.place.ScalarWidth.{ScalarWidth}
 use Rattle.memory_map.specs.declared.place.VariablePlace.{VariablePlace}
 use Rattle.memory_map.specs.declared.place.VariablePlace.TheVariants.{Scalar, Array}
 use Rattle.memory_map.specs.declared.place.PrivateScalar.{PrivateScalar}
+use Rattle.memory_map.specs.declared.runtime.Logging.TheVariants.{Redo}
 use Rattle.memory_map.specs.MemoryMap.{MemoryMap, TaskPlace}
 use Rattle.memory_map.specs.Places.{scalar_words, HasItsPlace}
 use Rattle.privatise.specs.Sizes.{home_part}
@@ -103,13 +104,13 @@ abbrev pub RowsFitPlaces : Type 0
 RowsFitPlaces = OfLayouts (λ p l. (rows : List (List ℕ)) (v : ℕ) (place : VariablePlace) → are_rows p.shared rows ≡ true
     → slice_get l.variables v ≡ Some place → (v < length rows) × (length (slice_index_or rows v []) ≡ place_length place))
 
--- A world of words has a state, whose shared words are the world's. Where no commit is pending the world rests at it, and a pending commit
+-- A world of words has a state, whose shared words are the world's. Under redo the world rests at it where no commit is pending, and a pending commit
 -- leaves the state that the world has behind it
 pub record WorldsStand (p : CheckedProgram) (l : MemoryMap) : Type 0 where
   pub is_state : (x : World) → HoldsWords x.fram → (state_view p l).is_state (state_in l x) ≡ true
   pub shared : (x : World) (a : ℕ) → IsSharedWord (program_places p l) a → x.fram a ≡ (state_view p l).word (state_in l x) a
-  pub rest : (x : World) → IsAtRest (program_places p l) x → (compiled_model p l).Rests (state_in l x) x
-  pub commit : (x : World) → IsPendingCommit (program_places p l) x → (compiled_model p l).Committing (state_left l x) x
+  pub rest : l.runtime.logging ≡ Redo → (x : World) → IsAtRest (program_places p l) x → (compiled_model p l).Rests (state_in l x) x
+  pub commit : l.runtime.logging ≡ Redo → (x : World) → IsPendingCommit (program_places p l) x → (compiled_model p l).Committing (state_left l x) x
 
 -- so with each source and its layout
 abbrev pub WorldsHaveStates : Type 0

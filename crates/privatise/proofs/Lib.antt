@@ -4,5 +4,6 @@ mod TasksPlaced
 mod Whole
 mod Tight
 mod Unique
+mod Logged
 pub use Rattle.war_analysis.proofs as war_analysis
 pub use Rattle.war_analysis.proofs.path_sums as path_sums

@@ -13,12 +13,13 @@ use Rattle.memory_map.specs.declared.place.Region.{Region}
 use Rattle.memory_map.specs.declared.place.VariablePlace.{VariablePlace}
 use Rattle.memory_map.specs.declared.place.VariablePlace.TheVariants.{Scalar}
 use Rattle.memory_map.specs.declared.place.PrivateScalar.{PrivateScalar}
+use Rattle.memory_map.specs.declared.runtime.Logging.{Logging}
 use Rattle.memory_map.specs.MemoryMap.{MemoryMap, TaskPlace, parts}
 use Rattle.std.specs.List.{flat_map}
 use Rattle.memory_map.specs.Places.{end_of, list_entry_room, AreInOrder, HasItsPlace, home_region, copy_regions, version_regions}
 use Rattle.privatise.specs.Sizes.{home_words, copy_words, body_words, boot_words, commit_words}
-use Rattle.privatise.specs.Layouts.{IsPlaceOf, IsTaskLayout, IsLayout}
-use Rattle.privatise.specs.Laws.{OneLayout}
+use Rattle.privatise.specs.Layouts.{IsPlaceOf, IsTaskLayout, IsLayoutFor}
+use Rattle.privatise.specs.Laws.{OneLayoutFor}
 use Rattle.memory_map.proofs.Interface.{apart_of}
 use Rattle.privatise.proofs.Sums.{words_split}
 use Rattle.privatise.proofs.Whole.{Amounts, needed, adds_up}
@@ -136,7 +137,7 @@ times a b c n m h e = subst (λ x. a + n * x ≤ c) e h
 last : (a w n p : ℕ) → a + 2 * w + 2 ≤ fram_first + 2 * p → w ≡ n → a + 2 * n ≤ fram_first - 2 + 2 * p
 last a w n p h e = omega (arith, h, e)
 
-chain_of : (p : CheckedProgram) (allow : Allow) (plans : List TaskPlanValue) (l : MemoryMap) → IsLayout p allow plans l
+chain_of : {logging : Logging} (p : CheckedProgram) (allow : Allow) (plans : List TaskPlanValue) (l : MemoryMap) → IsLayoutFor logging p allow plans l
     → IsChain fram_first (addresses l) (sizes p allow) (fram_first - 2 + 2 * plain_words_of p)
 chain_of p allow plans l h =
     let a = apart_of l h.rules in
@@ -163,8 +164,8 @@ all_full p allow a =
     full allow.list allow.emits allow.versions n.homes n.copies n.boot n.code (plain_words_of p)
     (adds_up p given (λ j. record n { list = a.list j; emits = a.emits j; versions = a.versions j }))
 
-same_addresses : (p : CheckedProgram) (allow : Allow) (plans : List TaskPlanValue) (a b : MemoryMap) → IsAllowed p allow → IsLayout p allow plans a
-    → IsLayout p allow plans b → addresses a ≡ addresses b
+same_addresses : {logging : Logging} (p : CheckedProgram) (allow : Allow) (plans : List TaskPlanValue) (a b : MemoryMap) → IsAllowed p allow
+    → IsLayoutFor logging p allow plans a → IsLayoutFor logging p allow plans b → addresses a ≡ addresses b
 same_addresses p allow plans a b h x y = same_chain fram_first (addresses a) (addresses b) (sizes p allow) (fram_first - 2 + 2 * plain_words_of p)
     (all_full p allow h) (chain_of p allow plans a x) (chain_of p allow plans b y)
 
@@ -174,8 +175,8 @@ same_region r q e f = λ j. record { address = e j; words = f j }
 behind : (a w n : ℕ) → w ≡ n → a + 2 * w ≤ a + 2 * n
 behind a w n e = omega (arith, e)
 
-pub one_layout : (p : CheckedProgram) (allow : Allow) → IsAllowed p allow → OneLayout p allow
-one_layout p allow h plans a b planned x y = λ j. record {
+pub one_layout : (logging : Logging) (p : CheckedProgram) (allow : Allow) → IsAllowed p allow → OneLayoutFor logging p allow
+one_layout logging p allow h plans a b planned x y = λ j. record {
   runtime = runtime j;
   row = at 0 j;
   list = list j;
@@ -242,7 +243,7 @@ one_layout p allow h plans a b planned x y = λ j. record {
           version = subst (λ r. AreInOrder r.address (flat_map version_regions b.variables) (end_of r)) (sym versions) y.rules.versions;
         })
       where
-        kind : (l : MemoryMap) → IsLayout p allow plans l → (k : ℕ) (d : SharedDeclaration) (v : VariablePlace) → slice_get p.shared k ≡ Some d
+        kind : (l : MemoryMap) → IsLayoutFor logging p allow plans l → (k : ℕ) (d : SharedDeclaration) (v : VariablePlace) → slice_get p.shared k ≡ Some d
             → slice_get l.variables k ≡ Some v → IsPlaceOf (is_written p.tasks (0 + k)) d.extent v
         kind l z k d v e f = let same : k ≡ 0 + k = omega arith in subst (λ n. IsPlaceOf (is_written p.tasks n) d.extent v) same (z.variables.each k d v e f)
 

@@ -30,7 +30,8 @@ use Rattle.memory_map.specs.MemoryMap.{TaskPlace, parts, row_region}
 use Rattle.memory_map.specs.View.{map_with}
 use Rattle.memory_map.specs.Places.{end_of, list_entry_room, home_region, copy_regions, version_regions, IsBehind, AreInOrder, IsLaidOut}
 use Rattle.privatise.specs.Sizes.{home_words, copy_part, copy_words, body_words, boot_words, commit_words}
-use Rattle.privatise.specs.Layouts.{IsPlaceOf, AreVariables, IsLayout, runtime_of}
+use Rattle.memory_map.specs.declared.runtime.Logging.TheVariants.{Redo}
+use Rattle.privatise.specs.Layouts.{IsPlaceOf, AreVariables, IsLayout, runtime_for}
 use Rattle.privatise.specs.Placing.{place_at, copy_sum, version_sum, IsRoom, ArePlaced, is_scalar_place, IsScalarPlaceAt, ArePlacedTasks, AreSizes, AreRegions}
 use Rattle.privatise.proofs.Sums.{words_split, plain_small}
 use Rattle.privatise.proofs.VariablesPlaced.{kind_at}
@@ -353,13 +354,13 @@ size_is : (e n w : ℕ) → e ≡ fram_first + 2 * n → n + 1 ≡ w → e + 2 �
 size_is e n w h k = omega (arith, h, k)
 
 pub whole : (p : CheckedProgram) (allow : Allow) (plans : List TaskPlanValue) (s : Sizes) (r : Regions) (written : List Bool) (places : List VariablePlace)
-    (layouts : List TaskPlace) → IsPlaced p allow plans s r written places layouts → IsLayout p allow plans (map_with (runtime_of p) r places layouts)
+    (layouts : List TaskPlace) → IsPlaced p allow plans s r written places layouts → IsLayout p allow plans (map_with (runtime_for Redo p) r places layouts)
 whole p allow plans s r written places layouts made =
     let k = made.sizes in
     let g = made.regions in
     record {
       runtime = refl;
-      rules = laid_out (runtime_of p) p allow plans s r written places layouts made;
+      rules = laid_out (runtime_for Redo p) p allow plans s r written places layouts made;
       list = g.entries;
       emits = g.emits_words;
       versions = g.versions_words;

@@ -11,6 +11,8 @@ use Rattle.memory_map.specs.address_space.Limits.{fram_first}
 use Rattle.memory_map.specs.declared.place.ScalarWidth.TheVariants.{OneWord, TwoWords}
 use Rattle.memory_map.specs.declared.place.VariablePlace.{VariablePlace}
 use Rattle.memory_map.specs.declared.place.VariablePlace.TheVariants.{Scalar, Array}
+use Rattle.memory_map.specs.declared.runtime.Logging.{Logging}
+use Rattle.memory_map.specs.declared.runtime.Logging.TheVariants.{Redo}
 use Rattle.memory_map.specs.declared.runtime.Runtime.{Runtime}
 use Rattle.memory_map.specs.MemoryMap.{MemoryMap, TaskPlace, lone_redo}
 use Rattle.memory_map.specs.Places.{end_of, IsLaidOut}
@@ -43,14 +45,15 @@ pub record AreTasks (p : CheckedProgram) (plans : List TaskPlanValue) (tasks : L
   pub each : (k : ℕ) (task : CheckedTask) (plan : TaskPlanValue) (t : TaskPlace) → slice_get p.tasks k ≡ Some task → slice_get plans k ≡ Some plan
       → slice_get tasks k ≡ Some t → IsTaskLayout p.shared task.body plan t
 
--- the runtime of a source: that of a board that is alone, which takes events where the source uses some
-abbrev pub runtime_of : CheckedProgram → Runtime
-runtime_of p = record lone_redo { events = uses_events p }
+-- the runtime of a source that logs so: that of a board that is alone, which takes events where the source uses some
+abbrev pub runtime_for : Logging → CheckedProgram → Runtime
+runtime_for logging p = record lone_redo { logging = logging; events = uses_events p }
 
--- The layout of a source for a board that is alone: it keeps the rules of layouts, its buffers have room for what the source's allowance says, its variables
--- and tasks are those of the source, and the whole takes no more words than the source has without what events need, of which the last is the one at FFFE.
-pub record IsLayout (p : CheckedProgram) (allow : Allow) (plans : List TaskPlanValue) (l : MemoryMap) : Type 0 where
-  pub runtime : l.runtime ≡ runtime_of p
+-- The layout of a source, by how its runtime logs, for a board that is alone: it keeps the rules of layouts, its buffers have room for what the source's
+-- allowance says, its variables and tasks are those of the source, and the whole takes no more words than the source has without what events need, of which
+-- the last is the one at FFFE. The places are the same for each runtime.
+pub record IsLayoutFor (logging : Logging) (p : CheckedProgram) (allow : Allow) (plans : List TaskPlanValue) (l : MemoryMap) : Type 0 where
+  pub runtime : l.runtime ≡ runtime_for logging p
   pub rules : IsLaidOut l
   pub list : l.entries ≡ allow.list
   pub emits : l.emits.words ≡ allow.emits
@@ -63,3 +66,7 @@ pub record IsLayout (p : CheckedProgram) (allow : Allow) (plans : List TaskPlanV
   pub code : l.code.words ≡ total (body_words p.shared) p.tasks
   pub tasks : AreTasks p plans l.tasks
   pub size : end_of l.code + 2 ≤ fram_first + 2 * plain_words_of p
+
+-- the layout of a source that is compiled to work in copies
+abbrev pub IsLayout : CheckedProgram → Allow → List TaskPlanValue → MemoryMap → Type 0
+IsLayout = IsLayoutFor Redo

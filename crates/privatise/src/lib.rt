@@ -8,7 +8,7 @@ mod sizes;
 mod tasks;
 mod variables;
 
-pub use laws::one_layout;
+pub use laws::{layouts_are_logged, one_layout, one_logged_layout};
 pub use memory_map::{
     ArrayCopies, Layout, PrivateScalar, Region, ScalarWidth, TaskLayout, VariablePlace,
 };

@@ -10,7 +10,7 @@ use Rattle.clap.specs.Words.{Row, Rule, Text, first_of, subcommand_of}
 use Rattle.clap.specs.Walk.{has_row}
 use Rattle.command_line.specs.CommandLine.{AreTexts, Subcommand, all_said, files_of}
 use Rattle.command_line.specs.Commands.{values_of}
-use Rattle.command_line.proofs.Interface.{built_subcommand, files_said, has_name, lent, rows_for, values_after}
+use Rattle.command_line.proofs.Interface.{built_subcommand, files_said, has_name, lent, rows_for, some_more, values_after}
 use Rattle.scope_line.specs.ScopeLine.{IsScopeLine, NamesScopeCommand, bounds_line, line_found, plain_line, scope_app, scope_line_of}
 use Rattle.scope_line.specs.ScopeLine.{subcommand_named, scope_subcommands}
 use Rattle.scope_line.specs.declared.Command.{Command}
@@ -33,11 +33,6 @@ line_found_is words name rows l is =
     ap (λ n. line_found n rows) (sym called ∙ word) ∙ found ∙ sym (line_says words l)
 
 -- ---- each command has a line, and each line a command
-
-some_more : (word : Text) (o : Option (List Text)) (line : List Text) → option_map (λ fs. word ∷ fs) o ≡ Some line
-    → (files : List Text) × (o ≡ Some files) × (line ≡ word ∷ files)
-some_more word None line e = cc
-some_more word (Some files) line e = (files, refl, ap (λ o. unwrap_or o []) (sym e))
 
 -- the command of a line, by its name and files: it has as many files, and none is a number
 record OfLine (name : Text) (files : List Text) : Type 0 where

@@ -1,5 +1,6 @@
 -- What the proofs take of a source with its layout.
 use Rattle.task_attempts.proofs.Names.{◌≡◌, ℕ, ◌+◌, ◌*◌, ◌<◌, ◌≤◌, true, false, List, [], Contains, length, Some, slice_get, slice_index, slice_index_or}
+use Rattle.memory_map.specs.declared.runtime.Logging.TheVariants.{Redo}
 use Rattle.task_attempts.proofs.Names.{is_private_of, Shared, IsScalarIn, CheckedBlock, stores_of, CheckedTask, CheckedProgram, ScalarWidth, VariablePlace}
 use Rattle.task_attempts.proofs.Names.{Scalar, PrivateScalar, MemoryMap, TaskPlace, end_of, scalar_words, HasItsPlace, AreVariables, task_entries, privates_in}
 use Rattle.task_attempts.proofs.Names.{apart_of, IsSharedWord, IsCopyWord, HaveRoom, ArePrivate, places_of, address_of, Element, IsCopied, copy_address}
@@ -85,7 +86,13 @@ pub record IsGiven (p : CheckedProgram) (l : MemoryMap) : Type 0 where
 
 module _ (text : List ℕ) (p : CheckedProgram) (allow : Allow) (plans : List TaskPlanValue) (l : MemoryMap) (laid : IsLaidOutText text p allow plans l) where
   has : HasLayout p allow plans l
-  has = record { allowed = laid.accepted.allowed; plan = laid.plan; layout = laid.layout; few = privates_are_few text p allow plans l laid }
+  has = record {
+    allowed = laid.accepted.allowed;
+    plan = laid.plan;
+    logging = Redo;
+    layout = laid.layout;
+    few = privates_are_few text p allow plans l laid;
+  }
 
   privates_of : (k : ℕ) (task : CheckedTask) (t : TaskPlace) → IsTaskAt p l k task t → ArePrivates l task.body t
   privates_of k task t at =

@@ -6,16 +6,21 @@ use Rattle.task_attempts.proofs.Names.{effects_of, AttemptsStore, each_store-app
 use Rattle.task_attempts.proofs.Names.{numbered_starts, blocks_agree, program_places, state_view, Model, ModelLaws, program_parts, TasksKeepTheirContract}
 use Rattle.task_attempts.proofs.Names.{CompiledSourcesKeepTheLaws, IsBelowCode, AttemptsStoreBelowCode, TasksLeaveForTheCommit, word_place, CurrentTask}
 use Rattle.runtime_effects.specs.Stages.{start_effects}
+use Rattle.memory_map.specs.declared.runtime.Runtime.{Runtime}
+use Rattle.memory_map.specs.declared.runtime.Logging.TheVariants.{Redo}
 use Rattle.memory_map.specs.declared.runtime.Logging.{Logging}
 use Rattle.memory_map.specs.declared.runtime.Role.{Role}
 use Rattle.stands_for.specs.Program.{StartContract, TasksContract, IsStartStore}
 use Rattle.compiled_model.specs.Needs.{StoresBelow}
-use Rattle.compiled_model.proofs.Interface.{is_redo, under_map, under_redo}
+use Rattle.compiled_model.proofs.Interface.{is_redo, under_map, from_map}
 use Rattle.task_attempts.proofs.Names.{◌≡◌, ◌++◌, true, ap, ◌∙◌, Gate}
 use Rattle.machine_effects.specs.Inputs.{Look}
 use Rattle.event_rules.specs.Taking.{Taking, Before, Open, Advances, FollowsSeeing, ScriptsTakeInOrder}
 use Rattle.event_rules.proofs.Interface.{looks_after, left_behind, joined}
 use Rattle.task_attempts.specs.Laws.{SourcesTakeInOrder}
+use Rattle.whole_programs.specs.Laws.{IsLaidOutText}
+use Rattle.cost_bound.specs.declared.allowance.Allow.{Allow}
+use Rattle.war_analysis.specs.PlanValue.{TaskPlanValue}
 use Rattle.task_attempts.proofs.Given.{IsGiven, given}
 use Rattle.task_attempts.proofs.Started.{attempt_at}
 use Rattle.task_attempts.specs.Laws.{TasksListFewWords}
@@ -80,39 +85,44 @@ module _ (p : CheckedProgram) (l : MemoryMap) (g : IsGiven p l) where
 
 -- ---- under the runtime of the memory map
 
+-- a layout for redo is of a map that logs so
+logs : (text : List ℕ) (p : CheckedProgram) (allow : Allow) (plans : List TaskPlanValue) (l : MemoryMap) → IsLaidOutText text p allow plans l
+    → l.runtime.logging ≡ Redo
+logs text p allow plans l laid = ap (λ (r : Runtime). r.logging) laid.layout.runtime
+
 pub tasks_contract : TasksKeepTheirContract
 tasks_contract text p allow plans l laid runnable =
     let P : Logging → Role → Type 0 = λ logging role. (s : State) (x : World) (inputs : Inputs) → InputsAreWords inputs → started_under logging p l s x
     → AttemptContract (model_by logging role p l) s inputs x (effects_of (behaviour (task_program p l s.task) (started x.fram inputs))) in
-    under_map l P (keeps p l (given text p allow plans l laid runnable))
+    under_map l P (logs text p allow plans l laid) (keeps p l (given text p allow plans l laid runnable))
 
 pub compiled_laws : CompiledSourcesKeepTheLaws
 compiled_laws text p allow plans l laid runnable =
     let g = given text p allow plans l laid runnable in
     let P : Model State → Type 0 = λ m. ModelLaws m in
-    subst P (sym (is_redo p l))
+    subst P (sym (is_redo p l (logs text p allow plans l laid)))
     (keeps_the_laws State (program_places p l) (state_view p l) (privates p l g) (program_parts p l) g.apart g.room (start p l g) (keeps p l g))
 
 pub stores_below_code : AttemptsStoreBelowCode
 stores_below_code text p allow plans l laid runnable =
     let P : Model State → Type 0 = λ m. AttemptsStore m (IsBelowCode l) in
-    subst P (sym (is_redo p l)) (stores p l (given text p allow plans l laid runnable))
+    subst P (sym (is_redo p l (logs text p allow plans l laid))) (stores p l (given text p allow plans l laid runnable))
 
 pub tasks_leave : TasksLeaveForTheCommit
 tasks_leave text p allow plans l laid runnable = record {
   leave = λ s x inputs small st.
       let P : Logging → Role → Type 0 = λ logging role. started_under logging p l s x in
-      program_leaves (attempt_at p l (given text p allow plans l laid runnable) s x inputs (under_redo l P st)) blocks_agree small;
+      program_leaves (attempt_at p l (given text p allow plans l laid runnable) s x inputs (from_map l P (logs text p allow plans l laid) st)) blocks_agree small;
 }
 
 pub tasks_list_few : TasksListFewWords
 tasks_list_few text p allow plans l laid runnable = record {
   few = λ s x inputs small st.
       let P : Logging → Role → Type 0 = λ logging role. started_under logging p l s x in
-      program_lists (attempt_at p l (given text p allow plans l laid runnable) s x inputs (under_redo l P st)) blocks_agree small;
+      program_lists (attempt_at p l (given text p allow plans l laid runnable) s x inputs (from_map l P (logs text p allow plans l laid) st)) blocks_agree small;
 }
 
 pub scripts_in_order : SourcesTakeInOrder
 scripts_in_order text p allow plans l laid runnable on =
     let P : Model State → Type 0 = λ m. ScriptsTakeInOrder m in
-    subst P (sym (is_redo p l)) (in_order p l (given text p allow plans l laid runnable) on)
+    subst P (sym (is_redo p l (logs text p allow plans l laid))) (in_order p l (given text p allow plans l laid runnable) on)

@@ -18,14 +18,14 @@ use Rattle.runtime_effects.proofs.Interface.{sends_store, where_stores}
 use Rattle.undo_effects.specs.Stages.{moved_on, let_go, undo_commit}
 use Rattle.undo_effects.proofs.Interface.{put_over}
 use Rattle.crash_rules.specs.Model.{HoldsThroughout, IsElsewhere, CommitKeeps, ModelLaws, Inputs, Short, Lacks, program_effects}
-use Rattle.crash_rules.proofs.Interface.{holds-append}
+use Rattle.crash_rules.proofs.Interface.{holds_both, holds-append}
 use Rattle.stands_for.specs.Layout.{ProgramPlaces, StateView, IsAmong, HaveRoom}
 use Rattle.stands_for.specs.StandsFor.{HoldsWords, RestsAt, SendsAndCloses, CopiesHome, DecidedFrom}
 use Rattle.stands_for.specs.Program.{ProgramParts, program_model, TasksContract}
 use Rattle.stands_for.proofs.Interface.{put_words, keeps_the_laws, numbered_starts}
 use Rattle.undo_states.specs.States.{list_length, RestsClear, ClosesFrom}
 use Rattle.undo_states.specs.Program.{undo_model}
-use Rattle.undo_states.proofs.Steps.{both_through, at_end, stays_through, world_with, through_with, after_with}
+use Rattle.undo_states.proofs.Steps.{at_end, stays_through, world_with, through_with, after_with}
 
 -- the same words are sent
 sends_alike : (n k p : ℕ) (f g : ℕ → ℕ) → ((a : ℕ) → p ≤ a → g a ≡ f a) → sends n k p g ≡ sends n k p f
@@ -219,7 +219,7 @@ module _ {St : Type 0} (l : ProgramPlaces) (apart : AreApart l.map) (room : Have
 
       closes_through : HoldsThroughout (ClosesFrom l v s next) es x
       closes_through =
-          both_through (λ z. DecidedFrom l v s next (emptied z)) (λ z. list_length l z ≡ list_length l x) (ClosesFrom l v s next)
+          holds_both (λ z. DecidedFrom l v s next (emptied z)) (λ z. list_length l z ≡ list_length l x) (ClosesFrom l v s next)
           (λ z k e. of_redo z (subst (λ n. n ≤ l.list_capacity (v.task s)) (sym e) d.closes.within) k) es x redo_through few_through
 
       -- the store to CLN

@@ -5,3 +5,5 @@
 pub use Rattle.undo_states.proofs.Undecided.{IsBeside, beside_keeps, over_keeps, in_place_keeps, Logs, logs}
 -- The laws of what a world stands for.
 pub use Rattle.undo_states.proofs.Theorems.{undo_keeps_the_laws, logging_starts, element_stores_stay, shared_stores_stay}
+-- Where recoveries and commits store, and the version words of an undecided world.
+pub use Rattle.undo_states.proofs.Stored.{undo_commit_stores, recovery_stores, undone_versions}

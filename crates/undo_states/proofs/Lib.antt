@@ -5,4 +5,5 @@ mod Starts
 mod Recovery
 mod Commits
 mod Theorems
+mod Stored
 pub mod Interface

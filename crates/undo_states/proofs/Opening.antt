@@ -16,7 +16,8 @@ use Rattle.stands_for.specs.StandsFor.{UndecidedAt, StartedAt}
 use Rattle.stands_for.specs.Program.{IsStartStore, StartContract}
 use Rattle.stands_for.proofs.Interface.{each_weaker, numbered_starts}
 use Rattle.undo_states.specs.States.{list_length, restored, UndoneAt, SettledAt}
-use Rattle.undo_states.proofs.Steps.{both_through, at_end, same_through, without, same_without}
+use Rattle.crash_rules.proofs.Interface.{holds_both}
+use Rattle.undo_states.proofs.Steps.{at_end, same_through, without, same_without}
 
 -- what effects take, without a store among them
 taken_without : (a w : ℕ) (after es : List Effect) → inputs_taken (es ++ (Store a w ∷ after)) ≡ inputs_taken (es ++ after)
@@ -104,7 +105,7 @@ module _ {St : Type 0} (l : ProgramPlaces) (v : StateView St) where
         let front = at_end (λ y. y.fram cln ≡ 0) (λ y. y.fram cln ≡ 0) (λ y e. e) (numbered f) x
         (same_through cln 0 (numbered f) x (each_store-front Cleared (numbered f) (list_cleared ∷ counted) each) u.none) in
         let redo = subst (λ es. HoldsThroughout (UndecidedAt l v s) es x) (redo_is f) (redo_starts.undecided s x stands) in
-        let both = both_through (UndecidedAt l v s) (λ y. y.fram cln ≡ 0) (UndoneAt l v s) (λ y p e. none_logged s y p e) _ x redo none in
+        let both = holds_both (UndecidedAt l v s) (λ y. y.fram cln ≡ 0) (UndoneAt l v s) (λ y p e. none_logged s y p e) _ x redo none in
         let kept = without cln 0 counted (UndoneAt l v s) (numbered f) x front both in
         let started = subst (λ es. StartedAt l v s [] (world_after es x)) (redo_is f) (redo_starts.started s x stands) in
         let left = subst (StartedAt l v s []) (same_without cln 0 counted (numbered f) x front) started in

@@ -7,12 +7,6 @@ use Rattle.machine_effects.proofs.Interface.{put_same, put_other}
 use Rattle.crash_rules.specs.Model.{HoldsThroughout, IsElsewhere}
 use Rattle.undo_effects.proofs.Interface.{put_again, put_apart}
 
--- two facts, and what follows from both
-pub both_through : (P Q R : World → Type 0) → ((y : World) → P y → Q y → R y) → (es : List Effect) (x : World) → HoldsThroughout P es x
-    → HoldsThroughout Q es x → HoldsThroughout R es x
-both_through P Q R h [] x p q = h x p q
-both_through P Q R h (e ∷ es) x p q = (h x p.0 q.0, both_through P Q R h es (world_after_one e x) p.1 q.1)
-
 -- a fact behind all effects, and what follows from it
 pub at_end : (P Q : World → Type 0) → ((y : World) → P y → Q y) → (es : List Effect) (x : World) → HoldsThroughout P es x → Q (world_after es x)
 at_end P Q h [] x p = h x p

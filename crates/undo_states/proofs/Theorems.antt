@@ -14,7 +14,7 @@ use Rattle.undo_effects.specs.Entries.{Logged, logged, IsLogged}
 use Rattle.undo_effects.specs.Stages.{word_logged, element_stored}
 use Rattle.undo_effects.proofs.Interface.{undone_other, undone_at, is_logged_last}
 use Rattle.crash_rules.specs.Model.{HoldsThroughout, IsElsewhere, behind_effects, Inputs, InputsAreWords, AttemptContract, IsBetween}
-use Rattle.crash_rules.proofs.Interface.{world_fram, holds-append, in_front}
+use Rattle.crash_rules.proofs.Interface.{holds_both, world_fram, holds-append, in_front}
 use Rattle.stands_for.specs.Layout.{ProgramPlaces, StateView, IsSharedWord, HaveRoom}
 use Rattle.stands_for.specs.StandsFor.{VersionsWithin}
 use Rattle.stands_for.specs.Program.{ProgramParts, attempt_effects}
@@ -22,7 +22,7 @@ use Rattle.stands_for.proofs.Interface.{put_either, each_weaker, none_answered}
 use Rattle.undo_states.specs.States.{list_length, restored, UndoneAt, SettledAt, ClosesFrom, ClosesTo}
 use Rattle.undo_states.specs.Program.{undo_model, IsLoggingStore, LoggingContract, LoggedTasksContract, UndoKeepsTheLaws, LoggingStarts, CanStore}
 use Rattle.undo_states.specs.Program.{ElementStoresStay, SharedStoresStay}
-use Rattle.undo_states.proofs.Steps.{both_through, at_end}
+use Rattle.undo_states.proofs.Steps.{at_end}
 use Rattle.undo_states.proofs.Undecided.{IsBeside, list_within, beside_keeps, beside_entries, over_keeps, in_place_keeps, logs, logs_leave}
 use Rattle.undo_states.proofs.Opening.{settled_stands, none_logged}
 use Rattle.undo_states.proofs.Starts.{logging_start}
@@ -101,7 +101,7 @@ undo_keeps_the_laws St l v privates p apart room start tasks =
       commits = λ to x inputs d.
           let k = kept l apart room v d.from to x inputs d.decided in
           commit_keeps l apart room v d.from to x inputs d.decided p (ClosesTo l v to)
-          (both_through (ClosesFrom l v d.from to) (ClosesFrom l v d.from to) (ClosesTo l v to) (λ y a b. record { from = d.from; decided = a }) _ x k k);
+          (holds_both (ClosesFrom l v d.from to) (ClosesFrom l v d.from to) (ClosesTo l v to) (λ y a b. record { from = d.from; decided = a }) _ x k k);
       recovers = λ s x u. recovery_keeps l apart room v s p x u;
       attempts = attempts l apart v privates p start tasks;
     }

@@ -32,6 +32,14 @@ fourth n list h = omega arith
 behind_fourth : (n list : ℕ) → list + 4 * n + 2 < 0x10000 → fourfold n + word_sum list 2 ≡ list + 4 * n + 2
 behind_fourth n list h = omega arith
 
+module _ (z : Setting) (place : LoggedPlace) (p : ℕ) where
+  -- what stores a word of the state in front of it, behind the log
+  abbrev pub Keeps : ℕ → ℕ → ℕ → ℕ → (WordState → ℕ) → Type 0
+  Keeps i v r end word =
+      let e = 2 * i + place.elements in
+      (w : WordState) (t : Core) → IsPlace e → HoldsWords w.fram → HasTwo z (p + 46) w (2 * i) v t
+      → Runs z.code (Store e (word w) ∷ []) r t (StandsFor z end (stored e (word w) w))
+
 module _ (z : Setting) (place : LoggedPlace) (list : ListPlace) (p : ℕ) (h : Stands z.code p (logged_first place list)) where
   abbrev code : List Form
   code = logged_first place list
@@ -183,14 +191,7 @@ module _ (z : Setting) (place : LoggedPlace) (list : ListPlace) (p : ℕ) (h : S
           (λ k. put (third_is k) (version k) (third_is k list.ver))
           (λ s. record { is = s; held = record { four = offset_is; five = refl } })
 
-  -- what stores a word of the state in front of it, behind the log
-  abbrev pub Keeps : ℕ → ℕ → ℕ → ℕ → (WordState → ℕ) → Type 0
-  Keeps i v r end word =
-      let e = 2 * i + place.elements in
-      (w : WordState) (t : Core) → IsPlace e → HoldsWords w.fram → HasTwo z (p + 46) w (2 * i) v t
-      → Runs z.code (Store e (word w) ∷ []) r t (StandsFor z end (stored e (word w) w))
-
-  pub logged_part : (word : WordState → ℕ) (i v r end : ℕ) (w : WordState) (t : Core) → HoldsWords w.fram → HasTwo z p w i v t → Keeps i v r end word
+  pub logged_part : (word : WordState → ℕ) (i v r end : ℕ) (w : WordState) (t : Core) → HoldsWords w.fram → HasTwo z p w i v t → Keeps z place p i v r end word
       → Follows z end (37 + r) t (own_logged place list i word w)
   logged_part word i v r end w t wl j keeps =
       let e = 2 * i + place.elements in

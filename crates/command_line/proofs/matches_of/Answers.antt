@@ -1,8 +1,7 @@
-use Rattle.std.proofs.Common.{◌≡◌, ◌∙◌, ap, sym, refl, map, string_bytes, [], true, inl, inr, ◌∷◌}
-use Rattle.clap.specs.Words.{App, app_of, fault_of, kind_of, is_simple, is_simple_and_free, subcommand_of, HasKind, Kinds}
-use Rattle.clap.specs.declared.error.Error.{Error}
-use Rattle.clap.specs.declared.error.kind.ErrorKind.TheVariants.{OutOfMemory}
+use Rattle.std.proofs.Common.{◌≡◌, ◌∙◌, ap, sym, refl, map, string_bytes, true}
+use Rattle.clap.specs.Words.{App, app_of, fault_of, is_simple, is_simple_and_free, subcommand_of}
 use Rattle.clap.proofs.OnLiterals.{clap_on_literals}
+use Rattle.command_line.proofs.FirstWord.{no_fault}
 use Rattle.command_line.specs.CommandLine.{alpaca_app}
 use Rattle.command_line.proofs.matches_of.Goals as goal
 
@@ -13,11 +12,6 @@ is_free = refl
 is_plain : is_simple alpaca_app ≡ true
 unfolding clap_on_literals alpaca_app
 is_plain = refl
-
-no_fault : (kinds : Kinds) (e : Error) → kinds ≡ [] → (kind_of e ≡ OutOfMemory → ⊥) → HasKind kinds e → ⊥
-no_fault [] e p not_memory (inl m) = not_memory m
-no_fault [] e p not_memory (inr h) = h
-no_fault (k ∷ ks) e p not_memory h = cc
 
 pub returns-in-Ok-try_get_matches_from-clause-line : goal.returns-in-Ok-try_get_matches_from-clause-line
 returns-in-Ok-try_get_matches_from-clause-line c =

@@ -1,15 +1,8 @@
-use Rattle.std.proofs.Common.{◌≡◌, ◌∙◌, ◌∷◌, [], Option, Some, None, List, option_map, refl, sym}
-use Rattle.std.specs.Borrow.{Bor}
-use Rattle.clap.specs.Words.{Row, Text, first_of, found_of, rows_of}
+use Rattle.std.proofs.Common.{◌∙◌, sym}
+use Rattle.clap.specs.Words.{found_of, rows_of}
 use Rattle.clap.proofs.WalkLemmas.{first_value-rows}
-use Rattle.command_line.specs.Commands.{values_of}
+use Rattle.command_line.proofs.Commands.{one_value}
 use Rattle.command_line.proofs.one_file.Goals as goal
-
--- the values of one file
-one_value : (name : Text) (rows : List Row) (file : Option (Bor Text)) → first_of name rows ≡ option_map (λ (f : Bor Text). f.now) file
-    → option_map (λ (f : Bor Text). f.now ∷ []) file ≡ values_of (name ∷ []) rows
-one_value name rows None is = rw is refl
-one_value name rows (Some f) is = rw is refl
 
 pub returns : goal.returns
 returns c =

@@ -1,5 +1,6 @@
+use Rattle.memory_map.specs.declared.runtime.Logging.TheVariants.{Redo}
 use Rattle.privatise.proofs.Unique.{one_layout}
 use Rattle.privatise.proofs.laws.one_layout.Goals as goal
 
 pub returns : goal.returns
-returns c = one_layout
+returns c = one_layout Redo
