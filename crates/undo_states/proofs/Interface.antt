@@ -9,3 +9,5 @@ pub use Rattle.undo_states.proofs.Undecided.{IsBeside, beside_keeps, over_keeps,
 pub use Rattle.undo_states.proofs.Theorems.{undo_keeps_the_laws, logging_starts, element_stores_stay, shared_stores_stay}
 -- Where recoveries and commits store, and the version words of an undecided world.
 pub use Rattle.undo_states.proofs.Stored.{undo_commit_stores, recovery_stores, undone_versions}
+-- An attempt that goes on: what it stores keeps the world undecided, and what is logged stays logged.
+pub use Rattle.undo_states.proofs.GoesOn.{IsPlainWord, ArePairs, GoesOn, Kept, plain_goes, shared_goes, taken_goes, element_goes, kept-append}
