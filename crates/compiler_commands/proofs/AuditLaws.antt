@@ -100,7 +100,7 @@ ringless source file p allow image built off =
     ap (λ (k : MapValue). k.ring) same ∙ no_ring c.layout.runtime.events (ap (λ r. r.events) c.is_layout.runtime ∙ off)
 
 pub tried_reports_are_good : TriedReportsAreGood
-tried_reports_are_good source trace file output t no_event none =
+tried_reports_are_good logging source trace file output t no_event none =
     let r = t.report.outcome in
     let heard = t.told.heard in
     let spans = spans_in t.told.attempts in
@@ -132,6 +132,6 @@ tried_reports_are_good source trace file output t no_event none =
     )
 
 pub tried_reports_are_answered_yes : TriedReportsAreAnsweredYes
-tried_reports_are_answered_yes source trace file output t no_event none ending line a =
-    let good = tried_reports_are_good source trace file output t no_event none in
+tried_reports_are_answered_yes logging source trace file output t no_event none ending line a =
+    let good = tried_reports_are_good logging source trace file output t no_event none in
     of_same source trace output t.program t.allow t.charges good.0 good.1 t.trace_said ending line a (a.only t.program t.allow t.accepted)

@@ -31,7 +31,7 @@ builds law source text file p allow image kept accepted built told output bound 
       built = built;
       bound = bound;
       told = told;
-      lawful = law text p allow image own built.compiled;
+      lawful = law _ text p allow image own built.compiled;
     } in subst (λ x. Builds x file output) kept made
 
 pub tries : {logging : Logging} (source trace text file : List ℕ) (p : CheckedProgram) (allow : Allow) (image : ImageValue) (charges : TraceValue) → text ≡ source

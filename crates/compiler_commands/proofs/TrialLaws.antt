@@ -49,7 +49,7 @@ module _ {logging : Logging} (law : ImagesAreTold) (order : ImagesAnswerInOrder)
   on_trace : (trace : TraceValue) → IsTraceOfWords trace → IsTold text p (map_of text p compiled.layout allow) image trace
   on_trace trace words =
       let run = runs (charges_of trace.charges) (fresh image.words trace.readings trace.events) in
-      let law_told = law text p allow image accepted compiled trace words in
+      let law_told = law logging text p allow image accepted compiled trace words in
       let m = map_of text p compiled.layout allow in
       let Told : RunOutcome → List ℕ → Type 0 = IsToldBySource text p m (charges_of trace.charges) (fresh image.words trace.readings trace.events) in
       let told_so : (output : List ℕ) (r : IsRunReport image trace well output) → Told r.outcome output =
@@ -62,7 +62,7 @@ module _ {logging : Logging} (law : ImagesAreTold) (order : ImagesAnswerInOrder)
         answered = λ output r.
             let P : List CommittedAttempt → Type 0 =
             λ attempts. AnswersInOrder (map (λ (a : CommittedAttempt). a.answers) attempts) (accepted_events (Some m) r.outcome.moments) in
-            subst P (sym (told_so output r).attempts_are) (order text p allow image accepted compiled trace words r.outcome r.run);
+            subst P (sym (told_so output r).attempts_are) (order logging text p allow image accepted compiled trace words r.outcome r.run);
       }
 
   pub is_told : IsToldOnTraces text p image

@@ -3,7 +3,7 @@ use Rattle.image_laws.proofs.Names.{◌≡◌, ◌≢◌, ℕ, ◌+◌, ◌-◌,
 use Rattle.image_laws.proofs.Names.{true, false, List, length, All, slice_index, Allow, CheckedProgram, State, first_state, initial_rows}
 use Rattle.image_laws.proofs.Names.{IsAcceptedText, ImageValue, place_of, is_fram, IsFram, fram_of, IsSharedWord, HoldsWords, RestsAt, privates_are_few}
 use Rattle.image_laws.proofs.Names.{HasLayout, tasks_match, program_places, is_within, shared_word, state_view, Model, is_redo, code_words, code_region}
-use Rattle.image_laws.proofs.Names.{data_word, IsCompiledFor, fresh_world, IsFreshImage, ImagesAreFresh, reset_vector, CurrentTask, Gate, ListLength, Base, MemoryMap}
+use Rattle.image_laws.proofs.Names.{data_word, IsCompiledFor, fresh_world, IsFreshImage, reset_vector, CurrentTask, Gate, ListLength, Base, MemoryMap}
 use Rattle.image_laws.proofs.Names.{word_place, end_of, IsLaidOut, Bool, eq-eqb, leb-true, ltb-true, ⊎_elim, ◌⊎◌, nat_le, nat_lt, event_vector}
 use Rattle.image_laws.proofs.Names.{program_end, handler_place, head_place, is_ring}
 use Rattle.image_laws.proofs.Names.{HasHandler, handler_length, handler_words, handler_region, with_handler}
@@ -243,5 +243,6 @@ module _ {logging : Logging} (text : List ℕ) (p : CheckedProgram) (allow : All
     has_words = finds_state text p allow c.plans l laid (first_state p) (fresh_world image) rests;
   }
 
-pub images_are_fresh : ImagesAreFresh
+pub images_are_fresh : {logging : Logging} (text : List ℕ) (p : CheckedProgram) (allow : Allow) (image : ImageValue) → IsAcceptedText text p allow
+    → (c : IsCompiledFor logging text p allow image) → IsFreshImage text p allow c.layout image
 images_are_fresh text p allow image ok c = is_fresh text p allow image ok (accepted_texts_run text p allow ok) c

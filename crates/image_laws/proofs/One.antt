@@ -48,7 +48,7 @@ module _ (one_plan : (p : CheckedProgram) → OnePlan p)
       same_image a b words (x.map ∙ ap (λ l. Some (map_of text p l allow)) layout ∙ sym y.map)
 
   pub images_are_one : OneProgram → ImagesAreOne
-  images_are_one one_program {logging} text a b x y =
+  images_are_one one_program logging text a b x y =
       let same = one_program text x.program y.program x.allow y.allow x.accepted y.accepted in
       let of_program = subst (λ p. IsCompiledFor logging text p y.allow b) (sym same.0) y.compiled in
       let compiled = subst (λ allow. IsCompiledFor logging text x.program allow b) (sym same.1) of_program in

@@ -2,7 +2,7 @@
 use Rattle.image_laws.proofs.Names.{◌≡◌, ℕ, ◌+◌, ◌*◌, refl, ◌∙◌, subst, List, [], true, Some, slice_get, slice_index_or, Allow, is_written, CheckedProgram}
 use Rattle.image_laws.proofs.Names.{State, VariablePlace, CurrentTask, MemoryMap, word_place, home_region, World, IsSharedWord, RestsAt, HasWordsOf}
 use Rattle.image_laws.proofs.Names.{program_places, Model, state_view, state_in, is_redo, privates_are_few, HasLayout, words_of_variables_are_shared}
-use Rattle.image_laws.proofs.Names.{view_has_their_words, worlds_have_states, map_of, of_kind, ImageValue, IsAcceptedText, IsCompiledFor, MapsFindStates}
+use Rattle.image_laws.proofs.Names.{view_has_their_words, worlds_have_states, map_of, of_kind, ImageValue, IsAcceptedText, IsCompiledFor}
 use Rattle.image_laws.proofs.Names.{ImagesHaveStates}
 use Rattle.war_analysis.specs.PlanValue.{TaskPlanValue}
 use Rattle.memory_map.specs.declared.runtime.Logging.{Logging}
@@ -50,7 +50,9 @@ rests_at p l s x rests =
     ⊎_elim {C = RestsAt (program_places p l) (state_view p l) s x} (λ redo. subst P (is_redo p l redo) rests)
     (λ undo. (subst P (is_logged p l undo) rests).rests) (either_logging l.runtime.logging)
 
-pub maps_find_states : MapsFindStates
+pub maps_find_states : {logging : Logging} (text : List ℕ) (p : CheckedProgram) (allow : Allow) (image : ImageValue) → IsAcceptedText text p allow
+    → (c : IsCompiledFor logging text p allow image) → (s : State) (x : World)
+    → (compiled_model p c.layout).Rests s x → HasWordsOf (map_of text p c.layout allow) x s
 maps_find_states text p allow image ok c s x rests =
     finds_state text p allow c.plans c.layout (layout_of text p allow image ok c) s x (rests_at p c.layout s x rests)
 

@@ -40,12 +40,12 @@ pub record IsFreshImage (text : List ℕ) (p : CheckedProgram) (allow : Allow) (
 
 -- the image of an accepted source, for either runtime, rests at the source's first state, before any run
 abbrev pub ImagesAreFresh : Type 0
-ImagesAreFresh = {logging : Logging} (text : List ℕ) (p : CheckedProgram) (allow : Allow) (image : ImageValue) → IsAcceptedText text p allow
+ImagesAreFresh = (logging : Logging) (text : List ℕ) (p : CheckedProgram) (allow : Allow) (image : ImageValue) → IsAcceptedText text p allow
     → (c : IsCompiledFor logging text p allow image) → IsFreshImage text p allow c.layout image
 
 -- where the world rests at a state of the source, the map finds the state's words in it
 abbrev pub MapsFindStates : Type 0
-MapsFindStates = {logging : Logging} (text : List ℕ) (p : CheckedProgram) (allow : Allow) (image : ImageValue) → IsAcceptedText text p allow
+MapsFindStates = (logging : Logging) (text : List ℕ) (p : CheckedProgram) (allow : Allow) (image : ImageValue) → IsAcceptedText text p allow
     → (c : IsCompiledFor logging text p allow image) → (s : State) (x : World) → (compiled_model p c.layout).Rests s x
     → HasWordsOf (map_of text p c.layout allow) x s
 
@@ -63,4 +63,4 @@ ImagesHaveStates = (text : List ℕ) (p : CheckedProgram) (allow : Allow) (image
 
 -- an accepted text has one image for each runtime
 abbrev pub ImagesAreOne : Type 0
-ImagesAreOne = {logging : Logging} (text : List ℕ) (a b : ImageValue) → IsImageFor logging text a → IsImageFor logging text b → a ≡ b
+ImagesAreOne = (logging : Logging) (text : List ℕ) (a b : ImageValue) → IsImageFor logging text a → IsImageFor logging text b → a ≡ b

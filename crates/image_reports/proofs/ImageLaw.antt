@@ -7,7 +7,8 @@ use Rattle.image_reports.proofs.Names.{state_within}
 use Rattle.memory_map.specs.declared.runtime.Logging.{Logging}
 use Rattle.image_reports.proofs.Names.{KeepsCapacities, compiled_program, sources_are_ready, [], world_with, laid_out, images_are_fresh, known_behind}
 use Rattle.image_reports.proofs.Names.{KeepsCode}
-use Rattle.image_reports.proofs.Names.{HoldsAt, ImagesKeepTheLaws, ImagesAreTold, ImagesKeepCapacities, ImagesBelong}
+use Rattle.image_reports.specs.ImageLaw.{IsLawful}
+use Rattle.image_reports.proofs.Names.{HoldsAt, ImagesAreTold, ImagesKeepCapacities, ImagesBelong}
 use Rattle.image_reports.specs.Laws.{ImagesKeepToNeeds}
 use Rattle.image_reports.proofs.Names.{◌≡◌, ◌≤◌, ◌⊎◌, ◌∙◌, ◌++◌, true, refl, sym, ap, inl, inr, fram_of, Gate, Bool, Option, Some, None, MapValue}
 use Rattle.image_reports.proofs.Names.{RunOutcome, Run, if◌then◌else◌, ImagesAnswerInOrder, IsLawfulRun}
@@ -143,7 +144,9 @@ fresh_keeps_ring text p allow image ok c =
     let sent = ring.sent in
     record { head = omega (arith, head, tail); sent = λ pending. omega (arith, head, tail, sent) }
 
-pub images_keep_the_laws : ImagesKeepTheLaws
+pub images_keep_the_laws : {logging : Logging} (text : List ℕ) (p : CheckedProgram) (allow : Allow) (image : ImageValue) → IsAcceptedText text p allow
+    → (c : IsCompiledFor logging text p allow image)
+    → IsLawful text p allow c.layout image
 images_keep_the_laws text p allow image ok c cs starts readings events inputs r go =
     let l = c.layout in
     let on : Onward = record {
@@ -180,7 +183,7 @@ images_keep_the_laws text p allow image ok c cs starts readings events inputs r 
 -- ---- on a trace
 
 pub images_are_told : ImagesAreTold
-images_are_told text p allow image ok c trace t r run =
+images_are_told logging text p allow image ok c trace t r run =
     let few = traces_are_few trace t in
     (images_keep_the_laws text p allow image ok c (charges_of trace.charges) few.0 trace.readings trace.events (trace_inputs trace t) r run).told few.1
 
@@ -223,10 +226,10 @@ module _ {logging : Logging} (text : List ℕ) (p : CheckedProgram) (allow : All
           none_in_order answers (accepted_events (Some m) r.moments) (none_answered m none (at_start m b) no_answers r.moments refl refl)
 
 pub images_answer_in_order : ImagesAnswerInOrder
-images_answer_in_order text p allow image ok c trace t r run = in_order text p allow image ok c trace t r run
+images_answer_in_order logging text p allow image ok c trace t r run = in_order text p allow image ok c trace t r run
 
 pub images_keep_capacities : ImagesKeepCapacities
-images_keep_capacities text p allow image ok c trace t r run ms rest e =
+images_keep_capacities logging text p allow image ok c trace t r run ms rest e =
     let few = traces_are_few trace t in
     ((images_keep_the_laws text p allow image ok c (charges_of trace.charges) few.0 trace.readings trace.events (trace_inputs trace t) r run).fronts ms
     rest e).capacities

@@ -61,4 +61,4 @@ module _ {logging : Logging} (text : List ℕ) (p : CheckedProgram) (allow : All
       (begins_with_source text p allow image c readings events inputs ready new) run few)
 
 pub images_are_mapped : ImagesAreMapped
-images_are_mapped text p allow image ok c = (made text p allow image ok c).of_source
+images_are_mapped logging text p allow image ok c = (made text p allow image ok c).of_source

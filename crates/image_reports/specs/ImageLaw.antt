@@ -246,5 +246,5 @@ IsLawful text p allow l image = (cs : List BoardCharge) → ArePowerStates cs �
 
 -- it holds of every accepted text and its image for either runtime
 abbrev pub ImagesKeepTheLaws : Type 0
-ImagesKeepTheLaws = {logging : Logging} (text : List ℕ) (p : CheckedProgram) (allow : Allow) (image : ImageValue) → IsAcceptedText text p allow
+ImagesKeepTheLaws = (logging : Logging) (text : List ℕ) (p : CheckedProgram) (allow : Allow) (image : ImageValue) → IsAcceptedText text p allow
     → (c : IsCompiledFor logging text p allow image) → IsLawful text p allow c.layout image

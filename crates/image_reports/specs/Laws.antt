@@ -25,7 +25,7 @@ use Rattle.image_laws.specs.Compiled.{IsCompiledFor, IsCompiled}
 
 -- on any trace of words, the report of the one run of its fresh board is told by the source
 abbrev pub ImagesAreTold : Type 0
-ImagesAreTold = {logging : Logging} (text : List ℕ) (p : CheckedProgram) (allow : Allow) (image : ImageValue) → IsAcceptedText text p allow
+ImagesAreTold = (logging : Logging) (text : List ℕ) (p : CheckedProgram) (allow : Allow) (image : ImageValue) → IsAcceptedText text p allow
     → (c : IsCompiledFor logging text p allow image) → (trace : TraceValue) → IsTraceOfWords trace → (r : RunOutcome)
     → Run (charges_of trace.charges) (fresh image.words trace.readings trace.events) r
     → IsToldBySource text p (map_of text p c.layout allow) (charges_of trace.charges) (fresh image.words trace.readings trace.events) r
@@ -33,7 +33,7 @@ ImagesAreTold = {logging : Logging} (text : List ℕ) (p : CheckedProgram) (allo
 
 -- and the answers that its transitions had, joined, are the first of the events that were accepted, in order and each once
 abbrev pub ImagesAnswerInOrder : Type 0
-ImagesAnswerInOrder = {logging : Logging} (text : List ℕ) (p : CheckedProgram) (allow : Allow) (image : ImageValue) → IsAcceptedText text p allow
+ImagesAnswerInOrder = (logging : Logging) (text : List ℕ) (p : CheckedProgram) (allow : Allow) (image : ImageValue) → IsAcceptedText text p allow
     → (c : IsCompiledFor logging text p allow image) → (trace : TraceValue) → IsTraceOfWords trace → (r : RunOutcome)
     → Run (charges_of trace.charges) (fresh image.words trace.readings trace.events) r
     → let m = map_of text p c.layout allow in
@@ -42,12 +42,12 @@ ImagesAnswerInOrder = {logging : Logging} (text : List ℕ) (p : CheckedProgram)
 
 -- the map of an image names the variables and the tasks of the source
 abbrev pub ImagesAreMapped : Type 0
-ImagesAreMapped = {logging : Logging} (text : List ℕ) (p : CheckedProgram) (allow : Allow) (image : ImageValue) → IsAcceptedText text p allow
+ImagesAreMapped = (logging : Logging) (text : List ℕ) (p : CheckedProgram) (allow : Allow) (image : ImageValue) → IsAcceptedText text p allow
     → (c : IsCompiledFor logging text p allow image) → IsMapOf text p (map_of text p c.layout allow)
 
 -- and at each of its boards the runtime's counts keep to the capacities of its buffers, and version words to VER
 abbrev pub ImagesKeepCapacities : Type 0
-ImagesKeepCapacities = {logging : Logging} (text : List ℕ) (p : CheckedProgram) (allow : Allow) (image : ImageValue) → IsAcceptedText text p allow
+ImagesKeepCapacities = (logging : Logging) (text : List ℕ) (p : CheckedProgram) (allow : Allow) (image : ImageValue) → IsAcceptedText text p allow
     → (c : IsCompiledFor logging text p allow image) → (trace : TraceValue) → IsTraceOfWords trace → (r : RunOutcome)
     → Run (charges_of trace.charges) (fresh image.words trace.readings trace.events) r
     → (ms rest : List Moment) → r.moments ≡ ms ++ rest
