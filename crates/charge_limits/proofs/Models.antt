@@ -16,10 +16,9 @@ use Rattle.charge_limits.proofs.Weights.{offered-append}
 abbrev pub offered : List Effect → ℕ
 offered es = length (words_offered es)
 
--- Where nothing is ever to be recovered: recoveries and attempts offer none; a commit that is decided from a state no more than what is said of the state,
+-- recoveries and attempts offer none; a commit that is decided from a state no more than what is said of the state,
 -- and any that is pending no more than most
 pub record Offers {St : Type 0} (m : Model St) (own : St → ℕ) (most : ℕ) : Type 0 where
-  pub settled : (s : St) (x : World) → m.Undecided s x → m.Settled s x
   pub recoveries : (f : ℕ → ℕ) → offered (m.recover f) ≡ 0
   pub attempts : (f : ℕ → ℕ) (inputs : Inputs) → offered (m.attempt f inputs).effects ≡ 0
   pub decided : (s next : St) (x : World) (inputs : Inputs) → m.Decided s next x → offered (m.commit x.fram inputs) ≤ own s
@@ -55,11 +54,11 @@ module _ {St : Type 0} (m : Model St) (laws : ModelLaws m) (own : St → ℕ) (m
       omega (arith, all, none, last)
 
   -- where an attempt is due, behind a boot with the recovery in front of it
-  attempted_few : (booted : Bool) (s : St) (x : World) (inputs : Inputs) → InputsAreWords inputs → m.Undecided s x
+  attempted_few : (booted : Bool) (s : St) (x : World) (inputs : Inputs) → InputsAreWords inputs → m.Undecided s x → (booted ≡ false → m.Settled s x)
       → offered (with_commit m x.fram inputs (attempt_from m booted x.fram inputs)).effects ≤ own s
-  attempted_few false s x inputs words u =
-      ended_offers_few s x inputs (m.attempt x.fram inputs) (o.attempts x.fram inputs) (laws.attempts s x inputs words (o.settled s x u))
-  attempted_few true s x inputs words u =
+  attempted_few false s x inputs words u k =
+      ended_offers_few s x inputs (m.attempt x.fram inputs) (o.attempts x.fram inputs) (laws.attempts s x inputs words (k refl))
+  attempted_few true s x inputs words u k =
       let r = laws.recovers s x u in
       let rec = m.recover x.fram in
       let g = fram_after rec x.fram in
@@ -73,13 +72,13 @@ module _ {St : Type 0} (m : Model St) (laws : ModelLaws m) (own : St → ℕ) (m
       (in_front m s x inputs rec (m.attempt g inputs) r.stays owed)
 
   -- the script of a world that is undecided at a state, and of one with a commit that is due
-  undecided_few : (booted : Bool) (s : St) (x : World) (inputs : Inputs) → InputsAreWords inputs → m.Undecided s x
+  undecided_few : (booted : Bool) (s : St) (x : World) (inputs : Inputs) → InputsAreWords inputs → m.Undecided s x → (booted ≡ false → m.Settled s x)
       → offered (script m booted x.fram inputs).effects ≤ own s
-  undecided_few booted s x inputs words u =
+  undecided_few booted s x inputs words u k =
       let commit = program_effects (m.commit x.fram inputs) true in
       let attempt = with_commit m x.fram inputs (attempt_from m booted x.fram inputs) in
       let is : script m booted x.fram inputs ≡ attempt = ap (λ gate. if gate == 1 then commit else attempt) (laws.undecided_gate s x u) in
-      subst (λ q. offered q.effects ≤ own s) (sym is) (attempted_few booted s x inputs words u)
+      subst (λ q. offered q.effects ≤ own s) (sym is) (attempted_few booted s x inputs words u k)
 
   committing_few : (booted : Bool) (to : St) (x : World) (inputs : Inputs) (n : ℕ) → m.Committing to x → offered (m.commit x.fram inputs) ≤ n
       → offered (script m booted x.fram inputs).effects ≤ n
@@ -101,9 +100,9 @@ module _ {St : Type 0} (m : Model St) (laws : ModelLaws m) (own : St → ℕ) (m
   pending_words n (Pending to) (d ∷ ds) s pending h = absurd pending
 
   script_offers_few : (booted : Bool) (origin : Origin St) (ds : List Done) (s : St) (x : World) (inputs : Inputs) → InputsAreWords inputs
-      → StartsFrom m origin ds s x → offered (script m booted x.fram inputs).effects ≤ offered_from own most origin ds s
-  script_offers_few booted origin ds s x inputs words (FromUndecided settled u) =
-      settled_words _ origin ds s settled (undecided_few booted s x inputs words u)
+      → StartsFrom m origin booted ds s x → offered (script m booted x.fram inputs).effects ≤ offered_from own most origin ds s
+  script_offers_few booted origin ds s x inputs words (FromUndecided settled u k) =
+      settled_words _ origin ds s settled (undecided_few booted s x inputs words u k)
   script_offers_few booted origin ds s x inputs words (FromDecided next settled d) =
       settled_words _ origin ds s settled
       (committing_few booted next x inputs _ (laws.decided_committing s next x d) (o.decided s next x inputs d))

@@ -173,10 +173,9 @@ module _ (p : CheckedProgram) (l : MemoryMap) where
   committing_offers_few : (to : State) (x : World) → m.Committing to x → offered (commit_effects l x.fram) ≤ l.emits.words
   committing_offers_few to x c = let few = commit_offers_few x.fram in let room = c.pending.emit_count in omega (arith, few, room)
 
-  -- under redo nothing is ever to be recovered
+  -- as the law of models wants it
   offers : Offers m (λ s. emits_of (task_body p s.task)) l.emits.words
   offers = record {
-    settled = λ s x u. u;
     recoveries = λ f. refl;
     attempts = attempt_offers_none;
     decided = λ s next x inputs d. decided_offers_few s next x d;
