@@ -73,6 +73,7 @@ held_at p l image readings b ms h k =
       offers_few = k.offers_few;
       capacities = subst Capacities k.fram k.capacities;
       versions = k.versions;
+      versions_in_place = k.versions_in_place;
       code = subst Code k.fram k.code;
       fetches = k.fetches;
       events = k.events;

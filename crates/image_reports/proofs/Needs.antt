@@ -15,7 +15,7 @@ use Rattle.task_needs.specs.Needs.{need_of}
 use Rattle.task_needs.specs.Lists.{with_needs}
 use Rattle.task_needs.proofs.Interface.{own_cost}
 use Rattle.compiled_bounds.proofs.Interface.{needs_keep_to_the_bound}
-use Rattle.compiled_runs.proofs.Interface.{needs_keep_the_laws, code_keeps_to_needs}
+use Rattle.compiled_runs.proofs.Interface.{needs_keep_the_laws, code_keeps_to_needs, by_redo}
 use Rattle.image_reports.specs.Sources.{IsSourcesMap}
 use Rattle.image_reports.proofs.CompiledTold.{models_are_of_sources}
 use Rattle.image_reports.proofs.Begins.{Beginning, first_world, first_board, bears}
@@ -86,7 +86,7 @@ module _ (onward : Onward) (redo : onward.start.compiled.layout.runtime.logging 
   -- the needs are within the bound that the map names
   pub needs_bound : 0 < length p.tasks → bound model ≤ m.bound
   needs_bound some =
-      let within = needs_keep_to_the_bound p l some ready.code.costs (ready.needs redo) in
+      let within = needs_keep_to_the_bound p l some (by_redo p l redo ready.code).costs (ready.needs redo) in
       let is = is_sources.bound in
       omega (arith, within, is)
 

@@ -53,7 +53,7 @@ use Rattle.run_charges.proofs.Interface.{no_instruction, last-append, sees, reac
 use Rattle.board_run.specs.Events.{NeverReads, hand_after, head_of, no_hand}
 use Rattle.model_runs.specs.EventLaws.{StartsWith}
 use Rattle.model_runs.proofs.Interface.{moments_wait, never_reads, runs_so, runs_alone}
-use Rattle.memory_map.specs.declared.runtime.Logging.TheVariants.{Redo}
+use Rattle.memory_map.specs.declared.runtime.Logging.TheVariants.{Redo, Undo}
 use Rattle.memory_map.specs.declared.runtime.Logging.{Logging}
 use Rattle.memory_map.specs.declared.runtime.Role.{Role}
 use Rattle.compiled_model.specs.Parts.{start_of as start_due}
@@ -86,7 +86,10 @@ use Rattle.charge_limits.proofs.Interface.{readings_are_few, words_are_few}
 use Rattle.image_reports.proofs.Capacities.{attempts_fit}
 use Rattle.image_reports.proofs.CompiledTold.{models_are_of_sources}
 use Rattle.image_reports.proofs.Told.{source}
+use Rattle.compiled_runs.proofs.Interface.{by_redo, by_undo}
+use Rattle.image_reports.specs.ImageLaw.{due_in_place}
 use Rattle.image_reports.proofs.ImageStart.{versions_below}
+use Rattle.image_reports.proofs.InPlace.{below_in_place}
 use Rattle.image_reports.proofs.Untouched.{NeverThere, untouched}
 use Rattle.image_reports.proofs.ImageCode.{GoesOn, StopsAtReadings, StandsOn, stands_on, stops_next, IsWithin, placed_within, same_words, words_fetched}
 
@@ -142,6 +145,8 @@ pub record Front (p : CheckedProgram) (l : MemoryMap) (image : ImageValue) (x : 
   pub offers_few : l.runtime.logging ≡ Redo → length (words_offered h.effects) ≤ words_from p l origin h.completed stands.state
   pub sent : (to : State) → origin ≡ Pending to → h.completed ≡ [] → IsBetween x.accepted to.emitted h.world.accepted
   pub versions : l.runtime.logging ≡ Redo → h.effects ≡ start_due l h.start.fram → VersionsBelow l (outside_of b).fram
+  pub versions_in_place : l.runtime.logging ≡ Undo → h.start.fram (word_place l Gate) ≡ 0 → h.effects ≡ due_in_place p l h.booted h.start.fram
+      → VersionsBelow l (outside_of b).fram
   pub code : KeepsCode p l image h.world.fram
   pub capacities : KeepsCapacities l h.world.fram
   pub sound : l.runtime.logging ≡ Redo → IsSound (program_places p l) h.world
@@ -508,7 +513,13 @@ module _ (onward : Onward) where
               same ∙ ap (λ w. w.fram) lawful.world ∙ world_fram h.effects h.start ∙ ap (λ es. fram_after es h.start.fram) made in
               let kept = began ms rest e in
               subst P (sym f) (under_map l Raised redo (versions_below (program_places p l) ready.code.apart (privates_in (task_entries l))
-              ready.code.privates h.start.fram kept.versions (kept.words (word_place l Version))));
+              (by_redo p l redo ready.code).privates h.start.fram kept.versions (kept.words (word_place l Version))));
+          versions_in_place = λ undo gate made.
+              let P : (ℕ → ℕ) → Type 0 = λ f. VersionsBelow l f in
+              let f : (outside_of t).fram ≡ fram_after (due_in_place p l h.booted h.start.fram) h.start.fram =
+              same ∙ ap (λ w. w.fram) lawful.world ∙ world_fram h.effects h.start ∙ ap (λ es. fram_after es h.start.fram) made in
+              subst P (sym f) (below_in_place p l undo ready.code.apart ready.code.room (by_undo p l undo ready.code).privates ready.model origin h.booted
+              h.completed lawful.stands.state h.start lawful.stands.starts gate);
           code = subst Code same keeps_code;
           capacities = subst Capacities same keeps_capacities;
           sound = λ redo. phase_sound p l redo ready.model readings origin lawful.stands.state h lawful.stands.phase;

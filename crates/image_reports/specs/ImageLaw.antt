@@ -2,7 +2,7 @@
 -- effects since the last boot or done, what the board stands for, the words accepted, the counts, the code that is fetched, what became of
 -- the events, how it ends, and its report. Where the source takes events a handler runs between any two instructions of the code: it is the
 -- image's, and what holds of the code is said of what happens outside it.
-use Rattle.std.specs.Prelude.{◌≡◌, ◌≢◌, ℕ, ◌+◌, ◌*◌, ◌^◌, ◌%◌, ◌<◌, ◌≤◌, true, false, List, [], ◌∷◌, ◌++◌, length, map, Some}
+use Rattle.std.specs.Prelude.{◌≡◌, ◌≢◌, ℕ, ◌+◌, ◌*◌, ◌^◌, ◌%◌, ◌<◌, ◌≤◌, Bool, true, false, if◌then◌else◌, List, [], ◌∷◌, ◌++◌, length, map, Some}
 use Rattle.address_space.specs.Limits.{stack_floor, stack_top}
 use Rattle.event_places.specs.Places.{handler_place, head_place}
 use Rattle.msp_isa.specs.declared.instructions.Instr.{Instr}
@@ -14,6 +14,7 @@ use Rattle.msp_step.specs.declared.machine.Stop.TheVariants as stop
 use Rattle.energy_trace.specs.TraceValue.{Event}
 use Rattle.image_map.specs.MapValue.{MapValue}
 use Rattle.image_text.specs.ImageValue.{ImageValue}
+use Rattle.fram_board.specs.Effects.{Effect}
 use Rattle.fram_board.specs.declared.board.NextStep.TheVariants as next_step
 use Rattle.fram_board.specs.Events.{words_in}
 use Rattle.fram_board.specs.Board.{BoardValue, fresh, IsNextStep}
@@ -21,7 +22,7 @@ use Rattle.fram_board.specs.Run.{BoardCharge, PowerUp, Moment, Stopped, RunOutco
 use Rattle.board_run.specs.History.{start_of}
 use Rattle.board_run.specs.Events.{Hand, NeverReads, hand_after, head_of, no_hand}
 use Rattle.board_run.specs.Report.{report_of}
-use Rattle.machine_effects.specs.World.{World, readings_taken}
+use Rattle.machine_effects.specs.World.{World, fram_after, readings_taken}
 use Rattle.machine_effects.specs.Machine.{fram_of}
 use Rattle.machine_effects.specs.Runs.{last_board}
 use Rattle.event_handler.specs.Handler.{Stage, HasHandler, instruction_at, place_at}
@@ -36,7 +37,7 @@ use Rattle.source_runs.specs.Traces.{AreInputs}
 use Rattle.source_runs.specs.Tells.{at_first, attempts_of, no_answers, cost_of, EachChargePays, IsToldBySource}
 use Rattle.source_maps.specs.Maps.{map_of}
 use Rattle.memory_map.specs.declared.runtime.Logging.{Logging}
-use Rattle.memory_map.specs.declared.runtime.Logging.TheVariants.{Redo}
+use Rattle.memory_map.specs.declared.runtime.Logging.TheVariants.{Redo, Undo}
 use Rattle.memory_map.specs.declared.words.RuntimeWord.TheVariants.{Gate, Version}
 use Rattle.memory_map.specs.MemoryMap.{MemoryMap, word_place}
 use Rattle.crash_rules.specs.Model.{Marks, CommitContract}
@@ -77,6 +78,10 @@ pub record TellsOfBoard (b : BoardValue) (ms : List Moment) (h : History) : Type
 -- each version word is below VER
 abbrev pub VersionsBelow : MemoryMap → (ℕ → ℕ) → Type 0
 VersionsBelow l f = (i : ℕ) → i < l.versions.words → f (l.versions.address + 2 * i) < f (word_place l Version)
+
+-- what is due in front of a task's own code, where the runtime works in place: behind a boot the entries are put back, then the start
+abbrev pub due_in_place : CheckedProgram → MemoryMap → Bool → (ℕ → ℕ) → List Effect
+due_in_place p l booted f = let es = if booted then (compiled_model p l).recover f else [] in es ++ start_due l (fram_after es f)
 
 -- the address behind the code
 abbrev pub code_end : CheckedProgram → MemoryMap → ℕ
@@ -167,6 +172,9 @@ pub record HoldsAt (p : CheckedProgram) (l : MemoryMap) (image : ImageValue) (re
   -- as a task's first own instruction runs, whose start is made and which has done nothing yet, each version word is below VER. (With
   -- exactly the start's effects the code comes to the task's own: `start_is_made` of `boot_runtime`.) So where the runtime works in copies
   pub versions : l.runtime.logging ≡ Redo → h.effects ≡ start_due l h.start.fram → VersionsBelow l (outside_of b).fram
+  -- and where it works in place, behind what is put back, if no commit was pending
+  pub versions_in_place : l.runtime.logging ≡ Undo → h.start.fram (word_place l Gate) ≡ 0 → h.effects ≡ due_in_place p l h.booted h.start.fram
+      → VersionsBelow l (outside_of b).fram
   -- no store fell on the code, nor on the handler
   pub code : KeepsCode p l image (outside_of b).fram
   -- every word that is fetched is the fresh image's
