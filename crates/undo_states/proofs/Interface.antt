@@ -1,5 +1,7 @@
 -- What the proofs of other crates cite.
 
+-- What a settled world is.
+pub use Rattle.undo_states.proofs.Opening.{settled_stands}
 -- What a store keeps of an undecided world: beside the words that it speaks of, over a logged word, to a word that is written in place; a word that is
 -- logged.
 pub use Rattle.undo_states.proofs.Undecided.{IsBeside, beside_keeps, over_keeps, in_place_keeps, Logs, logs}
