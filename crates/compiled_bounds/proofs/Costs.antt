@@ -22,7 +22,8 @@ use Rattle.runtime_effects.proofs.Interface.{scalar_pairs_count}
 use Rattle.memory_map.proofs.Interface.{privates_few}
 use Rattle.boot_runtime.specs.Entries.{entry_of, task_entries}
 use Rattle.boot_runtime.specs.Listing.{privates_in, entry_at, start_cycles}
-use Rattle.lower.specs.Seen.{map_seen}
+use Rattle.lower.specs.Seen.{map_seen, task_seen}
+use Rattle.lower.proofs.Interface.{seen_count}
 use Rattle.lower.specs.Lowered.{lowered_task}
 use Rattle.lower.specs.Sizes.{entry_cycles}
 use Rattle.commit_runtime.specs.Listing.{commit_cycles}
@@ -95,13 +96,15 @@ module _ (logging : Logging) (p : CheckedProgram) (allow : Allow) (plans : List 
   body_costs =
       let w : WordState = started fram inputs in
       let q : Program = lowered_task l own task.body in
-      let a = blocks_keep_to_cycles (places_of (map_seen task.body l) own) task.body w in
-      let b = entries_cost (map_seen task.body l) own (behaviour q w).end in
+      let seen = task_seen l.runtime.logging own in
+      let a = blocks_keep_to_cycles (places_of (map_seen task.body l) seen) task.body w in
+      let b = entries_cost (map_seen task.body l) seen (behaviour q w).end in
+      let no_more = seen_count l.runtime.logging own in
       let c : spent (task_program p l t) w ≡ spent q w = ap (λ y. spent y w) program_is in
       let d : block_price cycles_column (task_body p t) ≡ block_price cycles_column task.body = ap (block_price cycles_column) body_is in
       let e : length (privates_in (task_entries l) t) ≡ private_words own.privates = own_privates in
       let f = privates_few own.privates in
-      omega (arith, a, b, c, d, e, f)
+      omega (arith, a, b, no_more, c, d, e, f)
 
   within : whole_cycles p l t fram inputs ≤ task_bound (uses_events p) (versions_of p) p.shared (task_body p t)
   within =

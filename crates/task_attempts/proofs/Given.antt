@@ -4,7 +4,7 @@ use Rattle.memory_map.specs.declared.runtime.Logging.TheVariants.{Redo}
 use Rattle.task_attempts.proofs.Names.{is_private_of, Shared, IsScalarIn, CheckedBlock, stores_of, CheckedTask, CheckedProgram, ScalarWidth, VariablePlace}
 use Rattle.task_attempts.proofs.Names.{Scalar, PrivateScalar, MemoryMap, TaskPlace, end_of, scalar_words, HasItsPlace, AreVariables, task_entries, privates_in}
 use Rattle.task_attempts.proofs.Names.{apart_of, IsSharedWord, IsCopyWord, HaveRoom, ArePrivate, places_of, address_of, Element, IsCopied, copy_address}
-use Rattle.task_attempts.proofs.Names.{version_address, IsWordOf, AreApart, AreEven, HasRoom, some_path_writes, map_seen, lowered_task, place_length}
+use Rattle.task_attempts.proofs.Names.{version_address, IsWordOf, AreApart, AreEven, HasRoom, some_path_writes, map_seen, lowered_block, redo_seen, Redo, subst, place_length}
 use Rattle.task_attempts.proofs.Names.{AsDeclared, HasCopies, is_private_in, program_places, shared_word, are_rows, HasLayout, IsTaskAt, task_room, task_places}
 use Rattle.task_attempts.proofs.Names.{each_is_one_word, scalar_declared, places_are_declared, addresses_are, tasks_match, places_are_apart, tasks_have_room}
 use Rattle.task_attempts.proofs.Names.{places_are_as_declared, written_arrays_have_copies, shared_words_are_of_variables, words_of_variables_are_shared}
@@ -50,9 +50,10 @@ pub record ArePrivates (l : MemoryMap) (body : CheckedBlock) (t : TaskPlace) : T
       → Contains t.privates (record { number = v; home = home; copy = copy; width = width })
   pub only : (s : PrivateScalar) → Contains t.privates s → (is_private_in body s.number ≡ true) × HasItsPlace l.variables s
 
--- what is asked of a task with its layout: its places are apart, even, with room, and as declared; it is well-formed, scalars are given all
+-- what is asked of a task with its layout, under redo: its places are apart, even, with room, and as declared; it is well-formed, scalars are given all
 -- their words; and its word program is whole, and of words
 pub record IsTaskGiven (p : CheckedProgram) (l : MemoryMap) (task : CheckedTask) (t : TaskPlace) : Type 0 where
+  pub redo : l.runtime.logging ≡ Redo
   pub apart : AreApart (task_places l task t) (task_room p task)
   pub even : AreEven (task_places l task t)
   pub has_room : HasRoom (task_places l task t) (λ v. stores_of v task.body) (task_room p task)
@@ -67,8 +68,8 @@ pub record IsTaskGiven (p : CheckedProgram) (l : MemoryMap) (task : CheckedTask)
   pub admits : AdmitsBlock l.runtime.events task.body
   pub scalars : (v home copy : ℕ) (width : ScalarWidth) → slice_get l.variables v ≡ Some (Scalar home copy width)
       → IsScalarIn v (scalar_words width) task.body
-  pub whole : IsWhole (lowered_task l t task.body)
-  pub of_words : OfWords (lowered_task l t task.body)
+  pub whole : IsWhole (lowered_block (task_places l task t) task.body)
+  pub of_words : OfWords (lowered_block (task_places l task t) task.body)
 
 -- what is asked of a source with its layout
 pub record IsGiven (p : CheckedProgram) (l : MemoryMap) : Type 0 where
@@ -109,8 +110,11 @@ module _ (text : List ℕ) (p : CheckedProgram) (allow : Allow) (plans : List Ta
       let at : IsTaskAt p l k task t = record { is_task = is_task; is_layout = is_layout } in
       let e = elements_stand p allow plans l has k task t at in
       let formed = (task_checked text p laid.accepted.checks k task is_task).statements in
+      let redo : l.runtime.logging ≡ Redo = ap (λ r. r.logging) laid.layout.runtime in
+      let same = ap (λ own. lowered_block (places_of (map_seen task.body l) own) task.body) (redo_seen l.runtime.logging t redo) in
       let w = tasks_are_whole text p allow plans l laid k task t is_task is_layout in
       record {
+        redo = redo;
         apart = task_places_are_apart p allow plans l has k task t at;
         even = task_places_are_even p allow plans l has k task t at;
         has_room = lists_have_room p allow plans l has k task t at;
@@ -127,8 +131,8 @@ module _ (text : List ℕ) (p : CheckedProgram) (allow : Allow) (plans : List Ta
             let scalar = match.is_scalar v home copy width is in
             let d = scalar_declared p.shared v scalar in
             scalar_block p.shared v scalar d.0 d.1 d.2 (scalar_words width) (match.is_wide v home copy width d.0 is d.1) task.body formed;
-        whole = w.0.whole;
-        of_words = w.1;
+        whole = subst IsWhole same w.0.whole;
+        of_words = subst OfWords same w.1;
       }
 
   pub given : IsRunnable p → IsGiven p l

@@ -179,13 +179,13 @@ module _ (run : Started) where
       → (v < length s.shared) × (length (slice_index_or s.shared v []) ≡ place_length place)
   lengths_are v place e = length_seen v place (seen_from (some_path_writes code) l.variables v place e)
 
-  pub attempt_stands : StandsFor here held_attempt [] (started x.fram inputs)
+  pub attempt_stands : StandsFor here 0 held_attempt [] (started x.fram inputs)
   attempt_stands =
       let count = count_is in
       record {
         variables = record {
           words = scalar_by;
-          elements = λ e h. element_stands e h (own_word_of here x.fram e h);
+          elements = λ e h. element_stands e h (own_word_of here x.fram e facts.redo h);
           rows = λ v place e.
               let inside = (lengths_are v place e).0 in
               let rows = refreshed_count is_held held_words held_word (length l.variables) own in omega (arith, inside, rows);
@@ -197,8 +197,9 @@ module _ (run : Started) where
         emitted = record { emit_count = st.emit_count; emits = λ n h. absurd (omega (arith, h)) };
         list = record {
           are_listed = record { copied = λ n d h. absurd (omega (arith, h)); different = λ n m d a b. absurd (omega (arith, b)) };
-          pairs = ap (λ n. entries_from n l.list.address x.fram) st.list_length;
-          runs = λ n h. let none = st.list_length in absurd (omega (arith, h, none));
+          pairs = λ redo. ap (λ n. entries_from n l.list.address x.fram) st.list_length;
+          runs = λ redo n h. let none = st.list_length in absurd (omega (arith, h, none));
+          count = λ undo. let redo = facts.redo in absurd (cc (redo, undo));
           marked = λ e h. let k = h.1 in absurd (omega (arith, k));
           only_marked = λ e c h. absurd (none_marked e c h);
         };

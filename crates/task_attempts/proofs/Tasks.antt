@@ -3,7 +3,7 @@ use Rattle.task_attempts.proofs.Names.{◌≡◌, ℕ, ◌+◌, ◌*◌, ◌<◌
 use Rattle.task_attempts.proofs.Names.{option_map, slice_get-map, get_or_from_slice_get, CheckedBlock, CheckedTask, CheckedProgram, body_of, task_body}
 use Rattle.task_attempts.proofs.Names.{CopyPair, program_at, privates_in, entry_of, task_entries, IsAmong, IsCopyWord, ArePrivate, Room, lowered_block}
 use Rattle.task_attempts.proofs.Names.{program_places, task_program, task_room, task_places, word_pair, scalars_among, PrivateScalar, MemoryMap, TaskPlace}
-use Rattle.task_attempts.proofs.Names.{scalar_words, Places}
+use Rattle.task_attempts.proofs.Names.{scalar_words, Places, places_of, map_seen, redo_seen}
 use Rattle.war_analysis.proofs.Interface.{element}
 use Rattle.runtime_code.specs.LayoutPlaces.{pairs_of}
 use Rattle.task_attempts.proofs.Given.{IsGiven, IsTaskGiven}
@@ -39,6 +39,7 @@ module _ (p : CheckedProgram) (l : MemoryMap) (given : IsGiven p l) (k : ℕ) (i
 
   pub program_is : task_program p l k ≡ lowered_block places body
   program_is = program_at l p.tasks l.tasks k i.task i.layout i.task_is i.layout_is
+      ∙ ap (λ own. lowered_block (places_of (map_seen body l) own) body) (redo_seen l.runtime.logging i.layout task_given.redo)
 
   pub privates_are : privates_in (task_entries l) k ≡ pairs_of i.layout
   privates_are =

@@ -1,7 +1,7 @@
 -- The words of the variables as a task has them.
 use Rattle.task_attempts.proofs.Names.{◌≡◌, ℕ, ◌+◌, ◌*◌, ◌==◌, ◌<◌, length, Option, Some, None, Bool, true, false, refl, sym, ap, ◌∙◌, subst, ⊎_elim, eq-eqb}
 use Rattle.task_attempts.proofs.Names.{ne_eqb, if◌then◌else◌, cases_eq, cases_Bool, Contains, slice_get, CheckedBlock, some_path_writes, map_seen, scalar_seen}
-use Rattle.task_attempts.proofs.Names.{array_seen, array_read, is_private_in, word_of_seen, own_word, Version, ScalarWidth, VariablePlace, Scalar, Array}
+use Rattle.task_attempts.proofs.Names.{array_seen, array_read, is_private_in, word_of_seen, own_word, own_by, IsRedo, Logging, Version, ScalarWidth, VariablePlace, Scalar, Array}
 use Rattle.task_attempts.proofs.Names.{PrivateScalar, MemoryMap, TaskPlace, word_place, scalar_words, home_region, Places, places_of, scalar_address, words_at}
 use Rattle.task_attempts.proofs.Names.{IsScalarWord, Element, IsElement, IsCopied, element_in, copy_in, version_in, element_address, copy_address}
 use Rattle.task_attempts.proofs.Names.{version_address, IsWordOf}
@@ -16,7 +16,7 @@ pub data OwnWord (p : Places) (f : ℕ → ℕ) (x : Element) : Type 0 where
   unmarked : (IsCopied p x → f (version_address p x) ≡ f (word_place p.map Version) → ⊥) → own_word p f (slice_get p.map.variables x.array) x.index ≡ f
       (element_address p x) → OwnWord p f x
 
-module _ (p : Places) (f : ℕ → ℕ) (x : Element) (elements length : ℕ) (below : x.index < length) where
+module _ (p : Places) (f : ℕ → ℕ) (x : Element) (elements length : ℕ) (below : x.index < length) (redo : IsRedo p) where
   own_uncopied : slice_get p.map.variables x.array ≡ Some (Array elements length None) → OwnWord p f x
   own_uncopied e =
       unmarked (λ c m. let k = c.is_array.place in cc) (ap (λ o. own_word p f o x.index) e ∙ sym (ap (λ o. f (element_in o x.index)) e))
@@ -27,7 +27,9 @@ module _ (p : Places) (f : ℕ → ℕ) (x : Element) (elements length : ℕ) (b
       let copied : IsCopied p x = record { elements = elements; length = length; copies = c; is_array = record { place = e }; below = below } in
       let at_version : version_address p x ≡ m = ap (λ o. version_in o x.index) e in
       let chosen : Bool → ℕ = λ b. if b then f (2 * x.index + c.copies) else f (2 * x.index + elements) in
-      let word : own_word p f (slice_get p.map.variables x.array) x.index ≡ chosen (f (word_place p.map Version) == f m) = ap (λ o. own_word p f o x.index) e in
+      let of : Logging → ℕ = λ logging. own_by logging (f (word_place p.map Version) == f m) (f (2 * x.index + c.copies)) (f (2 * x.index + elements)) in
+      let word : own_word p f (slice_get p.map.variables x.array) x.index ≡ chosen (f (word_place p.map Version) == f m) =
+      ap (λ o. own_word p f o x.index) e ∙ ap of redo in
       ⊎_elim {C = OwnWord p f x}
       (λ same. marked copied (ap f at_version ∙ sym same)
       (word ∙ ap chosen (eq-eqb (f (word_place p.map Version)) (f m) same) ∙ sym (ap (λ o. f (copy_in o x.index)) e)))
@@ -35,12 +37,12 @@ module _ (p : Places) (f : ℕ → ℕ) (x : Element) (elements length : ℕ) (b
       (word ∙ ap chosen (ne_eqb (f (word_place p.map Version)) (f m) other) ∙ sym (ap (λ o. f (element_in o x.index)) e)))
       (cases_eq (f (word_place p.map Version)) (f m))
 
-  own_by : (copies : Option ArrayCopies) → slice_get p.map.variables x.array ≡ Some (Array elements length copies) → OwnWord p f x
-  own_by None e = own_uncopied e
-  own_by (Some c) e = own_copied c e
+  own_place : (copies : Option ArrayCopies) → slice_get p.map.variables x.array ≡ Some (Array elements length copies) → OwnWord p f x
+  own_place None e = own_uncopied e
+  own_place (Some c) e = own_copied c e
 
-pub own_word_of : (p : Places) (f : ℕ → ℕ) (x : Element) → IsElement p x → OwnWord p f x
-own_word_of p f x h = own_by p f x h.elements h.length h.below h.copies h.is_array.place
+pub own_word_of : (p : Places) (f : ℕ → ℕ) (x : Element) → IsRedo p → IsElement p x → OwnWord p f x
+own_word_of p f x redo h = own_place p f x h.elements h.length h.below redo h.copies h.is_array.place
 
 module _ (l : MemoryMap) (body : CheckedBlock) (t : TaskPlace) (privates : ArePrivates l body t) where
   -- the places that the task works on
