@@ -26,6 +26,7 @@ module _ {logging : Logging} (text : List ℕ) (p : CheckedProgram) (allow : All
     few_tasks = runs.few_tasks;
     allowed = ok.allowed;
     plan = c.is_plan;
+    logging = logging;
     layout = c.is_layout;
   })
 
