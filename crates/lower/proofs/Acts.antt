@@ -1,5 +1,5 @@
 -- What statements do under undo, one act after another.
-use Rattle.lower.proofs.Names.{◌≡◌, ℕ, ◌+◌, ◌*◌, List, [], ◌∷◌, ◌++◌, Bool, refl, sym, ap, ◌∙◌, subst, append_assoc, Effect, Store, Take, Outside, Looked}
+use Rattle.lower.proofs.Names.{◌≡◌, ℕ, List, [], ◌∷◌, ◌++◌, Bool, refl, sym, ap, ◌∙◌, subst, append_assoc, Effect, Store, Take, Outside, Looked}
 use Rattle.lower.proofs.Names.{Offered, put, fram_after, fram_after-append, Places, Room, TakesAndStores, IsTaskStore, at_variable, at_emit_count, in_buffer}
 use Rattle.lower.proofs.Names.{at_answer, IsPlainStore, to_variable, to_emit_count, to_buffer, to_answer, Act, alone, act_effects, acts_effects, AreActs}
 use Rattle.lower.proofs.Names.{AreMadeByActs, Did}

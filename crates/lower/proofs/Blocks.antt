@@ -4,8 +4,8 @@ use Rattle.lower.proofs.Names.{sym, ap, ◌∙◌, subst, arith, if◌then◌els
 use Rattle.lower.proofs.Names.{CheckedChoice, CheckedBlock, PlacedOperator, Variable, Shared, Local, CheckedTask, Evaluated, word_at, with_word, converted}
 use Rattle.lower.proofs.Names.{value_of, holds, Outcome, to_task, if_value, with_value, run_statement, run_choice, run_block, statement_emits, choice_emits}
 use Rattle.lower.proofs.Names.{step, block_emits, statement_count, choice_count, block_count, is_shared, is_store_to, more_turns, IsOneWord, WordType}
-use Rattle.lower.proofs.Names.{Unsigned, Int, Long, runs_go_on_along_paths, PlainOperation, plain_word, stacked, Program, keep, emit_word, versioned_write}
-use Rattle.lower.proofs.Names.{versioned_update, choose, repeat, nothing, joined, WordState, Behaviour, then_on, local_updated, is_place, at_place, stored}
+use Rattle.lower.proofs.Names.{Unsigned, Int, Long, runs_go_on_along_paths, PlainOperation, plain_word, stacked, Program, keep, emit_word}
+use Rattle.lower.proofs.Names.{choose, repeat, nothing, joined, WordState, Behaviour, then_on, local_updated, is_place, at_place, stored}
 use Rattle.lower.proofs.Names.{with_local, word_emitted, pushed, way_by_top, tested, behaviour, with_stack, step_behaviour, joined_go_on, joined_assoc}
 use Rattle.lower.proofs.Names.{decided_by_truth, update_step, write_long, setting, long_setting, updating, of_words, sides_set, scalar_assignment}
 use Rattle.lower.proofs.Names.{lowered_long, one, write_step, written_array, list_place, store_step, update_element_step, loop_local, assignment}
@@ -13,7 +13,7 @@ use Rattle.lower.proofs.Names.{index_and_value, element_setting, element_updatin
 use Rattle.lower.proofs.Names.{lowered_expression, lowered_test, lowered_statement, lowered_choice, lowered_block, lowered_task, lowered_tasks}
 use Rattle.lower.proofs.Names.{listed_of, IsLocal, WellFormedExpression, WellFormedStatement, WellFormedChoice, WellFormedBlock, local_word}
 use Rattle.lower.proofs.Names.{assignment_writes, store_writes, loop_writes, taken_writes, passed_writes, first_writes, others_write, statement_sum}
-use Rattle.lower.proofs.Names.{choice_sum, block_sum, summary, IsWrittenArray, StandsFor, Scene, at_variable, at_emit_count, in_buffer, converted_to}
+use Rattle.lower.proofs.Names.{choice_sum, block_sum, summary, IsWrittenArray, StandsFor, Scene, converted_to}
 use Rattle.lower.proofs.Names.{truth_of, BlocksAgree, MemoryMap, TaskPlace, word_place, ListLength, EmitCount, Version, VariablePlace, word_even}
 use Rattle.lower.proofs.Names.{first_word, privates_few, address_of, scalar_address, IsScalarWord, scalar, Inputs}
 use Rattle.std.specs.Prelude.{slice_get, get_or}

@@ -5,14 +5,15 @@ use Rattle.lower.proofs.Names.{put, put_other, Shared, word_at, with_word, Varia
 use Rattle.lower.proofs.Names.{then_on, is_place, word_listed, versioned_stored, behaviour, own_place, versioned_updated, stored, nothing, ArrayPlace}
 use Rattle.lower.proofs.Names.{word_place, Version, ArrayCopies, VariablePlace, Array, word_even, private_words, IsArrayAt, Element, IsCopied, element, copy}
 use Rattle.lower.proofs.Names.{version, element_address, copy_address, version_address, IsSpot, Spot, spot_address, array_place, list_place, listed_of}
-use Rattle.lower.proofs.Names.{own_word, element_pair, at_copy, at_version, HoldVariables, StandsFor, Scene, bounds, WentOn, CopyPair}
+use Rattle.lower.proofs.Names.{own_word, element_pair, at_copy, at_version, HoldVariables, StandsFor, Scene, CopyPair}
 use Rattle.std.proofs.Common.{get_or}
 use Rattle.source_values.specs.Statements.{Attempt, goes_on}
 use Rattle.lower.proofs.Addresses.{fram_place, spot_place, element_is, copy_is, version_is, has_element}
 use Rattle.lower.proofs.Stored.{word_past, set_holds, same_list, same_emits, spot_emits, spot_list}
 use Rattle.lower.proofs.Lists.{HasNext, lists_word}
 use Rattle.lower.proofs.Versioned.{stores_again, stores_first, stores_nothing, update_stores, updates_nothing, element_set, again_stored, after_mark}
-use Rattle.lower.proofs.Versioned.{own_spot, IsStored, mark_keeps_pairs, mark_keeps_words, elements_have_next, first_stored_at, first_emits, first_list, pushed_of, push_listed}
+use Rattle.lower.proofs.Versioned.{own_spot, IsStored, mark_keeps_pairs, mark_keeps_words, elements_have_next, first_stored_at, first_emits}
+use Rattle.lower.proofs.Versioned.{first_list, pushed_of, push_listed}
 use Rattle.lower.proofs.Ends.{Does, settles}
 use Rattle.lower.proofs.Transitions.{untold_store}
 use Rattle.lower.proofs.Names.{answered_by, answers_told, map-append, IsRedo, Did, IsTaskStore, TakesAndStores, own_by}

@@ -179,7 +179,8 @@ does_then z few most stack n o first next more less k =
     onward es s others answers (goes_on m) is at h =
         let kept : s.fram (word_place z.p.map Version) ≡ z.ver =
         ap (λ f. f (word_place z.p.map Version)) at
-        ∙ stores_keep z.p z.written z.room z.ver (word_place z.p.map Version) es first.w.fram z.apart (keeps_version z.p z.room z.apart) h.did.stores ∙ first.ver in
+        ∙ stores_keep z.p z.written z.room z.ver (word_place z.p.map Version) es first.w.fram z.apart (keeps_version z.p z.room z.apart) h.did.stores
+        ∙ first.ver in
         let emits = subst (EmitsAtMost n) is (first.emits answers) in
         let there = k s m h.listed answers is
         (record { stack_kept = h.stack_kept; stands = h.stands; number = kept; few_emitted = emits; few_listed = h.few }) others in

@@ -1,13 +1,13 @@
 -- A store to an element under undo, as the step of a task: the first time in an attempt the element is listed with the word that stands there,
 -- and marked; then it is stored where it stands.
-use Rattle.lower.proofs.Names.{◌≡◌, ℕ, ◌+◌, ◌*◌, ◌%◌, ◌==◌, ◌<◌, ◌≤◌, List, [], ◌∷◌, ◌++◌, length, Option, Some, Contains, Bool, true, false, refl, sym, ap}
+use Rattle.lower.proofs.Names.{◌≡◌, ℕ, ◌+◌, ◌*◌, ◌%◌, ◌==◌, ◌<◌, ◌≤◌, List, [], ◌∷◌, ◌++◌, length, Option, Some, Bool, true, refl, sym, ap}
 use Rattle.lower.proofs.Names.{◌∙◌, subst, arith, ⊎_elim, length-append, if◌then◌else◌, cases_eq, cases_lt, lt-ltb, le-ltb, ne_eqb, Effect, Store}
 use Rattle.lower.proofs.Names.{put, put_at, put_other, Shared, word_at, with_word, PlainOperation, plain_word, WordState, Behaviour, going_on, then_on}
 use Rattle.lower.proofs.Names.{is_place, at_place, behind_effects, behaviour, stored, nothing, ListPlace, LoggedPlace, own_logged, logged_before, logged_stored}
-use Rattle.lower.proofs.Names.{logged_updated, word_place, ListLength, EmitCount, Version, ArrayCopies, VariablePlace, Array, word_even, IsArrayAt, Element}
-use Rattle.lower.proofs.Names.{IsCopied, element, version, element_address, version_address, IsSpot, Spot, spot_address, array_place, list_place, logged_place}
-use Rattle.lower.proofs.Names.{own_by, own_word, IsUndo, Did, at_element, at_version, in_list, at_list_length, AreMadeByActs, to_element, word_logged}
-use Rattle.lower.proofs.Names.{Scene, answered_by, answers_told, Outcome}
+use Rattle.lower.proofs.Names.{logged_updated, word_place, ListLength, EmitCount, Version, ArrayCopies, VariablePlace, word_even, IsArrayAt, Element}
+use Rattle.lower.proofs.Names.{IsCopied, element, version, element_address, version_address, IsSpot, spot_address, array_place, list_place, logged_place}
+use Rattle.lower.proofs.Names.{own_by, own_word, IsUndo, at_element, at_version, in_list, at_list_length, to_element, word_logged}
+use Rattle.lower.proofs.Names.{Scene, answered_by, answers_told}
 use Rattle.std.proofs.Common.{eq-eqb}
 use Rattle.source_values.specs.Statements.{Attempt, goes_on}
 use Rattle.lower.proofs.Addresses.{fram_place, placed, spot_place, element_is, version_is, has_element}
@@ -104,7 +104,8 @@ module _ (z : Scene) (n i v elements len : ℕ) (c : ArrayCopies) (at : IsArrayA
         acts = λ u. record {
           acts = to_element x v ∷ [];
           each = ((is, λ ne. absurd (ne (sym marked))), tt);
-          is = ap (λ b. ((if b then [] else (word_logged z.p.map home f ++ (Store mark (f list.ver) ∷ []))) ++ (Store home v ∷ [])) ++ []) (sym (eq-eqb (f mark) (f list.ver) (sym marked)));
+          is = ap (λ b. ((if b then [] else (word_logged z.p.map home f ++ (Store mark (f list.ver) ∷ []))) ++ (Store home v ∷ [])) ++ [])
+              (sym (eq-eqb (f mark) (f list.ver) (sym marked)));
         };
       }
 
@@ -265,7 +266,7 @@ module _ (z : Scene) (n i v elements len : ℕ) (c : ArrayCopies) (at : IsArrayA
               acts = to_element x v ∷ [];
               each = ((is, λ ne. few), tt);
               is = ap (λ b. ((if b then [] else (Store entry home ∷ Store (entry + 2) (f home) ∷ Store list.cln count ∷ Store mark (f list.ver) ∷ []))
-              ++ (Store home v ∷ [])) ++ []) (sym (ne_eqb (f mark) (f list.ver) (λ e. unmarked (sym e))));
+                  ++ (Store home v ∷ [])) ++ []) (sym (ne_eqb (f mark) (f list.ver) (λ e. unmarked (sym e))));
             };
           }
 

@@ -10,7 +10,7 @@ use Rattle.lower.proofs.Names.{Subtract, And, Xor, Or, Step, Test, Program, numb
 use Rattle.lower.proofs.Names.{jump, step, joined, binary_cycles, step_cycles, test_cycles, cycles_of, entry_words, step_words, test_words, words_of}
 use Rattle.lower.proofs.Names.{joined_cycles, steps_keep_to_words, word_place, Gate, ListLength, EmitCount, Base, SentBase, VariablePlace, Scalar, Array}
 use Rattle.lower.proofs.Names.{PrivateScalar, Places, private_words, some_words, run_at, runs_of}
-use Rattle.lower.proofs.Names.{BinaryMeaning, Calculates, CommonBits, Holds, Fails, LongQuestion, LongMeaning, binary_meaning, shift_operation, operand_type}
+use Rattle.lower.proofs.Names.{BinaryMeaning, Calculates, CommonBits, LongQuestion, LongMeaning, binary_meaning, shift_operation, operand_type}
 use Rattle.lower.proofs.Names.{long_meaning, long_shift, BlocksKeepToWords, one, read_step, write_step, read_long, write_long, element_read, element_step}
 use Rattle.lower.proofs.Names.{store_step, Lowering, as_word, as_test, as_bits, as_long, word_program, value_test, widening, long_words, long_program}
 use Rattle.lower.proofs.Names.{name_lowering, unary_lowering, long_zero, operand_lowering, answer, long_binary_lowering, sides_lowering, shift_lowering}

@@ -479,8 +479,8 @@ module _ (k : Keeping) where
 
         -- where the task writes the array
         own_reads : (c : ArrayCopies) (at : IsArrayAt k.p v elements length (Some c)) (logging : Logging)
-            → (i < length
-            → own_by logging (w.fram (word_place k.p.map Version) == w.fram (2 * i + c.versions)) (w.fram (2 * i + c.copies)) (w.fram (2 * i + elements)) ≡ word)
+            → (i < length → own_by logging (w.fram (word_place k.p.map Version) == w.fram (2 * i + c.versions)) (w.fram (2 * i + c.copies))
+            (w.fram (2 * i + elements)) ≡ word)
             → LeavesWord k below (behaviour (one (own_read logging (array_place elements length c) (list_place k.p))) (with_stack (i ∷ below) w))
             (by_answers m (gives word))
         own_reads c at Redo own =

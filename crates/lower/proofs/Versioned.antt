@@ -1,6 +1,6 @@
 -- A store to an element: to its copy, and the first time in an attempt to its version word and to the commit list.
 use Rattle.lower.proofs.Names.{◌≡◌, ℕ, zero, suc, ◌+◌, ◌*◌, ◌==◌, ◌<◌, ◌≤◌, List, [], ◌∷◌, ◌++◌, length, map, Option, Some, Contains, true, Bool, refl, sym}
-use Rattle.lower.proofs.Names.{ap, ◌∙◌, subst, arith, ne_eqb, lt-ltb, le-ltb, ⊎_elim, if◌then◌else◌, map-append, All-append, All-map, All-weaker}
+use Rattle.lower.proofs.Names.{ap, ◌∙◌, subst, arith, ne_eqb, lt-ltb, le-ltb, ⊎_elim, if◌then◌else◌, All-append, All-map, All-weaker}
 use Rattle.lower.proofs.Names.{Contains-append_left, Contains-append_right, Contains-append_cases, Contains-get_or, all_pairs_push, Effect, Store, put}
 use Rattle.lower.proofs.Names.{put_at, put_other, Shared, Variables, word_at, with_word, PlainOperation, plain_word, ArrayPlace, ListPlace, WordState}
 use Rattle.lower.proofs.Names.{Behaviour, behind_effects, is_place, at_place, stored, word_listed, first_stored, own_stored, versioned_stored, own_place}
