@@ -25,6 +25,6 @@ programs_keep l shared (task ∷ tasks) (t ∷ ts) n f =
     )
 
 pub sources_have_room : SourcesHaveRoom
-sources_have_room p allow plans l allowed is count privates =
-    layouts_have_room p allow plans l (lowered_tasks l p.tasks l.tasks) allowed is count privates
+sources_have_room logging p allow plans l allowed is count privates =
+    layouts_have_room logging p allow plans l (lowered_tasks l p.tasks l.tasks) allowed is count privates
     (programs_keep l p.shared p.tasks l.tasks is.tasks.count privates)
