@@ -50,93 +50,245 @@ pub record ArePrivates (l : MemoryMap) (body : CheckedBlock) (t : TaskPlace) : T
       → Contains t.privates (record { number = v; home = home; copy = copy; width = width })
   pub only : (s : PrivateScalar) → Contains t.privates s → (is_private_in body s.number ≡ true) × HasItsPlace l.variables s
 
--- what is asked of a task with its layout, under redo: its places are apart, even, with room, and as declared; it is well-formed, scalars are given all
--- their words; and its word program is whole, and of words
-pub record IsTaskGiven (p : CheckedProgram) (l : MemoryMap) (task : CheckedTask) (t : TaskPlace) : Type 0 where
-  pub redo : l.runtime.logging ≡ Redo
-  pub apart : AreApart (task_places l task t) (task_room p task)
-  pub even : AreEven (task_places l task t)
-  pub has_room : HasRoom (task_places l task t) (λ v. stores_of v task.body) (task_room p task)
-  pub elements : (xs : List Element) → AreListed (task_places l task t) xs → ((v : ℕ) → listed_of v xs ≤ stores_of v task.body)
-      → length xs + scalars_of p.shared task.body ≤ list_of p.shared task.body
-  pub privates : ArePrivates l task.body t
-  pub copies : (x : Element) → IsCopied (task_places l task t) x → IsCopyWord (program_places p l) (copy_address (task_places l task t) x)
-  pub versions : (x : Element) → IsCopied (task_places l task t) x → IsVersionWord l (version_address (task_places l task t) x)
-  pub declared : AsDeclared p.shared (task_places l task t)
-  pub copied : HasCopies p.shared (task_places l task t) (some_path_writes task.body)
+-- what is asked of a task by the place that is its own, under each runtime: its places are apart, even, and as declared; it is
+-- well-formed, scalars are given all their words; and its word program is whole, and of words
+pub record IsTaskSeen (p : CheckedProgram) (l : MemoryMap) (task : CheckedTask) (own : TaskPlace) : Type 0 where
+  pub apart : AreApart (task_places l task own) (task_room p task)
+  pub even : AreEven (task_places l task own)
+  pub copies : (x : Element) → IsCopied (task_places l task own) x → IsCopyWord (program_places p l) (copy_address (task_places l task own) x)
+  pub versions : (x : Element) → IsCopied (task_places l task own) x → IsVersionWord l (version_address (task_places l task own) x)
+  pub declared : AsDeclared p.shared (task_places l task own)
+  pub copied : HasCopies p.shared (task_places l task own) (some_path_writes task.body)
   pub formed : WellFormedBlock p.shared task.body
   pub admits : AdmitsBlock l.runtime.events task.body
   pub scalars : (v home copy : ℕ) (width : ScalarWidth) → slice_get l.variables v ≡ Some (Scalar home copy width)
       → IsScalarIn v (scalar_words width) task.body
-  pub whole : IsWhole (lowered_block (task_places l task t) task.body)
-  pub of_words : OfWords (lowered_block (task_places l task t) task.body)
+  pub whole : IsWhole (lowered_block (task_places l task own) task.body)
+  pub of_words : OfWords (lowered_block (task_places l task own) task.body)
 
--- what is asked of a source with its layout
-pub record IsGiven (p : CheckedProgram) (l : MemoryMap) : Type 0 where
+-- under redo besides: there is room, and private scalars have their copies
+pub record IsTaskGiven (p : CheckedProgram) (l : MemoryMap) (task : CheckedTask) (t : TaskPlace) : Type 0 where
+  pub seen : IsTaskSeen p l task t
+  pub redo : l.runtime.logging ≡ Redo
+  pub has_room : HasRoom (task_places l task t) (λ v. stores_of v task.body) (task_room p task)
+  pub elements : (xs : List Element) → AreListed (task_places l task t) xs → ((v : ℕ) → listed_of v xs ≤ stores_of v task.body)
+      → length xs + scalars_of p.shared task.body ≤ list_of p.shared task.body
+  pub privates : ArePrivates l task.body t
+
+-- one of these words
+abbrev pub IsOneOf : List ℕ → ℕ → Type 0
+IsOneOf [] a = ⊥
+IsOneOf (b ∷ bs) a = (a ≡ b) ⊎ IsOneOf bs a
+
+-- under undo: there is room behind the words that the start lists, and each scalar is where it is at home
+pub record IsTaskLogged (p : CheckedProgram) (l : MemoryMap) (k : ℕ) (task : CheckedTask) (own : TaskPlace) : Type 0 where
+  pub seen : IsTaskSeen p l task own
+  pub undo : l.runtime.logging ≡ Undo
+  pub has_room : HasRoomBehind (length (private_homes l k)) (task_places l task own) (λ v. stores_of v task.body) (task_room p task)
+  pub none : own.privates ≡ []
+  pub home : (v home copy : ℕ) (width : ScalarWidth) → slice_get l.variables v ≡ Some (Scalar home copy width)
+      → address_of (task_places l task own) v ≡ home
+  pub listed : (v home copy : ℕ) (width : ScalarWidth) (i : ℕ) → slice_get l.variables v ≡ Some (Scalar home copy width) → i < scalar_words width
+      → is_private_in task.body v ≡ true → IsOneOf (private_homes l k) (2 * i + home)
+
+-- what is asked of a source with its layout, under each runtime
+pub record IsSource (p : CheckedProgram) (l : MemoryMap) : Type 0 where
   pub runnable : IsRunnable p
   pub variables : AreVariables p l.variables
   pub words : AreSharedWords p l
   pub apart : memory.AreApart l
   pub room : HaveRoom (program_places p l)
-  pub privates : (k : ℕ) → ArePrivate (program_places p l) k (privates_in (task_entries l) k)
   pub code : end_of l.copies ≤ l.boot.address
   pub count : length l.tasks ≡ length p.tasks
+
+-- under redo
+pub record IsGiven (p : CheckedProgram) (l : MemoryMap) : Type 0 where
+  pub source : IsSource p l
+  pub privates : (k : ℕ) → ArePrivate (program_places p l) k (privates_in (task_entries l) k)
   pub tasks : (k : ℕ) (task : CheckedTask) (t : TaskPlace) → slice_get p.tasks k ≡ Some task → slice_get l.tasks k ≡ Some t
       → IsTaskGiven p l task t
+
+-- under undo
+pub record IsLoggedGiven (p : CheckedProgram) (l : MemoryMap) : Type 0 where
+  pub source : IsSource p l
+  pub privates : (k : ℕ) → AreLogged (program_places p l) k (private_homes l k)
+  pub tasks : (k : ℕ) (task : CheckedTask) (t : TaskPlace) → slice_get p.tasks k ≡ Some task → slice_get l.tasks k ≡ Some t
+      → IsTaskLogged p l k task (task_seen l.runtime.logging t)
+
+-- the words of private scalars are among those of all
+abbrev HasHomes : List ℕ → PrivateScalar → Type 0
+HasHomes homes s = (i : ℕ) → i < scalar_words s.width → IsOneOf homes (2 * i + s.home)
+
+one_of_front : (xs ys : List ℕ) (a : ℕ) → IsOneOf xs a → IsOneOf (xs ++ ys) a
+one_of_front [] ys a h = absurd h
+one_of_front (x ∷ xs) ys a h = ⊎_elim {C = IsOneOf ((x ∷ xs) ++ ys) a} (λ e. inl e) (λ k. inr (one_of_front xs ys a k)) h
+
+one_of_back : (xs ys : List ℕ) (a : ℕ) → IsOneOf ys a → IsOneOf (xs ++ ys) a
+one_of_back [] ys a h = h
+one_of_back (x ∷ xs) ys a h = inr (one_of_back xs ys a h)
+
+words_have : (n a i : ℕ) → i < n → IsOneOf (words_from n a) (2 * i + a)
+words_have zero a i h = absurd (omega (arith, h))
+words_have (suc n) a zero h = inl (omega arith)
+words_have (suc n) a (suc i) h =
+    let same : 2 * i + (a + 2) ≡ 2 * suc i + a = omega arith in inr (subst (IsOneOf (words_from n (a + 2))) same (words_have n (a + 2) i (omega (arith, h))))
+
+homes_have : (xs : List PrivateScalar) → All (HasHomes (homes_in xs)) xs
+homes_have [] = All-nil (HasHomes [])
+homes_have (s ∷ xs) =
+    let all = homes_in (s ∷ xs) in
+    All-cons (HasHomes all) s xs
+    (λ i h. one_of_front (home_words s) (homes_in xs) (2 * i + s.home) (words_have (scalar_words s.width) s.home i h))
+    (All-weaker (HasHomes (homes_in xs)) (HasHomes all) (λ r k i h. one_of_back (home_words s) (homes_in xs) (2 * i + r.home) (k i h)) xs (homes_have xs))
 
 module _ (text : List ℕ) (p : CheckedProgram) (allow : Allow) (plans : List TaskPlanValue) (l : MemoryMap) (laid : IsLaidOutText text p allow plans l) where
   has : HasLayout p allow plans l
   has = record {
     allowed = laid.accepted.allowed;
     plan = laid.plan;
-    logging = Redo;
+    logging = laid.logging;
     layout = laid.layout;
     few = privates_are_few text p allow plans l laid;
   }
 
-  privates_of : (k : ℕ) (task : CheckedTask) (t : TaskPlace) → IsTaskAt p l k task t → ArePrivates l task.body t
-  privates_of k task t at =
-      let a = addresses_are p allow plans l has k task t at in
-      let m = tasks_match p allow plans l has k task t at in
-      record {
-        private = a.private;
-        left = a.left;
-        each = a.each;
-        only = λ s c. let o = m.only s c in (is_private_of (Shared s.number) task.body o.0.owed, o.1);
+  -- ---- a task
+
+  module _ (k : ℕ) (task : CheckedTask) (t : TaskPlace) (is_task : slice_get p.tasks k ≡ Some task) (is_layout : slice_get l.tasks k ≡ Some t) where
+    at : IsTaskAt p l k task t
+    at = record { is_task = is_task; is_layout = is_layout }
+
+    formed : WellFormedBlock p.shared task.body
+    formed = (task_checked text p laid.accepted.checks k task is_task).statements
+
+    privates_of : ArePrivates l task.body t
+    privates_of =
+        let a = addresses_are p allow plans l has k task t at in
+        let m = tasks_match p allow plans l has k task t at in
+        record {
+          private = a.private;
+          left = a.left;
+          each = a.each;
+          only = λ s c. let o = m.only s c in (is_private_of (Shared s.number) task.body o.0.owed, o.1);
+        }
+
+    -- the buffer of emitted words ends in front of the version words
+    emits_end : l.emits.address + 2 * emits_of task.body ≤ l.versions.address
+    emits_end =
+        let room = (tasks_have_room p allow plans l has).emits k (slice_get_within p.tasks k task is_task) in
+        let apart = places_are_apart p allow plans l has in
+        let same = ap (λ o. emits_of (body_of o)) is_task in
+        omega (arith, room, apart, same)
+
+    -- by the place that is the task's own
+    module _ (own : TaskPlace) (own_is : task_seen l.runtime.logging t ≡ own) where
+      places : All (HasItsPlace l.variables) own.privates
+      places =
+          subst (λ o. All (HasItsPlace l.variables) o.privates) own_is
+          (seen_all (HasItsPlace l.variables) l.runtime.logging t
+          (all_at (λ t. All (HasItsPlace l.variables) t.privates) l.tasks k t laid.layout.rules.privates is_layout))
+
+      stand : SpotsStand (task_places l task own)
+      stand =
+          let w = some_path_writes task.body in
+          spots_are_apart (map_seen task.body l) own (seen_laid_out w l laid.layout.rules) (privates_seen w l.variables own.privates places)
+
+      -- what is copied by one place is so by the other
+      copied_as : (x : Element) → IsCopied (task_places l task own) x → IsCopied (task_places l task t) x
+      copied_as x c = record {
+        elements = c.elements;
+        length = c.length;
+        copies = c.copies;
+        is_array = record { place = c.is_array.place };
+        below = c.below;
       }
 
-  task_given : (k : ℕ) (task : CheckedTask) (t : TaskPlace) → slice_get p.tasks k ≡ Some task → slice_get l.tasks k ≡ Some t → IsTaskGiven p l task t
-  task_given k task t is_task is_layout =
-      let at : IsTaskAt p l k task t = record { is_task = is_task; is_layout = is_layout } in
-      let e = elements_stand p allow plans l has k task t at in
-      let formed = (task_checked text p laid.accepted.checks k task is_task).statements in
-      let redo : l.runtime.logging ≡ Redo = ap (λ r. r.logging) laid.layout.runtime in
-      let same = ap (λ own. lowered_block (places_of (map_seen task.body l) own) task.body) (redo_seen l.runtime.logging t redo) in
-      let w = tasks_are_whole text p allow plans l laid k task t is_task is_layout in
-      record {
-        redo = redo;
-        apart = task_places_are_apart p allow plans l has k task t at;
-        even = task_places_are_even p allow plans l has k task t at;
-        has_room = lists_have_room p allow plans l has k task t at;
-        elements = elements_are_stores p allow plans l has k task t at;
-        privates = privates_of k task t at;
-        copies = e.copy;
-        versions = λ x c. let v = e.version x c in record { number = v.0; below = v.1; is = v.2 };
-        declared = places_are_as_declared p allow plans l has k task t at;
-        copied = written_arrays_have_copies p allow plans l has k task t at formed;
-        formed = formed;
-        admits = tasks_are_admitted l.runtime.events p.tasks k task is_task (ap (λ r. r.events) laid.layout.runtime);
-        scalars = λ v home copy width is.
-            let match = places_are_declared p allow plans l has in
-            let scalar = match.is_scalar v home copy width is in
-            let d = scalar_declared p.shared v scalar in
-            scalar_block p.shared v scalar d.0 d.1 d.2 (scalar_words width) (match.is_wide v home copy width d.0 is d.1) task.body formed;
-        whole = subst IsWhole same w.0.whole;
-        of_words = subst OfWords same w.1;
+      listed_as : (xs : List Element) → AreListed (task_places l task own) xs → AreListed (task_places l task t) xs
+      listed_as xs h = record {
+        copied = All-weaker (IsCopied (task_places l task own)) (IsCopied (task_places l task t)) copied_as xs h.copied;
+        different = h.different;
       }
 
-  pub given : IsRunnable p → IsGiven p l
-  given runnable =
+      pub task_is_seen : IsTaskSeen p l task own
+      task_is_seen =
+          let e = elements_stand p allow plans l has k task t at in
+          let apart = task_places_are_apart p allow plans l has k task t at in
+          let even = task_places_are_even p allow plans l has k task t at in
+          let declared = places_are_as_declared p allow plans l has k task t at in
+          let copied = written_arrays_have_copies p allow plans l has k task t at formed in
+          let same = ap (λ o. lowered_block (places_of (map_seen task.body l) o) task.body) own_is in
+          let w = tasks_are_whole text p allow plans l laid k task t is_task is_layout in
+          let behind = emits_end in
+          record {
+            apart = record {
+              row = apart.row;
+              list = apart.list;
+              emits = apart.emits;
+              high = apart.high;
+              spots = λ s is. let b = (stand.each s is).from in omega (arith, b, behind);
+              below = λ s is. let b = (stand.each s is).end in omega (arith, b);
+              distinct = stand.distinct;
+            };
+            even = record {
+              row = even.row;
+              list = even.list;
+              emits = even.emits;
+              commit = even.commit;
+              spots = λ s is. (stand.each s is).even;
+            };
+            copies = λ x c. e.copy x (copied_as x c);
+            versions = λ x c. let v = e.version x (copied_as x c) in record { number = v.0; below = v.1; is = v.2 };
+            declared = record {
+              scalars = declared.scalars;
+              longs = declared.longs;
+              arrays = λ v h. let a = declared.arrays v h in (a.0, a.1, a.2, record { place = a.3.place });
+            };
+            copied = λ v h written. let a = copied v h written in (a.0, a.1, a.2, record { place = a.3.place });
+            formed = formed;
+            admits = tasks_are_admitted l.runtime.events p.tasks k task is_task (ap (λ r. r.events) laid.layout.runtime);
+            scalars = λ v home copy width is.
+                let match = places_are_declared p allow plans l has in
+                let scalar = match.is_scalar v home copy width is in
+                let d = scalar_declared p.shared v scalar in
+                scalar_block p.shared v scalar d.0 d.1 d.2 (scalar_words width) (match.is_wide v home copy width d.0 is d.1) task.body formed;
+            whole = subst IsWhole same w.0.whole;
+            of_words = subst OfWords same w.1;
+          }
+
+    task_given : l.runtime.logging ≡ Redo → IsTaskGiven p l task t
+    task_given redo = record {
+      seen = task_is_seen t (redo_seen l.runtime.logging t redo);
+      redo = redo;
+      has_room = lists_have_room p allow plans l has k task t at;
+      elements = elements_are_stores p allow plans l has k task t at;
+      privates = privates_of;
+    }
+
+    task_logged : l.runtime.logging ≡ Undo → IsTaskLogged p l k task (task_seen l.runtime.logging t)
+    task_logged undo =
+        let own = task_seen l.runtime.logging t in
+        let none : own.privates ≡ [] = ap (λ logging. (task_seen logging t).privates) undo in
+        let homes = homes_at l k t is_layout in
+        let count : length (private_homes l k) ≡ private_words t.privates = ap length homes ∙ homes_count t.privates in
+        let words : private_words own.privates ≡ 0 = ap private_words none in
+        record {
+          seen = task_is_seen own refl;
+          undo = undo;
+          has_room = λ xs are few.
+              let h = lists_have_room p allow plans l has k task t at xs (listed_as own refl xs are) few in omega (arith, h, count, words);
+          none = none;
+          home = λ v home copy width e.
+              ap (λ ps. copy_else (copy_among ps v) (home_of (map_seen task.body l).variables v)) none
+              ∙ ap home_in (scalar_seen (some_path_writes task.body) l.variables v home copy width e);
+          listed = λ v home copy width i e below private.
+              let entry : PrivateScalar = record { number = v; home = home; copy = copy; width = width } in
+              subst (λ bs. IsOneOf bs (2 * i + home)) (sym homes)
+              (All-contains (HasHomes (homes_in t.privates)) t.privates entry (homes_have t.privates) (privates_of.each v home copy width e private) i below);
+        }
+
+  -- ---- the source
+
+  source : IsRunnable p → IsSource p l
+  source runnable =
       record {
         runnable = runnable;
         variables = has.layout.variables;
@@ -149,8 +301,20 @@ module _ (text : List ℕ) (p : CheckedProgram) (allow : Allow) (plans : List Ta
         };
         apart = places_are_apart p allow plans l has;
         room = tasks_have_room p allow plans l has;
-        privates = privates_are_theirs p allow plans l has;
         code = (apart_of l has.layout.rules).boot;
         count = has.layout.tasks.count;
-        tasks = task_given;
       }
+
+  pub given : l.runtime.logging ≡ Redo → IsRunnable p → IsGiven p l
+  given redo runnable = record {
+    source = source runnable;
+    privates = privates_are_theirs p allow plans l has;
+    tasks = λ k task t e f. task_given k task t e f redo;
+  }
+
+  pub given_logged : l.runtime.logging ≡ Undo → IsRunnable p → IsLoggedGiven p l
+  given_logged undo runnable = record {
+    source = source runnable;
+    privates = privates_are_logged p allow plans l has;
+    tasks = λ k task t e f. task_logged k task t e f undo;
+  }
