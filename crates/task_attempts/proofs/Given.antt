@@ -1,10 +1,9 @@
 -- What the proofs take of a source with its layout.
 use Rattle.task_attempts.proofs.Names.{◌≡◌, ℕ, ◌+◌, ◌*◌, ◌<◌, ◌≤◌, true, false, List, [], Contains, length, Some, slice_get, slice_index, slice_index_or}
-use Rattle.memory_map.specs.declared.runtime.Logging.TheVariants.{Redo}
 use Rattle.task_attempts.proofs.Names.{is_private_of, Shared, IsScalarIn, CheckedBlock, stores_of, CheckedTask, CheckedProgram, ScalarWidth, VariablePlace}
 use Rattle.task_attempts.proofs.Names.{Scalar, PrivateScalar, MemoryMap, TaskPlace, end_of, scalar_words, HasItsPlace, AreVariables, task_entries, privates_in}
 use Rattle.task_attempts.proofs.Names.{apart_of, IsSharedWord, IsCopyWord, HaveRoom, ArePrivate, places_of, address_of, Element, IsCopied, copy_address}
-use Rattle.task_attempts.proofs.Names.{version_address, IsWordOf, AreApart, AreEven, HasRoom, some_path_writes, map_seen, lowered_block, redo_seen, Redo, subst, place_length}
+use Rattle.task_attempts.proofs.Names.{version_address, IsWordOf, AreApart, AreEven, HasRoom, some_path_writes, map_seen, lowered_block, place_length}
 use Rattle.task_attempts.proofs.Names.{AsDeclared, HasCopies, is_private_in, program_places, shared_word, are_rows, HasLayout, IsTaskAt, task_room, task_places}
 use Rattle.task_attempts.proofs.Names.{each_is_one_word, scalar_declared, places_are_declared, addresses_are, tasks_match, places_are_apart, tasks_have_room}
 use Rattle.task_attempts.proofs.Names.{places_are_as_declared, written_arrays_have_copies, shared_words_are_of_variables, words_of_variables_are_shared}
@@ -19,6 +18,21 @@ use Rattle.array_versions.specs.Form.{IsWhole, OfWords}
 use Rattle.whole_programs.specs.Laws.{IsLaidOutText}
 use Rattle.checked_trees.proofs.Interface.{task_checked}
 use Rattle.whole_programs.proofs.Interface.{tasks_are_whole, privates_are_few}
+use Rattle.task_attempts.proofs.Names.{redo_seen, Redo, Undo, subst, arith, ◌∙◌, emits_of, body_of, scalar_seen, slice_get_within, State, private_words}
+use Rattle.std.proofs.lemmas.List.Elements.{All-weaker}
+use Rattle.std.specs.Prelude.{All}
+use Rattle.memory_map.specs.Spots.{SpotsStand, home_in}
+use Rattle.memory_map.proofs.Interface.{spots_are_apart}
+use Rattle.lower.specs.Seen.{task_seen}
+use Rattle.lower.specs.Spots.{HasRoomBehind}
+use Rattle.lower.proofs.Interface.{seen_all, seen_laid_out, privates_seen}
+use Rattle.checked_trees.proofs.Interface.{all_at}
+use Rattle.undo_runtime.proofs.Interface.{homes_count}
+use Rattle.undo_states.specs.States.{AreLogged}
+use Rattle.compiled_model.specs.Parts.{private_homes}
+use Rattle.layout_facts.proofs.Interface.{homes_at, privates_are_logged}
+use Rattle.task_attempts.proofs.LoggedActs.{ActsFit}
+use Rattle.task_attempts.proofs.LoggedFit.{IsOwn, acts_fit}
 use Rattle.task_attempts.proofs.Held.{scalar_block}
 
 -- rows have the places' lengths
@@ -75,21 +89,12 @@ pub record IsTaskGiven (p : CheckedProgram) (l : MemoryMap) (task : CheckedTask)
       → length xs + scalars_of p.shared task.body ≤ list_of p.shared task.body
   pub privates : ArePrivates l task.body t
 
--- one of these words
-abbrev pub IsOneOf : List ℕ → ℕ → Type 0
-IsOneOf [] a = ⊥
-IsOneOf (b ∷ bs) a = (a ≡ b) ⊎ IsOneOf bs a
-
--- under undo: there is room behind the words that the start lists, and each scalar is where it is at home
-pub record IsTaskLogged (p : CheckedProgram) (l : MemoryMap) (k : ℕ) (task : CheckedTask) (own : TaskPlace) : Type 0 where
-  pub seen : IsTaskSeen p l task own
-  pub undo : l.runtime.logging ≡ Undo
-  pub has_room : HasRoomBehind (length (private_homes l k)) (task_places l task own) (λ v. stores_of v task.body) (task_room p task)
-  pub none : own.privates ≡ []
+-- under undo: there is room behind the words that the start lists, and each scalar stands where it is
+pub record IsTaskLogged (p : CheckedProgram) (l : MemoryMap) (k : ℕ) (task : CheckedTask) (t : TaskPlace) : Type 0 where
+  pub seen : IsTaskSeen p l task (task_seen Undo t)
+  pub has_room : HasRoomBehind (length (private_homes l k)) (task_places l task (task_seen Undo t)) (λ v. stores_of v task.body) (task_room p task)
   pub home : (v home copy : ℕ) (width : ScalarWidth) → slice_get l.variables v ≡ Some (Scalar home copy width)
-      → address_of (task_places l task own) v ≡ home
-  pub listed : (v home copy : ℕ) (width : ScalarWidth) (i : ℕ) → slice_get l.variables v ≡ Some (Scalar home copy width) → i < scalar_words width
-      → is_private_in task.body v ≡ true → IsOneOf (private_homes l k) (2 * i + home)
+      → address_of (task_places l task (task_seen Undo t)) v ≡ home
 
 -- what is asked of a source with its layout, under each runtime
 pub record IsSource (p : CheckedProgram) (l : MemoryMap) : Type 0 where
@@ -111,35 +116,11 @@ pub record IsGiven (p : CheckedProgram) (l : MemoryMap) : Type 0 where
 -- under undo
 pub record IsLoggedGiven (p : CheckedProgram) (l : MemoryMap) : Type 0 where
   pub source : IsSource p l
+  pub undo : l.runtime.logging ≡ Undo
   pub privates : (k : ℕ) → AreLogged (program_places p l) k (private_homes l k)
-  pub tasks : (k : ℕ) (task : CheckedTask) (t : TaskPlace) → slice_get p.tasks k ≡ Some task → slice_get l.tasks k ≡ Some t
-      → IsTaskLogged p l k task (task_seen l.runtime.logging t)
-
--- the words of private scalars are among those of all
-abbrev HasHomes : List ℕ → PrivateScalar → Type 0
-HasHomes homes s = (i : ℕ) → i < scalar_words s.width → IsOneOf homes (2 * i + s.home)
-
-one_of_front : (xs ys : List ℕ) (a : ℕ) → IsOneOf xs a → IsOneOf (xs ++ ys) a
-one_of_front [] ys a h = absurd h
-one_of_front (x ∷ xs) ys a h = ⊎_elim {C = IsOneOf ((x ∷ xs) ++ ys) a} (λ e. inl e) (λ k. inr (one_of_front xs ys a k)) h
-
-one_of_back : (xs ys : List ℕ) (a : ℕ) → IsOneOf ys a → IsOneOf (xs ++ ys) a
-one_of_back [] ys a h = h
-one_of_back (x ∷ xs) ys a h = inr (one_of_back xs ys a h)
-
-words_have : (n a i : ℕ) → i < n → IsOneOf (words_from n a) (2 * i + a)
-words_have zero a i h = absurd (omega (arith, h))
-words_have (suc n) a zero h = inl (omega arith)
-words_have (suc n) a (suc i) h =
-    let same : 2 * i + (a + 2) ≡ 2 * suc i + a = omega arith in inr (subst (IsOneOf (words_from n (a + 2))) same (words_have n (a + 2) i (omega (arith, h))))
-
-homes_have : (xs : List PrivateScalar) → All (HasHomes (homes_in xs)) xs
-homes_have [] = All-nil (HasHomes [])
-homes_have (s ∷ xs) =
-    let all = homes_in (s ∷ xs) in
-    All-cons (HasHomes all) s xs
-    (λ i h. one_of_front (home_words s) (homes_in xs) (2 * i + s.home) (words_have (scalar_words s.width) s.home i h))
-    (All-weaker (HasHomes (homes_in xs)) (HasHomes all) (λ r k i h. one_of_back (home_words s) (homes_in xs) (2 * i + r.home) (k i h)) xs (homes_have xs))
+  pub tasks : (k : ℕ) (task : CheckedTask) (t : TaskPlace) → slice_get p.tasks k ≡ Some task → slice_get l.tasks k ≡ Some t → IsTaskLogged p l k task t
+  pub fits : (s : State) (task : CheckedTask) (t : TaskPlace) → slice_get p.tasks s.task ≡ Some task → slice_get l.tasks s.task ≡ Some t
+      → ActsFit p l s (task_places l task (task_seen Undo t)) (some_path_writes task.body) (task_room p task) (IsOwn (private_homes l s.task))
 
 module _ (text : List ℕ) (p : CheckedProgram) (allow : Allow) (plans : List TaskPlanValue) (l : MemoryMap) (laid : IsLaidOutText text p allow plans l) where
   has : HasLayout p allow plans l
@@ -263,26 +244,16 @@ module _ (text : List ℕ) (p : CheckedProgram) (allow : Allow) (plans : List Ta
       privates = privates_of;
     }
 
-    task_logged : l.runtime.logging ≡ Undo → IsTaskLogged p l k task (task_seen l.runtime.logging t)
+    task_logged : l.runtime.logging ≡ Undo → IsTaskLogged p l k task t
     task_logged undo =
-        let own = task_seen l.runtime.logging t in
-        let none : own.privates ≡ [] = ap (λ logging. (task_seen logging t).privates) undo in
-        let homes = homes_at l k t is_layout in
-        let count : length (private_homes l k) ≡ private_words t.privates = ap length homes ∙ homes_count t.privates in
-        let words : private_words own.privates ≡ 0 = ap private_words none in
+        let own = task_seen Undo t in
+        let own_is : task_seen l.runtime.logging t ≡ own = ap (λ logging. task_seen logging t) undo in
+        let count : length (private_homes l k) ≡ private_words t.privates = ap length (homes_at l k t is_layout) ∙ homes_count t.privates in
         record {
-          seen = task_is_seen own refl;
-          undo = undo;
+          seen = task_is_seen own own_is;
           has_room = λ xs are few.
-              let h = lists_have_room p allow plans l has k task t at xs (listed_as own refl xs are) few in omega (arith, h, count, words);
-          none = none;
-          home = λ v home copy width e.
-              ap (λ ps. copy_else (copy_among ps v) (home_of (map_seen task.body l).variables v)) none
-              ∙ ap home_in (scalar_seen (some_path_writes task.body) l.variables v home copy width e);
-          listed = λ v home copy width i e below private.
-              let entry : PrivateScalar = record { number = v; home = home; copy = copy; width = width } in
-              subst (λ bs. IsOneOf bs (2 * i + home)) (sym homes)
-              (All-contains (HasHomes (homes_in t.privates)) t.privates entry (homes_have t.privates) (privates_of.each v home copy width e private) i below);
+              let h = lists_have_room p allow plans l has k task t at xs (listed_as own own_is xs are) few in omega (arith, h, count);
+          home = λ v home copy width e. ap home_in (scalar_seen (some_path_writes task.body) l.variables v home copy width e);
         }
 
   -- ---- the source
@@ -315,6 +286,8 @@ module _ (text : List ℕ) (p : CheckedProgram) (allow : Allow) (plans : List Ta
   pub given_logged : l.runtime.logging ≡ Undo → IsRunnable p → IsLoggedGiven p l
   given_logged undo runnable = record {
     source = source runnable;
+    undo = undo;
     privates = privates_are_logged p allow plans l has;
     tasks = λ k task t e f. task_logged k task t e f undo;
+    fits = λ s task t e f. acts_fit p allow plans l has s task t (record { is_task = e; is_layout = f });
   }
