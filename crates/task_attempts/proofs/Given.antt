@@ -31,6 +31,9 @@ use Rattle.undo_runtime.proofs.Interface.{homes_count}
 use Rattle.undo_states.specs.States.{AreLogged}
 use Rattle.compiled_model.specs.Parts.{private_homes}
 use Rattle.layout_facts.proofs.Interface.{homes_at, privates_are_logged}
+use Rattle.memory_map.specs.Spots.{IsScalarWord, scalar_address, words_at}
+use Rattle.task_attempts.proofs.Names.{scalar_home, scalar_place, words_scalar, scalar_of_seen, sym, ⊎_elim, cases_Bool}
+use Rattle.task_attempts.proofs.Tasks.{IsAt, private_copy}
 use Rattle.task_attempts.proofs.LoggedActs.{ActsFit}
 use Rattle.task_attempts.proofs.LoggedFit.{IsOwn, acts_fit}
 use Rattle.task_attempts.proofs.Held.{scalar_block}
@@ -69,6 +72,7 @@ pub record ArePrivates (l : MemoryMap) (body : CheckedBlock) (t : TaskPlace) : T
 pub record IsTaskSeen (p : CheckedProgram) (l : MemoryMap) (task : CheckedTask) (own : TaskPlace) : Type 0 where
   pub apart : AreApart (task_places l task own) (task_room p task)
   pub even : AreEven (task_places l task own)
+  pub variables : (v i : ℕ) → IsScalarWord (task_places l task own) v i → scalar_address (task_places l task own) v i < end_of l.copies
   pub copies : (x : Element) → IsCopied (task_places l task own) x → IsCopyWord (program_places p l) (copy_address (task_places l task own) x)
   pub versions : (x : Element) → IsCopied (task_places l task own) x → IsVersionWord l (version_address (task_places l task own) x)
   pub declared : AsDeclared p.shared (task_places l task own)
@@ -189,8 +193,12 @@ module _ (text : List ℕ) (p : CheckedProgram) (allow : Allow) (plans : List Ta
         different = h.different;
       }
 
-      pub task_is_seen : IsTaskSeen p l task own
-      task_is_seen =
+      -- where each scalar stands in front of the code
+      abbrev VariablesBelow : Type 0
+      VariablesBelow = (v i : ℕ) → IsScalarWord (task_places l task own) v i → scalar_address (task_places l task own) v i < end_of l.copies
+
+      pub task_is_seen : VariablesBelow → IsTaskSeen p l task own
+      task_is_seen variables =
           let e = elements_stand p allow plans l has k task t at in
           let apart = task_places_are_apart p allow plans l has k task t at in
           let even = task_places_are_even p allow plans l has k task t at in
@@ -216,6 +224,7 @@ module _ (text : List ℕ) (p : CheckedProgram) (allow : Allow) (plans : List Ta
               commit = even.commit;
               spots = λ s is. (stand.each s is).even;
             };
+            variables = variables;
             copies = λ x c. e.copy x (copied_as x c);
             versions = λ x c. let v = e.version x (copied_as x c) in record { number = v.0; below = v.1; is = v.2 };
             declared = record {
@@ -235,9 +244,41 @@ module _ (text : List ℕ) (p : CheckedProgram) (allow : Allow) (plans : List Ta
             of_words = subst OfWords same w.1;
           }
 
+    -- a word of a scalar in its place
+    home_below : (v home copy i : ℕ) (width : ScalarWidth) → slice_get l.variables v ≡ Some (Scalar home copy width) → i < scalar_words width
+        → 2 * i + home < end_of l.copies
+    home_below v home copy i width e below =
+        let word = words_of_variables_are_shared p allow plans l has v i (2 * i + home) (scalar_home l v home copy width i e below) in
+        let apart = places_are_apart p allow plans l has in
+        omega (arith, word, apart)
+
+    -- of a scalar that the task has, by its place
+    by_place : (own : TaskPlace)
+        → ((v home copy i : ℕ) (width : ScalarWidth) → slice_get l.variables v ≡ Some (Scalar home copy width) → i < scalar_words width
+        → 2 * i + address_of (task_places l task own) v < end_of l.copies)
+        → (v i : ℕ) → IsScalarWord (task_places l task own) v i → scalar_address (task_places l task own) v i < end_of l.copies
+    by_place own h v i word =
+        let o = slice_get (map_seen task.body l).variables v in
+        let its = scalar_place o (words_scalar o i word) in
+        h v its.home its.copy i its.width (scalar_of_seen task.body l v its.home its.copy its.width its.place)
+        (subst (λ n. i < n) (ap words_at its.place) word)
+
+    given_below : (v home copy i : ℕ) (width : ScalarWidth) → slice_get l.variables v ≡ Some (Scalar home copy width) → i < scalar_words width
+        → 2 * i + address_of (task_places l task t) v < end_of l.copies
+    given_below v home copy i width e below =
+        let Below : ℕ → Type 0 = λ a. 2 * i + a < end_of l.copies in
+        let entry : PrivateScalar = record { number = v; home = home; copy = copy; width = width } in
+        let at_task : IsAt p l k = record { task = task; layout = t; task_is = is_task; layout_is = is_layout } in
+        ⊎_elim {C = Below (address_of (task_places l task t) v)}
+        (λ is.
+        let word = private_copy p l (privates_are_theirs p allow plans l has) k at_task entry i (privates_of.each v home copy width e is) below in
+        subst Below (sym (privates_of.private v home copy width e is)) (omega (arith, word)))
+        (λ left. subst Below (sym (privates_of.left v home copy width e left)) (home_below v home copy i width e below))
+        (cases_Bool (is_private_in task.body v))
+
     task_given : l.runtime.logging ≡ Redo → IsTaskGiven p l task t
     task_given redo = record {
-      seen = task_is_seen t (redo_seen l.runtime.logging t redo);
+      seen = task_is_seen t (redo_seen l.runtime.logging t redo) (by_place t given_below);
       redo = redo;
       has_room = lists_have_room p allow plans l has k task t at;
       elements = elements_are_stores p allow plans l has k task t at;
@@ -249,11 +290,15 @@ module _ (text : List ℕ) (p : CheckedProgram) (allow : Allow) (plans : List Ta
         let own = task_seen Undo t in
         let own_is : task_seen l.runtime.logging t ≡ own = ap (λ logging. task_seen logging t) undo in
         let count : length (private_homes l k) ≡ private_words t.privates = ap length (homes_at l k t is_layout) ∙ homes_count t.privates in
+        let home : (v home copy : ℕ) (width : ScalarWidth) → slice_get l.variables v ≡ Some (Scalar home copy width)
+        → address_of (task_places l task own) v ≡ home = λ v home copy width e.
+        ap home_in (scalar_seen (some_path_writes task.body) l.variables v home copy width e) in
         record {
-          seen = task_is_seen own own_is;
+          seen = task_is_seen own own_is (by_place own (λ v at copy i width e below.
+              subst (λ a. 2 * i + a < end_of l.copies) (sym (home v at copy width e)) (home_below v at copy i width e below)));
           has_room = λ xs are few.
               let h = lists_have_room p allow plans l has k task t at xs (listed_as own own_is xs are) few in omega (arith, h, count);
-          home = λ v home copy width e. ap home_in (scalar_seen (some_path_writes task.body) l.variables v home copy width e);
+          home = home;
         }
 
   -- ---- the source

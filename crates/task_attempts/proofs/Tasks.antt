@@ -7,7 +7,6 @@ use Rattle.task_attempts.proofs.Names.{scalar_words, places_of, map_seen}
 use Rattle.lower.specs.Seen.{task_seen}
 use Rattle.war_analysis.proofs.Interface.{element}
 use Rattle.runtime_code.specs.LayoutPlaces.{pairs_of}
-use Rattle.task_attempts.proofs.Given.{IsGiven}
 
 -- a task of a source by its number, with its layout
 pub record IsAt (p : CheckedProgram) (l : MemoryMap) (k : ℕ) : Type 0 where
@@ -36,7 +35,8 @@ module _ (p : CheckedProgram) (l : MemoryMap) (k : ℕ) (i : IsAt p l k) where
       ∙ ap (λ o. lowered_block (places_of (map_seen body l) o) body) own_is
 
 -- under redo: its private scalars with their copies
-module _ (p : CheckedProgram) (l : MemoryMap) (given : IsGiven p l) (k : ℕ) (i : IsAt p l k) where
+module _ (p : CheckedProgram) (l : MemoryMap) (privates : (k : ℕ) → ArePrivate (program_places p l) k (privates_in (task_entries l) k)) (k : ℕ)
+    (i : IsAt p l k) where
   pub privates_are : privates_in (task_entries l) k ≡ pairs_of i.layout
   privates_are =
       ap (λ e. e.privates) (get_or_from_slice_get (map entry_of l.tasks) k (entry_of i.layout) (record { privates = []; code = 0 })
@@ -53,7 +53,7 @@ module _ (p : CheckedProgram) (l : MemoryMap) (given : IsGiven p l) (k : ℕ) (i
   -- the copy of a word of a private scalar
   pub private_copy : (s : PrivateScalar) (n : ℕ) → Contains i.layout.privates s → n < scalar_words s.width
       → IsCopyWord (program_places p l) (2 * n + s.copy)
-  private_copy s n h below = copies_of (privates_in (task_entries l) k) (given.privates k) (word_pair s n) (among_privates s n h below)
+  private_copy s n h below = copies_of (privates_in (task_entries l) k) (privates k) (word_pair s n) (among_privates s n h below)
 
   not_in_place_of : (ps : List CopyPair) → ArePrivate (program_places p l) k ps → (q : CopyPair) → IsAmong ps q
       → (program_places p l).written_in_place k q.home ≡ false
@@ -65,4 +65,4 @@ module _ (p : CheckedProgram) (l : MemoryMap) (given : IsGiven p l) (k : ℕ) (i
   pub private_not_in_place : (s : PrivateScalar) (n : ℕ) → Contains i.layout.privates s → n < scalar_words s.width
       → (program_places p l).written_in_place k (2 * n + s.home) ≡ false
   private_not_in_place s n h below =
-      not_in_place_of (privates_in (task_entries l) k) (given.privates k) (word_pair s n) (among_privates s n h below)
+      not_in_place_of (privates_in (task_entries l) k) (privates k) (word_pair s n) (among_privates s n h below)
