@@ -3,10 +3,11 @@
 # those that the allowance gives it (the image fills these up with `jmp $`). Of ten bodies that a C compiler was given too: the same less
 # what an empty task takes. Of each example: the cycles of a transition in the mean, of all that its readings pay for, in one charge.
 #
-# ALPACA names another build of the program. Nothing depends on these figures.
+# ALPACA names another build of the program, COMMAND the runtime: `try` (which is taken without it) or `undo`. Nothing depends on these figures.
 set -u
 top=$(cd "$(dirname "$(readlink -f "$0")")/.." && pwd)
 program=${ALPACA:-$top/bin/alpaca}
+command=${COMMAND:-try}
 folder=$(mktemp -d)
 trap 'rm -rf "$folder"' EXIT
 cd "$folder" || exit 1
@@ -14,7 +15,7 @@ cd "$folder" || exit 1
 # whether a charge of so many cycles completes transition $2 on the readings r
 completes() {
     { echo "c $1 0"; cat r; } > t
-    "$program" try s t i 2>&1 | grep -q "^t $2 "
+    "$program" "$command" s t i 2>&1 | grep -q "^t $2 "
 }
 
 # the fewest cycles of a charge that completes transition $2, at most $1

@@ -30,7 +30,12 @@ use Rattle.lower.specs.declared.operations.LongQuestion.TheVariants as question
 use Rattle.lower.specs.declared.operations.LongMeaning.{LongMeaning}
 use Rattle.lower.specs.declared.operations.LongMeaning.TheVariants as meaning
 use Rattle.lower.specs.Operations.{binary_meaning, operand_type, long_meaning}
-use Rattle.lower.specs.Seen.{map_seen}
+use Rattle.lower.specs.Seen.{map_seen, task_seen}
+use Rattle.lower.specs.Lowered.{own_read, own_write, own_update, array_place, list_place, stored_array}
+use Rattle.array_versions.specs.declared.program.ArrayPlace.{ArrayPlace}
+use Rattle.array_versions.specs.declared.program.ListPlace.{ListPlace}
+use Rattle.memory_map.specs.declared.runtime.Logging.{Logging}
+use Rattle.memory_map.specs.declared.runtime.Logging.TheVariants.{Redo, Undo}
 use Rattle.lower.specs.Runs.{runs_of}
 use Rattle.lower.specs.Lowered.{Lowering, as_word, as_test, as_bits, as_long, one, read_step, write_step, update_step, read_long, write_long, element_read}
 use Rattle.lower.specs.Lowered.{element_step, store_step, update_element_step, word_program, value_test, widening, long_words, long_program, unary_lowering}
@@ -120,8 +125,21 @@ write_long_none : (p : Places) (x : Variable) → senses (write_long p x) ≤ 0
 write_long_none p (Shared v) = omega arith
 write_long_none p (Local n) = omega arith
 
+-- an element is read and stored, under each runtime
+own_read_none : (logging : Logging) (a : ArrayPlace) (list : ListPlace) → step_senses (own_read logging a list) ≡ 0
+own_read_none Redo a list = refl
+own_read_none Undo a list = refl
+
+own_write_none : (logging : Logging) (a : ArrayPlace) (list : ListPlace) → step_senses (own_write logging a list) ≡ 0
+own_write_none Redo a list = refl
+own_write_none Undo a list = refl
+
+own_update_none : (logging : Logging) (op : PlainOperation) (a : ArrayPlace) (list : ListPlace) → step_senses (own_update logging op a list) ≡ 0
+own_update_none Redo op a list = refl
+own_update_none Undo op a list = refl
+
 element_read_none : (p : Places) (o : Option VariablePlace) → step_senses (element_read p o) ≡ 0
-element_read_none p (Some (Array elements length (Some c))) = refl
+element_read_none p (Some (Array elements length (Some c))) = own_read_none p.map.runtime.logging (array_place elements length c) (list_place p)
 element_read_none p (Some (Array elements length None)) = refl
 element_read_none p (Some (Scalar home copy width)) = refl
 element_read_none p None = refl
@@ -245,13 +263,15 @@ sides_of_few p index e =
 element_setting_few : (p : Places) (x : Variable) (index e : CheckedExpression)
     → senses (element_setting p x index e) ≤ expression_readings index + expression_readings e
 element_setting_few p x index e =
-    behind_few (expression_readings index + expression_readings e) (index_and_value p index e) (store_step p x) refl (sides_of_few p index e)
+    behind_few (expression_readings index + expression_readings e) (index_and_value p index e) (store_step p x)
+    (own_write_none p.map.runtime.logging (stored_array p x) (list_place p)) (sides_of_few p index e)
 
 element_sides_few : (p : Places) (x : Variable) (index : CheckedExpression) (op : PlacedOperator) (a b : CheckedExpression) (o : Option PlainOperation)
     → senses (element_sides_set p x index op a b o) ≤ expression_readings index + (expression_readings a + expression_readings b)
 element_sides_few p x index op a b None = element_setting_few p x index (t.binary op a b)
 element_sides_few p x index op a b (Some o) =
-    behind_few (expression_readings index + (expression_readings a + expression_readings b)) (index_and_value p index b) (update_element_step p o x) refl
+    behind_few (expression_readings index + (expression_readings a + expression_readings b)) (index_and_value p index b) (update_element_step p o x)
+    (own_update_none p.map.runtime.logging o (stored_array p x) (list_place p))
     (let sides = sides_of_few p index b in omega (arith, sides))
 
 element_few : (p : Places) (x : Variable) (index e : CheckedExpression)
@@ -325,7 +345,7 @@ tasks_few : (l : MemoryMap) (tasks : List (t.Task VariableName TaskName)) (ts : 
     → senses (get_or (lowered_tasks l tasks ts) k nothing) ≤ block_readings (body_of (slice_get tasks k))
 tasks_few l [] ts k = omega arith
 tasks_few l (task ∷ tasks) [] k = omega arith
-tasks_few l (task ∷ tasks) (own ∷ ts) zero = block_few (places_of (map_seen task.body l) own) task.body
+tasks_few l (task ∷ tasks) (own ∷ ts) zero = block_few (places_of (map_seen task.body l) (task_seen l.runtime.logging own)) task.body
 tasks_few l (task ∷ tasks) (own ∷ ts) (suc k) = tasks_few l tasks ts k
 
 pub task_few : (p : CheckedProgram) (l : MemoryMap) (k : ℕ) → senses (task_program p l k) ≤ block_readings (task_body p k)

@@ -9,6 +9,7 @@ use Rattle.cost_bound.specs.Table.{cycles_column, statement_price, blocks_price,
 use Rattle.cost_bound.specs.Counts.{CheckedBlock, is_emit, statement_count, choice_count, block_count, emits_of}
 use Rattle.cost_bound.specs.Allowance.{CheckedProgram, CheckedTask, bound_of, list_of, task_bound, uses_events, versions_of, greatest}
 use Rattle.commit_runtime.specs.Listing.{commit_cycles}
+use Rattle.undo_runtime.specs.Listing.{commit_cycles as logged_commit}
 use Rattle.memory_map.specs.MemoryMap.{with_events}
 use Rattle.runtime_code.proofs.Interface.{if_any_most, with_events_most}
 
@@ -69,3 +70,13 @@ commit_within_bound p events entries emits some list_is emits_are =
     let paid = emits_pay b.code in let boot = with_events_most events 3 in let more = with_events_most events 6 in
     let list_begins = if_any_most entries 2 in let sends_begin = if_any_most emits 2 in
     omega (arith, list_is, emits_are, a_is, a_within, b_is, b_within, paid, list_begins, sends_begin, boot, more)
+
+-- so under undo, whose commit copies nothing
+pub logged_commit_within_bound : (p : CheckedProgram) (events : Bool) (emits : ℕ) → 0 < length p.tasks → emits ≡ greatest emits_of p.tasks
+    → with_events events 3 + 9 + logged_commit events emits ≤ bound_of p
+logged_commit_within_bound p events emits some emits_are =
+    let price = task_bound (uses_events p) (versions_of p) p.shared in
+    let b = has_greatest emits_of price p.tasks some in
+    let b_is = b.is in let b_within = b.within in
+    let boot = with_events_most events 3 in let more = with_events_most events 6 in let sends_begin = if_any_most emits 2 in
+    omega (arith, emits_are, b_is, b_within, sends_begin, boot, more)

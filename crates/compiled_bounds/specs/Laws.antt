@@ -9,9 +9,10 @@ use Rattle.cost_bound.specs.Allowance.{CheckedProgram, IsAllowed, bound_of}
 use Rattle.source_values.specs.Runs.{State}
 use Rattle.war_analysis.specs.PlanValue.{TaskPlanValue}
 use Rattle.linked_code.specs.Rooms.{PrivatesAreCounted}
+use Rattle.memory_map.specs.declared.runtime.Logging.TheVariants.{Undo}
 use Rattle.memory_map.specs.declared.words.RuntimeWord.TheVariants.{ListLength, EmitCount}
 use Rattle.memory_map.specs.MemoryMap.{MemoryMap, word_place}
-use Rattle.privatise.specs.Layouts.{IsLayout}
+use Rattle.privatise.specs.Layouts.{IsLayoutFor, IsLayout}
 use Rattle.crash_rules.specs.Model.{bound}
 use Rattle.crash_rules.specs.Runs.{Program}
 use Rattle.crash_rules.specs.Laws.{Origin}
@@ -19,7 +20,7 @@ use Rattle.run_charges.specs.View.{outside_of}
 use Rattle.run_charges.specs.Laws.{IsRunOfWords}
 use Rattle.memory_map.specs.Laws.{AreApart}
 use Rattle.compiled_model.specs.Parts.{compiled_model}
-use Rattle.compiled_model.specs.Needs.{CostsAreWithin, AttemptsStore}
+use Rattle.compiled_model.specs.Needs.{CostsAreWithin, LoggedCostsAreWithin, AttemptsStore}
 use Rattle.task_needs.specs.Lists.{NeedsAreWithin, with_needs}
 use Rattle.model_runs.specs.Bears.{BearsModel}
 use Rattle.compiled_bounds.specs.Capacities.{KeepsCapacities}
@@ -33,6 +34,11 @@ BoundIsTheSources = (p : CheckedProgram) (l : MemoryMap) → bound (compiled_mod
 abbrev pub TasksKeepToTheBound : Type 0
 TasksKeepToTheBound = (p : CheckedProgram) (allow : Allow) (plans : List TaskPlanValue) (l : MemoryMap) → IsAllowed p allow → PrivatesAreCounted p l
     → IsLayout p allow plans l → CostsAreWithin p l
+
+-- so under undo, with the recovery of all that the task may list
+abbrev pub LoggedTasksKeepToTheBound : Type 0
+LoggedTasksKeepToTheBound = (p : CheckedProgram) (allow : Allow) (plans : List TaskPlanValue) (l : MemoryMap) → IsAllowed p allow → PrivatesAreCounted p l
+    → IsLayoutFor Undo p allow plans l → LoggedCostsAreWithin p l
 
 -- and its part has the cycles of what the task needs beside its code, so that it needs no more than its part
 abbrev pub TableCoversNeeds : Type 0

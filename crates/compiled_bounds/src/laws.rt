@@ -2,7 +2,8 @@
 
 ghost use Rattle.source_values.specs.Runs.{State};
 ghost use Rattle.crash_rules.specs.Runs.{Program};
-ghost use Rattle.compiled_bounds.specs.Laws.{BoundIsTheSources, CapacitiesAreKept, NeedsKeepToTheBound, TableCoversNeeds, TasksKeepToTheBound};
+ghost use Rattle.compiled_bounds.specs.Laws.{BoundIsTheSources, CapacitiesAreKept, LoggedTasksKeepToTheBound, NeedsKeepToTheBound, TableCoversNeeds};
+ghost use Rattle.compiled_bounds.specs.Laws.{TasksKeepToTheBound};
 
 /// The code of a compiled source as the laws see it.
 pub trait Coded {
@@ -19,6 +20,11 @@ pub fn bound_is_the_sources()
 /// the list and the buffer have room for.
 pub fn tasks_keep_to_the_bound()
     ensures { TasksKeepToTheBound }
+{}
+
+/// Under undo it pays for a boot that puts back all that a task may list, a start, a whole attempt and its commit.
+pub fn logged_tasks_keep_to_the_bound()
+    ensures { LoggedTasksKeepToTheBound }
 {}
 
 /// A task's part of the bound pays for what the task needs beside its code, by the code that is linked.

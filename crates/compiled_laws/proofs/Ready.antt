@@ -1,5 +1,5 @@
 -- An accepted source with its layout is ready to run.
-use Rattle.std.proofs.Common.{ℕ, ◌<◌, sym, ap, subst, arith, List, length}
+use Rattle.std.proofs.Common.{◌≡◌, ℕ, ◌<◌, refl, sym, ap, ◌∙◌, subst, arith, List, length}
 use Rattle.cost_bound.specs.declared.allowance.Allow.{Allow}
 use Rattle.war_analysis.proofs.Interface.{element}
 use Rattle.source_values.specs.Runs.{CheckedProgram}
@@ -8,19 +8,22 @@ use Rattle.source_meaning.proofs.Interface.{accepted_texts_run}
 use Rattle.war_analysis.specs.PlanValue.{TaskPlanValue}
 use Rattle.array_versions.specs.Program.{Program}
 use Rattle.array_versions.specs.Form.{FitsTheStack, OfWords}
-use Rattle.memory_map.specs.declared.runtime.Logging.TheVariants.{Redo}
+use Rattle.memory_map.specs.declared.runtime.Logging.{Logging}
+use Rattle.memory_map.specs.declared.runtime.Logging.TheVariants.{Redo, Undo}
 use Rattle.memory_map.specs.declared.runtime.Runtime.{Runtime}
 use Rattle.memory_map.specs.MemoryMap.{MemoryMap}
 use Rattle.stands_for.proofs.Interface.{each_weaker}
 use Rattle.lower.proofs.Interface.{program_at}
 use Rattle.layout_facts.specs.Facts.{HasLayout}
-use Rattle.layout_facts.proofs.Interface.{places_are_apart, tasks_have_room, privates_are_theirs, tasks_match}
+use Rattle.layout_facts.proofs.Interface.{places_are_apart, tasks_have_room, privates_are_theirs, privates_are_logged, tasks_match}
 use Rattle.whole_programs.specs.Laws.{IsLaidOutText}
 use Rattle.whole_programs.proofs.Interface.{tasks_are_whole, privates_are_few}
 use Rattle.task_attempts.proofs.Interface.{compiled_laws, stores_below_code, tasks_leave, tasks_list_few}
 use Rattle.compiled_model.specs.Parts.{task_program}
-use Rattle.compiled_bounds.proofs.Interface.{tasks_keep_to_the_bound, table_covers_needs}
-use Rattle.compiled_runs.specs.Laws.{CanRun}
+use Rattle.privatise.specs.Layouts.{IsLayoutFor}
+use Rattle.linked_code.specs.Rooms.{PrivatesAreCounted}
+use Rattle.compiled_bounds.proofs.Interface.{tasks_keep_to_the_bound, logged_tasks_keep_to_the_bound, table_covers_needs}
+use Rattle.compiled_runs.specs.Laws.{RunsBy, CanRun}
 use Rattle.compiled_runs.proofs.Interface.{sources_have_room}
 use Rattle.compiled_model.specs.Needs.{StoresBelow}
 use Rattle.compiled_laws.specs.Ready.{SourcesAreReady}
@@ -30,7 +33,13 @@ module _ (text : List ℕ) (p : CheckedProgram) (allow : Allow) (plans : List Ta
   run = accepted_texts_run text p allow t.accepted
 
   laid : HasLayout p allow plans l
-  laid = record { allowed = t.accepted.allowed; plan = t.plan; logging = Redo; layout = t.layout; few = privates_are_few text p allow plans l t }
+  laid = record {
+    allowed = t.accepted.allowed;
+    plan = t.plan;
+    logging = t.logging;
+    layout = t.layout;
+    few = privates_are_few text p allow plans l t;
+  }
 
   -- the program of a task is whole, and of words
   one_whole : (k : ℕ) → k < length p.tasks → FitsTheStack (task_program p l k) × OfWords (task_program p l k)
@@ -41,18 +50,37 @@ module _ (text : List ℕ) (p : CheckedProgram) (allow : Allow) (plans : List Ta
       let P : Program → Type 0 = λ q. FitsTheStack q × OfWords q in
       subst P (sym (program_at l p.tasks l.tasks k task.0 own.0 task.1 own.1)) (tasks_are_whole text p allow plans l t k task.0 own.0 task.1 own.1)
 
+  few : PrivatesAreCounted p l
+  few = privates_are_few text p allow plans l t
+
+  -- a layout for a runtime is of a map that names this
+  named : l.runtime.logging ≡ t.logging
+  named = ap (λ (r : Runtime). r.logging) t.layout.runtime
+
+  -- as a layout for the runtime that the map names
+  layout_for : (logging : Logging) → l.runtime.logging ≡ logging → IsLayoutFor logging p allow plans l
+  layout_for logging is = subst (λ g. IsLayoutFor g p allow plans l) (sym named ∙ is) t.layout
+
+  own : (logging : Logging) → l.runtime.logging ≡ logging → RunsBy logging p l
+  own Redo is = record {
+    privates = privates_are_theirs p allow plans l laid;
+    costs = tasks_keep_to_the_bound p allow plans l t.accepted.allowed few (layout_for Redo is);
+  }
+  own Undo is = record {
+    privates = privates_are_logged p allow plans l laid;
+    costs = logged_tasks_keep_to_the_bound p allow plans l t.accepted.allowed few (layout_for Undo is);
+  }
+
   code : CanRun p l
   code = record {
-    logging = ap (λ (r : Runtime). r.logging) t.layout.runtime;
-    fits = sources_have_room p allow plans l t.accepted.allowed t.layout t.plan.count
+    fits = sources_have_room t.logging p allow plans l t.accepted.allowed t.layout t.plan.count
         (λ k task own at own_at. (tasks_match p allow plans l laid k task own (record { is_task = at; is_layout = own_at })).count);
     count = t.layout.tasks.count;
     apart = places_are_apart p allow plans l laid;
     room = tasks_have_room p allow plans l laid;
-    privates = privates_are_theirs p allow plans l laid;
     programs = record { whole = λ k below. (one_whole k below).0; of_words = λ k below. (one_whole k below).1 };
     leave = tasks_leave text p allow plans l t run;
-    costs = tasks_keep_to_the_bound p allow plans l t.accepted.allowed (privates_are_few text p allow plans l t) t.layout;
+    own = own l.runtime.logging refl;
   }
 
 pub sources_are_ready : SourcesAreReady
@@ -61,6 +89,6 @@ sources_are_ready text p allow plans l t = record {
   code = code text p allow plans l t;
   stores = λ s x inputs words settled. each_weaker _ (StoresBelow l l.boot.address) (λ a w h. h.below) _
       (stores_below_code text p allow plans l t (run text p allow plans l t) s x inputs words settled);
-  few = tasks_list_few text p allow plans l t (run text p allow plans l t);
-  needs = table_covers_needs p allow plans l t.accepted.allowed (privates_are_few text p allow plans l t) t.layout;
+  few = λ logs. tasks_list_few text p allow plans l t (run text p allow plans l t) logs;
+  needs = λ logs. table_covers_needs p allow plans l t.accepted.allowed (few text p allow plans l t) (layout_for text p allow plans l t Redo logs);
 }

@@ -13,9 +13,10 @@ use Rattle.runtime_effects.specs.Needs.{IsEventWord}
 use Rattle.boot_runtime.specs.Entries.{task_entries}
 use Rattle.boot_runtime.specs.Listing.{privates_in, start_cycles}
 use Rattle.commit_runtime.specs.Listing.{commit_cycles}
+use Rattle.undo_runtime.specs.Listing.{recovery_cycles, start_cycles as logged_start, commit_cycles as logged_commit}
 use Rattle.crash_rules.specs.Model.{Model, bound}
 use Rattle.stands_for.specs.StandsFor.{HoldsWords}
-use Rattle.compiled_model.specs.Parts.{task_program, compiled_model, IsStarted}
+use Rattle.compiled_model.specs.Parts.{task_program, private_homes, compiled_model, IsStarted}
 
 -- a boot, at most
 abbrev pub boot_cycles : MemoryMap → ℕ
@@ -29,6 +30,14 @@ whole_cycles p l t fram inputs =
     + code_spent (task_program p l t) (started fram inputs)
     + commit_cycles l.runtime.events (list_of p.shared (task_body p t)) (list_of p.shared (task_body p t)) (emits_of (task_body p t))
 
+-- the same under undo: a boot that puts back as much as the task may list, a start that lists the words of its private scalars, the body, the commit
+abbrev pub logged_cycles : CheckedProgram → MemoryMap → ℕ → (ℕ → ℕ) → Inputs → ℕ
+logged_cycles p l t fram inputs =
+    with_events l.runtime.events 3 + 6 + recovery_cycles (list_of p.shared (task_body p t))
+    + logged_start l.runtime.events true l.versions.words (length (private_homes l t))
+    + code_spent (task_program p l t) (started fram inputs)
+    + logged_commit l.runtime.events (emits_of (task_body p t))
+
 -- each task keeps to its bound, whatever FRAM holds and whatever the inputs are; and where there is a task, a boot with the commit of a
 -- full list and full buffer keeps to the greatest
 pub record CostsAreWithin (p : CheckedProgram) (l : MemoryMap) : Type 0 where
@@ -36,6 +45,12 @@ pub record CostsAreWithin (p : CheckedProgram) (l : MemoryMap) : Type 0 where
       → whole_cycles p l t fram inputs ≤ task_bound (uses_events p) (versions_of p) p.shared (task_body p t)
   pub commits : (t : ℕ) → t < length p.tasks
       → boot_cycles l + commit_cycles l.runtime.events l.entries l.entries l.emits.words ≤ bound (compiled_model p l)
+
+-- so under undo
+pub record LoggedCostsAreWithin (p : CheckedProgram) (l : MemoryMap) : Type 0 where
+  pub within : (t : ℕ) (fram : ℕ → ℕ) (inputs : Inputs) → t < length p.tasks → HoldsWords fram → InputsAreWords inputs
+      → logged_cycles p l t fram inputs ≤ task_bound (uses_events p) (versions_of p) p.shared (task_body p t)
+  pub commits : (t : ℕ) → t < length p.tasks → boot_cycles l + logged_commit l.runtime.events l.emits.words ≤ bound (compiled_model p l)
 
 -- a program's end: it leaves for an address, or is short of readings
 abbrev pub LeavesFor : ℕ → End → Type 0

@@ -1,5 +1,5 @@
 -- What tasks cost, as the code's laws take it: for each any number that has its cycles, so that the same proof has the bound and the need.
-use Rattle.std.proofs.Common.{◌≡◌, ◌<◌, ◌≤◌, ◌+◌, ℕ, true, List, [], ◌∷◌, length, sym, ap, ◌∙◌, arith}
+use Rattle.std.proofs.Common.{◌≡◌, ◌<◌, ◌≤◌, ◌+◌, ℕ, true, List, [], ◌∷◌, length, sym, ap, ◌∙◌, subst, arith}
 use Rattle.fram_board.specs.Effects.{Effect, Store}
 use Rattle.machine_effects.specs.World.{World, put, fram_after, world_after, world_after_one}
 use Rattle.machine_effects.specs.Inputs.{Inputs, InputsAreWords}
@@ -11,6 +11,7 @@ use Rattle.cost_bound.specs.Counts.{emits_of}
 use Rattle.source_values.specs.Runs.{CheckedProgram, State, task_body}
 use Rattle.array_versions.specs.Behaviour.{behaviour, started}
 use Rattle.word_code.specs.Laws.{ComesTo}
+use Rattle.memory_map.specs.declared.runtime.Logging.TheVariants.{Redo, Undo}
 use Rattle.memory_map.specs.declared.words.RuntimeWord.TheVariants.{ListLength, EmitCount, SentBase}
 use Rattle.memory_map.specs.MemoryMap.{MemoryMap, word_place, with_events}
 use Rattle.runtime_effects.specs.Places.{listed}
@@ -30,7 +31,7 @@ use Rattle.compiled_model.specs.Needs.{boot_cycles}
 use Rattle.linked_code.specs.Linked.{ProgramsAreWhole}
 use Rattle.linked_code.proofs.Interface.{programs_count}
 use Rattle.compiled_runs.specs.Program.{placed_code}
-use Rattle.compiled_runs.specs.Laws.{CanRun}
+use Rattle.compiled_runs.specs.Laws.{RunsByRedo, RunsByUndo, RunsBy, CanRun}
 
 -- a list and a buffer within so much, with which the commit of FRAM can be made
 pub record FitsCommit (l : MemoryMap) (entries words emits : ℕ) (f : ℕ → ℕ) : Type 0 where
@@ -63,6 +64,13 @@ pub record Costs (p : CheckedProgram) (l : MemoryMap) : Type 0 where
   pub lists : (s : State) (x : World) (inputs : Inputs) → InputsAreWords inputs → (redo_model p l).Undecided s x
       → let q = (redo_model p l).attempt x.fram inputs in
       q.ends ≡ true → FitsCommit l (entries s.task) (words s.task) (emits_of (task_body p s.task)) (fram_after q.effects x.fram)
+
+-- what each runtime asks for
+pub by_redo : (p : CheckedProgram) (l : MemoryMap) → l.runtime.logging ≡ Redo → CanRun p l → RunsByRedo p l
+by_redo p l logs r = subst (λ g. RunsBy g p l) logs r.own
+
+pub by_undo : (p : CheckedProgram) (l : MemoryMap) → l.runtime.logging ≡ Undo → CanRun p l → RunsByUndo p l
+by_undo p l logs r = subst (λ g. RunsBy g p l) logs r.own
 
 -- as many programs as tasks
 pub programs_are : (p : CheckedProgram) (l : MemoryMap) → CanRun p l → length (lowered l p) ≡ length p.tasks

@@ -11,3 +11,5 @@ pub use Rattle.compiled_runs.proofs.Raises.{power_ups_raise_version}
 pub use Rattle.compiled_runs.proofs.Leaves.{code_is_placed, scripts_store_below, runs_leave_the_code}
 -- The layout of a source has room for the code of its programs.
 pub use Rattle.compiled_runs.proofs.Fits.{sources_have_room}
+-- What each runtime asks for, where the map names it.
+pub use Rattle.compiled_runs.proofs.Costs.{by_redo, by_undo}

@@ -7,7 +7,6 @@ use Rattle.code_forms.specs.Forms.{core_of}
 use Rattle.code_forms.specs.Placed.{words_of, IsOutside}
 use Rattle.code_forms.proofs.Interface.{powered_has_a_core}
 use Rattle.source_values.specs.Runs.{CheckedProgram, State}
-use Rattle.memory_map.specs.declared.runtime.Logging.TheVariants.{Redo}
 use Rattle.memory_map.specs.MemoryMap.{MemoryMap}
 use Rattle.memory_map.specs.Laws.{AreApart}
 use Rattle.lower.specs.Lowered.{lowered}
@@ -20,7 +19,9 @@ use Rattle.linked_code.proofs.Interface.{linked_is_code}
 use Rattle.compiled_model.specs.Places.{program_places}
 use Rattle.compiled_model.specs.Parts.{compiled_model}
 use Rattle.compiled_model.specs.Needs.{AttemptsStore, StoresBelow, AttemptsStoreBelow}
-use Rattle.compiled_model.proofs.Interface.{is_redo}
+use Rattle.undo_states.proofs.Interface.{recovery_stores, undo_commit_stores}
+use Rattle.compiled_model.specs.View.{state_view}
+use Rattle.compiled_model.proofs.Interface.{either_logging, is_redo, is_logged}
 use Rattle.compiled_runs.specs.Program.{source_code, compiled_program}
 use Rattle.compiled_runs.specs.Laws.{CodeIsPlaced, RunsLeaveTheCode}
 use Rattle.compiled_runs.proofs.Bound.{code_keeps_the_laws}
@@ -47,18 +48,26 @@ code_is_placed p l f =
     }
 
 -- all that a run does stores in front of the code, or at a word that counts events
-pub scripts_store_below : (p : CheckedProgram) (l : MemoryMap) → l.runtime.logging ≡ Redo → AreApart l → AttemptsStoreBelow p l l.boot.address
+pub scripts_store_below : (p : CheckedProgram) (l : MemoryMap) → AreApart l → AttemptsStoreBelow p l l.boot.address
     → ScriptsStore (compiled_model p l) (StoresBelow l l.boot.address)
-scripts_store_below p l logs apart =
+scripts_store_below p l apart fit =
     let Below : ℕ → ℕ → Type 0 = StoresBelow l l.boot.address in
     let P : Model State → Type 0 = λ m. AttemptsStore m Below → ScriptsStore m Below in
-    subst P (sym (is_redo p l logs)) (λ attempts. record {
+    ⊎_elim {C = ScriptsStore (compiled_model p l) Below}
+    (λ logs. subst P (sym (is_redo p l logs)) (λ attempts. record {
       recoveries = λ s x u. tt;
       attempts = attempts;
       commits = λ to x inputs d. each_weaker _ Below
           (λ a w h. ⊎_elim {C = Below a w} (λ low. inl (omega (arith, low, apart))) (λ counter. inr counter) h.below) _
           (commit_stores_there (program_places p l) x apart d.pending);
-    })
+    }) fit)
+    (λ logs. subst P (sym (is_logged p l logs)) (λ attempts. record {
+      recoveries = λ s x u. recovery_stores (program_places p l) (state_view p l) s x u Below (λ a w h. inl (omega (arith, apart, h)))
+          (inl (omega (arith, apart)));
+      attempts = attempts;
+      commits = λ to x inputs d. undo_commit_stores l Below x.fram (λ w on. inr (record { events = on; from = omega arith; below = omega arith }))
+          (λ w. inl (omega (arith, apart))) (λ w. inl (omega (arith, apart))) (inl (omega (arith, apart))) (inl (omega (arith, apart)));
+    }) fit) (either_logging l.runtime.logging)
 
 pub runs_leave_the_code : RunsLeaveTheCode
 runs_leave_the_code p l r laws below readings origin x s begins charges t k charged q powered from n =
@@ -76,7 +85,7 @@ runs_leave_the_code p l r laws below readings origin x s begins charges t k char
     let end = (linked_is_code l (lowered l p) r.fits).end in
     let high = r.fits.high in
     let last = r.apart.high in
-    let stores = stores_only m c P laws own (scripts_store_below p l r.logging r.apart below) readings origin q up n in
+    let stores = stores_only m c P laws own (scripts_store_below p l r.apart below) readings origin q up n in
     record {
       code = record {
         stores = each_weaker P (IsOutside l.boot.address (length (words_of (source_code p l))))

@@ -1,6 +1,8 @@
 mod Steps
 mod Costs
+mod Attempts
 mod Program
+mod Logged
 mod Bound
 mod NeedsModel
 mod Needs

@@ -10,6 +10,7 @@ use Rattle.source_values.specs.Runs.{CheckedProgram, State, task_body}
 use Rattle.array_versions.specs.Behaviour.{started}
 use Rattle.word_code.specs.Code.{code_spent}
 use Rattle.code_costs.specs.Dearest.{most_spent}
+use Rattle.memory_map.specs.declared.runtime.Logging.TheVariants.{Redo}
 use Rattle.memory_map.specs.MemoryMap.{MemoryMap}
 use Rattle.lower.specs.Lowered.{lowered}
 use Rattle.crash_rules.specs.Model.{Model, ModelLaws, ProgramEffects}
@@ -28,7 +29,8 @@ use Rattle.compiled_runs.proofs.Costs.{FitsCommit, BodyWithin, Costs, programs_a
 use Rattle.compiled_runs.proofs.NeedsModel.{lists_there}
 use Rattle.compiled_runs.proofs.Program.{code_makes}
 
-module _ (p : CheckedProgram) (l : MemoryMap) (r : CanRun p l) (few : TasksListFew p l) (within : NeedsAreWithin p l) (laws : ModelLaws (redo_model p l)) where
+module _ (p : CheckedProgram) (l : MemoryMap) (logs : l.runtime.logging ≡ Redo) (r : CanRun p l) (few : TasksListFew p l) (within : NeedsAreWithin p l)
+    (laws : ModelLaws (redo_model p l)) where
   abbrev m : Model State
   m = redo_model p l
 
@@ -67,7 +69,7 @@ module _ (p : CheckedProgram) (l : MemoryMap) (r : CanRun p l) (few : TasksListF
       q.ends ≡ true → FitsCommit l (entries s.task) (words s.task) (emits_of (task_body p s.task)) (fram_after q.effects x.fram)
   lists s x inputs ready und ends =
       let d = decided_behind m s x inputs (m.attempt x.fram inputs) (laws.attempts s x inputs ready und) ends in
-      let own : ListsWithin p l s.task d.world.fram = subst (ListsWithin p l s.task) (sym d.fram) (lists_there p l r few s x inputs ready und ends) in
+      let own : ListsWithin p l s.task d.world.fram = subst (ListsWithin p l s.task) (sym d.fram) (lists_there p l logs r few s x inputs ready und ends) in
       subst (FitsCommit l (entries s.task) (words s.task) (emits_of (task_body p s.task))) d.fram (own_fits s d.next d.world d.decided own)
     where
       own_fits : (s next : State) (x : World) → m.Decided s next x → ListsWithin p l s.task x.fram
@@ -95,7 +97,7 @@ module _ (p : CheckedProgram) (l : MemoryMap) (r : CanRun p l) (few : TasksListF
 
   code_needs : ProgramLaws n c
   code_needs =
-      let makes = code_makes p l r laws need_costs in
+      let makes = code_makes p l logs r laws need_costs in
       record {
         changes = λ s. code_changes_by_effects (placed_code p l) s;
         takes_cycles = λ s. code_takes (placed_code p l) s;
@@ -109,7 +111,7 @@ module _ (p : CheckedProgram) (l : MemoryMap) (r : CanRun p l) (few : TasksListF
       }
 
 pub code_keeps_to_needs : CodeKeepsToNeeds
-code_keeps_to_needs p l r few within laws =
+code_keeps_to_needs p l logs r few within laws =
     let L : Model State → Type 0 = λ m. ModelLaws m in
     let P : Model State → Type 0 = λ m. ProgramLaws (with_needs p l m) (compiled_program p l) in
-    subst P (sym (is_redo p l r.logging)) (code_needs p l r few within (subst L (is_redo p l r.logging) laws))
+    subst P (sym (is_redo p l logs)) (code_needs p l logs r few within (subst L (is_redo p l logs) laws))

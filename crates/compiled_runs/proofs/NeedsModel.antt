@@ -9,6 +9,7 @@ use Rattle.crash_rules.proofs.Interface.{world_fram, holds_both}
 use Rattle.source_values.specs.Runs.{CheckedProgram, State}
 use Rattle.array_versions.specs.Behaviour.{Behaviour, End, GoesOn, Jumps, Short as Starving, Strays, Broken, behaviour, started}
 use Rattle.memory_map.specs.declared.runtime.Logging.{Logging}
+use Rattle.memory_map.specs.declared.runtime.Logging.TheVariants.{Redo}
 use Rattle.memory_map.specs.declared.runtime.Role.{Role}
 use Rattle.memory_map.specs.declared.words.RuntimeWord.TheVariants.{CurrentTask, Gate, ListLength}
 use Rattle.memory_map.specs.MemoryMap.{MemoryMap, word_place}
@@ -27,7 +28,7 @@ use Rattle.compiled_model.proofs.Interface.{is_redo, under_map}
 use Rattle.task_needs.specs.Needs.{own_entries, own_words}
 use Rattle.task_needs.specs.Lists.{ListsWithin, ListsAtEnd, TasksListFew, DecidedWithin, with_needs}
 use Rattle.compiled_runs.specs.Laws.{CanRun, NeedsKeepTheLaws}
-use Rattle.compiled_runs.proofs.Costs.{decided_fram}
+use Rattle.compiled_runs.proofs.Costs.{by_redo, decided_fram}
 
 -- where a program jumps
 by_end : (p : CheckedProgram) (l : MemoryMap) (t : ℕ) (f : ℕ → ℕ) (e : End) → has_jumped e ≡ true → ListsAtEnd p l t f e → ListsWithin p l t f
@@ -37,7 +38,7 @@ by_end p l t f Starving h k = absurd (cc h)
 by_end p l t f Strays h k = absurd (cc h)
 by_end p l t f Broken h k = absurd (cc h)
 
-module _ (p : CheckedProgram) (l : MemoryMap) (r : CanRun p l) where
+module _ (p : CheckedProgram) (l : MemoryMap) (logs : l.runtime.logging ≡ Redo) (r : CanRun p l) where
   abbrev m : Model State
   m = redo_model p l
 
@@ -57,11 +58,11 @@ module _ (p : CheckedProgram) (l : MemoryMap) (r : CanRun p l) where
       let es : List Effect = start_effects l privates x.fram in
       let g = fram_after es x.fram in
       let start : StartedAt (program_places p l) (state_view p l) s (privates s.task) (world_after es x) =
-      (numbered_starts State (program_places p l) (state_view p l) privates r.apart r.privates).started s x und in
+      (numbered_starts State (program_places p l) (state_view p l) privates r.apart (by_redo p l logs r).privates).started s x und in
       let P : Logging → Role → Type 0 = λ logging role. started_under logging p l s (world_after es x) in
       let At : ℕ → (ℕ → ℕ) → Type 0 = λ t h.
       let done = behaviour (task_program p l t) (started h inputs) in ListsAtEnd p l s.task (fram_after done.effects h) done.end in
-      let at_end : At s.task (world_after es x).fram = few.few s (world_after es x) inputs ready (under_map l P r.logging start) in
+      let at_end : At s.task (world_after es x).fram = few.few s (world_after es x) inputs ready (under_map l P logs start) in
       let there : At k g = subst (λ t. At t g) (sym und.is_open.current_task) (subst (At s.task) (world_fram es x) at_end) in
       let b : Behaviour = behaviour (task_program p l k) (started g inputs) in
       subst (ListsWithin p l s.task) (sym (fram_after-append es b.effects x.fram)) (by_end p l s.task (fram_after b.effects g) b.end ends there)
@@ -178,7 +179,7 @@ module _ (p : CheckedProgram) (l : MemoryMap) (r : CanRun p l) where
   }
 
 pub needs_keep_the_laws : NeedsKeepTheLaws
-needs_keep_the_laws p l r few laws =
+needs_keep_the_laws p l logs r few laws =
     let L : Model State → Type 0 = λ m. ModelLaws m in
     let P : Model State → Type 0 = λ m. ModelLaws (with_needs p l m) in
-    subst P (sym (is_redo p l r.logging)) (needs_laws p l r few (subst L (is_redo p l r.logging) laws))
+    subst P (sym (is_redo p l logs)) (needs_laws p l logs r few (subst L (is_redo p l logs) laws))

@@ -1,29 +1,21 @@
 -- The code makes each attempt and each commit within what its task costs.
-use Rattle.msp_step.specs.declared.machine.Stop.TheVariants as stop
 use Rattle.std.proofs.Common.{◌≡◌, ◌<◌, ◌≤◌, ◌+◌, ℕ, Bool, true, List, [], ◌++◌, length, refl, sym, ap, ◌∙◌, subst, arith, append-nil}
 use Rattle.fram_board.specs.Effects.{Effect}
 use Rattle.machine_effects.specs.World.{World, fram_after, world_after}
 use Rattle.machine_effects.specs.Inputs.{InputsAreWords}
-use Rattle.machine_effects.specs.Going.{Stalls}
-use Rattle.machine_effects.specs.Machine.{Code, MachineBoard, exec}
-use Rattle.machine_effects.proofs.Interface.{join, join_stall, fram_after-append}
+use Rattle.machine_effects.specs.Machine.{Code, MachineBoard}
 use Rattle.code_forms.specs.Forms.{Core, board_of}
-use Rattle.code_forms.specs.Code.{Runs, Starves}
 use Rattle.crash_rules.proofs.Interface.{world_fram}
 use Rattle.source_values.specs.Runs.{CheckedProgram, State}
-use Rattle.array_versions.specs.Behaviour.{WordState, Behaviour, End, GoesOn, Jumps, Short as Starving, Strays, Broken, behaviour, started}
-use Rattle.array_versions.specs.Laws.{EndsByEffects}
-use Rattle.array_versions.proofs.Interface.{behaves_by_effects}
-use Rattle.word_code.specs.Laws.{HasJumped, ComesTo}
+use Rattle.array_versions.specs.Behaviour.{Behaviour, behaviour, started}
 use Rattle.memory_map.specs.declared.words.RuntimeWord.TheVariants.{CurrentTask, Gate, ListLength, EmitCount, SentBase, Version}
 use Rattle.memory_map.specs.MemoryMap.{MemoryMap, word_place, with_events}
 use Rattle.runtime_effects.specs.Places.{CopyPair, listed}
 use Rattle.runtime_effects.specs.Stages.{is_at_end, start_effects, commit_effects}
-use Rattle.runtime_code.specs.Addresses.{start_address, stack_origin}
-use Rattle.runtime_code.specs.Comes.{Comes, IsAt, Enters}
+use Rattle.runtime_code.specs.Comes.{Comes, IsAt}
 use Rattle.runtime_code.proofs.Interface.{nothing as no_steps}
 use Rattle.boot_runtime.specs.Entries.{task_entries}
-use Rattle.boot_runtime.specs.Listing.{TaskEntry, entry_at, privates_in, start_steps, start_cycles}
+use Rattle.boot_runtime.specs.Listing.{TaskEntry, privates_in, start_steps, start_cycles}
 use Rattle.boot_runtime.specs.Laws.{NamesHandler}
 use Rattle.boot_runtime.proofs.Interface.{clearing_is_dearest}
 use Rattle.commit_runtime.specs.Listing.{commit_steps, commit_cycles}
@@ -36,29 +28,32 @@ use Rattle.stands_for.proofs.Interface.{numbered_starts, pending_can_commit}
 use Rattle.compiled_model.specs.Places.{program_places}
 use Rattle.compiled_model.specs.View.{state_view}
 use Rattle.memory_map.specs.declared.runtime.Logging.{Logging}
+use Rattle.memory_map.specs.declared.runtime.Logging.TheVariants.{Redo}
 use Rattle.memory_map.specs.declared.runtime.Role.{Role}
 use Rattle.compiled_model.specs.Parts.{has_jumped, task_program, redo_model, started_under}
 use Rattle.compiled_model.proofs.Interface.{under_map}
 use Rattle.compiled_model.specs.Needs.{boot_cycles, LeavesFor}
-use Rattle.linked_code.specs.Linked.{ProgramsAreWhole}
+use Rattle.linked_code.specs.Linked.{ProgramsAreWhole, attempt_start}
 use Rattle.commit_runtime.proofs.Interface.{commit_grows}
-use Rattle.linked_code.proofs.Interface.{to_start, to_task, commit_there, to_commit}
+use Rattle.linked_code.proofs.Interface.{to_start, start_there, commit_there, to_commit}
 use Rattle.compiled_runs.specs.Program.{placed_code, IsBooting, IsStarting, compiled_program}
 use Rattle.compiled_runs.specs.Laws.{CanRun}
 use Rattle.cost_bound.specs.Counts.{emits_of}
 use Rattle.source_values.specs.Runs.{task_body}
-use Rattle.compiled_runs.proofs.Costs.{FitsCommit, BodyWithin, Costs, programs_are, are_whole}
+use Rattle.compiled_runs.proofs.Costs.{FitsCommit, BodyWithin, Costs, by_redo, programs_are, are_whole}
+use Rattle.compiled_runs.proofs.Attempts.{Arrival, Stretches, attempt_made}
 
 -- a source with its layout, whose code can run and which keeps the laws of redo's model, and what its tasks cost
 record Source : Type 0 where
   program : CheckedProgram
   map : MemoryMap
+  logs : map.runtime.logging ≡ Redo
   can : CanRun program map
   laws : ModelLaws (redo_model program map)
   costs : Costs program map
 
 module _ (source : Source) where
-  open source use {program as p, map as l, can as r, laws, costs}
+  open source use {program as p, map as l, logs, can as r, laws, costs}
 
   abbrev m : Model State
   m = redo_model p l
@@ -71,9 +66,6 @@ module _ (source : Source) where
 
   abbrev tasks : List TaskEntry
   tasks = task_entries l
-
-  abbrev start_at : ℕ
-  start_at = start_address l.runtime.events l.boot.address
 
   abbrev privates : ℕ → List CopyPair
   privates = privates_in tasks
@@ -88,7 +80,7 @@ module _ (source : Source) where
     pub steps : ℕ
     pub cycles : ℕ
     pub within : cycles ≤ with_events l.runtime.events 3 + 6
-    pub comes : Comes code [] steps cycles core (IsAt start_at core.fram core.inputs)
+    pub comes : Comes code [] steps cycles core (IsAt (attempt_start l) core.fram core.inputs)
 
   from_boot : (b : MachineBoard) → IsBooting l b → b.fram (word_place l Gate) ≡ 0 → ReachesStart b
   from_boot b k z =
@@ -99,21 +91,21 @@ module _ (source : Source) where
         steps = with_events l.runtime.events 2 + 2;
         cycles = with_events l.runtime.events 3 + 6;
         within = omega arith;
-        comes = to_start l (lowered l p) r.fits whole k.core k.pc k.named zero;
+        comes = to_start l (lowered l p) r.fits whole logs k.core k.pc k.named zero;
       }
 
   from_start : (b : MachineBoard) → IsStarting l b → ReachesStart b
   from_start b k =
       let u = k.core in
-      let here : IsAt start_at u.fram u.inputs u = record { pc = k.pc; fram = refl; inputs = refl } in
-      record { core = u; is = k.is; steps = 0; cycles = 0; within = omega arith; comes = no_steps code u (IsAt start_at u.fram u.inputs) here }
+      let here : IsAt (attempt_start l) u.fram u.inputs u = record { pc = k.pc; fram = refl; inputs = refl } in
+      record { core = u; is = k.is; steps = 0; cycles = 0; within = omega arith; comes = no_steps code u (IsAt (attempt_start l) u.fram u.inputs) here }
 
   abbrev cost : ℕ → ℕ
   cost k = costs.cost k
 
   -- what the start of an attempt keeps
   start_keeps : StartContract (program_places p l) (state_view p l) privates (start_effects l privates)
-  start_keeps = numbered_starts State (program_places p l) (state_view p l) privates r.apart r.privates
+  start_keeps = numbered_starts State (program_places p l) (state_view p l) privates r.apart (by_redo p l logs r).privates
 
   -- what a commit takes behind a boot, at most
   abbrev CommitWithin : (ℕ → ℕ) → ℕ → Type 0
@@ -127,7 +119,7 @@ module _ (source : Source) where
   commit_from_boot to accepted u e named d most within =
       let x : World = record { fram = u.fram; accepted = accepted } in
       let q = d.pending in
-      let a = to_commit l (lowered l p) r.fits whole u e named q.gate (pending_can_commit (program_places p l) x r.apart q)
+      let a = to_commit l (lowered l p) r.fits whole logs u e named q.gate (pending_can_commit (program_places p l) x r.apart q)
       (q.words (word_place l SentBase)) in
       let n = u.fram (word_place l ListLength) in let ws = length (listed l u.fram) in let k = u.fram (word_place l EmitCount) in
       record {
@@ -184,7 +176,7 @@ module _ (source : Source) where
     steps : ℕ
     cycles : ℕ
     few : cycles ≤ with_events l.runtime.events 3 + 6
-    comes : Comes code [] steps cycles core (IsAt start_at core.fram core.inputs)
+    comes : Comes code [] steps cycles core (IsAt (attempt_start l) core.fram core.inputs)
 
   module _ (at : Attempting) where
     open at use {state as s, accepted, core as u, words, undecided as und, steps, cycles, few, comes}
@@ -228,7 +220,7 @@ module _ (source : Source) where
     leaves : LeavesFor l.commit.address b.end
     leaves =
         let P : Logging → Role → Type 0 = λ logging role. started_under logging p l s (world_after es x) in
-        let a = r.leave.leave s (world_after es x) u.inputs words (under_map l P r.logging is_started) in
+        let a = r.leave.leave s (world_after es x) u.inputs words (under_map l P logs is_started) in
         subst (λ t. LeavesFor l.commit.address (behaviour (task_program p l t) (started g u.inputs)).end) (sym is_current)
         (subst (λ h. LeavesFor l.commit.address (behaviour (task_program p l s.task) (started h u.inputs)).end) started_fram a)
 
@@ -243,86 +235,59 @@ module _ (source : Source) where
     fits_there : has_jumped b.end ≡ true → FitsAt k f
     fits_there ends = subst (λ t. FitsAt t f) (sym is_current) (costs.lists s x u.inputs words und ends)
 
-    -- the attempt's effects with its commit, by how its program ends
-    abbrev script_by : End → ProgramEffects
-    script_by e = with_commit m u.fram u.inputs (program_effects (es ++ b.effects) (has_jumped e))
-
     abbrev clears : Bool
     clears = is_at_end l u.fram
 
-    abbrev to_steps : ℕ
-    to_steps = steps + start_steps l.runtime.events clears l.versions.words (length (privates k))
-
-    abbrev to_cycles : ℕ
-    to_cycles = cycles + start_cycles l.runtime.events clears l.versions.words (length (privates k))
+    abbrev start_time : ℕ
+    start_time = start_cycles l.runtime.events clears l.versions.words (length (privates k))
 
     -- the cost has room for the clearing in each attempt
-    at_most : start_cycles l.runtime.events clears l.versions.words (length (privates k))
-        ≤ start_cycles l.runtime.events true l.versions.words (length (privates k))
+    at_most : start_time ≤ start_cycles l.runtime.events true l.versions.words (length (privates k))
     at_most = clearing_is_dearest l.runtime.events clears l.versions.words (length (privates k))
 
-    there : Comes code es to_steps to_cycles u (Enters (entry_at tasks k).code (stack_origin l.runtime.events) g u.inputs)
-    there = to_task l (lowered l p) r.fits whole u steps cycles comes program_named (und.is_open.words (word_place l Version))
+    abbrev listed_entries : ℕ
+    listed_entries = f (word_place l ListLength)
 
-    body : ComesTo code paid.most there.end b.effects b.end
-    body = paid.comes there.end there.holds
+    abbrev listed_words : ℕ
+    listed_words = length (listed l f)
 
-    jumps_on : (to : ℕ) (w : WordState) → b.end ≡ Jumps to w → to ≡ l.commit.address
-        → Runs code b.effects paid.most there.end (HasJumped to w) → Makes c m.delay (cost k) (script_by (Jumps to w)) (board_of u)
-    jumps_on to w e t q =
-        let by = subst (EndsByEffects (started g u.inputs) b.effects) e (behaves_by_effects (task_program p l k) (started g u.inputs)) in
-        let same : w.fram ≡ f = by.0 ∙ sym (fram_after-append es b.effects u.fram) in
-        let v = q.end in
-        let fits : FitsAt k f = fits_there (ap has_jumped e) in
-        let arrived : IsAt l.commit.address f v.inputs v = record { pc = q.holds.pc ∙ t; fram = q.holds.fram ∙ same; inputs = refl } in
-        let h = commit_there l (lowered l p) r.fits whole v f v.inputs arrived fits.can fits.base in
-        let n = f (word_place l ListLength) in let ws = length (listed l f) in let o = f (word_place l EmitCount) in
-        let one = join (exec code) to_steps q.steps es b.effects to_cycles q.cycles (board_of u) (board_of there.end) (board_of v) there.leads q.leads in
-        let commit_count = commit_steps l.runtime.events n ws o in
-        let commit_time = commit_cycles l.runtime.events n ws o in
-        let all = join (exec code) (to_steps + q.steps) commit_count (es ++ b.effects) (commit_effects l f)
-        (to_cycles + q.cycles) commit_time (board_of u) (board_of v) (board_of h.end) one h.leads in
+    abbrev to_send : ℕ
+    to_send = f (word_place l EmitCount)
+
+    abbrev commit_time : ℕ
+    commit_time = commit_cycles l.runtime.events listed_entries listed_words to_send
+
+    all_paid : has_jumped b.end ≡ true → cycles + start_time + paid.most + commit_time ≤ cost k
+    all_paid ends =
+        let fits : FitsAt k f = fits_there ends in
         let list = fits.list in let words = fits.named in let emits = fits.sent in
-        let most = paid.within in let start_most = at_most in let body_most = q.within in
-        let dearest = commit_grows l.runtime.events n (costs.entries k) ws (costs.words k) o (emits_of (task_body p k)) list words emits in
-        record {
-          steps = to_steps + q.steps + commit_count;
-          cycles = to_cycles + q.cycles + commit_time;
-          ends = λ z. record {
-            end = board_of h.end;
-            within = omega (arith, few, most, start_most, body_most, dearest);
-            leads = all;
-            at_start = record { core = h.end; is = refl; pc = h.holds.pc };
-          };
-          lacks = λ z. absurd (cc (z));
-        }
+        let most = paid.within in let start_most = at_most in
+        let dearest = commit_grows l.runtime.events listed_entries (costs.entries k) listed_words (costs.words k) to_send (emits_of (task_body p k))
+        list words emits in
+        omega (arith, few, most, start_most, dearest)
 
-    lacks_on : Starves code b.effects paid.most there.end
-        → Makes c m.delay (cost k) (script_by Starving) (board_of u)
-    lacks_on q =
-        let all = join_stall (exec code) to_steps q.steps es b.effects to_cycles q.cycles (board_of u) (board_of there.end) q.price stop.NoReading
-        there.leads q.stalls in
-        let most = paid.within in let start_most = at_most in let body_most = q.within in
-        let all' : Stalls (exec code) (to_steps + q.steps) ((es ++ b.effects) ++ []) (to_cycles + q.cycles) (board_of u) q.price stop.NoReading =
-        subst (λ y. Stalls (exec code) (to_steps + q.steps) y (to_cycles + q.cycles) (board_of u) q.price stop.NoReading)
-        (sym (append-nil (es ++ b.effects))) all in
-        record {
-          steps = to_steps + q.steps;
-          cycles = to_cycles + q.cycles;
-          ends = λ z. absurd (cc (z));
-          lacks = λ z. record { price = q.price; within = omega (arith, few, most, start_most, body_most); stalls = all' };
-        }
+    abbrev arrival : Arrival p l
+    arrival = record { core = u; front = []; steps = steps; cycles = cycles; comes = comes }
 
-    by_end : (e : End) → b.end ≡ e → LeavesFor l.commit.address e
-        → ComesTo code paid.most there.end b.effects e → Makes c m.delay (cost k) (script_by e) (board_of u)
-    by_end (Jumps to w) e t q = jumps_on to w e t q
-    by_end Starving e t q = lacks_on q
-    by_end (GoesOn w) e t q = absurd t
-    by_end Strays e t q = absurd t
-    by_end Broken e t q = absurd t
+    stretches : Stretches p l (start_effects l privates) (commit_effects l) arrival (cost k)
+    stretches = record {
+      start_steps = start_steps l.runtime.events clears l.versions.words (length (privates k));
+      start_cycles = start_time;
+      starts = λ v h. start_there l (lowered l p) r.fits whole logs v u.fram u.inputs h program_named (und.is_open.words (word_place l Version));
+      most = paid.most;
+      body = λ v h. paid.comes v h;
+      leaves = leaves;
+      commit_steps = commit_steps l.runtime.events listed_entries listed_words to_send;
+      commit_cycles = commit_time;
+      commits = λ ends v h. let fits : FitsAt k f = fits_there ends in
+          commit_there l (lowered l p) r.fits whole logs v f v.inputs h fits.can fits.base;
+      within = let most = paid.within in let start_most = at_most in omega (arith, few, most, start_most);
+      all_within = all_paid;
+    }
 
     made : Makes c m.delay (cost s.task) (with_commit m u.fram u.inputs (m.attempt u.fram u.inputs)) (board_of u)
-    made = subst (λ t. Makes c m.delay (cost t) (script_by b.end) (board_of u)) is_current (by_end b.end refl leaves body)
+    made = subst (λ t. Makes c m.delay (cost t) (with_commit m u.fram u.inputs (m.attempt u.fram u.inputs)) (board_of u)) is_current
+        (attempt_made p l (start_effects l privates) (commit_effects l) arrival (cost k) stretches)
 
   makes_from : (s : State) (x : World) (b : MachineBoard) → ReachesStart b → b.fram ≡ x.fram → InputsAreWords b.inputs → m.Undecided s x
       → Makes c m.delay (cost s.task) (with_commit m b.fram b.inputs (m.attempt b.fram b.inputs)) b
@@ -366,9 +331,9 @@ pub record CodeMakes (p : CheckedProgram) (l : MemoryMap) (costs : Costs p l) : 
       → boot_cycles l + commit_cycles l.runtime.events l.entries l.entries l.emits.words ≤ most
       → Makes (compiled_program p l) (redo_model p l).delay most (program_effects ((redo_model p l).commit b.fram b.inputs) true) b
 
-pub code_makes : (p : CheckedProgram) (l : MemoryMap) → CanRun p l → ModelLaws (redo_model p l) → (costs : Costs p l) → CodeMakes p l costs
-code_makes p l r laws costs =
-    let source : Source = record { program = p; map = l; can = r; laws = laws; costs = costs } in
+pub code_makes : (p : CheckedProgram) (l : MemoryMap) → l.runtime.logging ≡ Redo → CanRun p l → ModelLaws (redo_model p l) → (costs : Costs p l) → CodeMakes p l costs
+code_makes p l logs r laws costs =
+    let source : Source = record { program = p; map = l; logs = logs; can = r; laws = laws; costs = costs } in
     record {
       boot = makes_boot source;
       attempt = λ s x b k. makes_from source s x b (from_start source b k);

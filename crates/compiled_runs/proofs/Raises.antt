@@ -12,7 +12,7 @@ use Rattle.compiled_runs.specs.Program.{compiled_program}
 use Rattle.compiled_runs.specs.Laws.{PowerUpsRaiseVersion}
 
 pub power_ups_raise_version : PowerUpsRaiseVersion
-power_ups_raise_version p l r b boots gate below t leads =
+power_ups_raise_version p l logs r b boots gate below t leads =
     let step = (compiled_program p l).step in
     let count = programs_count l.tasks (lowered l p) r.fits.tasks ∙ r.count in
     let whole : ProgramsAreWhole (lowered l p) = record {
@@ -24,7 +24,7 @@ power_ups_raise_version p l r b boots gate below t leads =
     let zero : u.fram (word_place l Gate) ≡ 0 = ap (λ s. s.fram (word_place l Gate)) (sym boots.is) ∙ gate in
     let version : u.fram a ≡ b.fram a = ap (λ s. s.fram a) (sym boots.is) in
     let low : u.fram a < 0xFFFF = omega (arith, version, below) in
-    let raised = to_raised l (lowered l p) r.fits whole u boots.pc boots.named zero low in
+    let raised = to_raised l (lowered l p) r.fits whole logs u boots.pc boots.named zero low in
     let steps = with_events l.runtime.events 2 + 5 in
     let all : steps ≡ steps + 0 = omega arith in
     let made : (going step steps (board_of u)).status ≡ At (board_of raised.end) =

@@ -8,10 +8,11 @@ use Rattle.cost_bound.specs.declared.allowance.Allow.{Allow}
 use Rattle.cost_bound.specs.Allowance.{IsAllowed}
 use Rattle.war_analysis.specs.PlanValue.{TaskPlanValue}
 use Rattle.source_values.specs.Runs.{CheckedProgram, State}
-use Rattle.memory_map.specs.declared.runtime.Logging.TheVariants.{Redo}
+use Rattle.memory_map.specs.declared.runtime.Logging.{Logging}
+use Rattle.memory_map.specs.declared.runtime.Logging.TheVariants.{Redo, Undo}
 use Rattle.memory_map.specs.declared.words.RuntimeWord.TheVariants.{Gate, Version}
 use Rattle.memory_map.specs.MemoryMap.{MemoryMap, word_place, with_events}
-use Rattle.privatise.specs.Layouts.{IsLayout}
+use Rattle.privatise.specs.Layouts.{IsLayoutFor}
 use Rattle.boot_runtime.specs.Entries.{task_entries}
 use Rattle.boot_runtime.specs.Listing.{privates_in}
 use Rattle.lower.specs.Lowered.{lowered}
@@ -25,36 +26,48 @@ use Rattle.stands_for.specs.Layout.{HaveRoom, ArePrivate}
 use Rattle.linked_code.specs.Linked.{CodeFits}
 use Rattle.linked_code.specs.Rooms.{PrivatesAreCounted}
 use Rattle.compiled_model.specs.Places.{program_places}
-use Rattle.compiled_model.specs.Parts.{compiled_model}
-use Rattle.compiled_model.specs.Needs.{CostsAreWithin, TasksLeave, ProgramsAreWhole, AttemptsStoreBelow}
+use Rattle.undo_states.specs.States.{AreLogged}
+use Rattle.compiled_model.specs.Parts.{private_homes, compiled_model}
+use Rattle.compiled_model.specs.Needs.{CostsAreWithin, LoggedCostsAreWithin, TasksLeave, ProgramsAreWhole, AttemptsStoreBelow}
 use Rattle.task_needs.specs.Lists.{TasksListFew, NeedsAreWithin, with_needs}
 use Rattle.compiled_runs.specs.Program.{source_code, IsBooting, compiled_program}
 
--- what is asked of a source and its layout
+-- what a runtime asks for: private scalars as its starts take them, and that each task is within its part of the bound
+pub record RunsByRedo (p : CheckedProgram) (l : MemoryMap) : Type 0 where
+  pub privates : (k : ℕ) → ArePrivate (program_places p l) k (privates_in (task_entries l) k)
+  pub costs : CostsAreWithin p l
+
+pub record RunsByUndo (p : CheckedProgram) (l : MemoryMap) : Type 0 where
+  pub privates : (k : ℕ) → AreLogged (program_places p l) k (private_homes l k)
+  pub costs : LoggedCostsAreWithin p l
+
+abbrev pub RunsBy : Logging → CheckedProgram → MemoryMap → Type 0
+RunsBy Redo = RunsByRedo
+RunsBy Undo = RunsByUndo
+
+-- what is asked of a source and its layout, for the runtime that this names
 pub record CanRun (p : CheckedProgram) (l : MemoryMap) : Type 0 where
-  pub logging : l.runtime.logging ≡ Redo
   pub fits : CodeFits l (lowered l p)
   pub count : length l.tasks ≡ length p.tasks
   pub apart : AreApart l
   pub room : HaveRoom (program_places p l)
-  pub privates : (k : ℕ) → ArePrivate (program_places p l) k (privates_in (task_entries l) k)
   pub programs : ProgramsAreWhole p l
   pub leave : TasksLeave p l
-  pub costs : CostsAreWithin p l
+  pub own : RunsBy l.runtime.logging p l
 
--- the code makes each attempt and each commit within the task's bound, from a power-up on and from the end of a commit on
+-- the code makes each attempt, behind a power-up with its recovery, and each commit within the task's bound, from a power-up on and from the end of a commit on
 abbrev pub CodeKeepsTheLaws : Type 0
 CodeKeepsTheLaws = (p : CheckedProgram) (l : MemoryMap) → CanRun p l → ModelLaws (compiled_model p l)
     → ProgramLaws (compiled_model p l) (compiled_program p l)
 
--- a source with its tasks' needs as their costs is a model as before, where each task lists few words
+-- under redo a source with its tasks' needs as their costs is a model as before, where each task lists few words
 abbrev pub NeedsKeepTheLaws : Type 0
-NeedsKeepTheLaws = (p : CheckedProgram) (l : MemoryMap) → CanRun p l → TasksListFew p l → ModelLaws (compiled_model p l)
+NeedsKeepTheLaws = (p : CheckedProgram) (l : MemoryMap) → l.runtime.logging ≡ Redo → CanRun p l → TasksListFew p l → ModelLaws (compiled_model p l)
     → ModelLaws (with_needs p l (compiled_model p l))
 
 -- and the code makes each attempt and each commit within the task's need, whatever else was pending at the start
 abbrev pub CodeKeepsToNeeds : Type 0
-CodeKeepsToNeeds = (p : CheckedProgram) (l : MemoryMap) → CanRun p l → TasksListFew p l → NeedsAreWithin p l → ModelLaws (compiled_model p l)
+CodeKeepsToNeeds = (p : CheckedProgram) (l : MemoryMap) → l.runtime.logging ≡ Redo → CanRun p l → TasksListFew p l → NeedsAreWithin p l → ModelLaws (compiled_model p l)
     → ProgramLaws (with_needs p l (compiled_model p l)) (compiled_program p l)
 
 -- it is instructions placed in FRAM in front of the handler, and a power-up with the boot's address in the reset vector comes to its entry
@@ -62,9 +75,9 @@ abbrev pub CodeIsPlaced : Type 0
 CodeIsPlaced = (p : CheckedProgram) (l : MemoryMap) → CodeFits l (lowered l p)
     → IsPlacedProgram (compiled_program p l) l.runtime.events l.boot.address (source_code p l) l.boot.address
 
--- from a power-up with GATE 0 and VER not at its end, the fifth instruction raises VER, the seventh where there are events
+-- under redo from a power-up with GATE 0 and VER not at its end, the fifth instruction raises VER, the seventh where there are events
 abbrev pub PowerUpsRaiseVersion : Type 0
-PowerUpsRaiseVersion = (p : CheckedProgram) (l : MemoryMap) → CanRun p l → (b : MachineBoard) → IsBooting l b → b.fram (word_place l Gate) ≡ 0
+PowerUpsRaiseVersion = (p : CheckedProgram) (l : MemoryMap) → l.runtime.logging ≡ Redo → CanRun p l → (b : MachineBoard) → IsBooting l b → b.fram (word_place l Gate) ≡ 0
     → b.fram (word_place l Version) < 0xFFFF → (t : MachineBoard) → (going (compiled_program p l).step (with_events l.runtime.events 2 + 5) b).status ≡ At t
     → t.fram (word_place l Version) ≡ b.fram (word_place l Version) + 1
 
@@ -75,7 +88,8 @@ RunsLeaveTheCode = (p : CheckedProgram) (l : MemoryMap) → CanRun p l → Model
     → AlwaysLeaves (compiled_program p l) l.boot.address (length (words_of (source_code p l))) (compiled_model p l).marks s
     (first_history (compiled_model p l).marks x)
 
--- the layout of a source that costs no more than it may has room for its code
+-- the layout of a source that costs no more than it may has room for its code, whichever its runtime is
 abbrev pub SourcesHaveRoom : Type 0
-SourcesHaveRoom = (p : CheckedProgram) (allow : Allow) (plans : List TaskPlanValue) (l : MemoryMap) → IsAllowed p allow → IsLayout p allow plans l
+SourcesHaveRoom = (logging : Logging) (p : CheckedProgram) (allow : Allow) (plans : List TaskPlanValue) (l : MemoryMap) → IsAllowed p allow
+    → IsLayoutFor logging p allow plans l
     → length plans ≡ length p.tasks → PrivatesAreCounted p l → CodeFits l (lowered l p)

@@ -5,11 +5,10 @@ use Rattle.machine_effects.specs.Machine.{Code, MachineBoard, exec}
 use Rattle.code_forms.specs.Forms.{Core, board_of}
 use Rattle.source_values.specs.Runs.{CheckedProgram}
 use Rattle.memory_map.specs.MemoryMap.{MemoryMap}
-use Rattle.runtime_code.specs.Addresses.{start_address}
 use Rattle.boot_runtime.specs.Laws.{NamesHandler}
 use Rattle.lower.specs.Lowered.{lowered}
 use Rattle.crash_rules.specs.Runs.{Program}
-use Rattle.linked_code.specs.Linked.{linked, linked_code}
+use Rattle.linked_code.specs.Linked.{linked, linked_code, attempt_start}
 
 -- the code of a source with its layout
 abbrev pub source_code : CheckedProgram → MemoryMap → List Instr
@@ -30,7 +29,7 @@ pub record IsBooting (l : MemoryMap) (b : MachineBoard) : Type 0 where
 pub record IsStarting (l : MemoryMap) (b : MachineBoard) : Type 0 where
   pub core : Core
   pub is : b ≡ board_of core
-  pub pc : core.pc ≡ start_address l.runtime.events l.boot.address
+  pub pc : core.pc ≡ attempt_start l
 
 -- the code of a source, as a program that runs
 abbrev pub compiled_program : CheckedProgram → MemoryMap → Program

@@ -6,6 +6,8 @@ pub use Rattle.layout_facts.proofs.Lists.{contains_at}
 pub use Rattle.layout_facts.proofs.Homes.{words_of_variables_are_shared, shared_words_are_of_variables, each_is_one_word}
 -- The state that a world has.
 pub use Rattle.layout_facts.proofs.States.{worlds_have_states}
+-- What the undo runtime's start lists of a task.
+pub use Rattle.layout_facts.proofs.Logged.{homes_at, privates_are_logged}
 -- States by addresses.
 pub use Rattle.layout_facts.proofs.Views.{view_has_their_words, rows_fit_places}
 -- The places of the crash theorem, and the room of its buffers.

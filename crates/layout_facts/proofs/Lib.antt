@@ -8,6 +8,7 @@ mod Seen
 mod InPlace
 mod Pairs
 mod Privates
+mod Logged
 mod Spots
 mod Room
 mod Planned

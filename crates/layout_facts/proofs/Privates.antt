@@ -57,7 +57,7 @@ copies_differ l h s q i j a b lt is js e =
     (scalar_copy l q.number q.home q.copy q.width j b.place js)
 
 -- a private scalar isn't written in place
-not_in_place : (p : CheckedProgram) (allow : Allow) (plans : List TaskPlanValue) (l : MemoryMap) → HasLayout p allow plans l → (t : ℕ) (s : PrivateScalar)
+pub not_in_place : (p : CheckedProgram) (allow : Allow) (plans : List TaskPlanValue) (l : MemoryMap) → HasLayout p allow plans l → (t : ℕ) (s : PrivateScalar)
     (i : ℕ)
     → HasItsPlace l.variables s → i < scalar_words s.width → is_private_in (task_body p t) s.number ≡ true
     → (program_places p l).written_in_place t (2 * i + s.home) ≡ false
@@ -164,7 +164,7 @@ pub ascending_numbers : (p : CheckedProgram) (l : MemoryMap) (task : CheckedTask
 ascending_numbers p l task layout k = subst (AllPairs ◌<◌) (sym k.numbers) k.is_plan.private_scalars.ascending
 
 -- they are those that the paths make private
-private_numbers : (p : CheckedProgram) (l : MemoryMap) (task : CheckedTask) (layout : TaskPlace) → Privates p l task layout
+pub private_numbers : (p : CheckedProgram) (l : MemoryMap) (task : CheckedTask) (layout : TaskPlace) → Privates p l task layout
     → All (λ (s : PrivateScalar). is_private_in task.body s.number ≡ true) layout.privates
 private_numbers p l task layout k i d lt =
     let count = ap length k.numbers in

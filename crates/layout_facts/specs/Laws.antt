@@ -34,7 +34,8 @@ use Rattle.source_values.specs.Runs.{task_body}
 use Rattle.lower.specs.Seen.{some_path_writes}
 use Rattle.compiled_model.specs.Places.{is_private_in, program_places}
 use Rattle.compiled_model.specs.View.{shared_word, are_rows, state_view, state_in, state_left}
-use Rattle.compiled_model.specs.Parts.{compiled_model}
+use Rattle.compiled_model.specs.Parts.{compiled_model, private_homes}
+use Rattle.undo_states.specs.States.{AreLogged}
 use Rattle.machine_effects.specs.World.{World}
 use Rattle.stands_for.specs.StandsFor.{HoldsWords, IsAtRest, IsPendingCommit}
 use Rattle.layout_facts.specs.Facts.{HasLayout, IsTaskAt, task_room, task_places}
@@ -60,6 +61,11 @@ TasksHaveRoom = OfLayouts (λ p l. HaveRoom (program_places p l))
 -- what the boot copies for a task is private there; it copies nothing for numbers beyond the tasks
 abbrev pub PrivatesAreTheirs : Type 0
 PrivatesAreTheirs = OfLayouts (λ p l. (t : ℕ) → ArePrivate (program_places p l) t (privates_in (task_entries l) t))
+
+-- what the undo runtime's start lists for a task are the words of its private scalars, for which the task's list has room; nothing for numbers
+-- beyond the tasks
+abbrev pub PrivatesAreLogged : Type 0
+PrivatesAreLogged = OfLayouts (λ p l. (t : ℕ) → AreLogged (program_places p l) t (private_homes l t))
 
 -- ---- as the lowering takes them
 

@@ -1,7 +1,7 @@
 //! What holds of the layout of a source, as contracts of functions that do nothing.
 ghost use Rattle.layout_facts.specs.Laws.{AddressesAre, EachIsOneWord, ElementsAreStores, ElementsStand, InPlaceByPaths, ListsHaveRoom, PlacesAreApart};
-ghost use Rattle.layout_facts.specs.Laws.{PlacesAreAsDeclared, PlacesAreDeclared, PrivatesAreTheirs, RowsFitPlaces, ScalarsStand};
-ghost use Rattle.layout_facts.specs.Laws.{SharedWordsAreOfVariables, TaskPlacesAreApart, TaskPlacesAreEven, TasksHaveRoom};
+ghost use Rattle.layout_facts.specs.Laws.{PlacesAreAsDeclared, PlacesAreDeclared, PrivatesAreLogged, PrivatesAreTheirs, RowsFitPlaces};
+ghost use Rattle.layout_facts.specs.Laws.{ScalarsStand, SharedWordsAreOfVariables, TaskPlacesAreApart, TaskPlacesAreEven, TasksHaveRoom};
 ghost use Rattle.layout_facts.specs.Laws.{TasksMatch, ViewHasTheirWords, WordsOfVariablesAreShared, WorldsHaveStates, WrittenArraysHaveCopies};
 
 /// The places that the crash theorem takes stand apart.
@@ -17,6 +17,11 @@ pub fn tasks_have_room()
 /// What the boot copies for a task is private there.
 pub fn privates_are_theirs()
     ensures { PrivatesAreTheirs }
+{}
+
+/// What the undo runtime's start lists for a task are the words of its private scalars.
+pub fn privates_are_logged()
+    ensures { PrivatesAreLogged }
 {}
 
 /// The words that a task's program works on stand apart, and behind what it lists and emits.

@@ -3,6 +3,8 @@ mod Linked
 mod Rooms
 mod Stretches
 mod Above
+mod Reached
+mod Recovered
 pub mod Interface
 pub use Rattle.boot_runtime.proofs.memory_map as memory_map
 pub use Rattle.boot_runtime.proofs.fram_board as fram_board
@@ -13,5 +15,6 @@ pub use Rattle.word_code.proofs.array_versions as array_versions
 pub use Rattle.boot_runtime.proofs.runtime_code as runtime_code
 pub use Rattle.boot_runtime.proofs as boot_runtime
 pub use Rattle.commit_runtime.proofs as commit_runtime
+pub use Rattle.undo_runtime.proofs as undo_runtime
 pub use Rattle.boot_runtime.proofs.runtime_effects as runtime_effects
 pub use Rattle.boot_runtime.proofs.path_sums as path_sums

@@ -1,7 +1,8 @@
--- The stretches of linked code: from the boot to the start of an attempt and to the commit, from there to a task, the task's body, the commit.
-use Rattle.std.proofs.Common.{◌≡◌, ◌<◌, ◌+◌, ℕ, zero, suc, Bool, true, false, List, [], ◌∷◌, length, map, get_or, refl, sym, ap, ◌∙◌, subst, arith}
+-- The stretches of linked code: the body of a task, whichever the runtime is; and under redo from the boot to the start of an attempt and to the commit,
+-- from there to a task, and the commit.
+use Rattle.std.proofs.Common.{◌≡◌, ◌<◌, ◌≤◌, ◌+◌, ◌*◌, ℕ, zero, suc, Bool, true, false, List, [], ◌∷◌, length, map, get_or, refl, sym, ap, ◌∙◌, subst, arith}
 use Rattle.std.proofs.lemmas.Option.{slice_get-get_or}
-use Rattle.boot_runtime.specs.fram_board.Effects.{Store}
+use Rattle.boot_runtime.specs.fram_board.Effects.{Effect, Store}
 use Rattle.boot_runtime.specs.machine_effects.World.{put, fram_after}
 use Rattle.boot_runtime.specs.machine_effects.Inputs.{Inputs, InputsAreWords}
 use Rattle.boot_runtime.specs.machine_effects.Machine.{Code}
@@ -15,7 +16,7 @@ use Rattle.word_code.proofs.Interface.{code_does_as_program}
 use Rattle.boot_runtime.specs.runtime_effects.Places.{listed}
 use Rattle.boot_runtime.specs.runtime_effects.Stages.{is_at_end, start_effects, commit_effects}
 use Rattle.boot_runtime.specs.runtime_effects.Needs.{CanCommit}
-use Rattle.boot_runtime.specs.runtime_code.Addresses.{start_address, stack_origin}
+use Rattle.boot_runtime.specs.runtime_code.Addresses.{stack_origin}
 use Rattle.boot_runtime.specs.runtime_code.Comes.{Comes, IsAt, Enters}
 use Rattle.boot_runtime.proofs.runtime_code.Interface.{with_events_even, comes_on, core_at, from_there, places_are_in_fram, opening_keeps_task}
 use Rattle.boot_runtime.specs.Entries.{entry_of, task_entries}
@@ -24,9 +25,11 @@ use Rattle.boot_runtime.specs.Laws.{IsBoot, NamesHandler}
 use Rattle.boot_runtime.proofs.Interface.{pending_commit_is_found, attempt_is_found, start_is_made, version_is_raised, tasks_are_entered}
 use Rattle.commit_runtime.specs.Listing.{commit_steps, commit_cycles}
 use Rattle.commit_runtime.proofs.Interface.{commit_is_made}
+use Rattle.linked_code.specs.Linked.{boot_code, bytes_of_boot, start_by, attempt_start, commit_code, bytes_of_commit}
 use Rattle.linked_code.specs.Linked.{linked_code, ProgramsFit, CodeFits, ProgramsAreWhole}
 use Rattle.linked_code.specs.Laws.{IsLinkedCode, PartsStand}
 use Rattle.linked_code.proofs.Linked.{linked_is_code, linked_stands}
+use Rattle.boot_runtime.specs.memory_map.declared.runtime.Logging.TheVariants.{Redo}
 use Rattle.boot_runtime.specs.memory_map.declared.words.RuntimeWord.TheVariants.{CurrentTask, Gate, ListLength, EmitCount, SentBase, Version}
 use Rattle.boot_runtime.specs.memory_map.MemoryMap.{MemoryMap, TaskPlace, word_place, with_events}
 use Rattle.boot_runtime.proofs.memory_map.Interface.{apart_of, even_of}
@@ -63,74 +66,14 @@ module _ (l : MemoryMap) (programs : List Program) (fits : CodeFits l programs) 
   abbrev pub tasks : List TaskEntry
   tasks = task_entries l
 
-  abbrev pub start_at : ℕ
-  start_at = start_address l.runtime.events l.boot.address
-
   abbrev pub program : ℕ → Program
   program k = get_or programs k nothing
 
   pub is_linked : IsLinkedCode l programs
   is_linked = linked_is_code l programs fits
 
-  parts : PartsStand l programs code
+  pub parts : PartsStand l programs code
   parts = linked_stands l programs fits
-
-  is_boot : IsBoot code l l.commit.address tasks l.boot.address
-  is_boot =
-      let f = fits.boot in let c = (apart_of l fits.rules).commit in let d = (apart_of l fits.rules).code in let k = (apart_of l fits.rules).high in
-      record {
-        tidy = is_linked.tidy;
-        events = refl;
-        places = places_are_in_fram l fits.rules;
-        task = opening_keeps_task l fits.rules;
-        even_commit = (even_of l fits.rules).commit;
-        entered = tasks_are_entered l fits.rules;
-        even = (even_of l fits.rules).boot;
-        room = omega (arith, f, c, d, k);
-        stands = parts.boot;
-      }
-
-  -- from the boot to the start of an attempt
-  pub to_start : (u : Core) → u.pc ≡ l.boot.address → NamesHandler l u.fram → u.fram (word_place l Gate) ≡ 0
-      → let events = l.runtime.events in Comes code [] (with_events events 2 + 2) (with_events events 3 + 6) u (IsAt start_at u.fram u.inputs)
-  to_start u e named z = attempt_is_found code l l.commit.address tasks l.boot.address u is_boot e named (omega (arith, z)) (λ q. omega (arith, z, q))
-
-  -- from the boot to the store to VER, where it isn't at its end
-  pub to_raised : (u : Core) → u.pc ≡ l.boot.address → NamesHandler l u.fram → u.fram (word_place l Gate) ≡ 0 → u.fram (word_place l Version) < 0xFFFF
-      → let raised = u.fram (word_place l Version) + 1 in
-      let events = l.runtime.events in
-      Comes code (Store (word_place l Version) raised ∷ []) (with_events events 2 + 5) (with_events events 3 + 16) u
-      (IsAt (start_at + 36) (put u.fram (word_place l Version) raised) u.inputs)
-  to_raised u e named z below =
-      version_is_raised code l l.commit.address tasks l.boot.address u is_boot e named (omega (arith, z)) (λ q. omega (arith, z, q)) below
-
-  -- from the start of an attempt on FRAM and inputs to the code of a task
-  abbrev pub FromStart : Core → (ℕ → ℕ) → Inputs → Type 0
-  FromStart v f inputs =
-      let t = entry_at tasks (f (word_place l CurrentTask)) in
-      let events = l.runtime.events in let clears = is_at_end l f in
-      let es = start_effects l (privates_in tasks) f in
-      Comes code es (start_steps events clears l.versions.words (length t.privates)) (start_cycles events clears l.versions.words (length t.privates)) v
-      (Enters t.code (stack_origin events) (fram_after es f) inputs)
-
-  start_there : (v : Core) (f : ℕ → ℕ) (inputs : Inputs) → IsAt start_at f inputs v → f (word_place l CurrentTask) < length tasks
-      → f (word_place l Version) < 0x10000 → FromStart v f inputs
-  start_there v f inputs h named word =
-      from_there v h (start_is_made code l l.commit.address tasks l.boot.address (core_at start_at f inputs v) is_boot refl named word)
-
-  -- from where a board enters to the code of the task that CUR names
-  pub to_task : (u : Core) (steps cycles : ℕ) → Comes code [] steps cycles u (IsAt start_at u.fram u.inputs)
-      → u.fram (word_place l CurrentTask) < length programs → u.fram (word_place l Version) < 0x10000
-      → let t = entry_at tasks (u.fram (word_place l CurrentTask)) in
-      let events = l.runtime.events in let clears = is_at_end l u.fram in
-      let es = start_effects l (privates_in tasks) u.fram in
-      Comes code es (steps + start_steps events clears l.versions.words (length t.privates))
-      (cycles + start_cycles events clears l.versions.words (length t.privates)) u
-      (Enters t.code (stack_origin events) (fram_after es u.fram) u.inputs)
-  to_task u steps cycles a named word =
-      let count = programs_count l.tasks programs fits.tasks in
-      let e = entries_count l.tasks in
-      comes_on a (λ v h. start_there v u.fram u.inputs h (omega (arith, named, count, e)) word)
 
   -- the code of a task stands where the boot comes to it
   pub task_stands : (k : ℕ) → k < length programs → Stands code (entry_at tasks k).code (code_of l.runtime.events (program k))
@@ -169,33 +112,108 @@ module _ (l : MemoryMap) (programs : List Program) (fits : CodeFits l programs) 
       (task_stands k named) fit.whole (λ e. fit.fits) (whole.of_words k named) (entry_there v k g inputs h words ready) in
       subst (λ q. DoesBody v k g q) h.inputs (subst (λ f. DoesBody v k f v.inputs) h.fram a)
 
-  -- the commit on FRAM
-  abbrev pub DoesCommit : Core → (ℕ → ℕ) → Inputs → Type 0
-  DoesCommit v f inputs =
-      let es = commit_effects l f in
-      let n = f (word_place l ListLength) in let ws = length (listed l f) in let k = f (word_place l EmitCount) in
-      let events = l.runtime.events in
-      Comes code es (commit_steps events n ws k) (commit_cycles events n ws k) v
-      (IsAt start_at (fram_after es f) inputs)
+  -- ---- under redo
 
-  -- where the commit is entered and can be made, its code makes it
-  pub commit_there : (v : Core) (f : ℕ → ℕ) (inputs : Inputs) → IsAt l.commit.address f inputs v → CanCommit l f
-      → f (word_place l SentBase) < 0x10000 → DoesCommit v f inputs
-  commit_there v f inputs h can word =
-      let c = fits.commit in let d = (apart_of l fits.rules).code in let k = (apart_of l fits.rules).high in
-      let even = (even_of l fits.rules).boot in
-      let enabling = with_events_even l.runtime.events 6 refl in
-      from_there v h (commit_is_made code l l.commit.address start_at (core_at l.commit.address f inputs v) is_linked.tidy is_boot.places
-      (omega (arith, c, d, k)) (omega (arith, even, enabling)) parts.commit refl can word)
+  module _ (logs : l.runtime.logging ≡ Redo) where
+    abbrev start_at : ℕ
+    start_at = start_by Redo l
 
-  -- from the boot to the commit, where GATE is 1
-  pub to_commit : (u : Core) → u.pc ≡ l.boot.address → NamesHandler l u.fram → u.fram (word_place l Gate) ≡ 1 → CanCommit l u.fram
-      → u.fram (word_place l SentBase) < 0x10000
-      → let es = commit_effects l u.fram in
-      let n = u.fram (word_place l ListLength) in let ws = length (listed l u.fram) in let k = u.fram (word_place l EmitCount) in
-      let events = l.runtime.events in
-      Comes code es (with_events events 2 + 3 + commit_steps events n ws k) (with_events events 3 + 9 + commit_cycles events n ws k) u
-      (IsAt start_at (fram_after es u.fram) u.inputs)
-  to_commit u e named one can word =
-      comes_on (pending_commit_is_found code l l.commit.address tasks l.boot.address u is_boot e named one)
-      (λ v h. commit_there v u.fram u.inputs h can word)
+    -- this is where attempts start by the map
+    at_start : (es : List Effect) (n c : ℕ) (u : Core) (f : ℕ → ℕ) (inputs : Inputs) → Comes code es n c u (IsAt start_at f inputs)
+        → Comes code es n c u (IsAt (attempt_start l) f inputs)
+    at_start es n c u f inputs k = subst (λ g. Comes code es n c u (IsAt (start_by g l) f inputs)) (sym logs) k
+
+    boot_stands : Stands code l.boot.address (boot_code Redo l)
+    boot_stands = subst (λ g. Stands code l.boot.address (boot_code g l)) logs parts.boot
+
+    commit_stands : Stands code l.commit.address (commit_code Redo l)
+    commit_stands = subst (λ g. Stands code l.commit.address (commit_code g l)) logs parts.commit
+
+    boot_fits : bytes_of_boot Redo l ≤ 2 * l.boot.words
+    boot_fits = subst (λ g. bytes_of_boot g l ≤ 2 * l.boot.words) logs fits.boot
+
+    commit_fits : bytes_of_commit Redo l.runtime.events ≤ 2 * l.commit.words
+    commit_fits = subst (λ g. bytes_of_commit g l.runtime.events ≤ 2 * l.commit.words) logs fits.commit
+
+    is_boot : IsBoot code l l.commit.address tasks l.boot.address
+    is_boot =
+        let f = boot_fits in let c = (apart_of l fits.rules).commit in let d = (apart_of l fits.rules).code in let k = (apart_of l fits.rules).high in
+        record {
+          tidy = is_linked.tidy;
+          events = refl;
+          places = places_are_in_fram l fits.rules;
+          task = opening_keeps_task l fits.rules;
+          even_commit = (even_of l fits.rules).commit;
+          entered = tasks_are_entered l fits.rules;
+          even = (even_of l fits.rules).boot;
+          room = omega (arith, f, c, d, k);
+          stands = boot_stands;
+        }
+
+    -- from the boot to the start of an attempt
+    pub to_start : (u : Core) → u.pc ≡ l.boot.address → NamesHandler l u.fram → u.fram (word_place l Gate) ≡ 0
+        → let events = l.runtime.events in Comes code [] (with_events events 2 + 2) (with_events events 3 + 6) u (IsAt (attempt_start l) u.fram u.inputs)
+    to_start u e named z =
+        at_start [] (with_events l.runtime.events 2 + 2) (with_events l.runtime.events 3 + 6) u u.fram u.inputs
+        (attempt_is_found code l l.commit.address tasks l.boot.address u is_boot e named (omega (arith, z)) (λ q. omega (arith, z, q)))
+
+    -- from the boot to the store to VER, where it isn't at its end
+    pub to_raised : (u : Core) → u.pc ≡ l.boot.address → NamesHandler l u.fram → u.fram (word_place l Gate) ≡ 0 → u.fram (word_place l Version) < 0xFFFF
+        → let raised = u.fram (word_place l Version) + 1 in
+        let events = l.runtime.events in
+        Comes code (Store (word_place l Version) raised ∷ []) (with_events events 2 + 5) (with_events events 3 + 16) u
+        (IsAt (start_at + 36) (put u.fram (word_place l Version) raised) u.inputs)
+    to_raised u e named z below =
+        version_is_raised code l l.commit.address tasks l.boot.address u is_boot e named (omega (arith, z)) (λ q. omega (arith, z, q)) below
+
+    -- from the start of an attempt on FRAM and inputs to the code of a task
+    abbrev pub FromStart : Core → (ℕ → ℕ) → Inputs → Type 0
+    FromStart v f inputs =
+        let t = entry_at tasks (f (word_place l CurrentTask)) in
+        let events = l.runtime.events in let clears = is_at_end l f in
+        let es = start_effects l (privates_in tasks) f in
+        Comes code es (start_steps events clears l.versions.words (length t.privates)) (start_cycles events clears l.versions.words (length t.privates)) v
+        (Enters t.code (stack_origin events) (fram_after es f) inputs)
+
+    -- to the task that CUR names
+    pub start_there : (v : Core) (f : ℕ → ℕ) (inputs : Inputs) → IsAt (attempt_start l) f inputs v → f (word_place l CurrentTask) < length programs
+        → f (word_place l Version) < 0x10000 → FromStart v f inputs
+    start_there v f inputs h named word =
+        let count = programs_count l.tasks programs fits.tasks in
+        let e = entries_count l.tasks in
+        from_there v (subst (λ g. IsAt (start_by g l) f inputs v) logs h)
+        (start_is_made code l l.commit.address tasks l.boot.address (core_at start_at f inputs v) is_boot refl (omega (arith, named, count, e)) word)
+
+    -- the commit on FRAM
+    abbrev pub DoesCommit : Core → (ℕ → ℕ) → Inputs → Type 0
+    DoesCommit v f inputs =
+        let es = commit_effects l f in
+        let n = f (word_place l ListLength) in let ws = length (listed l f) in let k = f (word_place l EmitCount) in
+        let events = l.runtime.events in
+        Comes code es (commit_steps events n ws k) (commit_cycles events n ws k) v
+        (IsAt (attempt_start l) (fram_after es f) inputs)
+
+    -- where the commit is entered and can be made, its code makes it
+    pub commit_there : (v : Core) (f : ℕ → ℕ) (inputs : Inputs) → IsAt l.commit.address f inputs v → CanCommit l f
+        → f (word_place l SentBase) < 0x10000 → DoesCommit v f inputs
+    commit_there v f inputs h can word =
+        let c = commit_fits in let d = (apart_of l fits.rules).code in let k = (apart_of l fits.rules).high in
+        let even = (even_of l fits.rules).boot in
+        let enabling = with_events_even l.runtime.events 6 refl in
+        let n = f (word_place l ListLength) in let ws = length (listed l f) in let o = f (word_place l EmitCount) in
+        let es = commit_effects l f in
+        at_start es (commit_steps l.runtime.events n ws o) (commit_cycles l.runtime.events n ws o) v (fram_after es f) inputs
+        (from_there v h (commit_is_made code l l.commit.address start_at (core_at l.commit.address f inputs v) is_linked.tidy is_boot.places
+        (omega (arith, c, d, k)) (omega (arith, even, enabling)) commit_stands refl can word))
+
+    -- from the boot to the commit, where GATE is 1
+    pub to_commit : (u : Core) → u.pc ≡ l.boot.address → NamesHandler l u.fram → u.fram (word_place l Gate) ≡ 1 → CanCommit l u.fram
+        → u.fram (word_place l SentBase) < 0x10000
+        → let es = commit_effects l u.fram in
+        let n = u.fram (word_place l ListLength) in let ws = length (listed l u.fram) in let k = u.fram (word_place l EmitCount) in
+        let events = l.runtime.events in
+        Comes code es (with_events events 2 + 3 + commit_steps events n ws k) (with_events events 3 + 9 + commit_cycles events n ws k) u
+        (IsAt (attempt_start l) (fram_after es u.fram) u.inputs)
+    to_commit u e named one can word =
+        comes_on (pending_commit_is_found code l l.commit.address tasks l.boot.address u is_boot e named one)
+        (λ v h. commit_there v u.fram u.inputs h can word)

@@ -24,4 +24,6 @@ pub use Rattle.word_code.specs as word_code
 pub use Rattle.boot_runtime.specs.runtime_code as runtime_code
 pub use Rattle.commit_runtime.specs as commit_runtime
 pub use Rattle.boot_runtime.specs as boot_runtime
+pub use Rattle.undo_runtime.specs as undo_runtime
+pub use Rattle.undo_runtime.specs.undo_effects as undo_effects
 pub use Rattle.boot_runtime.specs.path_sums as path_sums

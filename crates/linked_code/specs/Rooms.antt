@@ -6,9 +6,10 @@ use Rattle.boot_runtime.specs.cost_bound.Allowance.{CheckedProgram, CheckedTask,
 use Rattle.boot_runtime.specs.war_analysis.PlanValue.{TaskPlanValue}
 use Rattle.word_code.specs.array_versions.Program.{Program}
 use Rattle.word_code.specs.array_versions.Cost.{words_of}
+use Rattle.boot_runtime.specs.memory_map.declared.runtime.Logging.{Logging}
 use Rattle.boot_runtime.specs.memory_map.MemoryMap.{MemoryMap, TaskPlace}
 use Rattle.boot_runtime.specs.memory_map.Spots.{private_words}
-use Rattle.boot_runtime.specs.privatise.Layouts.{IsLayout}
+use Rattle.boot_runtime.specs.privatise.Layouts.{IsLayoutFor}
 use Rattle.boot_runtime.specs.privatise.Sizes.{body_words}
 use Rattle.linked_code.specs.Linked.{CodeFits}
 
@@ -24,8 +25,8 @@ abbrev pub PrivatesAreCounted : CheckedProgram → MemoryMap → Type 0
 PrivatesAreCounted p l = (k : ℕ) (task : CheckedTask) (t : TaskPlace) → slice_get p.tasks k ≡ Some task → slice_get l.tasks k ≡ Some t
     → private_words t.privates ≤ scalars_of p.shared task.body
 
--- the layout of a source that costs no more than it may has room for the code
+-- the layout of a source that costs no more than it may has room for the code, whichever its runtime is
 abbrev pub LayoutsHaveRoom : Type 0
-LayoutsHaveRoom = (p : CheckedProgram) (allow : Allow) (plans : List TaskPlanValue) (l : MemoryMap) (programs : List Program)
-    → IsAllowed p allow → IsLayout p allow plans l → length plans ≡ length p.tasks → PrivatesAreCounted p l → ProgramsKeep p.shared p.tasks programs
+LayoutsHaveRoom = (logging : Logging) (p : CheckedProgram) (allow : Allow) (plans : List TaskPlanValue) (l : MemoryMap) (programs : List Program)
+    → IsAllowed p allow → IsLayoutFor logging p allow plans l → length plans ≡ length p.tasks → PrivatesAreCounted p l → ProgramsKeep p.shared p.tasks programs
     → CodeFits l programs

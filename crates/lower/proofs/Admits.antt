@@ -1,8 +1,8 @@
 -- A source stands `next_event()` in no task, or takes events: so each of its tasks is admitted.
-use Rattle.lower.proofs.Names.{◌≡◌, ℕ, zero, suc, ◌+◌, ◌⊎◌, ⊎_elim, inl, inr, Bool, true, false, List, [], ◌∷◌, Some, None, refl, sym, ap, ◌∙◌, subst, arith}
+use Rattle.lower.proofs.Names.{◌≡◌, ℕ, zero, suc, ◌+◌, ◌⊎◌, ⊎_elim, inl, inr, Bool, true, false, List, [], ◌∷◌, Some, None, refl, ap, ◌∙◌, subst, arith}
 use Rattle.lower.proofs.Names.{CheckedExpression, CheckedStatement, CheckedChoice, CheckedBlock, CheckedTask, expression_price, statement_price}
 use Rattle.lower.proofs.Names.{conditions_price, blocks_price, block_price, AdmitsExpression, AdmitsStatement, AdmitsChoice, AdmitsBlock, nat_lt, lt-ltb}
-use Rattle.lower.proofs.Names.{cases_lt, ◌≤◌, ◌<◌}
+use Rattle.lower.proofs.Names.{cases_lt}
 use Rattle.std.specs.Prelude.{slice_get, ◌||◌}
 use Rattle.cost_bound.specs.Table.{events_column}
 use Rattle.cost_bound.specs.Allowance.{use_events}

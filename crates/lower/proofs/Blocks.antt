@@ -4,8 +4,8 @@ use Rattle.lower.proofs.Names.{sym, ap, ◌∙◌, subst, arith, if◌then◌els
 use Rattle.lower.proofs.Names.{CheckedChoice, CheckedBlock, PlacedOperator, Variable, Shared, Local, CheckedTask, Evaluated, word_at, with_word, converted}
 use Rattle.lower.proofs.Names.{value_of, holds, Outcome, to_task, if_value, with_value, run_statement, run_choice, run_block, statement_emits, choice_emits}
 use Rattle.lower.proofs.Names.{step, block_emits, statement_count, choice_count, block_count, is_shared, is_store_to, more_turns, IsOneWord, WordType}
-use Rattle.lower.proofs.Names.{Unsigned, Int, Long, runs_go_on_along_paths, PlainOperation, plain_word, stacked, Program, keep, emit_word, versioned_write}
-use Rattle.lower.proofs.Names.{versioned_update, choose, repeat, nothing, joined, WordState, Behaviour, then_on, local_updated, is_place, at_place, stored}
+use Rattle.lower.proofs.Names.{Unsigned, Int, Long, runs_go_on_along_paths, PlainOperation, plain_word, stacked, Program, keep, emit_word}
+use Rattle.lower.proofs.Names.{choose, repeat, nothing, joined, WordState, Behaviour, then_on, local_updated, is_place, at_place, stored}
 use Rattle.lower.proofs.Names.{with_local, word_emitted, pushed, way_by_top, tested, behaviour, with_stack, step_behaviour, joined_go_on, joined_assoc}
 use Rattle.lower.proofs.Names.{decided_by_truth, update_step, write_long, setting, long_setting, updating, of_words, sides_set, scalar_assignment}
 use Rattle.lower.proofs.Names.{lowered_long, one, write_step, written_array, list_place, store_step, update_element_step, loop_local, assignment}
@@ -13,7 +13,7 @@ use Rattle.lower.proofs.Names.{index_and_value, element_setting, element_updatin
 use Rattle.lower.proofs.Names.{lowered_expression, lowered_test, lowered_statement, lowered_choice, lowered_block, lowered_task, lowered_tasks}
 use Rattle.lower.proofs.Names.{listed_of, IsLocal, WellFormedExpression, WellFormedStatement, WellFormedChoice, WellFormedBlock, local_word}
 use Rattle.lower.proofs.Names.{assignment_writes, store_writes, loop_writes, taken_writes, passed_writes, first_writes, others_write, statement_sum}
-use Rattle.lower.proofs.Names.{choice_sum, block_sum, summary, IsWrittenArray, StandsFor, Scene, at_variable, at_emit_count, in_buffer, converted_to}
+use Rattle.lower.proofs.Names.{choice_sum, block_sum, summary, IsWrittenArray, StandsFor, Scene, converted_to}
 use Rattle.lower.proofs.Names.{truth_of, BlocksAgree, MemoryMap, TaskPlace, word_place, ListLength, EmitCount, Version, VariablePlace, word_even}
 use Rattle.lower.proofs.Names.{first_word, privates_few, address_of, scalar_address, IsScalarWord, scalar, Inputs}
 use Rattle.std.specs.Prelude.{slice_get, get_or}
@@ -31,10 +31,13 @@ use Rattle.lower.proofs.Values.{small_modulo, holds_bit, truth_pushed, Keeping, 
 use Rattle.lower.proofs.EachExpression.{high_is, expression_leaves, long_leaves, test_leaves}
 use Rattle.lower.proofs.Emitted.{EmitsAtMost, statement_emitted, block_emitted}
 use Rattle.lower.proofs.Stored.{same_variables, same_list, spot_list, scalar_set, local_holds, after_emit, emit_spots, first_held, emit_list, emitted_emits}
-use Rattle.lower.proofs.Stored.{few_entries, same_emits, spots_low, list_low, emits_low}
+use Rattle.lower.proofs.Stored.{few_words, same_emits, spots_low, list_low, emits_low}
 use Rattle.lower.proofs.Neighbours.{runs_are_few}
 use Rattle.lower.proofs.Transitions.{transition_behaves, transition_untold, untold_store}
 use Rattle.lower.proofs.Ends.{Does, does_then, does_alone, does_at, does_behind, settles, test_by_effects}
+use Rattle.lower.proofs.Names.{Logging, Redo, Undo, own_write, own_update, array_place, to_variable, to_buffer, to_emit_count}
+use Rattle.lower.proofs.Acts.{plain_did}
+use Rattle.lower.proofs.Logged.{logged_does, logged_update_does}
 use Rattle.lower.proofs.Elements.{Start, DoesFrom, few_emitted, few_listed, list_fits, store_does, element_update_does, spot_stands}
 use Rattle.task_ast.specs.Tree as t
 use Rattle.source_values.specs.Statements as source
@@ -47,7 +50,7 @@ module _ (z : Scene) where
   -- nothing is done
   nothing_does : {n : ℕ} {count : ℕ → ℕ} (here : Start z n count) → DoesFrom here (words.goes_on [] here.w) goes_on
   nothing_does here = settles z here.w.fram here.most here.w.stack [] here.w here.m (record {
-    stores = tt;
+    did = plain_did z.p z.written z.room z.ver [] here.w.fram tt;
     untold = refl;
     stack_kept = refl;
     listed = here.listed;
@@ -57,7 +60,7 @@ module _ (z : Scene) where
 
   -- where a word of a shared scalar is set
   word_stands : (i j : ℕ) {n : ℕ} {count : ℕ → ℕ} (here : Start z n count) (v : ℕ) → IsScalarWord z.p i j
-      → StandsFor z.p (source.assigned here.m (Shared i) j v) here.listed (stored (scalar_address z.p i j) v here.w)
+      → StandsFor z.p z.first (source.assigned here.m (Shared i) j v) here.listed (stored (scalar_address z.p i j) v here.w)
   word_stands i j here v is = spot_stands here (scalar i j) v (with_word here.m.variables (Shared i) j v) is (λ x e. cc)
       (scalar_set z.p z.room i j v here.m.variables here.w.fram here.w.locals z.apart is here.stands.variables)
 
@@ -91,7 +94,8 @@ module _ (z : Scene) where
       subst (λ r. DoesFrom here (then_on r next) (λ m. run (source.assigned m (Shared i) j v)))
       (sym (placed at (words.goes_on (Store at v ∷ []) u) (spot_place z.p z.room (scalar i j) z.apart z.even is)))
       (does_behind z here.w.fram u.fram here.most here.w.stack (Store at v ∷ []) (next u)
-      (λ answers. run (answered_by answers (source.assigned here.m (Shared i) j v))) refl (at_variable i j is ok refl, tt)
+      (λ answers. run (answered_by answers (source.assigned here.m (Shared i) j v))) refl
+      (plain_did z.p z.written z.room z.ver (Store at v ∷ []) here.w.fram (to_variable i j is ok refl, tt))
       (untold_store at v [] (λ e. omega (arith, e, low))) h)
 
   word_kept_does : (i j a : ℕ) {n : ℕ} {count : ℕ → ℕ} (here : Start z n count) (v : ℕ)
@@ -103,7 +107,7 @@ module _ (z : Scene) where
 
   -- a local is set, and what is known else stays
   local_stands : {n : ℕ} {count : ℕ → ℕ} (i k : ℕ) → i < 256 → (here : Start z n count)
-      → StandsFor z.p (source.assigned here.m (Local i) 0 k) here.listed (with_local (i % 65536) k here.w)
+      → StandsFor z.p z.first (source.assigned here.m (Local i) 0 k) here.listed (with_local (i % 65536) k here.w)
   local_stands i k low here = record {
     variables = local_holds z.p i k here.m.variables here.w.fram here.w.locals low here.stands.variables;
     emitted = here.stands.emitted;
@@ -115,7 +119,7 @@ module _ (z : Scene) where
       → DoesFrom here (behaviour (one (write_step z.p x)) (pushed v here.w)) (λ m. goes_on (source.assigned m x 0 v))
   write_does (Local i) here v k =
       settles z here.w.fram here.most here.w.stack [] (with_local (i % 65536) v here.w) (source.assigned here.m (Local i) 0 v) (record {
-        stores = tt;
+        did = plain_did z.p z.written z.room z.ver [] here.w.fram tt;
         untold = refl;
         stack_kept = refl;
         listed = here.listed;
@@ -175,23 +179,37 @@ module _ (z : Scene) where
   store_step_does : (x : Variable) (i v : ℕ) (here : Start z 0 (one_store x)) → IsWrittenArray z.p x
       → DoesFrom here (behaviour (one (store_step z.p x)) (pushed v (pushed i here.w)))
       (λ m. goes_on (source.assigned m x i v))
+  store_step_does (Local n) i v here k = absurd k
   store_step_does (Shared n) i v here k =
       let P : Option VariablePlace → Type 0 =
-      λ o. DoesFrom here (behaviour (one (versioned_write (written_array o) (list_place z.p))) (pushed v (pushed i here.w)))
+      λ o. DoesFrom here (behaviour (one (own_write z.p.map.runtime.logging (written_array o) (list_place z.p))) (pushed v (pushed i here.w)))
       (λ m. goes_on (source.assigned m (Shared n) i v)) in
-      subst P (sym k.3.place) (store_does z n i v k.0 k.1 k.2 k.3 here)
-  store_step_does (Local n) i v here k = absurd k
+      subst P (sym k.3.place) (by z.p.map.runtime.logging refl)
+    where
+      by : (logging : Logging) → z.p.map.runtime.logging ≡ logging
+          → DoesFrom here (behaviour (one (own_write logging (array_place k.0 k.1 k.2) (list_place z.p))) (pushed v (pushed i here.w)))
+          (λ m. goes_on (source.assigned m (Shared n) i v))
+      by Redo redo = store_does z n i v k.0 k.1 k.2 k.3 here redo
+      by Undo undo = logged_does z n i v k.0 k.1 k.2 k.3 here undo
 
   update_step_does : (op : PlainOperation) (x : Variable) (i v : ℕ) (here : Start z 0 (one_store x)) → IsWrittenArray z.p x
       → DoesFrom here (behaviour (one (update_element_step z.p op x)) (pushed v (pushed i here.w)))
       (λ m. goes_on (source.assigned m x i (plain_word op (word_at m.variables x i) v)))
-  update_step_does op (Shared n) i v here k =
-      let u = plain_word op (word_at here.m.variables (Shared n) i) v in
-      let P : Option VariablePlace → Type 0 =
-      λ o. DoesFrom here (behaviour (one (versioned_update op (written_array o) (list_place z.p))) (pushed v (pushed i here.w)))
-      (λ m. goes_on (source.assigned m (Shared n) i u)) in
-      subst P (sym k.3.place) (element_update_does z n i u k.0 k.1 k.2 k.3 here op v refl)
   update_step_does op (Local n) i v here k = absurd k
+  update_step_does op (Shared n) i v here k =
+      let P : Option VariablePlace → Type 0 =
+      λ o. DoesFrom here (behaviour (one (own_update z.p.map.runtime.logging op (written_array o) (list_place z.p))) (pushed v (pushed i here.w)))
+      (λ m. goes_on (source.assigned m (Shared n) i u)) in
+      subst P (sym k.3.place) (by z.p.map.runtime.logging refl)
+    where
+      u : ℕ
+      u = plain_word op (word_at here.m.variables (Shared n) i) v
+
+      by : (logging : Logging) → z.p.map.runtime.logging ≡ logging
+          → DoesFrom here (behaviour (one (own_update logging op (array_place k.0 k.1 k.2) (list_place z.p))) (pushed v (pushed i here.w)))
+          (λ m. goes_on (source.assigned m (Shared n) i u))
+      by Redo redo = element_update_does z n i u k.0 k.1 k.2 k.3 here redo op v refl
+      by Undo undo = logged_update_does z n i u k.0 k.1 k.2 k.3 here undo op v refl
 
   -- ---- emits
 
@@ -224,7 +242,8 @@ module _ (z : Scene) where
       ∙ placed a last (buffer_place n below) in
       let P : Behaviour → Type 0 = λ b. DoesFrom here (then_on b (behaviour nothing)) o in
       subst P (sym is) (settles z f here.most here.w.stack (Store a v ∷ Store count (n + 1) ∷ []) (stored count (n + 1) (stored a v here.w)) after (record {
-        stores = (in_buffer n below refl, (at_emit_count refl (omega (arith, below)), tt));
+        did = plain_did z.p z.written z.room z.ver (Store a v ∷ Store count (n + 1) ∷ []) f
+            (to_buffer n below refl, (to_emit_count refl (omega (arith, below)), tt));
         untold = untold_store a v (Store count (n + 1) ∷ []) (λ e. omega (arith, e, below, apart))
             ∙ untold_store count (n + 1) [] (λ e. omega (arith, e, apart));
         stack_kept = refl;
@@ -234,7 +253,7 @@ module _ (z : Scene) where
               same_variables p m.variables f (after_emit p n v (n + 1) f) here.w.locals (emit_spots p z.room n v (n + 1) f apart below)
               here.stands.variables;
           emitted = emitted_emits p z.room v m.emitted f apart here.stands.emitted;
-          list = same_list p z.room here.listed f (after_emit p n v (n + 1) f) (omega (arith, fits)) (emit_list p z.room n v (n + 1) f apart below)
+          list = same_list p z.first z.room here.listed f (after_emit p n v (n + 1) f) (omega (arith, fits)) (emit_list p z.room n v (n + 1) f apart below)
               here.stands.list;
           readings = here.stands.readings;
         };
@@ -246,7 +265,7 @@ module _ (z : Scene) where
   -- what stands while an expression is evaluated: the state stands for the attempt behind what is evaluated, FRAM in front of the end of programs
   -- and the emitted words are as they were
   record IsStill {n : ℕ} {count : ℕ → ℕ} (here : Start z n count) (m : Attempt) (w : WordState) : Type 0 where
-    stands : StandsFor z.p m here.listed w
+    stands : StandsFor z.p z.first m here.listed w
     fram : (a : ℕ) → a < program_end → w.fram a ≡ here.w.fram a
     emitted : m.emitted ≡ here.m.emitted
 
@@ -265,7 +284,7 @@ module _ (z : Scene) where
         stands = record {
           variables = same_variables z.p m.variables f g l (spots_low z.p z.room f g z.apart low) h.stands.variables;
           emitted = same_emits z.p z.room m.emitted f g few (emits_low z.p z.room f g z.apart low) h.stands.emitted;
-          list = same_list z.p z.room here.listed f g (omega (arith, fits)) (list_low z.p z.room f g z.apart low) h.stands.list;
+          list = same_list z.p z.first z.room here.listed f g (omega (arith, fits)) (list_low z.p z.room f g z.apart low) h.stands.list;
           readings = h.stands.readings;
         };
         fram = λ a below. low a below ∙ h.fram a below;
@@ -521,7 +540,7 @@ module _ (z : Scene) where
       let w = here.w in
       let before = w.fram (word_place z.p.map ListLength) in
       let base = w.fram (word_place z.p.map Base) in
-      let entries = few_entries z.p here.listed w.fram here.stands.list in
+      let entries = few_words z.p z.first here.listed w.fram here.stands.list in
       let runs = runs_are_few z.p.privates in
       let scalars = privates_few z.p.privates in
       let fits = list_fits here in
@@ -534,7 +553,7 @@ module _ (z : Scene) where
         there = w;
         listed = here.listed;
         effects = refl;
-        stores = tt;
+        did = plain_did z.p z.written z.room z.ver [] w.fram tt;
         arrived = refl;
         stands = here.stands;
         few = few_listed here;
@@ -561,7 +580,7 @@ module _ (z : Scene) where
       → here.w.stack ≡ stack → TurnsDo i q run 0 k stack here
   no_turns i q run k stack here low same =
       settles z here.w.fram here.most stack [] (with_local (i % 65536) k here.w) (source.assigned here.m (Local i) 0 k) (record {
-        stores = tt;
+        did = plain_did z.p z.written z.room z.ver [] here.w.fram tt;
         untold = refl;
         stack_kept = same;
         listed = here.listed;

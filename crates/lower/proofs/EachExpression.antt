@@ -9,7 +9,7 @@ use Rattle.lower.proofs.Names.{long_meaning, one, high_address, read_step, read_
 use Rattle.lower.proofs.Names.{long_program, name_lowering, operand_lowering, binary_lowering, sides_lowering, shift_lowering, sides_test, widened_type}
 use Rattle.lower.proofs.Names.{lowering, lowered_long, lowered_test, lowered_expression, Room, AreApart, AreEven, WellFormedExpression, array_word}
 use Rattle.lower.proofs.Names.{AsDeclared, HoldVariables, in_state, converted_to, truth_of, ExpressionsAgree, LongsAgree, TestsAgree, AgreesAt, Inputs}
-use Rattle.lower.proofs.Names.{◌>>?◌, ◌<◌, Answering, by_answers, made_by, answered_by, IsFit, IsLeft, AdmitsExpression, next_event, program_end}
+use Rattle.lower.proofs.Names.{◌>>?◌, ◌<◌, Answering, by_answers, made_by, IsFit, IsLeft, AdmitsExpression, next_event, program_end}
 use Rattle.lower.proofs.Names.{stacked}
 use Rattle.source_values.specs.Values.{Attempt, by_width, type_of, joined_type}
 use Rattle.array_versions.specs.Behaviour.{goes_on}

@@ -9,11 +9,15 @@ use Rattle.source_values.specs.Values.{Attempt}
 use Rattle.source_values.specs.Statements.{goes_on}
 use Rattle.lower.proofs.Names.{⊎_elim, Looked, Offered, Answering, IsAnswerStore, answered_by, answers_told, at_answer, going_on, Test, tested, truth, one}
 use Rattle.lower.proofs.Names.{number_pushed, Strays}
+use Rattle.lower.proofs.Names.{element, at_element, Did, AreMadeByActs, IsPlainStore, to_answer}
+use Rattle.lower.proofs.Addresses.{has_element}
 use Rattle.lower.proofs.Values.{takes_append, takes_weaker, told_behind}
+use Rattle.lower.proofs.Acts.{made_append, plain_did}
 use Rattle.lower.proofs.Emitted.{EmitsAtMost}
 
-abbrev pub Stores : Scene → List Effect → Type 0
-Stores z = TakesAndStores (IsTaskStore z.p z.written z.room z.ver)
+-- what statements did from this FRAM on
+abbrev pub DidFrom : Scene → (ℕ → ℕ) → List Effect → Type 0
+DidFrom z = Did z.p z.written z.room z.ver
 
 abbrev pub Ends : Scene → (ℕ → ℕ) → (ℕ → ℕ) → List ℕ → List ℕ → List Effect → End → Outcome → Type 0
 Ends z start most = EndsAs z.p (bounds z start most)
@@ -32,6 +36,8 @@ store_elsewhere : (p : Places) (written : ℕ → Bool) (room : Room) (ver a b w
     → ⊥
 store_elsewhere p written room ver a b w apart kept (at_variable v i is ok e) d = let low = apart.spots (scalar v i) is in omega (arith, d, e, low, kept, apart)
 store_elsewhere p written room ver a b w apart kept (at_copy x is e) d = let low = apart.spots (copy x) is in omega (arith, d, e, low, kept, apart)
+store_elsewhere p written room ver a b w apart kept (at_element undo x is e) d =
+    let low = apart.spots (element x) (has_element p x is) in omega (arith, d, e, low, kept, apart)
 store_elsewhere p written room ver a b w apart kept (at_version x is e f) d = let low = apart.spots (version x) is in omega (arith, d, e, low, kept, apart)
 store_elsewhere p written room ver a b w apart kept (in_list from to) d = omega (arith, d, from, kept)
 store_elsewhere p written room ver a b w apart kept (at_list_length e few) d = kept.not_length (d ∙ e)
@@ -56,11 +62,18 @@ keeps_version p room apart = record { low = omega (arith, apart); not_length = �
 
 -- ---- effects in front
 
+did_append : (z : Scene) (start from : ℕ → ℕ) (es fs : List Effect) → from ≡ fram_after es start → DidFrom z start es → DidFrom z from fs
+    → DidFrom z start (es ++ fs)
+did_append z start from es fs is h k = record {
+  stores = takes_append (IsTaskStore z.p z.written z.room z.ver) es fs h.stores k.stores;
+  acts = λ undo. made_append z.p z.written z.room es fs start (h.acts undo) (subst (λ g. AreMadeByActs z.p z.written z.room g fs) is (k.acts undo));
+}
+
 pub ends_behind : (z : Scene) (start from most : ℕ → ℕ) (stack left : List ℕ) (es fs : List Effect) (e : End) (o : Outcome)
-    → from ≡ fram_after es start → Stores z es → Ends z from most stack left fs e o → Ends z start most stack left (es ++ fs) e o
+    → from ≡ fram_after es start → DidFrom z start es → Ends z from most stack left fs e o → Ends z start most stack left (es ++ fs) e o
 ends_behind z start from most stack left es fs (GoesOn s) (goes_on m) is h k =
     record {
-      stores = takes_append (IsTaskStore z.p z.written z.room z.ver) es fs h k.stores;
+      did = did_append z start from es fs is h k.did;
       stack_kept = k.stack_kept;
       listed = k.listed;
       stands = k.stands;
@@ -72,7 +85,7 @@ ends_behind z start from most stack left es fs (Jumps to s) (to_task task m) is 
   there = k.there;
   listed = k.listed;
   effects = ap (λ l. es ++ l) k.effects ∙ sym (append_assoc es k.body _);
-  stores = takes_append (IsTaskStore z.p z.written z.room z.ver) es k.body h k.stores;
+  did = did_append z start from es k.body is h k.did;
   arrived = k.arrived ∙ ap (fram_after k.body) is ∙ sym (fram_after-append es k.body start);
   stands = k.stands;
   few = k.few;
@@ -80,32 +93,32 @@ ends_behind z start from most stack left es fs (Jumps to s) (to_task task m) is 
   readings = k.readings;
   answers = k.answers;
 }
-ends_behind z start from most stack left es fs Short short is h k = takes_append (IsTaskStore z.p z.written z.room z.ver) es fs h k
+ends_behind z start from most stack left es fs Short short is h k = did_append z start from es fs is h k
 ends_behind z start from most stack left es fs Broken o is h k = tt
 ends_behind z start from most stack left es fs e o is h k = absurd k
 
 -- effects that tell no answer
 pub does_behind : (z : Scene) (start from most : ℕ → ℕ) (stack : List ℕ) (es : List Effect) (b : Behaviour) (o : List ℕ → Outcome)
-    → from ≡ fram_after es start → Stores z es → answers_told es ≡ [] → Does z from most stack b o → Does z start most stack (behind_effects es b) o
-does_behind z start from most stack es b o is stores untold h others =
+    → from ≡ fram_after es start → DidFrom z start es → answers_told es ≡ [] → Does z from most stack b o → Does z start most stack (behind_effects es b) o
+does_behind z start from most stack es b o is did untold h others =
     let told = answers_told b.effects ++ others in
     let same = told_behind es b.effects others ∙ ap (λ l. l ++ told) untold in
     subst (λ l. Ends z start most stack others (es ++ b.effects) b.end (o l)) (sym same)
-    (ends_behind z start from most stack others es b.effects b.end (o told) is stores (h others))
+    (ends_behind z start from most stack others es b.effects b.end (o told) is did (h others))
 
--- a step that tells no answer: its stores, and a state that stands for an attempt
-pub record Settles (z : Scene) (most : ℕ → ℕ) (stack : List ℕ) (es : List Effect) (s : WordState) (m : Attempt) : Type 0 where
-  pub stores : Stores z es
+-- a step that tells no answer: what it did, and a state that stands for an attempt
+pub record Settles (z : Scene) (start most : ℕ → ℕ) (stack : List ℕ) (es : List Effect) (s : WordState) (m : Attempt) : Type 0 where
+  pub did : DidFrom z start es
   pub untold : answers_told es ≡ []
   pub stack_kept : s.stack ≡ stack
   pub listed : List Element
-  pub stands : StandsFor z.p m listed s
+  pub stands : StandsFor z.p z.first m listed s
   pub few : (v : ℕ) → listed_of v listed ≤ most v
 
-pub settles : (z : Scene) (start most : ℕ → ℕ) (stack : List ℕ) (es : List Effect) (s : WordState) (m : Attempt) → Settles z most stack es s m
+pub settles : (z : Scene) (start most : ℕ → ℕ) (stack : List ℕ) (es : List Effect) (s : WordState) (m : Attempt) → Settles z start most stack es s m
     → Does z start most stack (going_on es s) (λ answers. goes_on (answered_by answers m))
 settles z start most stack es s m k others = record {
-  stores = k.stores;
+  did = k.did;
   stack_kept = k.stack_kept;
   listed = k.listed;
   stands = k.stands;
@@ -121,7 +134,7 @@ left_with_fewer z start most few left es to s task m less k = record {
   there = k.there;
   listed = k.listed;
   effects = k.effects;
-  stores = k.stores;
+  did = k.did;
   arrived = k.arrived;
   stands = k.stands;
   few = λ v. let a = k.few v in let b = less v in omega (arith, a, b);
@@ -135,7 +148,7 @@ left_with_fewer z start most few left es to s task m less k = record {
 -- the state behind the first: what is asked of the second
 pub record IsThere (z : Scene) (few : ℕ → ℕ) (stack : List ℕ) (n : ℕ) (s : WordState) (m : Attempt) (listed : List Element) : Type 0 where
   pub stack_kept : s.stack ≡ stack
-  pub stands : StandsFor z.p m listed s
+  pub stands : StandsFor z.p z.first m listed s
   pub number : s.fram (word_place z.p.map Version) ≡ z.ver
   pub few_emitted : length m.emitted ≤ n
   pub few_listed : (v : ℕ) → listed_of v listed ≤ few v
@@ -166,11 +179,12 @@ does_then z few most stack n o first next more less k =
     onward es s others answers (goes_on m) is at h =
         let kept : s.fram (word_place z.p.map Version) ≡ z.ver =
         ap (λ f. f (word_place z.p.map Version)) at
-        ∙ stores_keep z.p z.written z.room z.ver (word_place z.p.map Version) es first.w.fram z.apart (keeps_version z.p z.room z.apart) h.stores ∙ first.ver in
+        ∙ stores_keep z.p z.written z.room z.ver (word_place z.p.map Version) es first.w.fram z.apart (keeps_version z.p z.room z.apart) h.did.stores
+        ∙ first.ver in
         let emits = subst (EmitsAtMost n) is (first.emits answers) in
         let there = k s m h.listed answers is
         (record { stack_kept = h.stack_kept; stands = h.stands; number = kept; few_emitted = emits; few_listed = h.few }) others in
-        ends_behind z first.w.fram s.fram most stack others es (next s).effects (next s).end (more m) at h.stores
+        ends_behind z first.w.fram s.fram most stack others es (next s).effects (next s).end (more m) at h.did
         (subst (λ l. Ends z s.fram most stack others (next s).effects (next s).end (more (answered_by l m))) (sym h.answers) there)
     onward es s others answers v is at h = absurd h
 
@@ -220,11 +234,10 @@ pub does_at : (z : Scene) (most : ℕ → ℕ) (stack : List ℕ) (w : WordState
     → Does z w.fram most stack (then_on b next) (λ answers. if_value (o answers) more)
 does_at z most stack w there b o next more by h k = go b.effects b.end by h
   where
-    P : ℕ → ℕ → Type 0
-    P = IsTaskStore z.p z.written z.room z.ver
-
-    answer_stores : (es : List Effect) → OnlyTakes z.p.map.runtime.events es → TakesAndStores P es
-    answer_stores es h = takes_weaker (IsAnswerStore z.p.map.runtime.events) P (λ a w k. at_answer k) es h
+    answers_did : (es : List Effect) → OnlyTakes z.p.map.runtime.events es → DidFrom z w.fram es
+    answers_did es h =
+        plain_did z.p z.written z.room z.ver es w.fram
+        (takes_weaker (IsAnswerStore z.p.map.runtime.events) (IsPlainStore z.p z.written z.room) (λ a w k. to_answer k) es h)
 
     Goal : List ℕ → List Effect → End → Option Evaluated → Type 0
     Goal others es e v = Ends z w.fram most stack others es e (if_value v more)
@@ -236,12 +249,12 @@ does_at z most stack w there b o next more by h k = go b.effects b.end by h
     onward es s others (Some x) at t e =
         let fs = (next s).effects in
         let n = k x s e.0 others in
-        ends_behind z w.fram s.fram most stack others es fs (next s).end (more x.value x.behind) at (answer_stores es t)
+        ends_behind z w.fram s.fram most stack others es fs (next s).end (more x.value x.behind) at (answers_did es t)
         (subst (λ l. Ends z s.fram most stack others fs (next s).end (more x.value (answered_by l x.behind))) (sym e.1) n)
 
     lacks : (es : List Effect) (others : List ℕ) (v : Option Evaluated) → OnlyTakes z.p.map.runtime.events es → EndsAt there others Short v
         → Goal others es Short v
-    lacks es others None t e = answer_stores es t
+    lacks es others None t e = answers_did es t
     lacks es others (Some x) t e = absurd e
 
     go : (es : List Effect) (e : End) → EndsByEffects w es e

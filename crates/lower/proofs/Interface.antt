@@ -15,6 +15,7 @@ pub use Rattle.lower.proofs.Stored.{word_same, word_other, row_length}
 -- The program of statements does what they do.
 pub use Rattle.lower.proofs.Blocks.{blocks_agree, program_at}
 -- A memory map as a task sees it.
+pub use Rattle.lower.proofs.Seen.{redo_seen, seen_words, seen_count, seen_all}
 pub use Rattle.lower.proofs.Seen.{places_count, scalar_seen, array_seen, array_read, SeenFrom, scalar, array, read, seen_from, privates_seen, seen_laid_out}
 -- The words of a task's code, and the cycles of its expressions, are within the allowance of a source.
 pub use Rattle.lower.proofs.Sizes.{blocks_keep_to_words}

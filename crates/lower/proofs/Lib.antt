@@ -13,9 +13,11 @@ mod Stored
 mod Transitions
 mod Lists
 mod Versioned
+mod Acts
 mod Ends
 mod Seen
 mod Elements
+mod Logged
 mod Blocks
 mod Chains
 mod Sizes
@@ -27,3 +29,4 @@ pub use Rattle.task_check.proofs as task_check
 pub use Rattle.source_values.proofs as source_values
 pub use Rattle.path_sums.proofs as path_sums
 pub use Rattle.path_runs.proofs as path_runs
+pub use Rattle.undo_effects.proofs as undo_effects

@@ -2,7 +2,7 @@
 use Rattle.lower.proofs.Names.{◌≡◌, ℕ, zero, suc, ◌+◌, ◌*◌, ◌%◌, ◌<◌, ◌≤◌, List, [], ◌∷◌, ◌++◌, length, length-append, append_assoc, refl, sym, ap, ◌∙◌}
 use Rattle.lower.proofs.Names.{subst, arith, Bool, true, false, if◌then◌else◌, Contains, ⊎_elim, cases_eq, nat_tests, All-contains, Contains-append_right}
 use Rattle.lower.proofs.Names.{Effect, Store, put, put_same, put_other, WordState, Behaviour, at_place, raised, entry_stored, ends_before, listed_behind}
-use Rattle.lower.proofs.Names.{word_listed, word_place, ListLength, word_even, Places, CopyPair, run_pairs, entries_from, run_length, run_longer}
+use Rattle.lower.proofs.Names.{word_listed, word_place, ListLength, Places, CopyPair, run_pairs, entries_from, run_length, run_longer}
 use Rattle.lower.proofs.Names.{entries_alike, last_apart, entries_are_few, list_place, Room, AreApart, AreEven, TakesAndStores, IsTaskStore, in_list}
 use Rattle.lower.proofs.Names.{at_list_length, answers_told}
 use Rattle.std.proofs.Common.{All}

@@ -5,7 +5,7 @@ use Rattle.lower.proofs.Names.{WordType, Unsigned, Int, Long, BinaryOperator, Sh
 use Rattle.lower.proofs.Names.{long_difference, long_binary_value, long_shift_value, truth_word, PlainOperation, Plain, plain_long, all_bits, stacked, Test}
 use Rattle.lower.proofs.Names.{Program, binary, long, holds_test, fails, joined, behind, WordState, Behaviour, pushed, behaviour, step_behaviour, with_stack}
 use Rattle.lower.proofs.Names.{LongQuestion, LongMeaning, long_meaning, long_shift, one, Lowering, as_test, as_long, word_program, value_test, widening}
-use Rattle.lower.proofs.Names.{long_words, long_program, long_zero, answer, long_binary_lowering, is_refused, Answering, by_answers, made_by}
+use Rattle.lower.proofs.Names.{long_words, long_program, long_zero, answer, long_binary_lowering, is_refused, Answering, made_by}
 use Rattle.std.proofs.Common.{eq-eqb}
 use Rattle.source_values.specs.Values.{Attempt}
 use Rattle.array_versions.specs.Behaviour.{goes_on}

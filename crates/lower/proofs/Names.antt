@@ -105,7 +105,20 @@ pub use Rattle.array_versions.specs.declared.operations.UnaryOperation.TheVarian
 pub use Rattle.array_versions.specs.declared.program.ArrayPlace.{ArrayPlace}
 pub use Rattle.array_versions.specs.declared.program.ListPlace.{ListPlace}
 pub use Rattle.array_versions.specs.declared.program.WordStep.{WordStep}
+pub use Rattle.array_versions.specs.Behaviour.{own_logged, logged_stored, logged_updated}
+pub use Rattle.array_versions.specs.Behaviour.{first_logged as logged_before}
+pub use Rattle.array_versions.specs.Program.{logged_update, logged_write}
+pub use Rattle.array_versions.specs.declared.program.LoggedPlace.{LoggedPlace}
+-- undo
+pub use Rattle.memory_map.specs.declared.runtime.Logging.{Logging}
+pub use Rattle.memory_map.specs.declared.runtime.Logging.TheVariants.{Redo, Undo}
+pub use Rattle.undo_effects.specs.Stages.{element_stored, first_logged, word_logged}
 -- this room
+pub use Rattle.lower.specs.Agreement.{DidWithin, own_by}
+pub use Rattle.lower.specs.Lowered.{logged_place, own_read, own_update, own_write, stored_array}
+pub use Rattle.lower.specs.Stores.{Act, AreActs, AreMadeByActs, Did, IsAct, IsPlainStore, act_effects, acts_effects, alone, at_element, to_answer}
+pub use Rattle.lower.specs.Stores.{to_buffer, to_element, to_emit_count, to_variable}
+pub use Rattle.lower.specs.Spots.{HasRoomBehind, IsRedo, IsUndo}
 pub use Rattle.lower.specs.Agreement.{Agrees, AgreesAt, Answering, AsDeclared, BlocksAgree, EndsAs, EndsAt, ExpressionsAgree, HasCopies, HoldEmits, HoldList}
 pub use Rattle.lower.specs.Agreement.{IsAnswerStore, IsFit, IsLeft, answered_by, answers_told, at_answer, by_answers, freeze_effects, made_by}
 pub use Rattle.lower.specs.Agreement.{HoldVariables, IsArray, IsTaskStore, IsWrittenArray, Left, LongsAgree, OnlyTakes, Scene, StandsFor, TakesAndStores}
@@ -122,7 +135,8 @@ pub use Rattle.lower.specs.Lowered.{unary_lowering, update_element_step, update_
 pub use Rattle.lower.specs.Lowered.{write_step, written_array}
 pub use Rattle.lower.specs.Operations.{binary_meaning, long_meaning, long_shift, operand_type, plain_operation, shift_operation}
 pub use Rattle.lower.specs.Runs.{is_followed_by, longer, run_at, runs_from, runs_of}
-pub use Rattle.lower.specs.Seen.{place_seen, places_seen}
+pub use Rattle.lower.specs.Seen.{place_seen, places_seen, task_seen}
+pub use Rattle.std.proofs.lemmas.List.Elements.{All-nil}
 pub use Rattle.lower.specs.Sizes.{BlocksKeepToCycles, BlocksKeepToWords, entry_cycles}
 pub use Rattle.lower.specs.Spots.{AreApart, AreDifferent, AreEven, AreListed, Room, listed_of}
 pub use Rattle.lower.specs.declared.operations.BinaryMeaning.{BinaryMeaning}

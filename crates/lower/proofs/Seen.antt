@@ -2,7 +2,7 @@
 use Rattle.lower.proofs.Names.{◌≡◌, ℕ, zero, suc, ◌+◌, Bool, true, false, List, [], ◌∷◌, ◌++◌, length, map, Option, Some, None, refl, sym, ap, ◌∙◌, subst}
 use Rattle.lower.proofs.Names.{arith, inl, inr, ◌⊎◌, ⊎_elim, option_map, flat_map, All-weaker, Region, ArrayCopies, ScalarWidth, VariablePlace, Scalar, Array}
 use Rattle.lower.proofs.Names.{PrivateScalar, MemoryMap, TaskPlace, end_of, AreInOrder, home_region, copy_regions, version_regions, HasItsPlace}
-use Rattle.lower.proofs.Names.{IsLaidOut, in_order_append, place_seen, places_seen}
+use Rattle.lower.proofs.Names.{IsLaidOut, in_order_append, place_seen, places_seen, task_seen, Logging, Redo, Undo, private_words, ◌≤◌, All-nil}
 use Rattle.std.proofs.Common.{slice_get}
 use Rattle.std.specs.Prelude.{All}
 
@@ -145,3 +145,24 @@ seen_laid_out written m h = record {
   privates = All-weaker (λ t. All (HasItsPlace m.variables) t.privates) (λ t. All (HasItsPlace (places_seen written 0 m.variables)) t.privates)
       (λ (t : TaskPlace) k. privates_seen written m.variables t.privates k) m.tasks h.privates;
 }
+
+-- ---- a task's private scalars
+
+-- under redo its place is as it is
+pub redo_seen : (logging : Logging) (t : TaskPlace) → logging ≡ Redo → task_seen logging t ≡ t
+redo_seen Redo t e = refl
+redo_seen Undo t e = absurd (cc e)
+
+-- no more of them are seen
+pub seen_words : (logging : Logging) (t : TaskPlace) → private_words (task_seen logging t).privates ≤ private_words t.privates
+seen_words Redo t = omega arith
+seen_words Undo t = omega arith
+
+pub seen_count : (logging : Logging) (t : TaskPlace) → length (task_seen logging t).privates ≤ length t.privates
+seen_count Redo t = omega arith
+seen_count Undo t = omega arith
+
+-- and what holds of each holds of those that are seen
+pub seen_all : (P : PrivateScalar → Type 0) (logging : Logging) (t : TaskPlace) → All P t.privates → All P (task_seen logging t).privates
+seen_all P Redo t h = h
+seen_all P Undo t h = All-nil P

@@ -1,5 +1,6 @@
 -- The words of a task's code, and the cycles of its expressions, are within the allowance of a source.
-use Rattle.lower.proofs.Names.{freeze_events, freezing, nothing}
+use Rattle.lower.proofs.Names.{freeze_events, freezing, nothing, Logging, Redo, Undo, own_read, own_write, own_update, ArrayPlace, ListPlace, array_place}
+use Rattle.lower.proofs.Names.{list_place, stored_array}
 use Rattle.lower.proofs.Names.{◌≡◌, ℕ, ◌+◌, ◌*◌, ◌<◌, ◌≤◌, ◌==◌, Bool, true, false, List, [], ◌∷◌, length, Option, Some, None, refl, sym, ap, arith, nat_le}
 use Rattle.lower.proofs.Names.{if◌then◌else◌, nat_tests, CheckedExpression, CheckedStatement, CheckedChoice, CheckedBlock, WordType, Unsigned, Int, Long}
 use Rattle.lower.proofs.Names.{is_long, binary_type, unary_type, literal_type, UnaryOperator, BinaryOperator, PlacedOperator, ShiftOperator}
@@ -9,7 +10,7 @@ use Rattle.lower.proofs.Names.{Subtract, And, Xor, Or, Step, Test, Program, numb
 use Rattle.lower.proofs.Names.{jump, step, joined, binary_cycles, step_cycles, test_cycles, cycles_of, entry_words, step_words, test_words, words_of}
 use Rattle.lower.proofs.Names.{joined_cycles, steps_keep_to_words, word_place, Gate, ListLength, EmitCount, Base, SentBase, VariablePlace, Scalar, Array}
 use Rattle.lower.proofs.Names.{PrivateScalar, Places, private_words, some_words, run_at, runs_of}
-use Rattle.lower.proofs.Names.{BinaryMeaning, Calculates, CommonBits, Holds, Fails, LongQuestion, LongMeaning, binary_meaning, shift_operation, operand_type}
+use Rattle.lower.proofs.Names.{BinaryMeaning, Calculates, CommonBits, LongQuestion, LongMeaning, binary_meaning, shift_operation, operand_type}
 use Rattle.lower.proofs.Names.{long_meaning, long_shift, BlocksKeepToWords, one, read_step, write_step, read_long, write_long, element_read, element_step}
 use Rattle.lower.proofs.Names.{store_step, Lowering, as_word, as_test, as_bits, as_long, word_program, value_test, widening, long_words, long_program}
 use Rattle.lower.proofs.Names.{name_lowering, unary_lowering, long_zero, operand_lowering, answer, long_binary_lowering, sides_lowering, shift_lowering}
@@ -56,8 +57,20 @@ update_costs : (p : Places) (o : PlainOperation) (x : Variable) → StepCosts (u
 update_costs p o (Shared v) = (omega arith, omega arith)
 update_costs p o (Local n) = (omega arith, omega arith)
 
+own_read_costs : (logging : Logging) (a : ArrayPlace) (list : ListPlace) → StepCosts (own_read logging a list) 18 23
+own_read_costs Redo a list = (omega arith, omega arith)
+own_read_costs Undo a list = (omega arith, omega arith)
+
+own_write_costs : (logging : Logging) (a : ArrayPlace) (list : ListPlace) → StepCosts (own_write logging a list) 59 79
+own_write_costs Redo a list = (omega arith, omega arith)
+own_write_costs Undo a list = (omega arith, omega arith)
+
+own_update_costs : (logging : Logging) (o : PlainOperation) (a : ArrayPlace) (list : ListPlace) → StepCosts (own_update logging o a list) 70 86
+own_update_costs Redo o a list = (omega arith, omega arith)
+own_update_costs Undo o a list = (omega arith, omega arith)
+
 read_array_costs : (p : Places) (place : Option VariablePlace) → StepCosts (element_read p place) 18 23
-read_array_costs p (Some (Array elements length (Some c))) = (omega arith, omega arith)
+read_array_costs p (Some (Array elements length (Some c))) = own_read_costs p.map.runtime.logging (array_place elements length c) (list_place p)
 read_array_costs p (Some (Array elements length None)) = (omega arith, omega arith)
 read_array_costs p (Some (Scalar home copy width)) = (omega arith, omega arith)
 read_array_costs p None = (omega arith, omega arith)
@@ -447,9 +460,10 @@ element_setting_keeps : (p : Places) (s : ℕ) (x : Variable) (index e : Checked
 element_setting_keeps p s x index e =
     let l = added (lowered_expression p index) (lowered_expression p e) in
     let m = added (index_and_value p index e) (one (store_step p x)) in
+    let last = own_write_costs p.map.runtime.logging (stored_array p x) (list_place p) in
     let h = (lowering_has p s index).word in
     let k = (lowering_has p s e).word in
-    (omega (arith, l, m, h, k), omega (arith, l, m, h, k))
+    (omega (arith, l, m, h, k, last), omega (arith, l, m, h, k, last))
 
 element_sides_keep : (p : Places) (s : ℕ) (x : Variable) (index : CheckedExpression) (op : PlacedOperator) (a b : CheckedExpression)
     (o : Option PlainOperation) → ElementKeeps s index (t.binary op a b) (element_sides_set p x index op a b o)
@@ -458,9 +472,10 @@ element_sides_keep p s x index op a b (Some o) =
     let most = row s op.operator Unsigned (joined_type (type_of a) (type_of b)) in
     let l = added (lowered_expression p index) (lowered_expression p b) in
     let m = added (index_and_value p index b) (one (update_element_step p o x)) in
+    let last = own_update_costs p.map.runtime.logging o (stored_array p x) (list_place p) in
     let h = (lowering_has p s index).word in
     let k = (lowering_has p s b).word in
-    (omega (arith, most, l, m, h, k), omega (arith, most, l, m, h, k))
+    (omega (arith, most, l, m, h, k, last), omega (arith, most, l, m, h, k, last))
 
 -- the first clause makes it a proof by cases
 pub element_keeps : (p : Places) (s : ℕ) (x : Variable) (index e : CheckedExpression) → ElementKeeps s index e (element_assignment p x index e)

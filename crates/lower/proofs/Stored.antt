@@ -6,7 +6,7 @@ use Rattle.lower.proofs.Names.{put_at, put_other, Shared, Local, Variables, word
 use Rattle.lower.proofs.Names.{element_pair, HoldList, word_place, ListLength, EmitCount, Version, ArrayCopies, VariablePlace, Scalar, Array, first_word}
 use Rattle.lower.proofs.Names.{Places, address_of, scalar_address, IsScalarAt, words_at, IsScalarWord, IsArrayAt, Element, IsElement, IsCopied, Spot, scalar}
 use Rattle.lower.proofs.Names.{element, copy, version, IsSpot, element_address, copy_address, version_address, spot_address}
-use Rattle.lower.proofs.Names.{program_end}
+use Rattle.lower.proofs.Names.{program_end, Logging, Redo, Undo, IsRedo, own_by}
 use Rattle.std.proofs.Common.{get_or, slice_get, All, eq-eqb}
 use Rattle.array_versions.specs.Behaviour.{assigned}
 use Rattle.lower.proofs.Addresses.{element_is, copy_is, version_is, no_scalar, word_scalar, first_address}
@@ -87,7 +87,7 @@ own_same p f g x is ver e c n =
         let same_element = sym (ap g at_element) ∙ e ∙ ap f at_element in
         let same_copy = sym (ap g at_copy) ∙ c copied ∙ ap f at_copy in
         let same_version = sym (ap g at_version) ∙ n copied ∙ ap f at_version in
-        λ j. if ver j == same_version j then same_copy j else same_element j
+        λ j. own_by p.map.runtime.logging (ver j == same_version j) (same_copy j) (same_element j)
 
 -- VER and the words that the task works on stay
 pub record SpotsStay (p : Places) (f g : ℕ → ℕ) : Type 0 where
@@ -115,27 +115,40 @@ pub record ListStays (p : Places) (room : Room) (f g : ℕ → ℕ) : Type 0 whe
 pub all_of : (P : Element → Type 0) (xs : List Element) (x : Element) → All P xs → Contains xs x → P x
 all_of P xs x h k = subst P k.2 (h k.0 x k.1)
 
--- there are no more entries than words that they name
-pub few_entries : (p : Places) (listed : List Element) (f : ℕ → ℕ) → HoldList p listed f → f (word_place p.map ListLength) ≤ length listed
-few_entries p listed f h =
-    let few = entries_are_few (f (word_place p.map ListLength)) p.map.list.address f h.runs in
-    let same = ap (length {A = CopyPair}) h.pairs in
+-- under redo there are no more entries than words that they name
+pub few_entries : (p : Places) (first : ℕ) (listed : List Element) (f : ℕ → ℕ) → IsRedo p → HoldList p first listed f
+    → f (word_place p.map ListLength) ≤ length listed
+few_entries p first listed f redo h =
+    let few = entries_are_few (f (word_place p.map ListLength)) p.map.list.address f (h.runs redo) in
+    let same = ap (length {A = CopyPair}) (h.pairs redo) in
     let mapped = length-map listed (element_pair p) in
     omega (arith, few, same, mapped)
 
-pub same_list : (p : Places) (room : Room) (listed : List Element) (f g : ℕ → ℕ) → length listed ≤ room.list → ListStays p room f g → HoldList p listed f
-    → HoldList p listed g
-same_list p room listed f g few k h =
+-- under redo or undo no more than the words of the start and the elements
+pub few_words : (p : Places) (first : ℕ) (listed : List Element) (f : ℕ → ℕ) → HoldList p first listed f
+    → f (word_place p.map ListLength) ≤ first + length listed
+few_words p first listed f h = by p.map.runtime.logging refl
+  where
+    by : (logging : Logging) → p.map.runtime.logging ≡ logging → f (word_place p.map ListLength) ≤ first + length listed
+    by Redo redo = let few = few_entries p first listed f redo h in omega (arith, few)
+    by Undo undo = let count = h.count undo in omega (arith, count)
+
+pub same_list : (p : Places) (first : ℕ) (room : Room) (listed : List Element) (f g : ℕ → ℕ) → length listed ≤ room.list → ListStays p room f g
+    → HoldList p first listed f → HoldList p first listed g
+same_list p first room listed f g few k h =
     let n = f (word_place p.map ListLength) in
     let list = p.map.list.address in
-    let entries = few_entries p listed f h in
     record {
       are_listed = h.are_listed;
-      pairs = ap (λ j. entries_from j list g) k.list_length
-          ∙ entries_alike n list f g (λ a from to. k.entries a from (omega (arith, to, entries, few))) ∙ h.pairs;
-      runs = λ i l.
+      pairs = λ redo.
+          let entries = few_entries p first listed f redo h in
+          ap (λ j. entries_from j list g) k.list_length
+          ∙ entries_alike n list f g (λ a from to. k.entries a from (omega (arith, to, entries, few))) ∙ h.pairs redo;
+      runs = λ redo i l.
+          let entries = few_entries p first listed f redo h in
           let before : i < n = subst (λ j. i < j) k.list_length l in
-          subst (λ x. 0 < x) (sym (k.entries (list + 6 * i + 4) (omega arith) (omega (arith, before, entries, few)))) (h.runs i before);
+          subst (λ x. 0 < x) (sym (k.entries (list + 6 * i + 4) (omega arith) (omega (arith, before, entries, few)))) (h.runs redo i before);
+      count = λ undo. k.list_length ∙ h.count undo;
       marked = λ x c. k.marks x (all_of (IsCopied p) listed x h.are_listed.copied c) ∙ h.marked x c ∙ sym k.version;
       only_marked = λ x is e. h.only_marked x is (sym (k.marks x is) ∙ e ∙ k.version);
     }

@@ -5,7 +5,7 @@ use Rattle.lower.proofs.Names.{WordState, Jumps, Behaviour, behaves, broken, beh
 use Rattle.lower.proofs.Names.{jumped, step_behaviour, behaviour, joined_go_on, word_place, NextTask, Gate, ListLength, Base, SentBase, Run, runs_of}
 use Rattle.lower.proofs.Names.{word_even, Places, one, entries, lowered_transition, Room, AreApart, AreEven, entry_effects, transition_effects}
 use Rattle.lower.proofs.Names.{MemoryMap, where_events, answer_place, answers_told, count_place, event_index, freeze_effects, freeze_events, freezing}
-use Rattle.lower.proofs.Names.{sent_place, tail_place, ne_eqb, ◌==◌, Bool, false}
+use Rattle.lower.proofs.Names.{sent_place, tail_place, ne_eqb, Bool, false}
 use Rattle.alp_words.specs.Words.{word_sum}
 use Rattle.std.proofs.Common.{eq-eqb}
 use Rattle.array_versions.specs.Behaviour.{goes_on}

@@ -15,7 +15,7 @@ use Rattle.lower.proofs.Names.{Places, address_of, scalar_address, IsScalarWord,
 use Rattle.lower.proofs.Names.{IsSpot, Spot, spot_address, BinaryMeaning, Calculates, CommonBits, Holds, Fails, binary_meaning, shift_operation, one}
 use Rattle.lower.proofs.Names.{read_step, element_read, element_step, Lowering, as_word, as_test, word_program, value_test, unary_lowering, binary_lowering}
 use Rattle.lower.proofs.Names.{sides_test, Room, AreApart, AreEven, IsArray, own_word, HoldVariables, TakesAndStores, OnlyTakes, EndsAt, AgreesAt, truth_of}
-use Rattle.lower.proofs.Names.{AsDeclared, Inputs, SharedDeclaration}
+use Rattle.lower.proofs.Names.{AsDeclared, Inputs, SharedDeclaration, Logging, Redo, Undo, own_by, own_read, array_place, list_place}
 use Rattle.std.proofs.Common.{get_or}
 use Rattle.source_values.specs.Values.{Attempt}
 use Rattle.array_versions.specs.Behaviour.{goes_on}
@@ -474,6 +474,39 @@ module _ (k : Keeping) where
         here : (s : Spot) (a : ℕ) → IsSpot k.p s → spot_address k.p s ≡ a → is_place a ≡ true
         here s a is e = subst (λ a. is_place a ≡ true) e (spot_place k.p k.room s k.apart k.even is)
 
+        copied : (c : ArrayCopies) → IsArrayAt k.p v elements length (Some c) → i < length → IsCopied k.p x
+        copied c at l = record { elements = elements; length = length; copies = c; is_array = at; below = l }
+
+        -- where the task writes the array
+        own_reads : (c : ArrayCopies) (at : IsArrayAt k.p v elements length (Some c)) (logging : Logging)
+            → (i < length → own_by logging (w.fram (word_place k.p.map Version) == w.fram (2 * i + c.versions)) (w.fram (2 * i + c.copies))
+            (w.fram (2 * i + elements)) ≡ word)
+            → LeavesWord k below (behaviour (one (own_read logging (array_place elements length c) (list_place k.p))) (with_stack (i ∷ below) w))
+            (by_answers m (gives word))
+        own_reads c at Redo own =
+            let e = 2 * i + elements in
+            let o = 2 * i + c.copies in
+            let n = 2 * i + c.versions in
+            let ver = word_place k.p.map Version in
+            let apart = k.apart in
+            let read : Behaviour = if w.fram ver == w.fram n then at_place o (pushes (w.fram o)) else at_place e (pushes (w.fram e)) in
+            index_read i length word (at_place ver (at_place n read))
+            (λ l.
+            let is = copied c at l in
+            let at_version = placed ver (at_place n read)
+            (fram_place ver (word_even k.p.map Version k.even.row) (omega (arith, apart)) (omega (arith, apart))) in
+            let at_mark = placed n read (here (version x) n is (version_is k.p x elements length c at)) in
+            subst (λ b. Reads b word) (sym (at_version ∙ at_mark))
+            (either_read (w.fram ver == w.fram n) o e (w.fram o) (w.fram e) word (here (copy x) o is (copy_is k.p x elements length c at))
+            (here (element x) e (has_element k.p x is) (element_is k.p x elements length (Some c) at)) (own l)))
+            (past_end k.p v elements length i (Some c) m.variables w.fram w.locals at held)
+        own_reads c at Undo own =
+            let e = 2 * i + elements in
+            index_read i length word (at_place e (pushes (w.fram e)))
+            (λ l. one_read e (w.fram e) word
+            (here (element x) e (has_element k.p x (copied c at l)) (element_is k.p x elements length (Some c) at)) (own l))
+            (past_end k.p v elements length i (Some c) m.variables w.fram w.locals at held)
+
         by : (copies : Option ArrayCopies) → IsArrayAt k.p v elements length copies
             → LeavesWord k below (behaviour (one (element_read k.p (Some (Array elements length copies)))) (with_stack (i ∷ below) w))
             (by_answers m (gives word))
@@ -486,23 +519,8 @@ module _ (k : Keeping) where
             (subst (λ o. own_word k.p w.fram o i ≡ word) at.place (held.elements x is)))
             (past_end k.p v elements length i None m.variables w.fram w.locals at held)
         by (Some c) at =
-            let e = 2 * i + elements in
-            let o = 2 * i + c.copies in
-            let n = 2 * i + c.versions in
-            let ver = word_place k.p.map Version in
-            let apart = k.apart in
-            let read : Behaviour = if w.fram ver == w.fram n then at_place o (pushes (w.fram o)) else at_place e (pushes (w.fram e)) in
-            index_read i length word (at_place ver (at_place n read))
-            (λ l.
-            let is : IsCopied k.p x = record { elements = elements; length = length; copies = c; is_array = at; below = l } in
-            let at_version = placed ver (at_place n read)
-            (fram_place ver (word_even k.p.map Version k.even.row) (omega (arith, apart)) (omega (arith, apart))) in
-            let at_mark = placed n read (here (version x) n is (version_is k.p x elements length c at)) in
-            subst (λ b. Reads b word) (sym (at_version ∙ at_mark))
-            (either_read (w.fram ver == w.fram n) o e (w.fram o) (w.fram e) word (here (copy x) o is (copy_is k.p x elements length c at))
-            (here (element x) e (has_element k.p x is) (element_is k.p x elements length (Some c) at))
-            (subst (λ o. own_word k.p w.fram o i ≡ word) at.place (held.elements x (has_element k.p x is)))))
-            (past_end k.p v elements length i (Some c) m.variables w.fram w.locals at held)
+            own_reads c at k.p.map.runtime.logging
+            (λ l. subst (λ o. own_word k.p w.fram o i ≡ word) at.place (held.elements x (has_element k.p x (copied c at l))))
 
     pub element_agrees : (x : Variable) (i : ℕ) → IsArray k.p x
         → LeavesWord k below (behaviour (one (element_step k.p x)) (with_stack (i ∷ below) w))

@@ -1,16 +1,16 @@
 -- A store to an element: to its copy, and the first time in an attempt to its version word and to the commit list.
 use Rattle.lower.proofs.Names.{◌≡◌, ℕ, zero, suc, ◌+◌, ◌*◌, ◌==◌, ◌<◌, ◌≤◌, List, [], ◌∷◌, ◌++◌, length, map, Option, Some, Contains, true, Bool, refl, sym}
-use Rattle.lower.proofs.Names.{ap, ◌∙◌, subst, arith, ne_eqb, lt-ltb, le-ltb, ⊎_elim, if◌then◌else◌, map-append, All-append, All-map, All-weaker}
+use Rattle.lower.proofs.Names.{ap, ◌∙◌, subst, arith, ne_eqb, lt-ltb, le-ltb, ⊎_elim, if◌then◌else◌, All-append, All-map, All-weaker}
 use Rattle.lower.proofs.Names.{Contains-append_left, Contains-append_right, Contains-append_cases, Contains-get_or, all_pairs_push, Effect, Store, put}
 use Rattle.lower.proofs.Names.{put_at, put_other, Shared, Variables, word_at, with_word, PlainOperation, plain_word, ArrayPlace, ListPlace, WordState}
 use Rattle.lower.proofs.Names.{Behaviour, behind_effects, is_place, at_place, stored, word_listed, first_stored, own_stored, versioned_stored, own_place}
 use Rattle.lower.proofs.Names.{own_kept, own_updated, versioned_updated, Room, AreApart, AreDifferent, AreListed, listed_of, own_word, HoldVariables}
 use Rattle.lower.proofs.Names.{element_pair, HoldList, entries_from, entries_alike, word_place, ListLength, EmitCount, Version, Array, Places, scalar_address}
 use Rattle.lower.proofs.Names.{IsScalarAt, IsScalarWord, Element, IsElement, IsCopied, Spot, scalar, element, copy, version, IsSpot, copy_address}
-use Rattle.lower.proofs.Names.{version_address, spot_address}
+use Rattle.lower.proofs.Names.{version_address, spot_address, Logging, Redo, Undo, IsRedo, IsUndo, own_by}
 use Rattle.std.proofs.Common.{slice_get, All, eq-eqb}
 use Rattle.array_versions.specs.Behaviour.{goes_on}
-use Rattle.lower.proofs.Addresses.{placed, has_element, copy_is, version_is, no_scalar, word_scalar, same_element, same_or_not}
+use Rattle.lower.proofs.Addresses.{placed, has_element, element_is, copy_is, version_is, no_scalar, word_scalar, same_element, same_or_not}
 use Rattle.lower.proofs.Stored.{word_same, word_other, set_holds, own_same, EmitsStay, few_entries}
 use Rattle.lower.proofs.Lists.{HaveWords, HasNext, IsElse}
 
@@ -89,23 +89,55 @@ updates_nothing op place list i v u s past =
 
 -- ---- an element stored
 
--- an element has this word in its copy, and its version word is VER; all other words that the task works on stay
+-- where a task that writes an array stores its elements: under redo in their copies, under undo where they stand
+abbrev pub own_spot : Logging → Element → Spot
+own_spot Redo x = copy x
+own_spot Undo x = element x
+
+-- that is no word of a scalar and no version word, and of one element alone
+no_scalar_own : (logging : Logging) (x : Element) (u j : ℕ) → scalar u j ≡ own_spot logging x → ⊥
+no_scalar_own Redo x u j e = cc
+no_scalar_own Undo x u j e = cc
+
+pub no_version_own : (logging : Logging) (x y : Element) → version y ≡ own_spot logging x → ⊥
+no_version_own Redo x y e = cc
+no_version_own Undo x y e = cc
+
+element_own : (logging : Logging) (x y : Element) → element y ≡ own_spot logging x → x ≡ y
+element_own Redo x y e = absurd (cc)
+element_own Undo x y e = cc
+
+copy_own : (logging : Logging) (x y : Element) → copy y ≡ own_spot logging x → x ≡ y
+copy_own Redo x y e = cc
+copy_own Undo x y e = absurd (cc)
+
+pub is_own : (p : Places) (logging : Logging) (x : Element) → IsCopied p x → IsSpot p (own_spot logging x)
+is_own p Redo x is = is
+is_own p Undo x is = has_element p x is
+
+-- an element has this word where it is stored, and its version word is VER; all other words that the task works on stay
 pub record IsStored (p : Places) (x : Element) (v : ℕ) (f g : ℕ → ℕ) : Type 0 where
   pub number : g (word_place p.map Version) ≡ f (word_place p.map Version)
   pub mark : g (version_address p x) ≡ f (word_place p.map Version)
-  pub copied : g (copy_address p x) ≡ v
-  pub spots : (s : Spot) → IsSpot p s → (s ≡ copy x → ⊥) → (s ≡ version x → ⊥) → g (spot_address p s) ≡ f (spot_address p s)
+  pub own : g (spot_address p (own_spot p.map.runtime.logging x)) ≡ v
+  pub spots : (s : Spot) → IsSpot p s → (s ≡ own_spot p.map.runtime.logging x → ⊥) → (s ≡ version x → ⊥) → g (spot_address p s) ≡ f (spot_address p s)
 
--- an element whose version word is VER is its copy
-own_copy : (p : Places) (g : ℕ → ℕ) (x : Element) → IsCopied p x → g (word_place p.map Version) ≡ g (version_address p x)
-    → own_word p g (slice_get p.map.variables x.array) x.index ≡ g (copy_address p x)
-own_copy p g x is e =
-    let i = x.index in
-    let c = is.copies in
-    ap (λ o. own_word p g o i) is.is_array.place
-    ∙ ap (λ b. if b then g (2 * i + c.copies) else g (2 * i + is.elements))
-    (eq-eqb (g (word_place p.map Version)) (g (2 * i + c.versions)) (e ∙ ap g (version_is p x is.elements is.length c is.is_array)))
-    ∙ sym (ap g (copy_is p x is.elements is.length c is.is_array))
+-- an element whose version word is VER is as it is stored
+own_stays : (p : Places) (g : ℕ → ℕ) (x : Element) → IsCopied p x → g (word_place p.map Version) ≡ g (version_address p x)
+    → own_word p g (slice_get p.map.variables x.array) x.index ≡ g (spot_address p (own_spot p.map.runtime.logging x))
+own_stays p g x is e = ap (λ o. own_word p g o x.index) is.is_array.place ∙ by p.map.runtime.logging
+  where
+    n : ℕ
+    n = 2 * x.index + is.copies.versions
+
+    by : (logging : Logging)
+        → own_by logging (g (word_place p.map Version) == g n) (g (2 * x.index + is.copies.copies)) (g (2 * x.index + is.elements))
+        ≡ g (spot_address p (own_spot logging x))
+    by Redo =
+        ap (λ b. if b then g (2 * x.index + is.copies.copies) else g (2 * x.index + is.elements))
+        (eq-eqb (g (word_place p.map Version)) (g n) (e ∙ ap g (version_is p x is.elements is.length is.copies is.is_array)))
+        ∙ sym (ap g (copy_is p x is.elements is.length is.copies is.is_array))
+    by Undo = sym (ap g (element_is p x is.elements is.length (Some is.copies) is.is_array))
 
 pub element_set : (p : Places) (room : Room) (x : Element) (v : ℕ) (m : Variables) (f g : ℕ → ℕ) (locals : ℕ → Option ℕ) → IsCopied p x → IsStored p x v f g
     → HoldVariables p m f locals → HoldVariables p (with_word m (Shared x.array) x.index v) g locals
@@ -119,7 +151,7 @@ element_set p room x v m f g locals is k h =
     words u j of =
         let ne : u ≡ x.array → ⊥ =
         λ e. no_scalar p x.array is.elements is.length (Some is.copies) is.is_array (subst (IsScalarAt p) e (word_scalar p u j of)) in
-        k.spots (scalar u j) of (λ e. cc) (λ e. cc) ∙ h.words u j of
+        k.spots (scalar u j) of (no_scalar_own p.map.runtime.logging x u j) (λ e. cc) ∙ h.words u j of
         ∙ sym (word_other m x.array x.index v u j row (λ e. absurd (ne e)))
 
     same : (y : Element) → x ≡ y
@@ -129,29 +161,32 @@ element_set p room x v m f g locals is k h =
         (Shared z.array) z.index in
         let l = h.lengths x.array (Array is.elements is.length (Some is.copies)) is.is_array.place in
         let below = is.below in
-        subst P e (own_copy p g x is (k.number ∙ sym k.mark) ∙ k.copied ∙ sym (word_same m x.array x.index v row (omega (arith, l, below))))
+        subst P e (own_stays p g x is (k.number ∙ sym k.mark) ∙ k.own ∙ sym (word_same m x.array x.index v row (omega (arith, l, below))))
 
     other : (y : Element) → IsElement p y → AreDifferent x y
         → own_word p g (slice_get p.map.variables y.array) y.index ≡ word_at (with_word m (Shared x.array) x.index v) (Shared y.array) y.index
     other y of ne =
-        own_same p f g y of k.number (k.spots (element y) of (λ e. cc) (λ e. cc))
-        (λ c. k.spots (copy y) c (λ e. let d : x ≡ y = cc in ne d) (λ e. cc))
-        (λ c. k.spots (version y) c (λ e. cc) (λ e. let d : x ≡ y = cc in ne d))
+        let logging = p.map.runtime.logging in
+        own_same p f g y of k.number (k.spots (element y) of (λ e. ne (element_own logging x y e)) (λ e. cc))
+        (λ c. k.spots (copy y) c (λ e. ne (copy_own logging x y e)) (λ e. cc))
+        (λ c. k.spots (version y) c (no_version_own logging x y) (λ e. let d : x ≡ y = cc in ne d))
         ∙ h.elements y of ∙ sym (word_other m x.array x.index v y.array y.index row (λ a b. ne (same_element x y (sym a) (sym b))))
 
 -- ---- a later store
 
 pub again_stored : (p : Places) (room : Room) (x : Element) (v : ℕ) (f : ℕ → ℕ) → AreApart p room → IsCopied p x → f (word_place p.map Version)
     ≡ f (version_address p x)
-    → IsStored p x v f (put f (copy_address p x) v)
+    → IsStored p x v f (put f (spot_address p (own_spot p.map.runtime.logging x)) v)
 again_stored p room x v f apart is marked =
-    let low = apart.spots (copy x) is in
-    let a = copy_address p x in
+    let s = own_spot p.map.runtime.logging x in
+    let own = is_own p p.map.runtime.logging x is in
+    let low = apart.spots s own in
+    let a = spot_address p s in
     record {
       number = put_other f a v (word_place p.map Version) (λ e. omega (arith, e, low, apart));
-      mark = put_other f a v (version_address p x) (λ e. let d = (apart.distinct (version x) (copy x) is is e) in cc) ∙ sym marked;
-      copied = put_at f a v a refl;
-      spots = λ s of ne d. put_other f a v (spot_address p s) (λ e. ne (apart.distinct s (copy x) of is e));
+      mark = put_other f a v (version_address p x) (λ e. no_version_own p.map.runtime.logging x x (apart.distinct (version x) s is own e)) ∙ sym marked;
+      own = put_at f a v a refl;
+      spots = λ t of ne d. put_other f a v (spot_address p t) (λ e. ne (apart.distinct t s of own e));
     }
 
 -- ---- the first store
@@ -174,7 +209,7 @@ mark_keeps_low p room x v a f apart is low =
 
 -- FRAM behind them and the commit list
 module _ (p : Places) (room : Room) (x : Element) (v : ℕ) (f g : ℕ → ℕ) (apart : AreApart p room) (is : IsCopied p x)
-    (elsewhere : (a : ℕ) → IsElse (word_place p.map ListLength) p.map.list.address room.list a → g a ≡ after_mark p x v f a) where
+    (elsewhere : (a : ℕ) → IsElse (word_place p.map ListLength) p.map.list.address room.list a → g a ≡ after_mark p x v f a) (redo : IsRedo p) where
   -- behind the list
   behind : (a : ℕ) → p.map.emits.address ≤ a → g a ≡ after_mark p x v f a
   behind a low = elsewhere a (record { not_count = λ e. omega (arith, e, low, apart); outside = λ from to. omega (arith, low, to, apart) })
@@ -201,9 +236,9 @@ module _ (p : Places) (room : Room) (x : Element) (v : ℕ) (f g : ℕ → ℕ) 
       record {
         number = low_keeps (word_place p.map Version) (omega (arith, apart)) (λ e. omega (arith, e, apart));
         mark = behind n (omega (arith, at_n)) ∙ put_at f1 n (f (word_place p.map Version)) n refl;
-        copied = behind c (omega (arith, at_c))
+        own = ap (λ logging. g (spot_address p (own_spot logging x))) redo ∙ behind c (omega (arith, at_c))
             ∙ put_other f1 n (f (word_place p.map Version)) c (λ e. let d = (apart.distinct (copy x) (version x) is is e) in cc) ∙ put_at f c v c refl;
-        spots = spot_keeps;
+        spots = λ s of ne d. spot_keeps s of (λ e. ne (e ∙ sym (ap (λ logging. own_spot logging x) redo))) d;
       }
 
   pub first_emits : EmitsStay p room f g
@@ -234,26 +269,26 @@ push_listed p xs x h is fresh = record {
 }
 
 -- the list is in front of all that a task works on
-pub mark_keeps_pairs : (p : Places) (room : Room) (xs : List Element) (x : Element) (v : ℕ) (f : ℕ → ℕ) → AreApart p room → IsCopied p x
-    → length xs ≤ room.list → HoldList p xs f
+pub mark_keeps_pairs : (p : Places) (first : ℕ) (room : Room) (xs : List Element) (x : Element) (v : ℕ) (f : ℕ → ℕ) → AreApart p room → IsCopied p x
+    → IsRedo p → length xs ≤ room.list → HoldList p first xs f
     → entries_from (after_mark p x v f (word_place p.map ListLength)) p.map.list.address (after_mark p x v f) ≡ map (element_pair p) xs
-mark_keeps_pairs p room xs x v f apart is few h =
+mark_keeps_pairs p first room xs x v f apart is redo few h =
     let n = f (word_place p.map ListLength) in
     let list = p.map.list.address in
-    let entries = few_entries p xs f h in
+    let entries = few_entries p first xs f redo h in
     ap (λ j. entries_from j list (after_mark p x v f)) (mark_keeps_low p room x v (word_place p.map ListLength) f apart is (omega (arith, apart)))
     ∙ entries_alike n list f (after_mark p x v f) (λ a from to. mark_keeps_low p room x v a f apart is (omega (arith, to, entries, few, apart)))
-    ∙ h.pairs
+    ∙ h.pairs redo
 
-pub mark_keeps_words : (p : Places) (room : Room) (xs : List Element) (x : Element) (v : ℕ) (f : ℕ → ℕ) → AreApart p room → IsCopied p x
-    → length xs ≤ room.list → HoldList p xs f
+pub mark_keeps_words : (p : Places) (first : ℕ) (room : Room) (xs : List Element) (x : Element) (v : ℕ) (f : ℕ → ℕ) → AreApart p room → IsCopied p x
+    → IsRedo p → length xs ≤ room.list → HoldList p first xs f
     → HaveWords p.map.list.address (after_mark p x v f (word_place p.map ListLength)) (after_mark p x v f)
-mark_keeps_words p room xs x v f apart is few h i l =
+mark_keeps_words p first room xs x v f apart is redo few h i l =
     let list = p.map.list.address in
-    let entries = few_entries p xs f h in
+    let entries = few_entries p first xs f redo h in
     let before : i < f (word_place p.map ListLength) =
     subst (λ j. i < j) (mark_keeps_low p room x v (word_place p.map ListLength) f apart is (omega (arith, apart))) l in
-    subst (λ y. 0 < y) (sym (mark_keeps_low p room x v (list + 6 * i + 4) f apart is (omega (arith, before, entries, few, apart)))) (h.runs i before)
+    subst (λ y. 0 < y) (sym (mark_keeps_low p room x v (list + 6 * i + 4) f apart is (omega (arith, before, entries, few, apart)))) (h.runs redo i before)
 
 -- each listed element has a word behind it, and so has its copy
 pub elements_have_next : (p : Places) (room : Room) (xs : List Element) → AreApart p room → All (IsCopied p) xs → All HasNext (map (element_pair p) xs)
@@ -263,14 +298,20 @@ elements_have_next p room xs apart copied =
     let copied_to = apart.below (copy x) is in
     record { home = omega (arith, home); copy = omega (arith, copied_to) }) xs copied)
 
-pub first_list : (p : Places) (xs : List Element) (x : Element) (v : ℕ) (f g : ℕ → ℕ) → IsCopied p x
-    → (f (word_place p.map Version) ≡ f (version_address p x) → ⊥) → HoldList p xs f → IsStored p x v f g
-    → entries_from (g (word_place p.map ListLength)) p.map.list.address g ≡ map (element_pair p) xs ++ element_pair p x ∷ []
-    → HaveWords p.map.list.address (g (word_place p.map ListLength)) g → HoldList p (xs ++ x ∷ []) g
-first_list p xs x v f g is unmarked h now pairs have = record {
+-- what the list holds then, by its entries
+pub record IsPushed (p : Places) (first : ℕ) (xs : List Element) (g : ℕ → ℕ) : Type 0 where
+  pub pairs : IsRedo p → entries_from (g (word_place p.map ListLength)) p.map.list.address g ≡ map (element_pair p) xs
+  pub runs : IsRedo p → HaveWords p.map.list.address (g (word_place p.map ListLength)) g
+  pub count : IsUndo p → g (word_place p.map ListLength) ≡ first + length xs
+
+pub first_list : (p : Places) (first : ℕ) (xs : List Element) (x : Element) (v : ℕ) (f g : ℕ → ℕ) → IsCopied p x
+    → (f (word_place p.map Version) ≡ f (version_address p x) → ⊥) → HoldList p first xs f → IsStored p x v f g
+    → IsPushed p first (xs ++ x ∷ []) g → HoldList p first (xs ++ x ∷ []) g
+first_list p first xs x v f g is unmarked h now pushed = record {
   are_listed = push_listed p xs x h.are_listed is fresh;
-  pairs = pairs ∙ sym (map-append (element_pair p) xs (x ∷ []));
-  runs = have;
+  pairs = pushed.pairs;
+  runs = pushed.runs;
+  count = pushed.count;
   marked = λ y c. ⊎_elim (λ e. subst (λ z. g (version_address p z) ≡ g (word_place p.map Version)) e (now.mark ∙ sym now.number))
       (λ ne. still y ne (old y ne c)) (same_or_not x y);
   only_marked = λ y of e. ⊎_elim (λ d. subst (Contains (xs ++ x ∷ [])) d last)
@@ -281,7 +322,7 @@ first_list p xs x v f g is unmarked h now pairs have = record {
     fresh c = unmarked (sym (h.marked x c))
 
     mark_stays : (y : Element) → IsCopied p y → AreDifferent x y → g (version_address p y) ≡ f (version_address p y)
-    mark_stays y of ne = now.spots (version y) of (λ e. cc) (λ e. let d : x ≡ y = cc in ne d)
+    mark_stays y of ne = now.spots (version y) of (no_version_own p.map.runtime.logging x y) (λ e. let d : x ≡ y = cc in ne d)
 
     old : (y : Element) → AreDifferent x y → Contains (xs ++ x ∷ []) y → Contains xs y
     old y ne c = ⊎_elim (λ a. a) (λ b. absurd (ne (single x y b))) (Contains-append_cases xs (x ∷ []) y c)

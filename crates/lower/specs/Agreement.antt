@@ -1,9 +1,8 @@
 -- What it is that a word program does what the source does: the state that it works on stands for an attempt of the task, and its end
 -- for the outcome.
-use Rattle.std.specs.Prelude.{◌≡◌, ℕ, ◌+◌, ◌*◌, ◌/◌, ◌%◌, ◌<◌, ◌≤◌, ◌==◌, Bool, true, if◌then◌else◌, Contains, List, [], ◌∷◌, ◌++◌, length, map, Option, ◌⊎◌}
+use Rattle.std.specs.Prelude.{◌≡◌, ℕ, ◌+◌, ◌*◌, ◌/◌, ◌%◌, ◌<◌, ◌≤◌, ◌==◌, Bool, true, if◌then◌else◌, Contains, List, [], ◌∷◌, ◌++◌, length, map, Option}
 use Rattle.std.specs.Prelude.{Some, None, slice_get, slice_index, slice_index_or}
-use Rattle.fram_board.specs.Effects.{Effect, Store, Take, Outside, Offered, Looked}
-use Rattle.machine_effects.specs.Inputs.{Inputs}
+use Rattle.fram_board.specs.Effects.{Effect, Store, Take, Outside}
 use Rattle.machine_effects.specs.World.{fram_after}
 use Rattle.task_ast.specs.declared.SharedDeclaration.{SharedDeclaration}
 use Rattle.task_ast.specs.Paths.{CheckedExpression, CheckedBlock}
@@ -13,12 +12,14 @@ use Rattle.task_ast.specs.declared.WordType.TheVariants.{Unsigned, Long}
 use Rattle.task_ast.specs.declared.names.Variable.{Variable}
 use Rattle.task_ast.specs.declared.names.Variable.TheVariants.{Shared, Local}
 use Rattle.source_values.specs.Values.{Variables, Attempt, Evaluated, word_at, converted, made_of, truth_word, value_of}
-use Rattle.memory_map.specs.event_places.Places.{count_place, sent_place, answer_place}
+use Rattle.memory_map.specs.event_places.Places.{sent_place, answer_place}
 use Rattle.source_values.specs.Statements.{Outcome, goes_on, to_task, short, run_block, block_emits}
 use Rattle.array_versions.specs.Behaviour.{WordState, End, GoesOn, Jumps, Short, Strays, Broken, Behaviour, behaviour, event_index}
 use Rattle.cost_bound.specs.Counts.{stores_of}
 use Rattle.memory_map.specs.MemoryMap.{MemoryMap, word_place, where_events}
 use Rattle.address_space.specs.Limits.{program_end}
+use Rattle.memory_map.specs.declared.runtime.Logging.{Logging}
+use Rattle.memory_map.specs.declared.runtime.Logging.TheVariants.{Redo, Undo}
 use Rattle.memory_map.specs.declared.words.RuntimeWord.TheVariants.{NextTask, Gate, ListLength, EmitCount, Base, SentBase, Version}
 use Rattle.memory_map.specs.declared.place.ArrayCopies.{ArrayCopies}
 use Rattle.memory_map.specs.declared.place.VariablePlace.{VariablePlace}
@@ -27,7 +28,7 @@ use Rattle.memory_map.specs.Places.{scalar_words}
 use Rattle.memory_map.specs.Spots.{Places, scalar_address, IsScalarAt, IsScalarWord, IsArrayAt, Element, IsElement, IsCopied}
 use Rattle.memory_map.specs.Spots.{element_address, copy_address, version_address}
 use Rattle.checked_trees.specs.WellFormed.{IsOfType, IsWordName, IsArrayName, WellFormedExpression, WellFormedBlock}
-use Rattle.lower.specs.Spots.{Room, AreApart, AreEven, listed_of, AreListed, HasRoom}
+use Rattle.lower.specs.Spots.{Room, IsRedo, IsUndo, AreApart, AreEven, listed_of, AreListed, HasRoomBehind}
 use Rattle.runtime_effects.specs.Places.{CopyPair, entries_from}
 use Rattle.lower.specs.declared.runs.Run.{Run}
 use Rattle.lower.specs.Runs.{runs_of}
@@ -35,6 +36,8 @@ use Rattle.lower.specs.Seen.{some_path_writes}
 use Rattle.array_versions.specs.Program.{truth}
 use Rattle.lower.specs.Events.{AdmitsExpression, AdmitsBlock}
 use Rattle.lower.specs.Lowered.{one, lowered_expression, lowered_long, lowered_test, lowered_block}
+pub use Rattle.lower.specs.Stores.{TakesAndStores, IsAnswerStore, OnlyTakes, IsTaskStore, at_variable, at_copy, at_element, at_version, in_list}
+pub use Rattle.lower.specs.Stores.{at_list_length, at_emit_count, in_buffer, at_answer, AreMadeByActs, Did}
 
 -- ---- what is asked of the places of a task: the variables of its source have such as were declared
 
@@ -65,10 +68,16 @@ abbrev pub place_length : VariablePlace → ℕ
 place_length (Scalar home copy width) = scalar_words width
 place_length (Array elements length copies) = length
 
--- an element as the attempt has it: its copy where its version word is VER, else the element itself
+-- an element of an array with copies as the attempt has it: under redo its copy where it is marked, else the element itself; under undo the
+-- element
+abbrev pub own_by : Logging → Bool → ℕ → ℕ → ℕ
+own_by Redo marked copied here = if marked then copied else here
+own_by Undo marked copied here = here
+
+-- an element as the attempt has it, where those are marked whose version word is VER
 abbrev pub own_word : Places → (ℕ → ℕ) → Option VariablePlace → ℕ → ℕ
 own_word p f (Some (Array elements length (Some c))) i =
-    if f (word_place p.map Version) == f (2 * i + c.versions) then f (2 * i + c.copies) else f (2 * i + elements)
+    own_by p.map.runtime.logging (f (word_place p.map Version) == f (2 * i + c.versions)) (f (2 * i + c.copies)) (f (2 * i + elements))
 own_word p f (Some (Array elements length None)) i = f (2 * i + elements)
 own_word p f (Some (Scalar home copy width)) i = 0
 own_word p f None i = 0
@@ -92,25 +101,26 @@ pub record HoldEmits (p : Places) (emitted : List ℕ) (fram : ℕ → ℕ) : Ty
 abbrev pub element_pair : Places → Element → CopyPair
 element_pair p x = record { home = element_address p x; copy = copy_address p x }
 
--- the runs of the commit list, none of them without a word, name these elements, one behind another; they are those whose version word
--- is VER
-pub record HoldList (p : Places) (listed : List Element) (fram : ℕ → ℕ) : Type 0 where
+-- these elements are listed: they are those whose version word is VER. Under redo the runs of the commit list, none of them without a word,
+-- name them, one behind another; under undo each has an entry, behind so many first ones
+pub record HoldList (p : Places) (first : ℕ) (listed : List Element) (fram : ℕ → ℕ) : Type 0 where
   pub are_listed : AreListed p listed
-  pub pairs : entries_from (fram (word_place p.map ListLength)) p.map.list.address fram ≡ map (element_pair p) listed
-  pub runs : (i : ℕ) → i < fram (word_place p.map ListLength) → 0 < fram (p.map.list.address + 6 * i + 4)
+  pub pairs : IsRedo p → entries_from (fram (word_place p.map ListLength)) p.map.list.address fram ≡ map (element_pair p) listed
+  pub runs : IsRedo p → (i : ℕ) → i < fram (word_place p.map ListLength) → 0 < fram (p.map.list.address + 6 * i + 4)
+  pub count : IsUndo p → fram (word_place p.map ListLength) ≡ first + length listed
   pub marked : (x : Element) → Contains listed x → fram (version_address p x) ≡ fram (word_place p.map Version)
   pub only_marked : (x : Element) → IsCopied p x → fram (version_address p x) ≡ fram (word_place p.map Version) → Contains listed x
 
--- a state holds the variables, the emitted words and the readings that are left, with these elements listed
-pub record Holds (p : Places) (m : Variables) (words left : List ℕ) (listed : List Element) (w : WordState) : Type 0 where
+-- a state holds the variables, the emitted words and the readings that are left, with these elements listed behind so many first words
+pub record Holds (p : Places) (first : ℕ) (m : Variables) (words left : List ℕ) (listed : List Element) (w : WordState) : Type 0 where
   pub variables : HoldVariables p m w.fram w.locals
   pub emitted : HoldEmits p words w.fram
-  pub list : HoldList p listed w.fram
+  pub list : HoldList p first listed w.fram
   pub readings : w.inputs.readings ≡ left
 
 -- a state stands for an attempt, whatever answers that has left: the program will tell them by what it stores to ANS
-abbrev pub StandsFor : Places → Attempt → List Element → WordState → Type 0
-StandsFor p m listed w = Holds p m.variables m.emitted m.left listed w
+abbrev pub StandsFor : Places → ℕ → Attempt → List Element → WordState → Type 0
+StandsFor p first m listed w = Holds p first m.variables m.emitted m.left listed w
 
 -- ---- effects
 
@@ -124,34 +134,6 @@ answers_told (Outside o ∷ es) = answers_told es
 -- the attempt with these answers left
 abbrev pub answered_by : List ℕ → Attempt → Attempt
 answered_by answers m = record m { answers = answers }
-
--- effects that take readings, look, and make stores of this kind, by address and word, and send nothing
-abbrev pub TakesAndStores : (ℕ → ℕ → Type 0) → List Effect → Type 0
-TakesAndStores P [] = Unit {0}
-TakesAndStores P (Store a w ∷ es) = P a w × TakesAndStores P es
-TakesAndStores P (Take r ∷ es) = TakesAndStores P es
-TakesAndStores P (Outside (Looked seen) ∷ es) = TakesAndStores P es
-TakesAndStores P (Outside (Offered n w) ∷ es) = ⊥
-
--- what expressions store, where the program takes events: an answer, and how many words of the ring the attempt has taken
-abbrev pub IsAnswerStore : Bool → ℕ → ℕ → Type 0
-IsAnswerStore events a w = (events ≡ true) × ((a ≡ answer_place) ⊎ (a ≡ count_place))
-
--- effects that take readings, look, and tell answers
-abbrev pub OnlyTakes : Bool → List Effect → Type 0
-OnlyTakes events = TakesAndStores (IsAnswerStore events)
-
--- what statements store, VER being this number: words of the scalars that they write, copies and version words of elements, entries
--- of the commit list with their count, emitted words with theirs, and what expressions store
-pub data IsTaskStore (p : Places) (written : ℕ → Bool) (room : Room) (ver : ℕ) (a w : ℕ) : Type 0 where
-  at_variable : (v i : ℕ) → IsScalarWord p v i → written v ≡ true → a ≡ scalar_address p v i → IsTaskStore p written room ver a w
-  at_copy : (x : Element) → IsCopied p x → a ≡ copy_address p x → IsTaskStore p written room ver a w
-  at_version : (x : Element) → IsCopied p x → a ≡ version_address p x → w ≡ ver → IsTaskStore p written room ver a w
-  in_list : p.map.list.address ≤ a → a < p.map.list.address + 6 * room.list → IsTaskStore p written room ver a w
-  at_list_length : a ≡ word_place p.map ListLength → w ≤ room.list → IsTaskStore p written room ver a w
-  at_emit_count : a ≡ word_place p.map EmitCount → w ≤ room.emits → IsTaskStore p written room ver a w
-  in_buffer : (i : ℕ) → i < room.emits → a ≡ 2 * i + p.map.emits.address → IsTaskStore p written room ver a w
-  at_answer : IsAnswerStore p.map.runtime.events a w → IsTaskStore p written room ver a w
 
 -- entries of the commit list from number i on, each a home, its copy and the words of the run, with the count raised behind each
 abbrev pub entry_effects : ℕ → ℕ → ℕ → List Run → List Effect
@@ -256,43 +238,45 @@ TestsAgree = (shared : List SharedDeclaration) (p : Places) (room : Room) (e : C
 -- ---- statements
 
 -- the task that statements stand in: its source's declarations, its places, apart, even and as declared, with room for so many stores to each
--- array, the variables that it writes, and VER
+-- array behind so many words that the start lists (none under redo), the variables that it writes, and VER
 pub record Scene : Type 0 where
   pub shared : List SharedDeclaration
   pub p : Places
   pub written : ℕ → Bool
   pub room : Room
   pub stores : ℕ → ℕ
+  pub first : ℕ
   pub ver : ℕ
   pub apart : AreApart p room
   pub even : AreEven p
-  pub has_room : HasRoom p stores room
+  pub has_room : HasRoomBehind first p stores room
   pub declared : AsDeclared shared p
   pub copied : HasCopies shared p written
 
 -- what statements start from, and what bounds their stores: FRAM at their start, the scalars that they write, the room that they have,
--- VER, and how many elements of each array they may have listed at their end
+-- how many words the start lists, VER, and how many elements of each array they may have listed at their end
 pub record Bounds : Type 0 where
   pub start : ℕ → ℕ
   pub written : ℕ → Bool
   pub room : Room
+  pub first : ℕ
   pub ver : ℕ
   pub most : ℕ → ℕ
 
 -- the bounds of a task's statements from this FRAM on, which may list so many elements
 abbrev pub bounds : Scene → (ℕ → ℕ) → (ℕ → ℕ) → Bounds
-bounds z start most = record { start = start; written = z.written; room = z.room; ver = z.ver; most = most }
+bounds z start most = record { start = start; written = z.written; room = z.room; first = z.first; ver = z.ver; most = most }
 
--- the stores that statements may make within these bounds
-abbrev pub IsStore : Places → Bounds → ℕ → ℕ → Type 0
-IsStore p b = IsTaskStore p b.written b.room b.ver
+-- what statements may do within these bounds
+abbrev pub DidWithin : Places → Bounds → List Effect → Type 0
+DidWithin p b = Did p b.written b.room b.ver b.start
 
 -- statements that went on, with these answers left
 pub record WentOn (p : Places) (b : Bounds) (stack left : List ℕ) (es : List Effect) (s : WordState) (m : Attempt) : Type 0 where
-  pub stores : TakesAndStores (IsStore p b) es
+  pub did : DidWithin p b es
   pub stack_kept : s.stack ≡ stack
   pub listed : List Element
-  pub stands : StandsFor p m listed s
+  pub stands : StandsFor p b.first m listed s
   pub few : (v : ℕ) → listed_of v listed ≤ b.most v
   pub answers : m.answers ≡ left
 
@@ -304,9 +288,9 @@ pub record Left (p : Places) (b : Bounds) (left : List ℕ) (es : List Effect) (
   pub listed : List Element
   pub effects : es ≡ body ++ (transition_effects p task (there.fram (word_place p.map ListLength)) (there.fram (word_place p.map Base))
       (event_index there.fram) ++ Store (word_place p.map Gate) 1 ∷ [])
-  pub stores : TakesAndStores (IsStore p b) body
+  pub did : DidWithin p b body
   pub arrived : there.fram ≡ fram_after body b.start
-  pub stands : StandsFor p m listed there
+  pub stands : StandsFor p b.first m listed there
   pub few : (v : ℕ) → listed_of v listed ≤ b.most v
   pub commits : to ≡ p.map.commit.address
   pub readings : s.inputs.readings ≡ m.left
@@ -322,7 +306,7 @@ EndsAs p b stack left es (Jumps to s) (to_task task m) = Left p b left es to s t
 EndsAs p b stack left es (Jumps to s) short = ⊥
 EndsAs p b stack left es Short (goes_on m) = ⊥
 EndsAs p b stack left es Short (to_task task m) = ⊥
-EndsAs p b stack left es Short short = TakesAndStores (IsStore p b) es
+EndsAs p b stack left es Short short = DidWithin p b es
 EndsAs p b stack left es Strays o = ⊥
 EndsAs p b stack left es Broken o = Unit {0}
 
@@ -337,7 +321,7 @@ WritesWithin written block = (v : ℕ) → some_path_writes block v ≡ true →
 -- the program of well-formed statements does what they do, where there is room for what they emit and list
 abbrev pub BlocksAgree : Type 0
 BlocksAgree = (z : Scene) (block : CheckedBlock) (m : Attempt) (listed : List Element) (w : WordState) → w.fram (word_place z.p.map Version) ≡ z.ver
-    → WellFormedBlock z.shared block → AdmitsBlock z.p.map.runtime.events block → WritesWithin z.written block → StandsFor z.p m listed w
+    → WellFormedBlock z.shared block → AdmitsBlock z.p.map.runtime.events block → WritesWithin z.written block → StandsFor z.p z.first m listed w
     → length m.emitted + block_emits block ≤ z.room.emits → ((v : ℕ) → listed_of v listed + stores_of v block ≤ z.stores v)
     → Agrees z.p (bounds z w.fram (λ v. listed_of v listed + stores_of v block)) w.stack (behaviour (lowered_block z.p block) w)
     (λ answers. run_block block (answered_by answers m))

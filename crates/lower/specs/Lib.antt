@@ -5,6 +5,7 @@ pub mod Seen
 pub mod Lowered
 pub mod Events
 pub mod Spots
+pub mod Stores
 pub mod Agreement
 pub mod Sizes
 pub use Rattle.array_versions.specs.alp_text as alp_text
@@ -21,3 +22,4 @@ pub use Rattle.source_values.specs as source_values
 pub use Rattle.array_versions.specs as array_versions
 pub use Rattle.variable_places.specs as variable_places
 pub use Rattle.path_runs.specs as path_runs
+pub use Rattle.undo_effects.specs as undo_effects

@@ -27,17 +27,22 @@ use Rattle.array_versions.specs.declared.operations.Comparison.TheVariants.{Comm
 use Rattle.array_versions.specs.declared.operations.LongOperation.TheVariants as with_longs
 use Rattle.array_versions.specs.Program.{Step, Test, Program, number, load, keep, update, local, set_local, update_local, unary, binary, shift, element, long}
 use Rattle.array_versions.specs.Program.{emit_word, list_entry, sense, next_event, freeze_events, truth, choose, repeat, versioned_read, versioned_write}
-use Rattle.array_versions.specs.Program.{versioned_update, store_number}
+use Rattle.array_versions.specs.Program.{versioned_update, logged_write, logged_update, store_number}
+use Rattle.array_versions.specs.declared.program.ArrayPlace.{ArrayPlace}
+use Rattle.array_versions.specs.declared.program.ListPlace.{ListPlace}
+use Rattle.array_versions.specs.declared.program.LoggedPlace.{LoggedPlace}
 use Rattle.array_versions.specs.Program.{move_word, jump, holds, compares, both, either, fails, nothing, step, joined, behind}
 use Rattle.memory_map.specs.declared.words.RuntimeWord.TheVariants.{NextTask, Gate, ListLength, EmitCount, Base, SentBase}
 use Rattle.memory_map.specs.declared.place.VariablePlace.{VariablePlace}
 use Rattle.memory_map.specs.declared.place.VariablePlace.TheVariants.{Scalar, Array}
+use Rattle.memory_map.specs.declared.runtime.Logging.{Logging}
+use Rattle.memory_map.specs.declared.runtime.Logging.TheVariants.{Redo, Undo}
 use Rattle.memory_map.specs.MemoryMap.{MemoryMap, TaskPlace, word_place}
 use Rattle.memory_map.specs.Spots.{Places, places_of, address_of}
 pub use Rattle.variable_places.specs.Places.{high_address, array_place, no_array, list_place, written_array, stored_array}
 use Rattle.lower.specs.declared.runs.Run.{Run}
 use Rattle.lower.specs.Runs.{runs_of}
-use Rattle.lower.specs.Seen.{map_seen}
+use Rattle.lower.specs.Seen.{map_seen, task_seen}
 use Rattle.lower.specs.declared.operations.BinaryMeaning.{BinaryMeaning}
 use Rattle.lower.specs.declared.operations.BinaryMeaning.TheVariants.{Calculates, CommonBits, Holds, Fails}
 use Rattle.lower.specs.declared.operations.LongQuestion.{LongQuestion}
@@ -75,10 +80,15 @@ abbrev pub write_long : Places → Variable → Program
 write_long p (Shared v) = step (keep (high_address (address_of p v))) (one (keep (address_of p v)))
 write_long p (Local n) = step (long with_longs.LowWord) (one (set_local (n % 65536)))
 
+-- pops an index and pushes an element of an array that the task writes, as this attempt has the element: under undo it stands in its place
+abbrev pub own_read : Logging → ArrayPlace → ListPlace → Step
+own_read Redo a list = versioned_read a list
+own_read Undo a list = element a.elements a.length
+
 -- pops an index and pushes an element of the array at a place: as this attempt has the element where the task writes the array, else
 -- where it stands
 abbrev pub element_read : Places → Option VariablePlace → Step
-element_read p (Some (Array elements length (Some c))) = versioned_read (array_place elements length c) (list_place p)
+element_read p (Some (Array elements length (Some c))) = own_read p.map.runtime.logging (array_place elements length c) (list_place p)
 element_read p (Some (Array elements length None)) = element elements length
 element_read p (Some (Scalar home copy width)) = element 0 0
 element_read p None = element 0 0
@@ -88,13 +98,27 @@ abbrev pub element_step : Places → Variable → Step
 element_step p (Shared v) = element_read p (slice_get p.map.variables v)
 element_step p (Local n) = element 0 0
 
--- pops a word and an index, and stores the word in the copy of an element
-abbrev pub store_step : Places → Variable → Step
-store_step p x = versioned_write (stored_array p x) (list_place p)
+-- an array whose elements are stored where they stand
+abbrev pub logged_place : ArrayPlace → LoggedPlace
+logged_place a = record { elements = a.elements; versions = a.versions; length = a.length }
 
--- pops a word and an index, and stores in the copy of an element what an operation gives of the element and of that word
+-- pops a word and an index, and stores the word in an element: under redo in its copy, under undo in its place, where it is listed before
+abbrev pub own_write : Logging → ArrayPlace → ListPlace → Step
+own_write Redo a list = versioned_write a list
+own_write Undo a list = logged_write (logged_place a) list
+
+-- the same of a variable
+abbrev pub store_step : Places → Variable → Step
+store_step p x = own_write p.map.runtime.logging (stored_array p x) (list_place p)
+
+-- pops a word and an index, and stores in an element what an operation gives of the element and of that word
+abbrev pub own_update : Logging → PlainOperation → ArrayPlace → ListPlace → Step
+own_update Redo op a list = versioned_update op a list
+own_update Undo op a list = logged_update op (logged_place a) list
+
+-- the same of a variable
 abbrev pub update_element_step : Places → PlainOperation → Variable → Step
-update_element_step p op x = versioned_update op (stored_array p x) (list_place p)
+update_element_step p op x = own_update p.map.runtime.logging op (stored_array p x) (list_place p)
 
 -- what an expression comes to: a program that leaves its value on top of the stack; a test, its value being 1 where the test holds and else
 -- 0; a program that leaves two words, its value being the bits that are 1 in both; or a program that leaves its value as a long
@@ -357,9 +381,9 @@ abbrev mutual
   lowered_block p t.end = nothing
   lowered_block p (t.step s more) = joined (lowered_statement p s) (lowered_block p more)
 
--- a task's program, over the memory map as the task sees it
+-- a task's program, over the memory map and its own place as the task sees them
 abbrev pub lowered_task : MemoryMap → TaskPlace → CheckedBlock → Program
-lowered_task l task body = lowered_block (places_of (map_seen body l) task) body
+lowered_task l task body = lowered_block (places_of (map_seen body l) (task_seen l.runtime.logging task)) body
 
 -- the programs of tasks, each with its layout
 abbrev pub lowered_tasks : MemoryMap → List (Task VariableName TaskName) → List TaskPlace → List Program

@@ -1,4 +1,5 @@
--- A memory map as a task sees it: an array that no path of the task writes is read where it stands, so there it has no copies.
+-- A memory map as a task sees it: an array that no path of the task writes is read where it stands, so there it has no copies. Under undo no
+-- scalar of the task has a copy.
 use Rattle.std.specs.Prelude.{ℕ, ◌+◌, Bool, true, false, List, [], ◌∷◌, None}
 use Rattle.task_ast.specs.Paths.{CheckedBlock}
 use Rattle.task_ast.specs.declared.names.Variable.TheVariants.{Shared}
@@ -6,7 +7,9 @@ use Rattle.path_sums.specs.Sums.{block_sum}
 use Rattle.path_sums.specs.Access.{summary}
 use Rattle.memory_map.specs.declared.place.VariablePlace.{VariablePlace}
 use Rattle.memory_map.specs.declared.place.VariablePlace.TheVariants.{Scalar, Array}
-use Rattle.memory_map.specs.MemoryMap.{MemoryMap}
+use Rattle.memory_map.specs.declared.runtime.Logging.{Logging}
+use Rattle.memory_map.specs.declared.runtime.Logging.TheVariants.{Redo, Undo}
+use Rattle.memory_map.specs.MemoryMap.{MemoryMap, TaskPlace}
 
 -- whether some path of a task writes a shared variable
 abbrev pub some_path_writes : CheckedBlock → ℕ → Bool
@@ -26,3 +29,8 @@ places_seen written v (x ∷ xs) = place_seen (written v) x ∷ places_seen writ
 -- the memory map as a task with these statements sees it
 abbrev pub map_seen : CheckedBlock → MemoryMap → MemoryMap
 map_seen body m = record m { variables = places_seen (some_path_writes body) 0 m.variables }
+
+-- the place of a task as it sees it: under undo it works on its scalars where they stand, so none of them is private
+abbrev pub task_seen : Logging → TaskPlace → TaskPlace
+task_seen Redo t = t
+task_seen Undo t = record t { privates = [] }

@@ -1,9 +1,18 @@
 -- Where the words that a task works on stand apart from the runtime's, and for how much there is room.
 use Rattle.std.specs.Prelude.{◌≡◌, ℕ, ◌+◌, ◌*◌, ◌%◌, ◌≤◌, ◌==◌, if◌then◌else◌, List, [], ◌∷◌, length, All, AllPairs}
 use Rattle.address_space.specs.Limits.{fram_first, program_end}
+use Rattle.memory_map.specs.declared.runtime.Logging.TheVariants.{Redo, Undo}
 use Rattle.memory_map.specs.MemoryMap.{row_region}
 use Rattle.memory_map.specs.Places.{end_of}
 use Rattle.memory_map.specs.Spots.{Places, private_words, Element, IsCopied, Spot, IsSpot, spot_address}
+
+-- attempts work in copies, which commits bring home
+abbrev pub IsRedo : Places → Type 0
+IsRedo p = p.map.runtime.logging ≡ Redo
+
+-- attempts work in the words themselves, and first list what stood there
+abbrev pub IsUndo : Places → Type 0
+IsUndo p = p.map.runtime.logging ≡ Undo
 
 -- for how many words an attempt has room: words that it emits, and words that the commit list names
 pub record Room : Type 0 where
@@ -47,3 +56,8 @@ pub record AreListed (p : Places) (xs : List Element) : Type 0 where
 -- the commit list has room for the words of the private scalars and for elements of which so many of each array are listed
 abbrev pub HasRoom : Places → (ℕ → ℕ) → Room → Type 0
 HasRoom p stores room = (xs : List Element) → AreListed p xs → ((v : ℕ) → listed_of v xs ≤ stores v) → length xs + private_words p.privates ≤ room.list
+
+-- it has room for so many words besides, which the start lists
+abbrev pub HasRoomBehind : ℕ → Places → (ℕ → ℕ) → Room → Type 0
+HasRoomBehind first p stores room =
+    (xs : List Element) → AreListed p xs → ((v : ℕ) → listed_of v xs ≤ stores v) → first + (length xs + private_words p.privates) ≤ room.list

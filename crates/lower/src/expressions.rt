@@ -9,6 +9,8 @@ ghost use Rattle.task_ast.specs.View.{expression_of};
 ghost use Rattle.source_values.specs.Values.{type_of};
 ghost use Rattle.task_ast.specs.declared.names.Variable.TheVariants.{Shared};
 ghost use Rattle.lower.specs.View.{places_in, lowering_of};
+ghost use Rattle.variable_places.specs.Places.{list_place};
+ghost use Rattle.lower.specs.Lowered.{own_read};
 ghost use Rattle.lower.specs.Lowered.{one, read_step, read_long, element_step, word_program, value_test, widening, name_lowering, long_words, long_program};
 ghost use Rattle.lower.specs.Lowered.{unary_lowering, long_unary_lowering, operand_lowering, binary_lowering, answer, long_binary_lowering, sides_lowering};
 ghost use Rattle.lower.specs.Lowered.{shift_lowering, sides_test, widened_type, lowering, as_word, as_test, as_bits, as_long, lowered_expression, lowered_long};
@@ -19,10 +21,10 @@ use crate::operations::{
     operand_type, shift_operation,
 };
 use array_versions::{
-    BinaryOperation, Comparison, LongOperation, PlainOperation, UnaryOperation, WordProgram,
-    WordTest,
+    ArrayPlace, BinaryOperation, Comparison, LongOperation, PlainOperation, UnaryOperation,
+    WordProgram, WordTest,
 };
-use memory_map::VariablePlace;
+use memory_map::{Logging, VariablePlace};
 use std::alloc::{AllocError, Global};
 use task_ast::types::{binary_type, joined_type, literal_type, unary_type};
 use task_ast::{
@@ -141,6 +143,22 @@ fn name(
     }
 }
 
+// Pops an index and pushes an element of an array that the task writes, as this attempt has the element: under undo it stands in
+// its place.
+fn read_own(
+    array: &ArrayPlace,
+    places: &TaskPlaces<'_>,
+    program: &mut WordProgram,
+) -> Result<(), AllocError>
+    ensures { OnOk result (program_of program.new ≡ behind (program_of program.old)
+        (own_read (places_in places.now).map.runtime.logging array.now (list_place (places_in places.now)))) }
+{
+    match places.layout.runtime().logging {
+        Logging::Redo => program.versioned_read(array, &places.list_place()),
+        Logging::Undo => program.element(array.elements, array.length),
+    }
+}
+
 // Pops an index and pushes an element of the array of a number: where the task writes the array, as this attempt has the
 // element.
 fn read_array(
@@ -158,10 +176,7 @@ fn read_array(
                 length,
                 copies: Some(copies),
             },
-        ) => program.versioned_read(
-            &array_place(*elements, *length, *copies),
-            &places.list_place(),
-        ),
+        ) => read_own(&array_place(*elements, *length, *copies), places, program),
         Some(
             VariablePlace::Array {
                 elements,

@@ -2,7 +2,8 @@
 //!
 //! An expression works on the stack, its parts from left to right. A shared scalar has one address in a task: that of its
 //! copy where it is private there, else that of its word. An element of an array that the task writes is read and stored by its
-//! version; of one that it only reads, where it stands. A transition stores the next task and an entry of the commit list for each
+//! version; of one that it only reads, where it stands. Under undo scalars and elements are read and stored where they stand, and an
+//! element is listed in front of the first store to it. A transition stores the next task and an entry of the commit list for each
 //! run of neighbouring private scalars, freezes the number
 //! of the next word to send, and raises the gate; then it leaves for the commit.
 #![tactic(auto)]

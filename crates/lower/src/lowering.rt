@@ -3,12 +3,12 @@ ghost use Rattle.std.specs.Prelude.{◌≡◌, ◌≤◌, IfOk, length, map};
 ghost use Rattle.array_versions.specs.View.{program_of};
 ghost use Rattle.task_ast.specs.View as tree;
 ghost use Rattle.task_ast.specs.View.{block_view};
-ghost use Rattle.lower.specs.Seen.{some_path_writes, place_seen, places_seen};
+ghost use Rattle.lower.specs.Seen.{some_path_writes, place_seen, places_seen, task_seen};
 ghost use Rattle.lower.specs.Lowered.{lowered_task, lowered};
 
 use crate::statements::lower_block;
 use array_versions::WordProgram;
-use memory_map::{Layout, TaskLayout, VariablePlace};
+use memory_map::{Layout, Logging, PrivateScalar, TaskLayout, VariablePlace};
 use path_sums::access_summary;
 use std::alloc::{AllocError, Global};
 use task_ast::{Stmt, TaskName, Variable, VariableName};
@@ -53,6 +53,16 @@ fn places_seen(
     Ok(seen)
 }
 
+// The private scalars of a task as it sees them: under undo it works on its scalars where they stand, so none is private.
+fn privates_seen(logging: Logging, task: &TaskLayout) -> &[PrivateScalar]
+    ensures { result.now ≡ (task_seen logging task.now).privates }
+{
+    match logging {
+        Logging::Redo => task.privates(),
+        Logging::Undo => &[],
+    }
+}
+
 fn lower_task(
     alloc: Global,
     body: &[Stmt<VariableName, TaskName>],
@@ -66,7 +76,7 @@ fn lower_task(
     let places = TaskPlaces {
         layout,
         variables: variables.as_slice(),
-        privates: task.privates(),
+        privates: privates_seen(layout.runtime().logging, task),
     };
     let mut program = WordProgram::new(alloc);
     lower_block(alloc, body, &places, &mut program)?;

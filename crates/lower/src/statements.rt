@@ -8,15 +8,16 @@ ghost use Rattle.task_ast.specs.View.{expression_of, statement_of, tested_of, bl
 ghost use Rattle.task_ast.specs.declared.names.VariableName.{VariableName};
 ghost use Rattle.task_ast.specs.declared.names.TaskName.{TaskName};
 ghost use Rattle.lower.specs.View.{places_in};
-ghost use Rattle.lower.specs.Lowered.{one, write_step, write_long, update_step, update_element_step, loop_local, lowered_test, setting, long_setting};
+ghost use Rattle.lower.specs.Lowered.{one, write_step, write_long, update_step, logged_place, store_step, update_element_step, loop_local};
+ghost use Rattle.lower.specs.Lowered.{lowered_test, setting, long_setting};
 ghost use Rattle.lower.specs.Lowered.{assignment, scalar_assignment, index_and_value, element_setting, element_assignment, declaration, emission};
 ghost use Rattle.lower.specs.Lowered.{lowered_expression, freezing, lowered_transition, lowered_statement, lowered_choice, lowered_block};
 
 use crate::expressions::{append, append_expression, lower_long, lower_test};
 use crate::in_place::{element_updating, of_words, updating};
 use crate::runs::list_entries;
-use array_versions::{LongOperation, PlainOperation, WordProgram};
-use memory_map::RuntimeWord;
+use array_versions::{ArrayPlace, LoggedPlace, LongOperation, PlainOperation, WordProgram};
+use memory_map::{Logging, RuntimeWord};
 use std::alloc::{AllocError, Global};
 use task_ast::types::{joined_type, type_of};
 use task_ast::{Arm, Expr, Stmt, TaskName, Variable, VariableName, WordType};
@@ -189,6 +190,52 @@ fn index_and_value(
     append_expression(alloc, e, places, program)
 }
 
+// An array whose elements are stored where they stand.
+fn logged_place(array: &ArrayPlace) -> LoggedPlace
+    ensures { result ≡ logged_place array.now }
+{
+    LoggedPlace {
+        elements: array.elements,
+        versions: array.versions,
+        length: array.length,
+    }
+}
+
+// Pops a word and an index, and stores the word in an element: under redo in its copy, under undo in its place.
+fn write_element(
+    variable: Variable,
+    places: &TaskPlaces<'_>,
+    program: &mut WordProgram,
+) -> Result<(), AllocError>
+    ensures { OnOk result (program_of program.new
+        ≡ behind (program_of program.old) (store_step (places_in places.now) variable)) }
+{
+    let array = places.stored_array(variable);
+    let list = places.list_place();
+    match places.layout.runtime().logging {
+        Logging::Redo => program.versioned_write(&array, &list),
+        Logging::Undo => program.logged_write(&logged_place(&array), &list),
+    }
+}
+
+// Pops a word and an index, and stores in an element what an operation gives of the element and of that word.
+fn update_element(
+    operation: PlainOperation,
+    variable: Variable,
+    places: &TaskPlaces<'_>,
+    program: &mut WordProgram,
+) -> Result<(), AllocError>
+    ensures { OnOk result (program_of program.new
+        ≡ behind (program_of program.old) (update_element_step (places_in places.now) operation variable)) }
+{
+    let array = places.stored_array(variable);
+    let list = places.list_place();
+    match places.layout.runtime().logging {
+        Logging::Redo => program.versioned_update(operation, &array, &list),
+        Logging::Undo => program.logged_update(operation, &logged_place(&array), &list),
+    }
+}
+
 // Sets an element to an expression's value.
 #[tactic(auto, using(array_versions::proofs::Interface::joined_assoc))]
 fn set_element(
@@ -203,7 +250,7 @@ fn set_element(
         (element_setting (places_in places.now) variable (expression_of index.now) (expression_of e.now))) }
 {
     index_and_value(alloc, index, e, places, program)?;
-    program.versioned_write(&places.stored_array(variable), &places.list_place())
+    write_element(variable, places, program)
 }
 
 // Sets an element to what an operation gives of it and of an expression's value.
@@ -222,11 +269,7 @@ fn set_element_in_place(
         (update_element_step (places_in places.now) operation variable))) }
 {
     index_and_value(alloc, index, e, places, program)?;
-    program.versioned_update(
-        operation,
-        &places.stored_array(variable),
-        &places.list_place(),
-    )
+    update_element(operation, variable, places, program)
 }
 
 // `a[i] = a[i] + e` and its like are in place, where both sides are of one word.

@@ -1,12 +1,9 @@
 -- The same places for the undo runtime.
-use Rattle.std.proofs.Common.{ℕ, List, ap}
-use Rattle.cost_bound.specs.declared.allowance.Allow.{Allow}
-use Rattle.cost_bound.specs.Allowance.{CheckedProgram}
-use Rattle.war_analysis.specs.PlanValue.{TaskPlanValue}
+use Rattle.std.proofs.Common.{ap}
 use Rattle.memory_map.specs.declared.runtime.Logging.TheVariants.{Undo}
+use Rattle.memory_map.specs.declared.runtime.Runtime.{Runtime}
 use Rattle.memory_map.specs.MemoryMap.{MemoryMap, logged_map}
 use Rattle.memory_map.specs.Places.{IsLaidOut}
-use Rattle.privatise.specs.Layouts.{IsLayout, IsLayoutFor}
 use Rattle.privatise.specs.Laws.{LayoutsAreLogged}
 
 -- the rules of layouts don't look at the runtime
@@ -23,7 +20,7 @@ logged_rules l h = record {
 
 pub layouts_are_logged : LayoutsAreLogged
 layouts_are_logged p allow plans l h = record {
-  runtime = ap (λ r. record r { logging = Undo }) h.runtime;
+  runtime = ap (λ (r : Runtime). record r { logging = Undo }) h.runtime;
   rules = logged_rules l h.rules;
   list = h.list;
   emits = h.emits;

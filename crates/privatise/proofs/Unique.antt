@@ -6,8 +6,7 @@ use Rattle.memory_map.specs.address_space.Limits.{fram_first}
 use Rattle.memory_map.specs.Words.{row_words}
 use Rattle.task_ast.specs.declared.SharedDeclaration.{SharedDeclaration}
 use Rattle.cost_bound.specs.declared.allowance.Allow.{Allow}
-use Rattle.cost_bound.specs.Counts.{emits_of}
-use Rattle.cost_bound.specs.Allowance.{CheckedTask, CheckedProgram, is_written, total, greatest, list_of, plain_words_of, versions_of, IsAllowed}
+use Rattle.cost_bound.specs.Allowance.{CheckedTask, CheckedProgram, is_written, total, plain_words_of, versions_of, IsAllowed}
 use Rattle.war_analysis.specs.PlanValue.{TaskPlanValue}
 use Rattle.memory_map.specs.declared.place.Region.{Region}
 use Rattle.memory_map.specs.declared.place.VariablePlace.{VariablePlace}
@@ -21,7 +20,6 @@ use Rattle.privatise.specs.Sizes.{home_words, copy_words, body_words, boot_words
 use Rattle.privatise.specs.Layouts.{IsPlaceOf, IsTaskLayout, IsLayoutFor}
 use Rattle.privatise.specs.Laws.{OneLayoutFor}
 use Rattle.memory_map.proofs.Interface.{apart_of}
-use Rattle.privatise.proofs.Sums.{words_split}
 use Rattle.privatise.proofs.Whole.{Amounts, needed, adds_up}
 use Rattle.privatise.proofs.Tight.{IsChain, bytes, same_chain, kinds_from, same_variables}
 

@@ -24,9 +24,9 @@ use Rattle.memory_map.specs.MemoryMap.{MemoryMap, TaskPlace}
 use Rattle.memory_map.specs.Spots.{places_of, private_words}
 use Rattle.array_versions.specs.Form.{IsWhole}
 use Rattle.array_versions.specs.Cost.{words_of}
-use Rattle.lower.specs.Seen.{map_seen}
+use Rattle.lower.specs.Seen.{map_seen, task_seen}
 use Rattle.lower.specs.Lowered.{lowered_tasks}
-use Rattle.lower.proofs.Interface.{blocks_keep_to_words, program_at}
+use Rattle.lower.proofs.Interface.{seen_words, blocks_keep_to_words, program_at}
 use Rattle.whole_programs.specs.Laws.{IsLaidOutText, TasksAreWhole, PrivatesAreFew}
 use Rattle.compiled_model.specs.Parts.{task_program}
 use Rattle.need_lines.specs.Rows.{NeedRow}
@@ -60,7 +60,9 @@ task_holds whole text p allow plans l few laid k inside =
     let allowed = laid.accepted.allowed in
     let bound = at_most_greatest (task_bound (uses_events p) (versions_of p) p.shared) p.tasks k t.0 t.1 in
     let words = at_most_total (task_words p.shared) p.tasks k t.0 t.1 in
-    let code = blocks_keep_to_words (places_of (map_seen t.0.body l) place.0) (scalars_of p.shared t.0.body) t.0.body privates in
+    let own = task_seen l.runtime.logging place.0 in
+    let no_more = seen_words l.runtime.logging place.0 in
+    let code = blocks_keep_to_words (places_of (map_seen t.0.body l) own) (scalars_of p.shared t.0.body) t.0.body (omega (arith, privates, no_more)) in
     let small : task_words p.shared t.0.body ≤ 22000 = omega (arith, words, allowed.within_size) in
     record {
       task = t.0;

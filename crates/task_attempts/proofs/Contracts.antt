@@ -19,7 +19,7 @@ use Rattle.task_needs.specs.Lists.{ListsWithin, ListsAtEnd}
 use Rattle.array_versions.specs.Laws.{EndsByEffects, IsSound}
 use Rattle.source_meaning.proofs.Interface.{emits_same}
 use Rattle.task_attempts.proofs.Names.{◌%◌, ◌+◌, ◌<◌, NextTask, SentBase, Base, ListLength, sent_place, event_index, where_events, entry_effects, runs_of}
-use Rattle.task_attempts.proofs.Names.{transition_effects, each_store-front, at_variable, at_copy, at_version, in_list, at_list_length, at_emit_count}
+use Rattle.task_attempts.proofs.Names.{transition_effects, each_store-front, at_variable, at_copy, at_element, at_version, in_list, at_list_length, at_emit_count}
 use Rattle.task_attempts.proofs.Names.{in_buffer}
 use Rattle.task_attempts.proofs.Names.{at_answer, scalar, copy, list_of}
 use Rattle.memory_map.specs.Spots.{version}
@@ -81,7 +81,7 @@ module _ (run : Started) where
 
   module _ (es : List Effect) (h : Meets es Starves short) where
     safe_short : TakesAndStores (Safe run) es
-    safe_short = stores_as (StoresOf run) (Safe run) (task_safe run) es h.agrees h.of_words
+    safe_short = stores_as (StoresOf run) (Safe run) (task_safe run) es h.agrees.stores h.of_words
 
     answers_so_far : answers_in model.marks es ≡ answers_told es
     answers_so_far = answers_seen l es (off_answer es safe_short)
@@ -273,6 +273,7 @@ module _ (run : Started) where
   off_sent : (a w : ℕ) → StoresOf run a w → a ≢ sent_place
   off_sent a w (at_variable v n h e is) same = let low = facts.apart.below (scalar v n) h in omega (arith, is, same, low)
   off_sent a w (at_copy y h is) same = let low = facts.apart.below (copy y) h in omega (arith, is, same, low)
+  off_sent a w (at_element undo y h is) same = let redo = facts.redo in absurd (cc (redo, undo))
   off_sent a w (at_version y h is e) same = let low = facts.apart.below (version y) h in omega (arith, is, same, low)
   off_sent a w (in_list lo hi) same = let apart = facts.apart in omega (arith, lo, hi, same, apart)
   off_sent a w (at_list_length is h) same = let apart = facts.apart in omega (arith, is, same, apart)
@@ -353,7 +354,7 @@ module _ (run : Started) where
   task_in_order es (GoesOn t) o h on k = absurd h.sound
   task_in_order es Broken o h on k = absurd h.sound
   task_in_order es Starves short h on k =
-      (Open, statements_advance gate k (no_closing es h.agrees h.of_words), λ e. absurd (cc e))
+      (Open, statements_advance gate k (no_closing es h.agrees.stores h.of_words), λ e. absurd (cc e))
   task_in_order es (Jumps to end) (to_task task m) h on k =
       let left = h.agrees in
       let there = left.there.fram in
@@ -372,7 +373,7 @@ module _ (run : Started) where
       let words = each_store-front (λ a w. w < 0x10000) left.body ends (subst StoresWords whole h.of_words) in
       let low : next < tail_place = omega (arith, apart) in
       let made = task_advances gate below front is_ordinary none index x.fram inputs.looks left.body next (task % 65536) _ refl low
-      (subst (λ l. FollowsSeeing Asks x.fram inputs.looks Open l Open) whole k) (no_closing left.body left.stores words)
+      (subst (λ l. FollowsSeeing Asks x.fram inputs.looks Open l Open) whole k) (no_closing left.body left.did.stores words)
       (ap next_index left.arrived) gate_open in
       (Before, subst (λ l. InOrder l Before) (sym whole) made, λ e. refl)
   task_in_order es _ _ h on k = absurd h.agrees

@@ -41,10 +41,11 @@ module _ (run : Started) where
     written = some_path_writes code;
     room = space;
     stores = λ v. stores_of v code;
+    first = 0;
     ver = x.fram (word_place here.map Version);
     apart = facts.apart;
     even = facts.even;
-    has_room = facts.has_room;
+    has_room = λ xs are few. let h = facts.has_room xs are few in omega (arith, h);
     declared = facts.declared;
     copied = facts.copied;
   }
@@ -103,7 +104,7 @@ module _ (run : Started) where
     pub few : count + length (runs_of i.layout.privates) ≤ list_of p.shared code
     few =
         let words = few_words in
-        let entries = few_entries here left.listed left.there.fram left.stands.list in
+        let entries = few_entries here 0 left.listed left.there.fram facts.redo left.stands.list in
         let runs = runs_are_few i.layout.privates in
         let scalars = privates_few i.layout.privates in
         omega (arith, words, entries, runs, scalars)
@@ -118,7 +119,7 @@ module _ (run : Started) where
     pub safe_before : TakesAndStores (Safe run) before
     safe_before =
         takes_append (Safe run) left.body transition
-        (stores_as (StoresOf run) (Safe run) (task_safe run) left.body left.stores
+        (stores_as (StoresOf run) (Safe run) (task_safe run) left.body left.did.stores
         (each_store-front (λ a w. w < 0x10000) left.body transition words_before))
         (stores_as (IsTransitionStore here space) (Safe run) (transition_safe run) transition
         (transition_stores here space task count base index few) (each_store-back (λ a w. w < 0x10000) left.body transition words_before))
@@ -225,7 +226,7 @@ module _ (run : Started) where
     listed_next : (e : Element) → Contains left.listed e
         → z.fram (copy_address here e) ≡ view.word next (element_address here e)
     listed_next e c =
-        let h = of_copied e (listed_copied e c) in listed_by e c h (own_word_of here left.there.fram e h)
+        let h = of_copied e (listed_copied e c) in listed_by e c h (own_word_of here left.there.fram e facts.redo h)
 
     -- ---- the commit list
 
@@ -243,7 +244,7 @@ module _ (run : Started) where
     z_pairs =
         ap (λ f. entries_from (f (word_place l ListLength)) l.list.address f) z_is
         ∙ closed_pairs leaving few
-        ∙ ap (λ ps. ps ++ flat_map scalar_pairs i.layout.privates) left.stands.list.pairs
+        ∙ ap (λ ps. ps ++ flat_map scalar_pairs i.layout.privates) (left.stands.list.pairs facts.redo)
 
     abbrev Listed : CopyPair → Type 0
     Listed q = IsAmong (listed sites.map z.fram) q
@@ -292,7 +293,7 @@ module _ (run : Started) where
         let own : own_privates l s.task ≡ i.layout.privates = ap privates_of i.layout_is in
         let same : elements_of p.shared (task_body p s.task) ≡ elements_of p.shared code = ap (elements_of p.shared) (body_is p l given s.task i) in
         let elements = few_elements in
-        let entries = few_entries here left.listed left.there.fram left.stands.list in
+        let entries = few_entries here 0 left.listed left.there.fram facts.redo left.stands.list in
         let runs = ap (λ ps. length (runs_of ps)) own in
         let words = ap private_words own in
         let counted = z_count in
@@ -301,7 +302,7 @@ module _ (run : Started) where
 
     -- each entry has a word
     entries_have_words : EntriesHaveWords sites z.fram
-    entries_have_words = subst (EntriesHaveWords sites) (sym z_is) (closed_entries leaving few left.stands.list.runs)
+    entries_have_words = subst (EntriesHaveWords sites) (sym z_is) (closed_entries leaving few (left.stands.list.runs facts.redo))
 
     -- ---- the next state
 
@@ -326,7 +327,7 @@ module _ (run : Started) where
     row_of v n (Array elements len copies) e h =
         let x : Element = record { array = v; index = n } in
         let is : IsElement here x = (element_there l code i.layout facts.privates v n elements len copies e h).0 in
-        word_of_own x is (own_word_of here left.there.fram x is)
+        word_of_own x is (own_word_of here left.there.fram x facts.redo is)
 
     -- the lengths of the rows
     row_fits : (v : ℕ) (place : VariablePlace) → slice_get l.variables v ≡ Some place → length (get_or m.variables.shared v []) ≡ place_length place
@@ -429,7 +430,7 @@ module _ (run : Started) where
     word_kept v n a h (left_there kind at) none = ap z.fram (sym at) ∙ scalar_next v n kind ∙ sym (next_word v n a h)
     word_kept v n a h (private r c below home) none = let q = private_listed r n c below in absurd (none q.0 q.1 (q.2 ∙ sym home))
     word_kept v n a h (an_element e is array index at) none =
-        let kept = element_kept e is (own_word_of here left.there.fram e is) (λ q k home. none q k (home ∙ sym at)) in
+        let kept = element_kept e is (own_word_of here left.there.fram e facts.redo is) (λ q k home. none q k (home ∙ sym at)) in
         ap z.fram at ∙ kept ∙ ap (view.word next) (sym at)
 
     others_kept : (a : ℕ) → IsSharedWord sites a → Unlisted a → z.fram a ≡ view.word next a

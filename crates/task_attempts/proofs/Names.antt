@@ -61,6 +61,11 @@ pub use Rattle.checked_trees.specs.WellFormed.{IsArrayName, IsLocal, IsOfType, W
 -- word programs and their code
 pub use Rattle.array_versions.proofs.Interface.{StoresWords, behaves_by_effects, stores_words, whole_ends_soundly}
 pub use Rattle.array_versions.specs.Behaviour.{Broken, End, GoesOn, Jumps, WordState, behaviour, event_index, started}
+pub use Rattle.lower.proofs.Interface.{redo_seen}
+pub use Rattle.lower.specs.Agreement.{at_element, own_by}
+pub use Rattle.lower.specs.Spots.{IsRedo, IsUndo}
+pub use Rattle.memory_map.specs.declared.runtime.Logging.{Logging}
+pub use Rattle.memory_map.specs.declared.runtime.Logging.TheVariants.{Redo, Undo}
 pub use Rattle.lower.proofs.Interface.{SeenFrom, after_entry, array_read, array_seen, blocks_agree, entered_pairs, few_entries, pairs_of_runs, program_at}
 pub use Rattle.lower.proofs.Interface.{row_length, runs_are_few, runs_have_words, runs_pairs, scalar_seen, seen_from, takes_append, tasks_are_admitted}
 pub use Rattle.lower.proofs.Interface.{word_other, word_same}

@@ -3,7 +3,7 @@ use Rattle.task_attempts.proofs.Names.{◌≡◌, ℕ, ◌+◌, ◌*◌, ◌<◌
 use Rattle.task_attempts.proofs.Names.{emits_of, list_of, task_body, CurrentTask, Gate, ListLength, EmitCount, Base, Version, Scalar, word_place, IsSharedWord}
 use Rattle.task_attempts.proofs.Names.{IsCopyWord, scalar_home, IsPlaceOfScalar, scalar_place, words_scalar, some_path_writes, map_seen, scalar_of_seen}
 use Rattle.task_attempts.proofs.Names.{scalar_is, scalar_address, words_at, IsScalarWord, PrivateScalar, end_of, scalar_words, IsTaskStore, at_variable}
-use Rattle.task_attempts.proofs.Names.{at_copy, at_version, in_list, at_list_length, at_emit_count, in_buffer, is_private_in, stays_in_place}
+use Rattle.task_attempts.proofs.Names.{at_copy, at_element, at_version, in_list, at_list_length, at_emit_count, in_buffer, is_private_in, stays_in_place}
 use Rattle.task_attempts.proofs.Entries as transition
 use Rattle.task_attempts.proofs.Given.{IsVersionWord}
 use Rattle.task_attempts.proofs.Quiet.{IsQuiet}
@@ -166,6 +166,7 @@ module _ (run : Started) where
   pub task_safe : (a w : ℕ) → StoresOf a w → w < 0x10000 → Safe a w
   task_safe a w (at_variable v n h e is) small = subst (λ z. Safe z w) (sym is) (written_safe v n w h e small)
   task_safe a w (at_copy x h is) small = subst (λ z. Safe z w) (sym is) (safe_copy _ w small (facts.copies x h))
+  task_safe a w (at_element undo x h is) small = let redo = facts.redo in absurd (cc (redo, undo))
   task_safe a w (at_version x h is e) small = subst (λ z. Safe z w) (sym is) (safe_version _ w small e (facts.versions x h))
   task_safe a w (in_list lo hi) small =
       let apart = given.apart in let fits = list_fits in safe_buffer a w small (omega (arith, lo)) (omega (arith, apart, hi, fits))

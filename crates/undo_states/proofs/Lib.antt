@@ -6,4 +6,5 @@ mod Recovery
 mod Commits
 mod Theorems
 mod Stored
+mod GoesOn
 pub mod Interface

@@ -65,7 +65,7 @@ module _ {St : Type 0} (l : ProgramPlaces) (apart : AreApart l.map) (v : StateVi
     pub unlogged : IsLogged (logged l.map x.fram) a → ⊥
 
   -- the entries stay
-  entries_stay : (x : World) (a w : ℕ) → (a ≡ word_place l.map ListLength → ⊥) → IsOutOf l.map.list.address (logged_bytes * list_length l x) a
+  pub entries_stay : (x : World) (a w : ℕ) → (a ≡ word_place l.map ListLength → ⊥) → IsOutOf l.map.list.address (logged_bytes * list_length l x) a
       → logged l.map (put x.fram a w) ≡ logged l.map x.fram
   entries_stay x a w length out =
       let f = x.fram in let p = l.map.list.address in

@@ -57,6 +57,10 @@ use Rattle.lower.specs.Lowered.{stored_array, element_read, element_step, store_
 use Rattle.lower.specs.Lowered.{word_program, value_test, widening, long_words, long_program, name_lowering, unary_lowering, long_zero, operand_lowering}
 use Rattle.lower.specs.Lowered.{binary_lowering, answer, long_binary_lowering, sides_lowering, shift_lowering, sides_test, widened_type, lowering}
 use Rattle.lower.specs.Lowered.{lowered_expression, lowered_long, lowered_test, setting, updating, of_words, sides_set, assignment, scalar_assignment}
+use Rattle.lower.specs.Lowered.{own_read, own_write, own_update, logged_place}
+use Rattle.array_versions.specs.Program.{versioned_write, versioned_update, logged_write, logged_update}
+use Rattle.memory_map.specs.declared.runtime.Logging.{Logging}
+use Rattle.memory_map.specs.declared.runtime.Logging.TheVariants.{Redo, Undo}
 use Rattle.lower.specs.Lowered.{index_and_value, element_updating, element_sides_set, element_assignment, loop_local, entries, freezing}
 use Rattle.lower.specs.Lowered.{lowered_transition}
 use Rattle.lower.specs.Lowered.{lowered_statement, lowered_choice, lowered_block}
@@ -330,14 +334,16 @@ module _ {ℓ} {room : ℕ} (F : Fact {ℓ} room) where
     element_has d (Local n) few = single (suc d) (suc d) (element 0 0) (an_element 0 0) (zero_is_word, zero_is_word) few
     element_has d (Shared v) few = by_place (slice_get p.map.variables v) (words.places v)
       where
+        own_read_has : (logging : Logging) (a : ArrayPlace) → ArrayOfWords a → F.of_program (suc d) (suc d) (one (own_read logging a (list_place p)))
+        own_read_has Redo a h = single (suc d) (suc d) (versioned_read a (list_place p)) (a_version a (list_place p)) (h, list_of_words p words) few
+        own_read_has Undo a h = single (suc d) (suc d) (element a.elements a.length) (an_element a.elements a.length) (h.0, h.3) few
+
         by_place : (o : Option VariablePlace) → PlaceOfWords o → F.of_program (suc d) (suc d) (one (element_read p o))
         by_place None h = single (suc d) (suc d) (element 0 0) (an_element 0 0) (zero_is_word, zero_is_word) few
         by_place (Some (Scalar home copy width)) h = single (suc d) (suc d) (element 0 0) (an_element 0 0) (zero_is_word, zero_is_word) few
         by_place (Some (Array elements length None)) h =
             single (suc d) (suc d) (element elements length) (an_element elements length) (h.0, h.1) few
-        by_place (Some (Array elements length (Some c))) h =
-            single (suc d) (suc d) (versioned_read (array_place elements length c) (list_place p))
-            (a_version (array_place elements length c) (list_place p)) ((h.0, h.2.0, h.2.1, h.1), list_of_words p words) few
+        by_place (Some (Array elements length (Some c))) h = own_read_has p.map.runtime.logging (array_place elements length c) (h.0, h.2.0, h.2.1, h.1)
 
     -- the fact holds of each well-formed expression that has room, on the locals that it reads
     pub lowering_has : (d : ℕ) (e : CheckedExpression) → WellFormedExpression shared e → stack_words e + d ≤ room → Reads F.of_local e
@@ -383,8 +389,10 @@ pub data Stores (p : Places) : Step → Type 0 where
   a_store : (v : ℕ) → Stores p (keep (address_of p v))
   a_high_store : (v : ℕ) → Stores p (keep (high_address (address_of p v)))
   an_update : (op : PlainOperation) (v : ℕ) → Stores p (update op (address_of p v))
-  an_element_store : (x : Variable) → Stores p (store_step p x)
-  an_element_update : (op : PlainOperation) (x : Variable) → Stores p (update_element_step p op x)
+  an_element_store : (x : Variable) → Stores p (versioned_write (stored_array p x) (list_place p))
+  an_element_update : (op : PlainOperation) (x : Variable) → Stores p (versioned_update op (stored_array p x) (list_place p))
+  a_logged_store : (x : Variable) → Stores p (logged_write (logged_place (stored_array p x)) (list_place p))
+  a_logged_update : (op : PlainOperation) (x : Variable) → Stores p (logged_update op (logged_place (stored_array p x)) (list_place p))
   an_emission : Stores p (emit_word (word_place p.map EmitCount) p.map.emits.address)
   an_entry : (r : Run) → Stores p (list_entry (word_place p.map ListLength) p.map.list.address r.home r.copy r.words)
   the_task : (task : ℕ) → Stores p (store_number (word_place p.map NextTask) (task % 65536))
@@ -539,17 +547,32 @@ module _ (p : Places) (G : EachStep p) (words : PlacesOfWords p) (shared : List 
   index_and_value_have index e s h k l =
       then_step (index_and_value p index e) s (G.chain (lowered_expression p index) (lowered_expression p e) h k) l
 
+  -- stores to an element, by the runtime
+  own_write_has : (logging : Logging) (x : Variable) → G.of_step (own_write logging (stored_array p x) (list_place p))
+  own_write_has Redo x =
+      G.stores (versioned_write (stored_array p x) (list_place p)) (an_element_store x) (stored_of_words x, list_of_words p words)
+  own_write_has Undo x =
+      let h = stored_of_words x in
+      G.stores (logged_write (logged_place (stored_array p x)) (list_place p)) (a_logged_store x) ((h.0, h.2, h.3), list_of_words p words)
+
+  own_update_has : (logging : Logging) (o : PlainOperation) (x : Variable) → G.of_step (own_update logging o (stored_array p x) (list_place p))
+  own_update_has Redo o x =
+      G.stores (versioned_update o (stored_array p x) (list_place p)) (an_element_update o x) (stored_of_words x, list_of_words p words)
+  own_update_has Undo o x =
+      let h = stored_of_words x in
+      G.stores (logged_update o (logged_place (stored_array p x)) (list_place p)) (a_logged_update o x) ((h.0, h.2, h.3), list_of_words p words)
+
   store_has : (x : Variable) (index e : CheckedExpression) → G.of_program (lowered_expression p index) → G.of_program (lowered_expression p e)
       → G.of_program (joined (index_and_value p index e) (one (store_step p x)))
   store_has x index e h k =
-      index_and_value_have index e (store_step p x) h k (G.stores (store_step p x) (an_element_store x) (stored_of_words x, list_of_words p words))
+      index_and_value_have index e (store_step p x) h k (own_write_has p.map.runtime.logging x)
 
   element_sides_have : (x : Variable) (index : CheckedExpression) (op : PlacedOperator) (b c : CheckedExpression) (o : Option PlainOperation)
       → G.of_program (lowered_expression p index) → FitsAbove shared 1 (t.binary op b c) → G.of_program (element_sides_set p x index op b c o)
   element_sides_have x index op b c None h is = store_has x index (t.binary op b c) h (word_has 1 (t.binary op b c) is)
   element_sides_have x index op b c (Some o) h is =
       index_and_value_have index c (update_element_step p o x) h (word_has 1 c (right_fits shared 1 op b c is))
-      (G.stores (update_element_step p o x) (an_element_update o x) (stored_of_words x, list_of_words p words))
+      (own_update_has p.map.runtime.logging o x)
 
   -- the first clause makes it a proof by cases
   element_assignment_has : (x : Variable) (index e : CheckedExpression) → G.of_program (lowered_expression p index) → FitsAbove shared 1 e

@@ -32,6 +32,11 @@ use Rattle.lower.specs.Lowered.{scalar_assignment}
 use Rattle.lower.specs.Lowered.{update_step, setting, long_setting, updating, of_words, sides_set}
 use Rattle.lower.specs.Lowered.{update_element_step, index_and_value, element_updating, element_sides_set, element_assignment}
 use Rattle.array_versions.specs.Program.{freeze_events}
+use Rattle.lower.specs.Lowered.{own_write, own_update, stored_array, list_place}
+use Rattle.array_versions.specs.declared.program.ArrayPlace.{ArrayPlace}
+use Rattle.array_versions.specs.declared.program.ListPlace.{ListPlace}
+use Rattle.memory_map.specs.declared.runtime.Logging.{Logging}
+use Rattle.memory_map.specs.declared.runtime.Logging.TheVariants.{Redo, Undo}
 use Rattle.lower.specs.Lowered.{freezing, loop_local, entries, lowered_transition, lowered_statement, lowered_choice, lowered_block}
 use Rattle.checked_trees.specs.WellFormed.{enough, IsWordName, IsArrayName, WellFormedExpression, WellFormedStatement, WellFormedChoice, WellFormedBlock}
 use Rattle.lower.proofs.Interface.{small_modulo, is_update}
@@ -365,19 +370,35 @@ module _ (p : Places) (words : PlacesOfWords p) (shared : List SharedDeclaration
       (joined_way enough (lowered_expression p index) (lowered_expression p e) (EachWay enough (one s) next) (at 0 a)
       (expression_way p words shared 0 a index _ q (expression_way p words shared 1 a e _ r h)))
 
+  -- a store to an element takes both, under each runtime
+  own_write_way : (logging : Logging) (array : ArrayPlace) (list : ListPlace) (next : Place → Type 0) (o : Place) → Moves enough 2 0 next o
+      → EachStepWay enough (own_write logging array list) next o
+  own_write_way Redo array list next o h = h
+  own_write_way Undo array list next o h = h
+
+  own_update_way : (logging : Logging) (op : PlainOperation) (array : ArrayPlace) (list : ListPlace) (next : Place → Type 0) (o : Place)
+      → Moves enough 2 0 next o → EachStepWay enough (own_update logging op array list) next o
+  own_update_way Redo op array list next o h = h
+  own_update_way Undo op array list next o h = h
+
   element_sides_way : (a : ℕ → Bool) (x : Variable) (index : CheckedExpression) (op : PlacedOperator) (b e : CheckedExpression) (o : Option PlainOperation)
       (next : Place → Type 0) → Ready shared a 0 index → Ready shared a 1 (t.binary op b e) → Moves enough 2 0 next (at 2 a)
       → EachWay enough (element_sides_set p x index op b e o) next (at 0 a)
-  element_sides_way a x index op b e None next q r h = index_and_value_way a index (t.binary op b e) (store_step p x) next q r h
+  element_sides_way a x index op b e None next q r h =
+      index_and_value_way a index (t.binary op b e) (store_step p x) next q r
+      (own_write_way p.map.runtime.logging (stored_array p x) (list_place p) next (at 2 a) h)
   element_sides_way a x index op b e (Some o) next q r h =
-      index_and_value_way a index e (update_element_step p o x) next q (right_ready shared a 1 op b e r) h
+      index_and_value_way a index e (update_element_step p o x) next q (right_ready shared a 1 op b e r)
+      (own_update_way p.map.runtime.logging o (stored_array p x) (list_place p) next (at 2 a) h)
 
   -- the first clause makes it a proof by cases
   element_assignment_way : (a : ℕ → Bool) (x : Variable) (index e : CheckedExpression) (next : Place → Type 0) → Ready shared a 0 index
       → Ready shared a 1 e → Moves enough 2 0 next (at 2 a) → EachWay enough (element_assignment p x index e) next (at 0 a)
   element_assignment_way a x index (t.binary op b e) next q r h =
       element_sides_way a x index op b e (of_words (joined_type (type_of b) (type_of e)) (element_updating x index op.operator b)) next q r h
-  element_assignment_way a x index e next q r h = index_and_value_way a index e (store_step p x) next q r h
+  element_assignment_way a x index e next q r h =
+      index_and_value_way a index e (store_step p x) next q r
+      (own_write_way p.map.runtime.logging (stored_array p x) (list_place p) next (at 2 a) h)
 
   -- of an index and a value
   element_assigned_way : (u a : ℕ → Bool) (x : VariableName) (index e : CheckedExpression) (next : Place → Type 0) → FitsAbove shared 0 index

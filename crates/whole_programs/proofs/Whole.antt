@@ -13,9 +13,9 @@ use Rattle.memory_map.proofs.Interface.{even_of}
 use Rattle.array_versions.specs.Program as word
 use Rattle.array_versions.specs.Form.{IsWhole, FitsTheStack, OfWords}
 use Rattle.memory_map.specs.Spots.{Places, places_of}
-use Rattle.lower.specs.Seen.{some_path_writes, map_seen}
+use Rattle.lower.specs.Seen.{some_path_writes, map_seen, task_seen}
 use Rattle.lower.specs.Lowered.{lowered_block, lowered_task, lowered_tasks}
-use Rattle.lower.proofs.Interface.{privates_seen, seen_laid_out}
+use Rattle.lower.proofs.Interface.{privates_seen, seen_all, seen_laid_out}
 use Rattle.checked_trees.specs.WellFormed.{enough, IsWellFormed}
 use Rattle.whole_programs.specs.Laws.{TasksAreWhole, ProgramsAreWhole}
 use Rattle.whole_programs.proofs.Ways.{task_way}
@@ -47,8 +47,10 @@ tasks_are_whole text program allow plans l laid k task t e f =
     let rules = laid.layout.rules in
     let seen = seen_laid_out (some_path_writes task.body) l rules in
     let privates = all_at (λ t. All (HasItsPlace l.variables) t.privates) l.tasks k t rules.privates f in
-    block_whole (places_of (map_seen task.body l) t) program.shared task.body
-    (task_places (map_seen task.body l) seen t (privates_seen (some_path_writes task.body) l.variables t.privates privates)) (even_of l rules).commit
+    let own = task_seen l.runtime.logging t in
+    block_whole (places_of (map_seen task.body l) own) program.shared task.body
+    (task_places (map_seen task.body l) seen own (privates_seen (some_path_writes task.body) l.variables own.privates
+    (seen_all (HasItsPlace l.variables) l.runtime.logging t privates))) (even_of l rules).commit
     (task_checked text program laid.accepted.checks k task e)
 
 -- what holds of each task's program by number holds of all

@@ -8,17 +8,19 @@ use Rattle.cost_bound.specs.Allowance.{scalars_of}
 use Rattle.source_meaning.specs.Acceptance.{IsAcceptedText}
 use Rattle.war_analysis.specs.PlanValue.{TaskPlanValue}
 use Rattle.war_analysis.specs.Plans.{IsPlan}
+use Rattle.memory_map.specs.declared.runtime.Logging.{Logging}
 use Rattle.memory_map.specs.MemoryMap.{MemoryMap, TaskPlace}
 use Rattle.memory_map.specs.Spots.{private_words}
-use Rattle.privatise.specs.Layouts.{IsLayout}
+use Rattle.privatise.specs.Layouts.{IsLayoutFor}
 use Rattle.array_versions.specs.Form.{IsWhole, FitsTheStack, OfWords}
 use Rattle.lower.specs.Lowered.{lowered_task, lowered}
 
--- an accepted text, with a plan and a layout of its source
+-- an accepted text, with a plan and a layout of its source for some runtime
 pub record IsLaidOutText (text : List ℕ) (program : Program VariableName TaskName) (allow : Allow) (plans : List TaskPlanValue) (l : MemoryMap) : Type 0 where
   pub accepted : IsAcceptedText text program allow
   pub plan : IsPlan program plans
-  pub layout : IsLayout program allow plans l
+  pub logging : Logging
+  pub layout : IsLayoutFor logging program allow plans l
 
 -- what holds of each accepted text with a plan and a layout
 abbrev OfTexts : (Program VariableName TaskName → MemoryMap → Type 0) → Type 0

@@ -3,5 +3,6 @@ use Rattle.codegen.proofs.logged.emit_made.Goals as goal
 
 pub returns : goal.returns
 returns c =
-    let added = on_ok_items c.extend_from_slice.result _ _ _ c.extend_from_slice.ensures.items in
+    let made = rw c.plain_instruction.ensures at c.extend_from_slice.ensures.items in
+    let added = on_ok_items c.extend_from_slice.result _ _ _ made in
     behind c.extend_from_slice.result _ _ _ _ _ c.in_ok-emit_first.ensures added

@@ -1,0 +1,372 @@
+-- Under undo the code makes each recovery with its attempt, and each commit, within the task's part of the bound.
+use Rattle.std.proofs.Common.{◌≡◌, ◌<◌, ◌≤◌, ◌+◌, ℕ, Bool, true, false, List, [], ◌++◌, length, refl, sym, ap, ◌∙◌, subst, inr, arith}
+use Rattle.std.proofs.lemmas.List.Elements.{All-nil}
+use Rattle.fram_board.specs.Effects.{Effect}
+use Rattle.machine_effects.specs.World.{World, fram_after, world_after}
+use Rattle.machine_effects.specs.Inputs.{Look, Inputs, InputsAreWords, no_inputs}
+use Rattle.machine_effects.specs.Machine.{Code, MachineBoard}
+use Rattle.machine_effects.proofs.Interface.{code_changes_by_effects, fram_after-append}
+use Rattle.code_forms.specs.Forms.{Core, board_of}
+use Rattle.cost_bound.specs.Allowance.{list_of}
+use Rattle.cost_bound.specs.Counts.{emits_of}
+use Rattle.source_values.specs.Runs.{CheckedProgram, State, task_body}
+use Rattle.array_versions.specs.Behaviour.{Behaviour, behaviour, started}
+use Rattle.word_code.specs.Code.{code_spent}
+use Rattle.memory_map.specs.declared.runtime.Logging.{Logging}
+use Rattle.memory_map.specs.declared.runtime.Logging.TheVariants.{Undo}
+use Rattle.memory_map.specs.declared.runtime.Role.{Role}
+use Rattle.memory_map.specs.declared.words.RuntimeWord.TheVariants.{CurrentTask, Gate, ListLength, EmitCount, SentBase, Version}
+use Rattle.memory_map.specs.MemoryMap.{MemoryMap, word_place, with_events}
+use Rattle.runtime_effects.specs.Stages.{is_at_end}
+use Rattle.runtime_code.specs.Comes.{IsAt}
+use Rattle.runtime_code.proofs.Interface.{nothing as no_steps, if_any_grows}
+use Rattle.boot_runtime.specs.Laws.{NamesHandler}
+use Rattle.undo_effects.specs.Stages.{recovery, undo_start, undo_commit}
+use Rattle.undo_runtime.specs.Listing.{recovery_steps, recovery_cycles, start_steps, start_cycles, commit_steps, commit_cycles}
+use Rattle.undo_runtime.specs.Needs.{IsLoggable, CanRecover, CanClose}
+use Rattle.lower.specs.Lowered.{lowered}
+use Rattle.crash_rules.specs.Model.{Model, ModelLaws, ProgramEffects, program_effects, with_commit, attempt_from}
+use Rattle.crash_rules.specs.Runs.{Program, ProgramLaws, Makes}
+use Rattle.crash_rules.proofs.Interface.{world_fram}
+use Rattle.stands_for.specs.Layout.{IsSharedWord}
+use Rattle.stands_for.specs.StandsFor.{HoldsWords}
+use Rattle.undo_states.specs.States.{list_length, UndoneAt, SettledAt, LoggingAt, ClosesFrom}
+use Rattle.undo_states.specs.Program.{LoggingContract}
+use Rattle.undo_states.proofs.Interface.{settled_stands, logging_starts}
+use Rattle.compiled_model.specs.Places.{program_places}
+use Rattle.compiled_model.specs.View.{state_view}
+use Rattle.compiled_model.specs.Parts.{has_jumped, task_program, private_homes, logged_model, started_under}
+use Rattle.compiled_model.specs.Needs.{LeavesFor, boot_cycles, logged_cycles}
+use Rattle.compiled_model.proofs.Interface.{is_logged, under_map}
+use Rattle.linked_code.specs.Linked.{ProgramsAreWhole, attempt_start}
+use Rattle.linked_code.proofs.Interface.{body_there, to_recovered, logged_start_there, logged_commit_there, to_logged_commit}
+use Rattle.compiled_runs.specs.Program.{placed_code, IsBooting, IsStarting, compiled_program}
+use Rattle.compiled_runs.specs.Laws.{CanRun}
+use Rattle.compiled_runs.proofs.Steps.{code_takes}
+use Rattle.compiled_runs.proofs.Costs.{by_undo, programs_are, are_whole, decided_behind}
+use Rattle.compiled_runs.proofs.Attempts.{Arrival, Stretches, attempt_made}
+
+-- more entries take more to be put back, and a start takes the most where it clears
+recovery_grows : (n m : ℕ) → n ≤ m → recovery_cycles n ≤ recovery_cycles m
+recovery_grows n m h = let begins = if_any_grows n m 2 h in omega (arith, h, begins)
+
+commit_grows : (events : Bool) (n m : ℕ) → n ≤ m → commit_cycles events n ≤ commit_cycles events m
+commit_grows events n m h = let begins = if_any_grows n m 2 h in omega (arith, h, begins)
+
+clearing_is_dearest : (events clears : Bool) (versions privates : ℕ) → start_cycles events clears versions privates ≤ start_cycles events true versions privates
+clearing_is_dearest events true versions privates = omega arith
+clearing_is_dearest events false versions privates = omega arith
+
+module _ (p : CheckedProgram) (l : MemoryMap) (logs : l.runtime.logging ≡ Undo) (r : CanRun p l) (laws : ModelLaws (logged_model p l)) where
+  abbrev m : Model State
+  m = logged_model p l
+
+  abbrev c : Program
+  c = compiled_program p l
+
+  abbrev code : Code
+  code = placed_code p l
+
+  abbrev start : (ℕ → ℕ) → List Effect
+  start = undo_start l (private_homes l)
+
+  abbrev list : ℕ → ℕ
+  list t = list_of p.shared (task_body p t)
+
+  abbrev emits : ℕ → ℕ
+  emits t = emits_of (task_body p t)
+
+  whole : ProgramsAreWhole (lowered l p)
+  whole = are_whole p l r
+
+  start_keeps : LoggingContract (program_places p l) (state_view p l) (private_homes l) start
+  start_keeps = logging_starts State (program_places p l) (state_view p l) (private_homes l) r.apart r.room (by_undo p l logs r).privates
+
+  -- ---- what FRAM has for a recovery and for a commit
+
+  loggable : (a : ℕ) → IsSharedWord (program_places p l) a → IsLoggable l a
+  loggable a h =
+      let k = r.apart in
+      record {
+        place = record { even = h.even; low = omega (arith, k, h); high = omega (arith, k, h) };
+        length = λ e. omega (arith, k, h, e);
+        list = inr (omega (arith, k, h));
+      }
+
+  can_recover : (s : State) (x : World) → m.Undecided s x → CanRecover l x.fram
+  can_recover s x u =
+      let task = u.behind.is_open.is_task in
+      let within = u.within in let few = r.room.list s.task task in
+      record { few = omega (arith, within, few); each = λ a h. loggable a (u.shared a h) }
+
+  can_close : (s next : State) (x : World) → m.Decided s next x → CanClose l x.fram
+  can_close s next x d =
+      let sends = d.closes.sends in
+      let count = sends.emit_count in let within = sends.within_emits in let few = r.room.emits s.task sends.is_task in
+      record { emit_count = omega (arith, count, within, few); sent_base = sends.words (word_place l SentBase) }
+
+  few_sends : (s next : State) (x : World) → m.Decided s next x → x.fram (word_place l EmitCount) ≤ emits s.task
+  few_sends s next x d =
+      let sends = d.closes.sends in let count = sends.emit_count in let within = sends.within_emits in omega (arith, count, within)
+
+  -- ---- attempts
+
+  -- a machine that comes to where an attempt starts, on a world that is settled there
+  record Attempting : Type 0 where
+    state : State
+    accepted : List ℕ
+    arrival : Arrival p l
+    words : InputsAreWords arrival.core.inputs
+    settled : m.Settled state (record { fram = fram_after arrival.front arrival.core.fram; accepted = accepted })
+    few : arrival.cycles ≤ with_events l.runtime.events 3 + 6 + recovery_cycles (list state.task)
+
+  module _ (at : Attempting) where
+    open at use {state as s, accepted, arrival, words, settled, few}
+
+    abbrev u : Core
+    u = arrival.core
+
+    -- FRAM where the attempt starts
+    abbrev here : ℕ → ℕ
+    here = fram_after arrival.front u.fram
+
+    abbrev x : World
+    x = record { fram = here; accepted = accepted }
+
+    abbrev k : ℕ
+    k = here (word_place l CurrentTask)
+
+    abbrev es : List Effect
+    es = start here
+
+    abbrev g : ℕ → ℕ
+    g = fram_after es here
+
+    abbrev b : Behaviour
+    b = behaviour (task_program p l k) (started g u.inputs)
+
+    -- FRAM where its program jumped
+    abbrev f : ℕ → ℕ
+    f = fram_after (arrival.front ++ (es ++ b.effects)) u.fram
+
+    is_current : k ≡ s.task
+    is_current = (settled_stands (program_places p l) (state_view p l) s x settled).is_open.current_task
+
+    is_task : s.task < length p.tasks
+    is_task = settled.undecided.behind.is_open.is_task
+
+    named : k < length p.tasks
+    named = let e = is_current in let t = is_task in omega (arith, e, t)
+
+    program_named : k < length (lowered l p)
+    program_named = let h = named in let n = programs_are p l r in omega (arith, h, n)
+
+    is_started : LoggingAt (program_places p l) (state_view p l) s (private_homes l s.task) (world_after es x)
+    is_started = start_keeps.started s x settled
+
+    start_words : HoldsWords g
+    start_words = subst HoldsWords (world_fram es x) is_started.undecided.words
+
+    leaves : LeavesFor l.commit.address b.end
+    leaves =
+        let P : Logging → Role → Type 0 = λ logging role. started_under logging p l s (world_after es x) in
+        let a = r.leave.leave s (world_after es x) u.inputs words (under_map l P logs is_started) in
+        subst (λ t. LeavesFor l.commit.address (behaviour (task_program p l t) (started g u.inputs)).end) (sym is_current)
+        (subst (λ h. LeavesFor l.commit.address (behaviour (task_program p l s.task) (started h u.inputs)).end) (world_fram es x) a)
+
+    -- the world that it decides
+    closes : has_jumped b.end ≡ true → CanClose l f × (f (word_place l EmitCount) ≤ emits k)
+    closes ends =
+        let d = decided_behind m s x u.inputs (m.attempt here u.inputs) (laws.attempts s x u.inputs words settled) ends in
+        let same : d.world.fram ≡ f = d.fram ∙ sym (fram_after-append arrival.front (es ++ b.effects) u.fram) in
+        let Closing : (ℕ → ℕ) → Type 0 = λ h. CanClose l h × (h (word_place l EmitCount) ≤ emits k) in
+        let sent = few_sends s d.next d.world d.decided in
+        let there : d.world.fram (word_place l EmitCount) ≤ emits k = subst (λ t. d.world.fram (word_place l EmitCount) ≤ emits t) (sym is_current) sent in
+        subst Closing same (can_close s d.next d.world d.decided, there)
+
+    -- ---- its cycles
+
+    abbrev clears : Bool
+    clears = is_at_end l here
+
+    abbrev start_time : ℕ
+    start_time = start_cycles l.runtime.events clears l.versions.words (length (private_homes l k))
+
+    abbrev spent : ℕ
+    spent = code_spent (task_program p l k) (started g u.inputs)
+
+    abbrev commit_time : ℕ
+    commit_time = commit_cycles l.runtime.events (f (word_place l EmitCount))
+
+    few_here : arrival.cycles ≤ with_events l.runtime.events 3 + 6 + recovery_cycles (list k)
+    few_here = subst (λ t. arrival.cycles ≤ with_events l.runtime.events 3 + 6 + recovery_cycles (list t)) (sym is_current) few
+
+    whole_cost : logged_cycles p l k g u.inputs ≤ m.task_cost k
+    whole_cost = (by_undo p l logs r).costs.within k g u.inputs named start_words words
+
+    start_most : start_time ≤ start_cycles l.runtime.events true l.versions.words (length (private_homes l k))
+    start_most = clearing_is_dearest l.runtime.events clears l.versions.words (length (private_homes l k))
+
+    all_paid : has_jumped b.end ≡ true → arrival.cycles + start_time + spent + commit_time ≤ m.task_cost k
+    all_paid ends =
+        let front = few_here in let paid = whole_cost in let most = start_most in
+        let dearest = commit_grows l.runtime.events (f (word_place l EmitCount)) (emits k) (closes ends).1 in
+        omega (arith, front, paid, most, dearest)
+
+    stretches : Stretches p l start (undo_commit l) arrival (m.task_cost k)
+    stretches = record {
+      start_steps = start_steps l.runtime.events clears l.versions.words (length (private_homes l k));
+      start_cycles = start_time;
+      starts = λ v h. logged_start_there l (lowered l p) r.fits whole logs v here u.inputs h program_named
+          (settled.undecided.words (word_place l Version)) settled.none;
+      most = spent;
+      body = λ v h. body_there l (lowered l p) r.fits whole v k g u.inputs h program_named start_words words;
+      leaves = leaves;
+      commit_steps = commit_steps l.runtime.events (f (word_place l EmitCount));
+      commit_cycles = commit_time;
+      commits = λ ends v h. logged_commit_there l (lowered l p) r.fits whole logs v f v.inputs h (closes ends).0;
+      within = let front = few_here in let paid = whole_cost in let most = start_most in omega (arith, front, paid, most);
+      all_within = all_paid;
+    }
+
+    abbrev script : ProgramEffects
+    script = with_commit m u.fram u.inputs (program_effects (arrival.front ++ (m.attempt here u.inputs).effects) (m.attempt here u.inputs).ends)
+
+    made : Makes c m.delay (m.task_cost s.task) script (board_of u)
+    made = subst (λ t. Makes c m.delay (m.task_cost t) script (board_of u)) is_current
+        (attempt_made p l start (undo_commit l) arrival (m.task_cost k) stretches)
+
+  -- ---- from a boot, behind the recovery
+
+  boot_made : (s : State) (accepted : List ℕ) (u : Core) → u.pc ≡ l.boot.address → NamesHandler l u.fram → InputsAreWords u.inputs
+      → m.Undecided s (record { fram = u.fram; accepted = accepted })
+      → Makes c m.delay (m.task_cost s.task) (with_commit m u.fram u.inputs (attempt_from m true u.fram u.inputs)) (board_of u)
+  boot_made s accepted u at handler words und =
+      let x : World = record { fram = u.fram; accepted = accepted } in
+      let back = recovery l u.fram in
+      let n = u.fram (word_place l ListLength) in
+      let comes = to_recovered l (lowered l p) r.fits whole logs u at handler (laws.undecided_gate s x und) (can_recover s x und) in
+      let keeps = laws.recovers s x und in
+      let within = und.within in
+      let grows = recovery_grows n (list s.task) within in
+      let accepted' = (world_after back x).accepted in
+      made (record {
+        state = s;
+        accepted = accepted';
+        arrival = record {
+          core = u;
+          front = back;
+          steps = with_events l.runtime.events 2 + 2 + recovery_steps n;
+          cycles = with_events l.runtime.events 3 + 6 + recovery_cycles n;
+          comes = comes;
+        };
+        words = words;
+        settled = subst (λ f. m.Settled s (record { fram = f; accepted = accepted' })) (world_fram back x) keeps.settled;
+        few = omega (arith, grows);
+      })
+
+  makes_boot : (s : State) (x : World) (b : MachineBoard) → IsBooting l b → b.fram ≡ x.fram → InputsAreWords b.inputs → m.Undecided s x
+      → Makes c m.delay (m.task_cost s.task) (with_commit m b.fram b.inputs (attempt_from m true b.fram b.inputs)) b
+  makes_boot s x b k same words und =
+      let u = k.core in
+      let f : x.fram ≡ u.fram = sym same ∙ ap (λ q. q.fram) k.is in
+      let und' : m.Undecided s (record { fram = u.fram; accepted = x.accepted }) =
+      subst (λ g. m.Undecided s (record { fram = g; accepted = x.accepted })) f und in
+      let words' : InputsAreWords u.inputs = subst (λ q. InputsAreWords q.inputs) k.is words in
+      subst (λ q. Makes c m.delay (m.task_cost s.task) (with_commit m q.fram q.inputs (attempt_from m true q.fram q.inputs)) q) (sym k.is)
+      (boot_made s x.accepted u k.pc k.named words' und')
+
+  -- ---- from the end of a commit
+
+  start_made : (s : State) (accepted : List ℕ) (u : Core) → u.pc ≡ attempt_start l → InputsAreWords u.inputs
+      → m.Settled s (record { fram = u.fram; accepted = accepted })
+      → Makes c m.delay (m.task_cost s.task) (with_commit m u.fram u.inputs (m.attempt u.fram u.inputs)) (board_of u)
+  start_made s accepted u at words settled =
+      let there : IsAt (attempt_start l) u.fram u.inputs u = record { pc = at; fram = refl; inputs = refl } in
+      made (record {
+        state = s;
+        accepted = accepted;
+        arrival = record { core = u; front = []; steps = 0; cycles = 0; comes = no_steps code u (IsAt (attempt_start l) u.fram u.inputs) there };
+        words = words;
+        settled = settled;
+        few = omega arith;
+      })
+
+  makes_attempt : (s : State) (x : World) (b : MachineBoard) → IsStarting l b → b.fram ≡ x.fram → InputsAreWords b.inputs → m.Settled s x
+      → Makes c m.delay (m.task_cost s.task) (with_commit m b.fram b.inputs (m.attempt b.fram b.inputs)) b
+  makes_attempt s x b k same words settled =
+      let u = k.core in
+      let f : x.fram ≡ u.fram = sym same ∙ ap (λ q. q.fram) k.is in
+      let settled' : m.Settled s (record { fram = u.fram; accepted = x.accepted }) =
+      subst (λ g. m.Settled s (record { fram = g; accepted = x.accepted })) f settled in
+      let words' : InputsAreWords u.inputs = subst (λ q. InputsAreWords q.inputs) k.is words in
+      subst (λ q. Makes c m.delay (m.task_cost s.task) (with_commit m q.fram q.inputs (m.attempt q.fram q.inputs)) q) (sym k.is)
+      (start_made s x.accepted u k.pc words' settled')
+
+  -- ---- a pending commit
+
+  commit_made : (s next : State) (accepted : List ℕ) (u : Core) → u.pc ≡ l.boot.address → NamesHandler l u.fram
+      → (d : m.Decided s next (record { fram = u.fram; accepted = accepted })) → (most : ℕ)
+      → boot_cycles l + commit_cycles l.runtime.events (u.fram (word_place l EmitCount)) ≤ most
+      → Makes c m.delay most (program_effects (m.commit u.fram u.inputs) true) (board_of u)
+  commit_made s next accepted u at handler d most within =
+      let x : World = record { fram = u.fram; accepted = accepted } in
+      let a = to_logged_commit l (lowered l p) r.fits whole logs u at handler d.closes.sends.gate (can_close s next x d) in
+      let n = u.fram (word_place l EmitCount) in
+      record {
+        steps = with_events l.runtime.events 2 + 3 + commit_steps l.runtime.events n;
+        cycles = boot_cycles l + commit_cycles l.runtime.events n;
+        ends = λ t. record {
+          end = board_of a.end;
+          within = omega (arith, within);
+          leads = a.leads;
+          at_start = record { core = a.end; is = refl; pc = a.holds.pc };
+        };
+        lacks = λ t. absurd (cc (t));
+      }
+
+  makes_within : (s next : State) (x : World) (b : MachineBoard) → IsBooting l b → b.fram ≡ x.fram → m.Decided s next x → (most : ℕ)
+      → boot_cycles l + commit_cycles l.runtime.events (emits s.task) ≤ most → Makes c m.delay most (program_effects (m.commit b.fram b.inputs) true) b
+  makes_within s next x b k e d most room =
+      let u = k.core in
+      let f : x.fram ≡ u.fram = sym e ∙ ap (λ q. q.fram) k.is in
+      let d' : m.Decided s next (record { fram = u.fram; accepted = x.accepted }) =
+      subst (λ g. m.Decided s next (record { fram = g; accepted = x.accepted })) f d in
+      let sent = few_sends s next (record { fram = u.fram; accepted = x.accepted }) d' in
+      let dearest = commit_grows l.runtime.events (u.fram (word_place l EmitCount)) (emits s.task) sent in
+      subst (λ q. Makes c m.delay most (program_effects (m.commit q.fram q.inputs) true) q) (sym k.is)
+      (commit_made s next x.accepted u k.pc k.named d' most (omega (arith, dearest, room)))
+
+  -- the cost of a task has room for its own commit behind a boot
+  own_commit : (t : ℕ) → t < length p.tasks → boot_cycles l + commit_cycles l.runtime.events (emits t) ≤ m.task_cost t
+  own_commit t named =
+      let zeros : ℕ → ℕ = λ a. 0 in
+      let paid : logged_cycles p l t zeros no_inputs ≤ m.task_cost t = (by_undo p l logs r).costs.within t zeros no_inputs named (λ a. omega arith) (record {
+        readings = All-nil (λ w. w < 0x10000);
+        looks = All-nil (λ (look : Look). (n : ℕ) → look n < 0x10000);
+      }) in
+      omega (arith, paid)
+
+  -- and the greatest cost for one that fills the buffer
+  any_commit : (t : ℕ) → t < length p.tasks → (most : ℕ) → boot_cycles l + commit_cycles l.runtime.events l.emits.words ≤ most
+      → boot_cycles l + commit_cycles l.runtime.events (emits t) ≤ most
+  any_commit t named most room =
+      let dearest = commit_grows l.runtime.events (emits t) l.emits.words (r.room.emits t named) in omega (arith, dearest, room)
+
+pub under_undo : (p : CheckedProgram) (l : MemoryMap) → l.runtime.logging ≡ Undo → CanRun p l → ModelLaws (compiled_model p l)
+    → ProgramLaws (compiled_model p l) (compiled_program p l)
+under_undo p l logs r laws =
+    let L : Model State → Type 0 = λ m. ModelLaws m in
+    let P : Model State → Type 0 = λ m. ProgramLaws m (compiled_program p l) in
+    let own = subst L (is_logged p l logs) laws in
+    subst P (sym (is_logged p l logs)) (record {
+      changes = λ s. code_changes_by_effects (placed_code p l) s;
+      takes_cycles = λ s. code_takes (placed_code p l) s;
+      makes_boot = makes_boot p l logs r own;
+      makes_attempt = makes_attempt p l logs r own;
+      makes_decided = λ s next x b k e d.
+          makes_within p l logs r own s next x b k e d _ (own_commit p l logs r own s.task d.closes.sends.is_task);
+      makes_commit = λ to x b k e d.
+          let from = d.from in let task = d.decided.closes.sends.is_task in
+          makes_within p l logs r own from to x b k e d.decided _ (any_commit p l logs r own from.task task _ ((by_undo p l logs r).costs.commits from.task task));
+    })
