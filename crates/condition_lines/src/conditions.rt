@@ -1,8 +1,7 @@
 //! The numbers of a task's conditions.
 
-ghost use Rattle.std.specs.Prelude.{◌≡◌, ◌++◌, ◌+◌, ◌<◌, ◌^◌, [], IfOk};
-ghost use Rattle.task_ast.specs.Tree.{choice_of};
-ghost use Rattle.task_ast.specs.View.{block_view, choice_view, last_view, statement_of};
+ghost use Rattle.std.specs.Prelude.{◌≡◌, ◌++◌, ◌+◌, ◌<◌, ◌^◌, IfOk, None};
+ghost use Rattle.task_ast.specs.View.{block_view, choice_view, statement_of};
 ghost use Rattle.condition_lines.specs.Conditions.{block_conditions, block_ifs, choice_conditions, choice_ifs, lists_of, own_numbers};
 ghost use Rattle.condition_lines.specs.Conditions.{statement_conditions, statement_ifs};
 
@@ -22,10 +21,18 @@ fn push_statement(
     ensures number { IfOk result (λ _. number.new ≡ number.old + statement_conditions (statement_of statement.now)) }
 {
     match statement {
-        Stmt::If(arms, last) => {
+        Stmt::If(arms, None) => {
             let place = ifs.len();
             ifs.push(Vec::new(alloc))?;
-            let own = push_choice(alloc, arms, last, number, ifs)?;
+            let own = push_arms(alloc, arms, number, ifs)?;
+            ifs[place] = own;
+            Ok(())
+        }
+        Stmt::If(arms, Some(last)) => {
+            let place = ifs.len();
+            ifs.push(Vec::new(alloc))?;
+            let own = push_arms(alloc, arms, number, ifs)?;
+            push_block(alloc, last, number, ifs)?;
             ifs[place] = own;
             Ok(())
         }
@@ -38,19 +45,18 @@ fn push_statement(
     }
 }
 
-// Those in the blocks of an `if`, and the numbers of its own conditions.
+// Those in the blocks under the conditions of an `if`, and the numbers of these conditions.
 #[cycle(ifs)]
-fn push_choice(
+fn push_arms(
     alloc: Global,
     arms: &[Arm<VariableName, TaskName>],
-    last: &Option<Vec<Stmt<VariableName, TaskName>>>,
     number: &mut u32,
     ifs: &mut Vec<Vec<u32>>,
 ) -> Result<Vec<u32>, AllocError>
-    requires { number.old + choice_conditions (choice_view arms.now last.now) < 2 ^ 32 }
-    ensures own { IfOk result (λ own. own.items ≡ own_numbers number.old (choice_view arms.now last.now)) }
-    ensures ifs { IfOk result (λ _. lists_of ifs.new.items ≡ lists_of ifs.old.items ++ choice_ifs number.old (choice_view arms.now last.now)) }
-    ensures number { IfOk result (λ _. number.new ≡ number.old + choice_conditions (choice_view arms.now last.now)) }
+    requires { number.old + choice_conditions (choice_view arms.now None) < 2 ^ 32 }
+    ensures own { IfOk result (λ own. own.items ≡ own_numbers number.old (choice_view arms.now None)) }
+    ensures ifs { IfOk result (λ _. lists_of ifs.new.items ≡ lists_of ifs.old.items ++ choice_ifs number.old (choice_view arms.now None)) }
+    ensures number { IfOk result (λ _. number.new ≡ number.old + choice_conditions (choice_view arms.now None)) }
 {
     let mut own = Vec::new(alloc);
     for arm in arms {
@@ -58,27 +64,7 @@ fn push_choice(
         *number += 1;
         push_block(alloc, &arm.block, number, ifs)?;
     }
-    push_last(alloc, last, number, ifs)?;
     Ok(own)
-}
-
-// Those of the last block of an `if`, which has no condition of its own.
-#[cycle(ifs)]
-fn push_last(
-    alloc: Global,
-    last: &Option<Vec<Stmt<VariableName, TaskName>>>,
-    number: &mut u32,
-    ifs: &mut Vec<Vec<u32>>,
-) -> Result<(), AllocError>
-    requires { number.old + choice_conditions (choice_of [] (last_view last.now)) < 2 ^ 32 }
-    ensures own { own_numbers number.old (choice_of [] (last_view last.now)) ≡ [] }
-    ensures ifs { IfOk result (λ _. lists_of ifs.new.items ≡ lists_of ifs.old.items ++ choice_ifs number.old (choice_of [] (last_view last.now))) }
-    ensures number { IfOk result (λ _. number.new ≡ number.old + choice_conditions (choice_of [] (last_view last.now))) }
-{
-    match last {
-        Some(block) => push_block(alloc, block, number, ifs),
-        None => Ok(()),
-    }
 }
 
 // Those of a block.

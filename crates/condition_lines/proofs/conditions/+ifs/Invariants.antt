@@ -1,13 +1,13 @@
-use Rattle.std.proofs.Common.{◌≡◌, ◌+◌, ◌++◌, drop}
+use Rattle.std.proofs.Common.{◌≡◌, ◌+◌, ◌++◌, None, drop}
 use Rattle.task_ast.specs.View.{block_view, choice_view}
 use Rattle.condition_lines.specs.Conditions.{block_conditions, block_ifs, choice_conditions, choice_ifs, lists_of, own_numbers}
 use Rattle.condition_lines.proofs.conditions.+ifs.Given as goal
 
--- the conditions of an `if` so far, and those that are left
-abbrev pub invariant-push_choice-loop-arm : goal.invariant-push_choice-loop-arm
-invariant-push_choice-loop-arm l =
-    let left = choice_view (drop l.arm-index l.arms) l.last in
-    let all = choice_view l.arms l.last in
+-- the conditions of an `if` so far, and those that are left of those with a condition
+abbrev pub invariant-push_arms-loop-arm : goal.invariant-push_arms-loop-arm
+invariant-push_arms-loop-arm l =
+    let left = choice_view (drop l.arm-index l.arms) None in
+    let all = choice_view l.arms None in
     record {
       own : l.own.items ++ own_numbers l.number left ≡ own_numbers l.initial.number all;
       ifs : lists_of l.ifs.items ++ choice_ifs l.number left ≡ lists_of l.initial.ifs.items ++ choice_ifs l.initial.number all;
