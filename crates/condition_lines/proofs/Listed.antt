@@ -1,27 +1,25 @@
 -- The `if`s of a statement, as they are listed.
-use Rattle.std.proofs.Common.{◌≡◌, ◌∙◌, ℕ, suc, ◌+◌, ◌++◌, ◌∷◌, [], append_assoc, List, Option, None, Some, map, length, slice_set, rules, refl, sym}
+use Rattle.std.proofs.Common.{◌≡◌, ◌∙◌, ℕ, suc, ◌+◌, ◌≤◌, ◌++◌, ◌∷◌, [], append_assoc, List, Option, None, Some, length, slice_set, refl, sym}
 use Rattle.std.proofs.Common.{ap, arith}
 use Rattle.std.specs.Global.{Global, Vec}
 use Rattle.std.proofs.lemmas.List.{length-map, map-append, map-set}
 use Rattle.std.proofs.Math.Seq.{set-append_seam}
-use Rattle.task_ast.specs.Tree.{Block, Tested, choice_of, choose}
-use Rattle.task_ast.specs.View.{block_view, statement_of, tested_of, choice_view}
-use Rattle.task_ast.specs.declared.Stmt.{Stmt, the_lemmas}
-use Rattle.task_ast.specs.declared.Stmt.TheVariants.{If}
+use Rattle.task_ast.specs.Tree.{Block, Statement, Tested, choice_of, choose}
+use Rattle.task_ast.specs.View.{choice_view}
 use Rattle.task_ast.specs.declared.Arm.{Arm}
 use Rattle.task_ast.specs.declared.names.VariableName.{VariableName}
 use Rattle.task_ast.specs.declared.names.TaskName.{TaskName}
 use Rattle.condition_lines.specs.Conditions.{lists_of, own_numbers, statement_conditions, choice_conditions, block_conditions, choice_ifs}
 use Rattle.condition_lines.specs.Conditions.{block_ifs, statement_ifs}
 
+abbrev CheckedStatement : Type 0
+CheckedStatement = Statement VariableName TaskName
+
 abbrev CheckedTested : Type 0
 CheckedTested = Tested VariableName TaskName
 
 abbrev CheckedBlock : Type 0
 CheckedBlock = Block VariableName TaskName
-
-statement_of-If : {V T : Type 0} (arms : Vec (Arm V T)) (last : Option (Vec (Stmt V T))) → statement_of (If arms last) ≡ choose (choice_view arms.items last)
-statement_of-If arms last = search (rules, the_lemmas)
 
 -- the numbers of an `if`, set where its place was held
 placed : (old new : List (Vec ℕ)) (own held : Vec ℕ) (nested : List (List ℕ)) (place : ℕ) → place ≡ length old
@@ -55,24 +53,21 @@ ifs_of_arms k (t ∷ ts) last =
     ap (λ more. first ++ more) (ifs_of_arms within ts last) ∙ sym (append_assoc first (choice_ifs within (choice_of ts None)) (block_ifs (within + rest) last))
     ∙ ap (λ n. (first ++ choice_ifs within (choice_of ts None)) ++ block_ifs n last) at
 
-pub if_listed : (old new : List (Vec ℕ)) (own held : Vec ℕ) (k place : ℕ) (statement : Stmt VariableName TaskName) (arms : Vec (Arm VariableName TaskName))
-    → place ≡ length old → statement ≡ If arms None → own.items ≡ own_numbers k (choice_view arms.items None)
-    → lists_of new ≡ lists_of (old ++ held ∷ []) ++ choice_ifs k (choice_view arms.items None)
-    → lists_of (slice_set new place own) ≡ lists_of old ++ statement_ifs k (statement_of statement)
+pub if_listed : (old new : List (Vec ℕ)) (own held : Vec ℕ) (k place : ℕ) (statement : CheckedStatement) (arms : List (Arm VariableName TaskName))
+    → place ≡ length old → statement ≡ choose (choice_view arms None) → own.items ≡ own_numbers k (choice_view arms None)
+    → lists_of new ≡ lists_of (old ++ held ∷ []) ++ choice_ifs k (choice_view arms None)
+    → lists_of (slice_set new place own) ≡ lists_of old ++ statement_ifs k statement
 if_listed old new own held k place statement arms at is numbers e =
-    placed old new own held (choice_ifs k (choice_view arms.items None)) place at e
-    ∙ ap (λ ns. lists_of old ++ ns ∷ choice_ifs k (choice_view arms.items None)) numbers
-    ∙ ap (λ s. lists_of old ++ statement_ifs k s) (sym (ap statement_of is ∙ statement_of-If arms None))
+    placed old new own held (choice_ifs k (choice_view arms None)) place at e
+    ∙ ap (λ ns. lists_of old ++ ns ∷ choice_ifs k (choice_view arms None)) numbers
+    ∙ ap (λ s. lists_of old ++ statement_ifs k s) (sym is)
 
-pub last_listed : (old new : List (Vec ℕ)) (own held : Vec ℕ) (k n place : ℕ) (statement : Stmt VariableName TaskName)
-    (arms : Vec (Arm VariableName TaskName)) (last : Vec (Stmt VariableName TaskName)) → place ≡ length old → statement ≡ If arms (Some last)
-    → own.items ≡ own_numbers k (choice_view arms.items None)
-    → n ≡ k + choice_conditions (choice_view arms.items None)
-    → lists_of new ≡ (lists_of (old ++ held ∷ []) ++ choice_ifs k (choice_view arms.items None)) ++ block_ifs n (block_view last.items)
-    → lists_of (slice_set new place own) ≡ lists_of old ++ statement_ifs k (statement_of statement)
-last_listed old new own held k n place statement arms last at is numbers count e =
-    let ts = map tested_of arms.items in
-    let block = block_view last.items in
+pub last_listed : (old new : List (Vec ℕ)) (own held : Vec ℕ) (k n place : ℕ) (statement : CheckedStatement) (ts : List CheckedTested)
+    (block : CheckedBlock) → place ≡ length old → statement ≡ choose (choice_of ts (Some block)) → own.items ≡ own_numbers k (choice_of ts None)
+    → n ≡ k + choice_conditions (choice_of ts None)
+    → lists_of new ≡ (lists_of (old ++ held ∷ []) ++ choice_ifs k (choice_of ts None)) ++ block_ifs n block
+    → lists_of (slice_set new place own) ≡ lists_of old ++ statement_ifs k statement
+last_listed old new own held k n place statement ts block at is numbers count e =
     let all = choice_ifs k (choice_of ts (Some block)) in
     let whole : lists_of new ≡ lists_of (old ++ held ∷ []) ++ all =
     e ∙ append_assoc (lists_of (old ++ held ∷ [])) (choice_ifs k (choice_of ts None)) (block_ifs n block)
@@ -80,13 +75,16 @@ last_listed old new own held k n place statement arms last at is numbers count e
     ∙ ap (λ ls. lists_of (old ++ held ∷ []) ++ ls) (sym (ifs_of_arms k ts block)) in
     placed old new own held all place at whole
     ∙ ap (λ ns. lists_of old ++ ns ∷ all) (numbers ∙ sym (own_of_arms k ts block))
-    ∙ ap (λ s. lists_of old ++ statement_ifs k s) (sym (ap statement_of is ∙ statement_of-If arms (Some last)))
+    ∙ ap (λ s. lists_of old ++ statement_ifs k s) (sym is)
 
 -- and counts no more than the statement has
-pub statement_few : (k n : ℕ) (statement : Stmt VariableName TaskName) (arms : Vec (Arm VariableName TaskName)) (last : Vec (Stmt VariableName TaskName))
-    → statement ≡ If arms (Some last) → n ≡ k + choice_conditions (choice_view arms.items None)
-    → n + block_conditions (block_view last.items) ≡ k + statement_conditions (statement_of statement)
-statement_few k n statement arms last is count =
-    let sum = count_of_arms (map tested_of arms.items) (block_view last.items) in
-    let all = ap statement_conditions (ap statement_of is ∙ statement_of-If arms (Some last)) in
-    omega (arith, sum, all, count)
+pub statement_few : (k n : ℕ) (statement : CheckedStatement) (ts : List CheckedTested) (block : CheckedBlock)
+    → statement ≡ choose (choice_of ts (Some block)) → n ≡ k + choice_conditions (choice_of ts None)
+    → n + block_conditions block ≡ k + statement_conditions statement
+statement_few k n statement ts block is count =
+    let sum = count_of_arms ts block in let all = ap statement_conditions is in omega (arith, sum, all, count)
+
+-- its arms have no more than it
+pub arms_few : (statement : CheckedStatement) (ts : List CheckedTested) (block : CheckedBlock) → statement ≡ choose (choice_of ts (Some block))
+    → choice_conditions (choice_of ts None) ≤ statement_conditions statement
+arms_few statement ts block is = let sum = count_of_arms ts block in let all = ap statement_conditions is in omega (arith, sum, all)
