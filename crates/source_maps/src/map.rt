@@ -207,7 +207,7 @@ fn map_buffer(region: Region) -> Place
 }
 
 // How many words of copies a map names: where the runtime works in the shared words there are none.
-fn copied_words(logging: Logging, words: u16) -> u16
+fn copied_words(logging: Logging, words: u32) -> u32
     ensures { result ≡ maps.copied_words logging words }
 {
     match logging {
