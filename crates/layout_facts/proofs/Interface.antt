@@ -7,7 +7,7 @@ pub use Rattle.layout_facts.proofs.Homes.{words_of_variables_are_shared, shared_
 -- The state that a world has.
 pub use Rattle.layout_facts.proofs.States.{worlds_have_states}
 -- What the undo runtime's start lists of a task.
-pub use Rattle.layout_facts.proofs.Logged.{privates_are_logged}
+pub use Rattle.layout_facts.proofs.Logged.{homes_at, privates_are_logged}
 -- States by addresses.
 pub use Rattle.layout_facts.proofs.Views.{view_has_their_words, rows_fit_places}
 -- The places of the crash theorem, and the room of its buffers.

@@ -63,7 +63,7 @@ module _ (p : CheckedProgram) (allow : Allow) (plans : List TaskPlanValue) (l : 
       }
 
 -- the words of a task by its number, and that there are none beyond
-homes_at : (l : MemoryMap) (t : ℕ) (layout : TaskPlace) → slice_get l.tasks t ≡ Some layout → private_homes l t ≡ homes_in layout.privates
+pub homes_at : (l : MemoryMap) (t : ℕ) (layout : TaskPlace) → slice_get l.tasks t ≡ Some layout → private_homes l t ≡ homes_in layout.privates
 homes_at l t layout e =
     let at : slice_get (logged_tasks l) t ≡ Some (task_of layout) = slice_get-map task_of l.tasks t ∙ ap (option_map task_of) e in
     ap (λ (x : LoggedTask). x.privates) (get_or_from_slice_get (logged_tasks l) t (task_of layout) (record { privates = []; code = 0 }) at)

@@ -11,6 +11,8 @@ mod Stores
 mod Words
 mod Starts
 mod Decided
+mod LoggedActs
+mod LoggedFit
 mod Asks
 mod Answered
 mod InOrder

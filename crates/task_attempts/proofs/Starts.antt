@@ -11,13 +11,14 @@ use Rattle.task_attempts.proofs.Names.{scalar_words, home_region, word_place, sc
 use Rattle.task_attempts.proofs.Names.{version_address, element_address, IsWordOf}
 use Rattle.lower.proofs.Interface.{scalar as seen_scalar, array as seen_array, read as seen_read}
 use Rattle.task_attempts.proofs.Tasks.{body_is, among_privates}
-use Rattle.task_attempts.proofs.Started.{Started, scene}
+use Rattle.task_attempts.proofs.Names.{IsRedo, IsUndo, ListLength}
+use Rattle.task_attempts.proofs.Started.{Run, scene, Started, redo_run, Logged, undo_run}
 use Rattle.task_attempts.proofs.Held.{refreshed, refreshed_count, refreshed_locals, refreshed_rows, refreshed_other, refreshed_held, refreshed_runs}
 use Rattle.task_attempts.proofs.Rows.{rows_count}
-use Rattle.task_attempts.proofs.Words.{OwnWord, marked, unmarked, own_word_of, element_word}
+use Rattle.task_attempts.proofs.Words.{own_unmarked, element_word}
 
 -- whether a place is one of a scalar
-abbrev is_scalar_at : Option VariablePlace → Bool
+abbrev pub is_scalar_at : Option VariablePlace → Bool
 is_scalar_at (Some (Scalar home copy width)) = true
 is_scalar_at (Some (Array elements length copies)) = false
 is_scalar_at None = false
@@ -27,42 +28,42 @@ scalar_at_is (Some (Scalar home copy width)) h = record { home = home; copy = co
 scalar_at_is (Some (Array elements length copies)) h = absurd (let none : false ≡ true = h in cc)
 scalar_at_is None h = absurd (let none : false ≡ true = h in cc)
 
-unheld_of : (a b c : Bool) → c ≡ true → (a && (b && not c)) ≡ false
+pub unheld_of : (a b c : Bool) → c ≡ true → (a && (b && not c)) ≡ false
 unheld_of true true true h = refl
 unheld_of true true false h = absurd (let none : false ≡ true = h in cc)
 unheld_of true false c h = refl
 unheld_of false b c h = refl
 
-module _ (run : Started) where
-  open run use {program as p, map as l, given, state as s, task as i, world as x, inputs, start as st}
-  open (scene run) use {here, code, facts}
+module _ (run : Run) where
+  open run use {program as p, map as l, given, state as s, task as i, own as own_place, facts, world as x, inputs, undecided}
+  open (scene run) use {here, code}
 
   -- the scalars that the task writes in place, and their words in FRAM
-  abbrev is_held : ℕ → Bool
+  abbrev pub is_held : ℕ → Bool
   is_held v = is_scalar_at (slice_get l.variables v) && stays_in_place code v
 
-  abbrev held_words : ℕ → ℕ
+  abbrev pub held_words : ℕ → ℕ
   held_words v = words_at (slice_get l.variables v)
 
-  abbrev held_word : ℕ → ℕ → ℕ
+  abbrev pub held_word : ℕ → ℕ → ℕ
   held_word v n = x.fram (2 * n + home_in (slice_get l.variables v))
 
   -- the readings that are left, and these answers
   abbrev pub readings_and : List ℕ → TaskInputs
   readings_and answers = record { readings = inputs.readings; answers = answers }
 
-  abbrev own : Variables
+  abbrev pub own : Variables
   own = (fresh_attempt s.shared (readings_and [])).variables
 
   -- the variables as FRAM has them: the state's words, but for the scalars that the task writes in place
-  abbrev held : Variables
+  abbrev pub held : Variables
   held = refreshed is_held held_words held_word (length l.variables) own
 
   abbrev pub held_attempt : Attempt
   held_attempt = record (fresh_attempt s.shared (readings_and [])) { variables = held }
 
   count_is : length s.shared ≡ length l.variables
-  count_is = rows_count p.shared s.shared st.undecided.is_open.is_state ∙ sym given.variables.count
+  count_is = rows_count p.shared s.shared undecided.is_open.is_state ∙ sym given.variables.count
 
   held_scalar : (v : ℕ) → is_held v ≡ true → IsPlaceOfScalar (slice_get l.variables v) × (stays_in_place code v ≡ true)
   held_scalar v h =
@@ -91,7 +92,7 @@ module _ (run : Started) where
       let same : at.behind ≡ v = (given.words.one at.behind v at.index n a word h).0 in
       let number : 0 + at.behind ≡ v = omega (arith, same) in
       let stays : stays_in_place code v ≡ true =
-      sym (ap (λ b. stays_in_place b v) (body_is p l given s.task i)) ∙ sym (ap (stays_in_place (task_body p s.task)) number) ∙ at.is_so in
+      sym (ap (λ b. stays_in_place b v) (body_is p l s.task i)) ∙ sym (ap (stays_in_place (task_body p s.task)) number) ∙ at.is_so in
       and_from (is_scalar_at (slice_get l.variables v)) (stays_in_place code v)
       (ap (λ o. is_scalar_at o) (sym (ap (slice_get l.variables) same) ∙ at.place)) stays
 
@@ -101,14 +102,14 @@ module _ (run : Started) where
       ⊎_elim {C = x.fram a ≡ word_at own (Shared v) n}
       (λ w. let clash : true ≡ false = sym (in_place_held v n a h w) ∙ none in absurd (cc))
       (λ e. e ∙ given.words.is_word s.shared v n a h)
-      (st.undecided.shared a (given.words.is_shared v n a h))
+      (undecided.shared a (given.words.is_shared v n a h))
 
   held_place : (v n a : ℕ) (place : VariablePlace) → slice_get l.variables v ≡ Some place → n < (home_region place).words
       → a ≡ 2 * n + (home_region place).address
       → is_held v ≡ true → x.fram a ≡ word_at held (Shared v) n
   held_place v n a (Scalar home copy width) at below is h =
       let inside = slice_get_within l.variables v (Scalar home copy width) at in
-      let row = (given.words.fit s.shared st.undecided.is_open.is_state v (Scalar home copy width) at).1 in
+      let row = (given.words.fit s.shared undecided.is_open.is_state v (Scalar home copy width) at).1 in
       let count = count_is in
       let wide : held_words v ≡ scalar_words width = ap words_at at in
       ap x.fram is ∙ sym (ap (λ o. x.fram (2 * n + home_in o)) at)
@@ -126,66 +127,46 @@ module _ (run : Started) where
       (λ e. word_stays v n a h e ∙ sym (refreshed_other is_held held_words held_word (length l.variables) own v n e))
       (cases_Bool (is_held v))
 
-  private_unheld : (v : ℕ) → is_private_in code v ≡ true → is_held v ≡ false
-  private_unheld v h = unheld_of (is_scalar_at (slice_get l.variables v)) (some_path_writes code v) (is_private_in code v) h
-
-  scalar_stands : (v n home copy : ℕ) (width : ScalarWidth) (b : Bool) → slice_get l.variables v ≡ Some (Scalar home copy width)
-      → n < scalar_words width → is_private_in code v ≡ b
-      → x.fram (scalar_address here v n) ≡ word_at held (Shared v) n
-  scalar_stands v n home copy width true e below private =
-      let r = facts.privates in
-      let entry : PrivateScalar = record { number = v; home = home; copy = copy; width = width } in
-      let c : Contains i.layout.privates entry = r.each v home copy width e private in
-      ap x.fram (ap (λ z. 2 * n + z) (r.private v home copy width e private))
-      ∙ st.copies (word_pair entry n) (among_privates p l given s.task i entry n c below)
-      ∙ given.words.is_word s.shared v n (2 * n + home) (scalar_home l v home copy width n e below)
-      ∙ sym (refreshed_other is_held held_words held_word (length l.variables) own v n (private_unheld v private))
-  scalar_stands v n home copy width false e below left =
-      let r = facts.privates in
-      ap x.fram (ap (λ z. 2 * n + z) (r.left v home copy width e left))
-      ∙ home_stands v n (2 * n + home) (scalar_home l v home copy width n e below)
-
-  scalar_by : (v n : ℕ) → IsScalarWord here v n → x.fram (scalar_address here v n) ≡ word_at held (Shared v) n
-  scalar_by v n h =
-      let o = slice_get (map_seen code l).variables v in
-      let its = scalar_place o (words_scalar o n h) in
-      let below : n < scalar_words its.width = subst (λ k. n < k) (ap words_at its.place) h in
-      scalar_stands v n its.home its.copy its.width (is_private_in code v) (scalar_of_seen code l v its.home its.copy its.width its.place) below refl
-
   -- no element has a version word of this attempt
   none_marked : (e : Element) → IsCopied here e
       → x.fram (version_address here e) ≡ x.fram (word_place l Version) → ⊥
   none_marked e c h =
       let v = facts.versions e c in
-      let below = st.versions v.number v.below in
+      let below = run.versions v.number v.below in
       let at : x.fram (version_address here e) ≡ x.fram (l.versions.address + 2 * v.number) = ap x.fram v.is in
       omega (arith, h, below, at)
 
-  element_stands : (e : Element) → IsElement here e → OwnWord here x.fram e
+  element_stands : (e : Element) → IsElement here e
       → own_word here x.fram (slice_get (map_seen code l).variables e.array) e.index ≡ word_at held (Shared e.array) e.index
-  element_stands e h (marked c m is) = absurd (none_marked e c m)
-  element_stands e h (unmarked n is) =
-      is ∙ home_stands e.array e.index (element_address here e)
-      (element_word l code i.layout facts.privates e h)
+  element_stands e h =
+      own_unmarked here x.fram e h (none_marked e) ∙ home_stands e.array e.index (element_address here e) (element_word l code own_place e h)
 
   -- the lengths of the variables' rows
   length_seen : (v : ℕ) (place : VariablePlace) → SeenFrom l.variables v (some_path_writes code v) place
       → (v < length s.shared) × (length (slice_index_or s.shared v []) ≡ place_length place)
-  length_seen v _ (seen_scalar home copy width at) = given.words.fit s.shared st.undecided.is_open.is_state v (Scalar home copy width) at
-  length_seen v _ (seen_array elements n copies at written) = given.words.fit s.shared st.undecided.is_open.is_state v (Array elements n copies) at
-  length_seen v _ (seen_read elements n copies at unwritten) = given.words.fit s.shared st.undecided.is_open.is_state v (Array elements n copies) at
+  length_seen v _ (seen_scalar home copy width at) = given.words.fit s.shared undecided.is_open.is_state v (Scalar home copy width) at
+  length_seen v _ (seen_array elements n copies at written) = given.words.fit s.shared undecided.is_open.is_state v (Array elements n copies) at
+  length_seen v _ (seen_read elements n copies at unwritten) = given.words.fit s.shared undecided.is_open.is_state v (Array elements n copies) at
 
   lengths_are : (v : ℕ) (place : VariablePlace) → slice_get (map_seen code l).variables v ≡ Some place
       → (v < length s.shared) × (length (slice_index_or s.shared v []) ≡ place_length place)
   lengths_are v place e = length_seen v place (seen_from (some_path_writes code) l.variables v place e)
 
-  pub attempt_stands : StandsFor here 0 held_attempt [] (started x.fram inputs)
-  attempt_stands =
+  -- nothing is listed but what the start lists
+  pub record ListsNone : Type 0 where
+    pub pairs : IsRedo here → entries_from (x.fram (word_place l ListLength)) l.list.address x.fram ≡ []
+    pub runs : IsRedo here → (i : ℕ) → i < x.fram (word_place l ListLength) → 0 < x.fram (l.list.address + 6 * i + 4)
+    pub count : IsUndo here → x.fram (word_place l ListLength) ≡ run.first + 0
+
+  -- where each scalar has the attempt's words, the state stands for it
+  pub attempt_stands : ((v n : ℕ) → IsScalarWord here v n → x.fram (scalar_address here v n) ≡ word_at held (Shared v) n) → ListsNone
+      → StandsFor here run.first held_attempt [] (started x.fram inputs)
+  attempt_stands words none =
       let count = count_is in
       record {
         variables = record {
-          words = scalar_by;
-          elements = λ e h. element_stands e h (own_word_of here x.fram e facts.redo h);
+          words = words;
+          elements = element_stands;
           rows = λ v place e.
               let inside = (lengths_are v place e).0 in
               let rows = refreshed_count is_held held_words held_word (length l.variables) own in omega (arith, inside, rows);
@@ -194,12 +175,12 @@ module _ (run : Started) where
           locals = λ n v e. cc e;
           local_count = ap length (refreshed_locals is_held held_words held_word (length l.variables) own);
         };
-        emitted = record { emit_count = st.emit_count; emits = λ n h. absurd (omega (arith, h)) };
+        emitted = record { emit_count = run.emit_count; emits = λ n h. absurd (omega (arith, h)) };
         list = record {
           are_listed = record { copied = λ n d h. absurd (omega (arith, h)); different = λ n m d a b. absurd (omega (arith, b)) };
-          pairs = λ redo. ap (λ n. entries_from n l.list.address x.fram) st.list_length;
-          runs = λ redo n h. let none = st.list_length in absurd (omega (arith, h, none));
-          count = λ undo. let redo = facts.redo in absurd (cc (redo, undo));
+          pairs = none.pairs;
+          runs = none.runs;
+          count = none.count;
           marked = λ e h. let k = h.1 in absurd (omega (arith, k));
           only_marked = λ e c h. absurd (none_marked e c h);
         };

@@ -3,10 +3,10 @@ use Rattle.task_attempts.proofs.Names.{◌≡◌, ℕ, ◌+◌, ◌*◌, ◌<◌
 use Rattle.task_attempts.proofs.Names.{option_map, slice_get-map, get_or_from_slice_get, CheckedBlock, CheckedTask, CheckedProgram, body_of, task_body}
 use Rattle.task_attempts.proofs.Names.{CopyPair, program_at, privates_in, entry_of, task_entries, IsAmong, IsCopyWord, ArePrivate, Room, lowered_block}
 use Rattle.task_attempts.proofs.Names.{program_places, task_program, task_room, task_places, word_pair, scalars_among, PrivateScalar, MemoryMap, TaskPlace}
-use Rattle.task_attempts.proofs.Names.{scalar_words, Places, places_of, map_seen, redo_seen}
+use Rattle.task_attempts.proofs.Names.{scalar_words, places_of, map_seen}
+use Rattle.lower.specs.Seen.{task_seen}
 use Rattle.war_analysis.proofs.Interface.{element}
 use Rattle.runtime_code.specs.LayoutPlaces.{pairs_of}
-use Rattle.task_attempts.proofs.Given.{IsGiven, IsTaskGiven}
 
 -- a task of a source by its number, with its layout
 pub record IsAt (p : CheckedProgram) (l : MemoryMap) (k : ℕ) : Type 0 where
@@ -21,26 +21,22 @@ task_at p l count k h =
     let b = element l.tasks k (omega (arith, count, h)) in
     record { task = a.0; layout = b.0; task_is = a.1; layout_is = b.1 }
 
-module _ (p : CheckedProgram) (l : MemoryMap) (given : IsGiven p l) (k : ℕ) (i : IsAt p l k) where
+module _ (p : CheckedProgram) (l : MemoryMap) (k : ℕ) (i : IsAt p l k) where
   abbrev pub body : CheckedBlock
   body = i.task.body
-
-  abbrev pub places : Places
-  places = task_places l i.task i.layout
-
-  abbrev pub room : Room
-  room = task_room p i.task
-
-  pub task_given : IsTaskGiven p l i.task i.layout
-  task_given = given.tasks k i.task i.layout i.task_is i.layout_is
 
   pub body_is : task_body p k ≡ body
   body_is = ap body_of i.task_is
 
-  pub program_is : task_program p l k ≡ lowered_block places body
-  program_is = program_at l p.tasks l.tasks k i.task i.layout i.task_is i.layout_is
-      ∙ ap (λ own. lowered_block (places_of (map_seen body l) own) body) (redo_seen l.runtime.logging i.layout task_given.redo)
+  -- its program, by the place that is its own
+  pub program_is : (own : TaskPlace) → task_seen l.runtime.logging i.layout ≡ own → task_program p l k ≡ lowered_block (task_places l i.task own) body
+  program_is own own_is =
+      program_at l p.tasks l.tasks k i.task i.layout i.task_is i.layout_is
+      ∙ ap (λ o. lowered_block (places_of (map_seen body l) o) body) own_is
 
+-- under redo: its private scalars with their copies
+module _ (p : CheckedProgram) (l : MemoryMap) (privates : (k : ℕ) → ArePrivate (program_places p l) k (privates_in (task_entries l) k)) (k : ℕ)
+    (i : IsAt p l k) where
   pub privates_are : privates_in (task_entries l) k ≡ pairs_of i.layout
   privates_are =
       ap (λ e. e.privates) (get_or_from_slice_get (map entry_of l.tasks) k (entry_of i.layout) (record { privates = []; code = 0 })
@@ -57,7 +53,7 @@ module _ (p : CheckedProgram) (l : MemoryMap) (given : IsGiven p l) (k : ℕ) (i
   -- the copy of a word of a private scalar
   pub private_copy : (s : PrivateScalar) (n : ℕ) → Contains i.layout.privates s → n < scalar_words s.width
       → IsCopyWord (program_places p l) (2 * n + s.copy)
-  private_copy s n h below = copies_of (privates_in (task_entries l) k) (given.privates k) (word_pair s n) (among_privates s n h below)
+  private_copy s n h below = copies_of (privates_in (task_entries l) k) (privates k) (word_pair s n) (among_privates s n h below)
 
   not_in_place_of : (ps : List CopyPair) → ArePrivate (program_places p l) k ps → (q : CopyPair) → IsAmong ps q
       → (program_places p l).written_in_place k q.home ≡ false
@@ -69,4 +65,4 @@ module _ (p : CheckedProgram) (l : MemoryMap) (given : IsGiven p l) (k : ℕ) (i
   pub private_not_in_place : (s : PrivateScalar) (n : ℕ) → Contains i.layout.privates s → n < scalar_words s.width
       → (program_places p l).written_in_place k (2 * n + s.home) ≡ false
   private_not_in_place s n h below =
-      not_in_place_of (privates_in (task_entries l) k) (given.privates k) (word_pair s n) (among_privates s n h below)
+      not_in_place_of (privates_in (task_entries l) k) (privates k) (word_pair s n) (among_privates s n h below)
