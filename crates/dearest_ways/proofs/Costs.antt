@@ -16,7 +16,7 @@ use Rattle.code_ways.specs.Ways.{all_turns}
 use Rattle.code_ways.proofs.Interface.{behind_are, straight_are, choice_are, leaving_are, forked_are, both_are, turned_are, one_are, chosen_are, turns_are}
 use Rattle.code_ways.proofs.Interface.{most_is}
 use Rattle.dearest_ways.specs.Ways.{straight_cost, step_choices, test_choices, program_choices, step_ways, test_forks, ways_further, steps_ways, block_ways}
-use Rattle.dearest_ways.specs.Ways.{dearest_way}
+use Rattle.dearest_ways.specs.Ways.{dearest_way, ended}
 
 none_are : AreWaysOf (λ n. n) (straight_ways 0)
 none_are = record { some = tt; cost = λ n. omega arith }
@@ -24,6 +24,11 @@ none_are = record { some = tt; cost = λ n. omega arith }
 -- a step without choices
 leaf_are : (bs : List Bound) (os : List Waiting) (s : Step) → AreWaysOf (λ n. leaf_most bs os s + n) (straight_cost (leaf_most bs os s))
 leaf_are bs os s = straight_are (leaf_most bs os s)
+
+ended_are : (bs : List Bound) (p : Program) (w : WaysValue) → AreWaysOf (steps_most bs [] p) w → AreWaysOf (block_most bs p) (ended p w)
+ended_are bs p w a =
+    behind_are (steps_most bs [] p) (λ n. flush_most (waiting_after [] p) + n) w (straight_cost (flush_most (waiting_after [] p))) a
+    (straight_are (flush_most (waiting_after [] p)))
 
 mutual
   step_are : (bs : List Bound) (os : List Waiting) (k : ℕ) (s : Step) → AreWaysOf (step_most bs os s) (step_ways bs os k s)
@@ -37,9 +42,9 @@ mutual
       let on = forward_most (pass_over over) 3 in
       let within = suc k + test_choices t in
       let later = within + program_choices taken in
-      let passed = behind_are (block_most bs taken) (λ n. on + n) _ _ (block_are bs within taken) (straight_are on) in
+      let passed = behind_are (block_most bs taken) (λ n. on + n) _ _ (ended_are bs taken _ (further_are bs [] within (λ n. n) (straight_ways 0) taken none_are)) (straight_are on) in
       let held = behind_are (λ n. n) (λ n. block_most bs taken (on + n)) _ _ (choice_are k true) passed in
-      let failed = behind_are (λ n. n) (block_most bs otherwise) _ _ (choice_are k false) (block_are bs later otherwise) in
+      let failed = behind_are (λ n. n) (block_most bs otherwise) _ _ (choice_are k false) (ended_are bs otherwise _ (further_are bs [] later (λ n. n) (straight_ways 0) otherwise none_are)) in
       let choice = chosen_are (test_most bs t false first) (λ n. block_most bs taken (on + n)) (block_most bs otherwise) (test_forks bs (suc k) t false first)
       (ways_behind (choice_ways k true) (ways_behind (block_ways bs within taken) (straight_cost on)))
       (ways_behind (choice_ways k false) (block_ways bs later otherwise)) (test_are bs (suc k) t false first) held failed in
@@ -50,7 +55,7 @@ mutual
       let end = turn_most n below (size (block_code inner body ++ turn_end n below)) in
       let set = forward_most (number_code n from) 5 in
       let made : ℕ → ℕ = block_most inner body in
-      let turn = behind_are made (λ x. end + x) _ _ (block_are inner k body) (straight_are end) in
+      let turn = behind_are made (λ x. end + x) _ _ (ended_are inner body _ (further_are inner [] k (λ n. n) (straight_ways 0) body none_are)) (straight_are end) in
       let turns = turns_are (λ m. turns_most m made end) (λ x. made (end + x)) (ways_behind (block_ways inner k body) (straight_cost end)) (λ x. refl)
       (λ m x. refl) turn (below - from) in
       let begun = behind_are (λ x. set + x) (turns_most (below - from) made end) _ _ (straight_are set) turns in
@@ -85,12 +90,12 @@ mutual
   test_are bs k (holds p) when d =
       let os = waiting_after [] p in
       let asked = forward_most (holds_code os when d) (8 + owed os) in
-      let made = behind_are (steps_most bs [] p) (λ n. asked + n) _ _ (steps_are bs [] k p) (straight_are asked) in
+      let made = behind_are (steps_most bs [] p) (λ n. asked + n) _ _ (further_are bs [] k (λ n. n) (straight_ways 0) p none_are) (straight_are asked) in
       forked_are (λ n. steps_most bs [] p (asked + n)) (ways_behind (steps_ways bs [] k p) (straight_cost asked)) made
   test_are bs k (compares c p) when d =
       let os = waiting_after [] p in
       let asked = forward_most (compares_code os c when d) (10 + owed os) in
-      let made = behind_are (steps_most bs [] p) (λ n. asked + n) _ _ (steps_are bs [] k p) (straight_are asked) in
+      let made = behind_are (steps_most bs [] p) (λ n. asked + n) _ _ (further_are bs [] k (λ n. n) (straight_ways 0) p none_are) (straight_are asked) in
       forked_are (λ n. steps_most bs [] p (asked + n)) (ways_behind (steps_ways bs [] k p) (straight_cost asked)) made
   test_are bs k (both t u) when d =
       let over = size (test_code bs u when d) + (if not when then d else 0) in
@@ -109,13 +114,8 @@ mutual
       further_are bs (waiting_behind os first) (k + step_choices first) (λ n. f (step_most bs os first n)) (ways_behind w (step_ways bs os k first)) more
       (behind_are f (step_most bs os first) w (step_ways bs os k first) a (step_are bs os k first))
 
-  steps_are : (bs : List Bound) (os : List Waiting) (k : ℕ) (p : Program) → AreWaysOf (steps_most bs os p) (steps_ways bs os k p)
-  steps_are bs os k p = further_are bs os k (λ n. n) (straight_ways 0) p none_are
-
-  block_are : (bs : List Bound) (k : ℕ) (p : Program) → AreWaysOf (block_most bs p) (block_ways bs k p)
-  block_are bs k p =
-      behind_are (steps_most bs [] p) (λ n. flush_most (waiting_after [] p) + n) (steps_ways bs [] k p) (straight_cost (flush_most (waiting_after [] p)))
-      (steps_are bs [] k p) (straight_are (flush_most (waiting_after [] p)))
+block_are : (bs : List Bound) (k : ℕ) (p : Program) → AreWaysOf (block_most bs p) (block_ways bs k p)
+block_are bs k p = ended_are bs p (steps_ways bs [] k p) (further_are bs [] k (λ n. n) (straight_ways 0) p none_are)
 
 -- the dearest way of a program costs what its code costs at most
 pub way_costs : (events : Bool) (p : Program) → capped (most_spent events p) ≡ capped (dearest_way events p).cycles

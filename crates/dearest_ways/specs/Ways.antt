@@ -38,6 +38,10 @@ abbrev mutual
 abbrev pub straight_cost : ℕ → WaysValue
 straight_cost cycles = straight_ways (capped cycles)
 
+-- with the pushes of the words that wait behind a block
+abbrev pub ended : Program → WaysValue → WaysValue
+ended p w = ways_behind w (straight_cost (flush_most (waiting_after [] p)))
+
 abbrev mutual
   -- the ways of a step's code, in the bodies of loops with these bounds, where these words wait; its first choice has this number
   pub step_ways : List Bound → List Waiting → ℕ → Step → WaysValue
@@ -46,14 +50,14 @@ abbrev mutual
       let over = size (block_code bs otherwise) in
       let first = size (block_code bs taken ++ pass_over over) in
       let within = suc k + test_choices t in
-      let held = ways_behind (block_ways bs within taken) (straight_cost (forward_most (pass_over over) 3)) in
-      let failed = block_ways bs (within + program_choices taken) otherwise in
+      let held = ways_behind (ended taken (ways_further bs [] within (straight_ways 0) taken)) (straight_cost (forward_most (pass_over over) 3)) in
+      let failed = ended otherwise (ways_further bs [] (within + program_choices taken) (straight_ways 0) otherwise) in
       ways_behind (straight_cost (flush_most os))
       (chosen_ways (test_forks bs (suc k) t false first) (ways_behind (choice_ways k true) held) (ways_behind (choice_ways k false) failed))
   step_ways bs os k (repeat n from below body) =
       let inner = bound_of n below ∷ bs in
       let end = turn_most n below (size (block_code inner body ++ turn_end n below)) in
-      let turn = ways_behind (block_ways inner k body) (straight_cost end) in
+      let turn = ways_behind (ended body (ways_further inner [] k (straight_ways 0) body)) (straight_cost end) in
       ways_behind (straight_cost (flush_most os)) (ways_behind (straight_cost (forward_most (number_code n from) 5)) (all_turns (below - from) turn))
   step_ways bs os k (jump to) = ways_behind (straight_cost (flush_most os)) (leaving_ways 3)
   step_ways bs os k s = straight_cost (leaf_most bs os s)
@@ -62,10 +66,10 @@ abbrev mutual
   pub test_forks : List Bound → ℕ → Test → Bool → ℕ → ForksValue
   test_forks bs k (holds p) when d =
       let os = waiting_after [] p in
-      forked_ways (ways_behind (steps_ways bs [] k p) (straight_cost (forward_most (holds_code os when d) (8 + owed os))))
+      forked_ways (ways_behind (ways_further bs [] k (straight_ways 0) p) (straight_cost (forward_most (holds_code os when d) (8 + owed os))))
   test_forks bs k (compares c p) when d =
       let os = waiting_after [] p in
-      forked_ways (ways_behind (steps_ways bs [] k p) (straight_cost (forward_most (compares_code os c when d) (10 + owed os))))
+      forked_ways (ways_behind (ways_further bs [] k (straight_ways 0) p) (straight_cost (forward_most (compares_code os c when d) (10 + owed os))))
   test_forks bs k (both t u) when d =
       both_forks (test_forks bs k t false (size (test_code bs u when d) + (if not when then d else 0))) (test_forks bs (k + test_choices t) u when d)
   test_forks bs k (either t u) when d =
@@ -78,12 +82,13 @@ abbrev mutual
   ways_further bs os k w (step first more) =
       ways_further bs (waiting_behind os first) (k + step_choices first) (ways_behind w (step_ways bs os k first)) more
 
-  pub steps_ways : List Bound → List Waiting → ℕ → Program → WaysValue
-  steps_ways bs os k p = ways_further bs os k (straight_ways 0) p
+-- those of steps alone
+abbrev pub steps_ways : List Bound → List Waiting → ℕ → Program → WaysValue
+steps_ways bs os k p = ways_further bs os k (straight_ways 0) p
 
-  -- with no word waiting in front of them or behind them
-  pub block_ways : List Bound → ℕ → Program → WaysValue
-  block_ways bs k p = ways_behind (steps_ways bs [] k p) (straight_cost (flush_most (waiting_after [] p)))
+-- with no word waiting in front of them or behind them
+abbrev pub block_ways : List Bound → ℕ → Program → WaysValue
+block_ways bs k p = ended p (steps_ways bs [] k p)
 
 -- the dearest way through the code of a program, by whether it takes events
 abbrev pub dearest_way : Bool → Program → WayValue

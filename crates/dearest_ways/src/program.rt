@@ -1,6 +1,6 @@
 //! The dearest way of a program's code.
 
-ghost use Rattle.std.specs.Prelude.{◌≡◌, ◌==◌, ◌+◌, ◌*◌, ◌<◌, ◌≤◌, ◌∷◌, ◌++◌, ◌-◌, [], ℕ, None, not, if◌then◌else◌, is_some, max, IfOk, OnOk};
+ghost use Rattle.std.specs.Prelude.{◌≡◌, ◌==◌, ◌+◌, ◌*◌, ◌^◌, ◌<◌, ◌≤◌, ◌∷◌, ◌++◌, ◌-◌, [], ℕ, None, not, if◌then◌else◌, is_some, true, false, IfOk, OnOk};
 ghost use Rattle.word_code.specs.array_versions.Program.{truth, repeat};
 ghost use Rattle.word_code.specs.array_versions.View.{program_of, steps_of, step_of, test_of};
 ghost use Rattle.word_code.specs.array_versions.Form.{IsWhole, LocalsBelow, StepLocalsBelow, TestLocalsBelow};

@@ -3,7 +3,7 @@ use Rattle.word_code.specs.array_versions.View.{steps_of}
 use Rattle.word_code.specs.array_versions.Form.{LocalsBelow, locals_of}
 use Rattle.word_code.proofs.Interface.{program_below}
 use Rattle.dearest_ways.proofs.Priced.{whole_locals}
-use Rattle.dearest_ways.proofs.program.most_spent.Goals as goal
+use Rattle.dearest_ways.proofs.program.dearest_way.Goals as goal
 
 pub steps_locals-requires : goal.steps_locals-requires
 steps_locals-requires c =
