@@ -1,5 +1,5 @@
 -- The ways of a program cost what its code costs at most.
-use Rattle.std.proofs.Common.{◌≡◌, ℕ, suc, ◌+◌, ◌-◌, ◌++◌, ◌∷◌, [], List, Bool, true, false, not, if◌then◌else◌, max, refl, sym, ap, ◌∙◌, arith}
+use Rattle.std.proofs.Common.{◌≡◌, ℕ, suc, ◌+◌, ◌-◌, ◌++◌, ◌∷◌, [], List, Bool, true, false, not, nat_lt, if◌then◌else◌, max, Option, None, Some, refl, sym, ap, ◌∙◌, arith}
 use Rattle.word_code.specs.declared.bounds.Bound.{Bound}
 use Rattle.word_code.specs.declared.waiting.Waiting.{Waiting}
 use Rattle.word_code.specs.array_versions.Program.{Step, Test, Program, number, load, keep, update, local, set_local, update_local, unary, binary, shift, long}
@@ -12,7 +12,7 @@ use Rattle.word_code.specs.Code.{test_code, block_code}
 use Rattle.code_paths.specs.Paths.{capped, forward_most}
 use Rattle.code_costs.specs.Dearest.{flush_most, leaf_most, turn_most, turns_most, step_most, test_most, steps_most, block_most, most_spent}
 use Rattle.code_ways.specs.Ways.{WaysValue, ForksValue, AreWaysOf, AreForksOf, straight_ways, choice_ways, leaving_ways, ways_behind, forked_ways, chosen_ways}
-use Rattle.code_ways.specs.Ways.{all_turns}
+use Rattle.code_ways.specs.Ways.{WayValue, all_turns, both_ways, dearer_of, some_way, way_behind}
 use Rattle.code_ways.proofs.Interface.{behind_are, straight_are, choice_are, leaving_are, forked_are, both_are, turned_are, one_are, chosen_are, turns_are}
 use Rattle.code_ways.proofs.Interface.{most_is}
 use Rattle.dearest_ways.specs.Ways.{straight_cost, step_choices, test_choices, program_choices, step_ways, test_forks, ways_further, steps_ways, block_ways}
@@ -123,3 +123,25 @@ way_costs events p =
     let set = forward_most (stack_set events (locals_of p)) 2 in
     most_is (λ n. set + block_most [] p n) (ways_behind (straight_cost set) (block_ways [] 0 p))
     (behind_are (λ n. set + n) (block_most [] p) _ _ (straight_are set) (block_are [] 0 p))
+
+-- a way behind another has no more cycles than are kept
+low_by : (b : Bool) (v w : WayValue) → capped v.cycles ≡ v.cycles → capped w.cycles ≡ w.cycles → capped (if b then w else v).cycles ≡ (if b then w else v).cycles
+low_by true v w e f = f
+low_by false v w e f = e
+
+twice : (n : ℕ) → capped (capped n) ≡ capped n
+twice n = omega arith
+
+way_low : (v : WayValue) (g l : Option WayValue) → let w = some_way (dearer_of (both_ways (Some v) g) (both_ways (Some v) l)) in capped w.cycles ≡ w.cycles
+way_low v None None = omega arith
+way_low v None (Some w) = twice (v.cycles + w.cycles)
+way_low v (Some u) None = twice (v.cycles + u.cycles)
+way_low v (Some u) (Some w) =
+    low_by (nat_lt (capped (v.cycles + u.cycles)) (capped (v.cycles + w.cycles))) (way_behind v u) (way_behind v w) (twice (v.cycles + u.cycles))
+    (twice (v.cycles + w.cycles))
+
+pub cycles_are : (events : Bool) (p : Program) (n : ℕ) → n ≡ (dearest_way events p).cycles → n ≡ capped (most_spent events p)
+cycles_are events p n e =
+    let set = capped (forward_most (stack_set events (locals_of p)) 2) in
+    let block = block_ways [] 0 p in
+    e ∙ sym (way_low (record { cycles = set; taken = [] }) block.goes block.leaves) ∙ sym (way_costs events p)

@@ -213,6 +213,41 @@ fn pass(alloc: Global, other: u16) -> Result<Ways, AllocError>
     priced(alloc, code.as_slice(), 3)
 }
 
+// How many words the code of a choice goes over: its second block, and its first with what goes over the second.
+#[derive(Clone, Copy)]
+struct Jumps {
+    second: u16,
+    first: u16,
+}
+
+// The same of a choice between these blocks.
+fn choice_jumps(
+    alloc: Global,
+    bounds: &[Bound],
+    taken: &[WordStep],
+    otherwise: &[WordStep],
+) -> Result<Jumps, AllocError>
+    requires room { words_of (steps_of taken.now) + words_of (steps_of otherwise.now) + 2 ≤ 0x7FFF }
+    requires held { LocalsBelow 1016 (steps_of taken.now) }
+    requires failed { LocalsBelow 1016 (steps_of otherwise.now) }
+    ensures second { IfOk result (λ j. j.second ≡ size (block_code bounds.now (steps_of otherwise.now))) }
+    ensures first { IfOk result (λ j. j.first
+        ≡ size (block_code bounds.now (steps_of taken.now) ++ pass_over (size (block_code bounds.now (steps_of otherwise.now))))) }
+    ensures short { IfOk result (λ j. j.second ≤ words_of (steps_of otherwise.now)) }
+    ensures long { IfOk result (λ j. j.first ≤ words_of (steps_of taken.now) + 2) }
+{
+    let mut other = Vec::new(alloc);
+    emit_block(alloc, bounds, otherwise, &mut other)?;
+    let second = code_words(other.as_slice());
+    let mut code = Vec::new(alloc);
+    emit_block(alloc, bounds, taken, &mut code)?;
+    emit_pass_over(second, &mut code)?;
+    Ok(Jumps {
+        second,
+        first: code_words(code.as_slice()),
+    })
+}
+
 // A local becomes a number.
 fn number_set(alloc: Global, local: u16, number: u16) -> Result<Ways, AllocError>
     requires { local < 1016 }
@@ -416,16 +451,11 @@ fn step_ways(
         WordStep::Truth(test) => truth_ways(alloc, bounds, test, waiting, choices),
         WordStep::Choose(test, taken, otherwise) => {
             let front = flush(alloc, waiting)?;
-            let mut other = Vec::new(alloc);
-            emit_block(alloc, bounds, otherwise, &mut other)?;
-            let passed = code_words(other.as_slice());
-            let mut first = Vec::new(alloc);
-            emit_block(alloc, bounds, taken, &mut first)?;
-            emit_pass_over(passed, &mut first)?;
+            let jumps = choice_jumps(alloc, bounds, taken, otherwise)?;
             let number = *choices;
             *choices += 1;
-            let asked = test_forks(alloc, bounds, test, false, code_words(first.as_slice()), choices)?;
-            let held = held_ways(alloc, bounds, number, taken, passed, choices)?;
+            let asked = test_forks(alloc, bounds, test, false, jumps.first, choices)?;
+            let held = held_ways(alloc, bounds, number, taken, jumps.second, choices)?;
             let failed = failed_ways(alloc, bounds, number, otherwise, choices)?;
             behind(alloc, front, chosen(alloc, asked, held, failed)?)
         }
@@ -509,6 +539,7 @@ pub struct DearestWay {
 ///
 /// # Errors
 /// `AllocError` where memory was refused.
+#[tactic(auto, using(crate::proofs::Costs::cycles_are))]
 pub fn dearest_way(alloc: Global, events: bool, program: &WordProgram) -> Result<DearestWay, AllocError>
     requires room { words_of (program_of program.now) ≤ 0x7FFF }
     requires whole { IsWhole (program_of program.now) }

@@ -2,6 +2,8 @@ use Rattle.std.proofs.Common.{sym, ap, subst, arith}
 use Rattle.word_code.specs.array_versions.View.{steps_of}
 use Rattle.word_code.specs.array_versions.Form.{LocalsBelow, locals_of}
 use Rattle.word_code.proofs.Interface.{program_below}
+use Rattle.dearest_ways.specs.Ways.{program_choices}
+use Rattle.dearest_ways.proofs.Few.{program_few}
 use Rattle.dearest_ways.proofs.Priced.{whole_locals}
 use Rattle.dearest_ways.proofs.program.dearest_way.Goals as goal
 
@@ -19,3 +21,8 @@ pub block_ways-requires-clause-locals : goal.block_ways-requires-clause-locals
 block_ways-requires-clause-locals c =
     let p = steps_of c.args.program.now.steps.items in
     subst (λ s. LocalsBelow 1016 (steps_of s)) (sym c.deref-2.ensures.value) (program_below 1016 p (whole_locals p c.requires.whole))
+
+pub block_ways-requires-clause-few : goal.block_ways-requires-clause-few
+block_ways-requires-clause-few c =
+    let p = steps_of c.args.program.now.steps.items in
+    omega (arith, program_few p, c.requires.room, ap (λ s. program_choices (steps_of s)) c.deref-2.ensures.value)
