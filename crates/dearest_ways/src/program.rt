@@ -18,8 +18,8 @@ ghost use Rattle.dearest_ways.specs.Ways.{steps_ways, block_ways, IsDearestWay};
 use array_versions::{BinaryOperation, Comparison, WordProgram, WordStep, WordTest};
 use code_paths::{forward_most, plus};
 use code_ways::{
-    Forks, Ways, all_turns, behind, both, choice, chosen, counts_of, forked, leaving, most_of, one_of,
-    straight, turned,
+    Forks, Ways, all_turns, behind, both, choice, chosen, counts_of, forked, leaving, most_of,
+    one_of, straight, turned,
 };
 use codegen::parts::{
     bounds_within, code_words, emit_all, emit_block, emit_compares, emit_flushed, emit_holds,
@@ -540,7 +540,11 @@ pub struct DearestWay {
 /// # Errors
 /// `AllocError` where memory was refused.
 #[tactic(auto, using(crate::proofs::Costs::cycles_are))]
-pub fn dearest_way(alloc: Global, events: bool, program: &WordProgram) -> Result<DearestWay, AllocError>
+pub fn dearest_way(
+    alloc: Global,
+    events: bool,
+    program: &WordProgram,
+) -> Result<DearestWay, AllocError>
     requires room { words_of (program_of program.now) ≤ 0x7FFF }
     requires whole { IsWhole (program_of program.now) }
     ensures cycles { IfOk result (λ w. w.cycles ≡ capped (most_spent events (program_of program.now))) }

@@ -20,8 +20,7 @@ pub step_ways-test_forks-requires : goal.step_ways-test_forks-requires
 step_ways-test_forks-requires t c =
     let of = c.in-Choose in
     let is = ap step_of of.is ∙ step_of-choose of.test of.taken of.otherwise in
-    let block = ap (λ ws. words_of (steps_of ws)) c.deref.ensures.value in
-    (
+    let block = ap (λ ws. words_of (steps_of ws)) c.deref.ensures.value in (
       search (rules, word_step.the_lemmas),
       (
         (omega (arith, c.in_ok-jumps-in-Choose.ensures.long, block, ap step_words is, c.requires.room)),
@@ -34,9 +33,8 @@ step_ways-held_ways-requires t c =
     let of = c.in-Choose in
     let is = ap step_of of.is ∙ step_of-choose of.test of.taken of.otherwise in
     let block = c.deref-in-Choose-2.ensures.value in
-    let other = ap (λ ws. words_of (steps_of ws)) c.deref-in-Choose.ensures.value in
-    (
-      search (rules, word_step.the_lemmas),
+    let other = ap (λ ws. words_of (steps_of ws)) c.deref-in-Choose.ensures.value in (
+      (let h = rw of.is at c.decreases in rw block (search (rules, word_step.the_lemmas, h))),
       (
         (omega (arith, ap (λ ws. words_of (steps_of ws)) block, ap step_words is, c.requires.room)),
         (
@@ -57,9 +55,8 @@ step_ways-failed_ways-requires t c =
     let block = c.deref-in-Choose-3.ensures.value in
     let own = ap (λ ws. program_choices (steps_of ws)) block in
     let before = c.in_ok-held-in-Choose.ensures.choices in
-    let asked = c.in_ok-asked-in-Choose.ensures.choices in
-    (
-      search (rules, word_step.the_lemmas),
+    let asked = c.in_ok-asked-in-Choose.ensures.choices in (
+      (let h = rw of.is at c.decreases in rw block (search (rules, word_step.the_lemmas, h))),
       (
         (omega (arith, ap (λ ws. words_of (steps_of ws)) block, ap step_words is, c.requires.room)),
         (
@@ -101,11 +98,11 @@ step_ways-returns-in_ok-chosen-in-Choose-clause-ways t c =
     let held : ways_of c.in_ok-held-in-Choose.held ≡ one =
     c.in_ok-held-in-Choose.ensures.ways
     ∙ ap (λ ws. ways_behind (choice_ways k true) (ways_behind (block_ways bs c.test_forks.new.choices (steps_of ws))
-      (straight_cost (forward_most (pass_over c.in_ok-jumps-in-Choose.jumps.second) 3)))) block
+    (straight_cost (forward_most (pass_over c.in_ok-jumps-in-Choose.jumps.second) 3)))) block
     ∙ ap (λ j. ways_behind (choice_ways k true) (ways_behind (block_ways bs j p)
-      (straight_cost (forward_most (pass_over c.in_ok-jumps-in-Choose.jumps.second) 3)))) within
+    (straight_cost (forward_most (pass_over c.in_ok-jumps-in-Choose.jumps.second) 3)))) within
     ∙ ap (λ o. ways_behind (choice_ways k true) (ways_behind (block_ways bs (suc k + test_choices test) p)
-      (straight_cost (forward_most (pass_over o) 3)))) over in
+    (straight_cost (forward_most (pass_over o) 3)))) over in
     let two = ways_behind (choice_ways k false) (block_ways bs (suc k + test_choices test + program_choices p) q) in
     let failed : ways_of c.in_ok-failed-in-Choose.failed ≡ two =
     c.in_ok-failed-in-Choose.ensures.ways
