@@ -4,7 +4,7 @@ use Rattle.std.specs.Borrow.{Bor}
 use Rattle.std.specs.Prelude.{List}
 use Rattle.command_line.specs.Commands.{plain_line}
 use Rattle.command_line.specs.declared.Command.{Command}
-use Rattle.command_line.specs.declared.Command.TheVariants.{Mean, Try, Build, Run, Asm, Dis, Gen, Save, Resume, Migrate, Audit}
+use Rattle.command_line.specs.declared.Command.TheVariants.{Mean, Try, Build, Run, Asm, Dis, Gen, Save, Resume, Migrate, Undo, Audit}
 use Rattle.plain_commands.specs.command_answers.CommandAnswers.{CommandAnswers}
 use Rattle.plain_commands.specs.command_answers.Outside.{Shelved, Written}
 use Rattle.plain_commands.specs.command_answers.declared.status.Status.{Status}
@@ -25,6 +25,7 @@ its_line (Gen n a) = refl
 its_line (Save a b c) = refl
 its_line (Resume a b c) = refl
 its_line (Migrate a b c d e f) = refl
+its_line (Undo a b c) = refl
 its_line (Audit a b c) = refl
 
 -- the same command is answered in the same way, and has the same number
@@ -46,15 +47,16 @@ not_plain (Dis a) means runs assembles lists audits plain = lists a refl
 not_plain (Audit a b c) means runs assembles lists audits plain = audits a b c refl
 not_plain _ means runs assembles lists audits plain = plain
 
-pub on_states : (c : Command) → (IsPlainCall (call_of c) → ⊥) → ((a b d : Name) → c ≡ Try a b d → ⊥) → ((a b : Name) → c ≡ Build a b → ⊥)
-    → ((n : ℕ) (a : Name) → c ≡ Gen n a → ⊥) → IsOnStates (call_of c)
-on_states (Try a b c) plain tries builds generates = absurd (tries a b c refl)
-on_states (Build a b) plain tries builds generates = absurd (builds a b refl)
-on_states (Gen n a) plain tries builds generates = absurd (generates n a refl)
-on_states (Save a b c) plain tries builds generates = tt
-on_states (Resume a b c) plain tries builds generates = tt
-on_states (Migrate a b c d e f) plain tries builds generates = tt
-on_states _ plain tries builds generates = absurd (plain tt)
+pub on_states : (c : Command) → (IsPlainCall (call_of c) → ⊥) → ((a b d : Name) → c ≡ Try a b d → ⊥) → ((a b d : Name) → c ≡ Undo a b d → ⊥)
+    → ((a b : Name) → c ≡ Build a b → ⊥) → ((n : ℕ) (a : Name) → c ≡ Gen n a → ⊥) → IsOnStates (call_of c)
+on_states (Try a b c) plain tries undoes builds generates = absurd (tries a b c refl)
+on_states (Undo a b c) plain tries undoes builds generates = absurd (undoes a b c refl)
+on_states (Build a b) plain tries undoes builds generates = absurd (builds a b refl)
+on_states (Gen n a) plain tries undoes builds generates = absurd (generates n a refl)
+on_states (Save a b c) plain tries undoes builds generates = tt
+on_states (Resume a b c) plain tries undoes builds generates = tt
+on_states (Migrate a b c d e f) plain tries undoes builds generates = tt
+on_states _ plain tries undoes builds generates = absurd (plain tt)
 
 pub has_no_number : (c : Command) → IsOnStates (call_of c) → HasNumber (call_of c)
 has_no_number (Gen n a) states = absurd states

@@ -8,7 +8,7 @@ use Rattle.plain_commands.specs.command_answers.declared.status.Status.{Status}
 use Rattle.plain_commands.specs.command_answers.declared.status.Status.TheVariants.{Done, Refused, Usage, Unreadable, Unwritable, OutOfMemory, MachineFault}
 use Rattle.plain_commands.specs.command_answers.declared.status.Status.TheVariants.{TooLong, Differs}
 use Rattle.alpaca_cli.specs.Answers.{Answers}
-use Rattle.alpaca_cli.specs.Calls.{Call, mean, try_, build, run, asm, dis, gen, save, resume, migrate, audit, OnLine, IsRun, IsAudit}
+use Rattle.alpaca_cli.specs.Calls.{Call, mean, try_, build, run, asm, dis, gen, save, resume, migrate, undo, audit, OnLine, IsRun, IsAudit}
 use Rattle.plain_commands.specs.command_answers.Ending.{Ending, well, at_fault, differs}
 use Rattle.plain_commands.specs.RunReport.{ending_of}
 use Rattle.plain_commands.specs.Verdicts.{verdict_ending}
@@ -35,6 +35,10 @@ faults_alone (try_ a b i) [] p is e = is
 faults_alone (try_ a b i) (x ∷ []) p is e = is
 faults_alone (try_ a b i) (x ∷ y ∷ []) p is e = not_both p.ending is.1 e
 faults_alone (try_ a b i) (x ∷ y ∷ z ∷ more) p is e = is
+faults_alone (undo a b i) [] p is e = is
+faults_alone (undo a b i) (x ∷ []) p is e = is
+faults_alone (undo a b i) (x ∷ y ∷ []) p is e = not_both p.ending is.1 e
+faults_alone (undo a b i) (x ∷ y ∷ z ∷ more) p is e = is
 faults_alone (build a i) [] p is e = is
 faults_alone (build a i) (x ∷ []) p is e = not_both p.ending is.1 e
 faults_alone (build a i) (x ∷ y ∷ more) p is e = is
@@ -95,6 +99,10 @@ differs_alone (try_ a b i) [] p is e = is
 differs_alone (try_ a b i) (x ∷ []) p is e = is
 differs_alone (try_ a b i) (x ∷ y ∷ []) p is e = well_alone p.ending is.1 e
 differs_alone (try_ a b i) (x ∷ y ∷ z ∷ more) p is e = is
+differs_alone (undo a b i) [] p is e = is
+differs_alone (undo a b i) (x ∷ []) p is e = is
+differs_alone (undo a b i) (x ∷ y ∷ []) p is e = well_alone p.ending is.1 e
+differs_alone (undo a b i) (x ∷ y ∷ z ∷ more) p is e = is
 differs_alone (build a i) [] p is e = is
 differs_alone (build a i) (x ∷ []) p is e = well_alone p.ending is.1 e
 differs_alone (build a i) (x ∷ y ∷ more) p is e = is

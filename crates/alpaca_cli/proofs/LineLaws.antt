@@ -7,7 +7,7 @@ use Rattle.std.specs.Str.{bytes_eq}
 use Rattle.std.specs.Str.Parse.{digits_value}
 use Rattle.command_line.specs.Commands.{NamesCommand}
 use Rattle.command_line.specs.declared.Command.TheVariants as command
-use Rattle.alpaca_cli.specs.Calls.{Call, mean, try_, build, run, asm, dis, gen, save, resume, migrate, audit, line_text, HasNumber, OnLine}
+use Rattle.alpaca_cli.specs.Calls.{Call, mean, try_, build, run, asm, dis, gen, save, resume, migrate, undo, audit, line_text, HasNumber, OnLine}
 
 -- the call on a line
 abbrev call_on : List (List ℕ) → Option Call
@@ -18,7 +18,8 @@ call_on (name ∷ a ∷ b ∷ []) = cond (bytes_eq name (codes "mean")) (Some (m
     (cond (bytes_eq name (codes "run")) (Some (run a b)) (cond (bytes_eq name (codes "asm")) (Some (asm a b))
     (cond (bytes_eq name (codes "gen")) (Some (gen (digits_value 10 a) b)) None))))
 call_on (name ∷ a ∷ b ∷ c ∷ []) = cond (bytes_eq name (codes "try")) (Some (try_ a b c)) (cond (bytes_eq name (codes "save")) (Some (save a b c))
-    (cond (bytes_eq name (codes "resume")) (Some (resume a b c)) (cond (bytes_eq name (codes "audit")) (Some (audit a b c)) None)))
+    (cond (bytes_eq name (codes "resume")) (Some (resume a b c)) (cond (bytes_eq name (codes "audit")) (Some (audit a b c))
+    (cond (bytes_eq name (codes "undo")) (Some (undo a b c)) None))))
 call_on (name ∷ a ∷ b ∷ c ∷ d ∷ e ∷ f ∷ []) = cond (bytes_eq name (codes "migrate")) (Some (migrate a b c d e f)) None
 call_on _ = None
 
@@ -32,6 +33,7 @@ is_call (dis a) h = refl
 is_call (save a b c) h = refl
 is_call (resume a b c) h = refl
 is_call (migrate a b c d e f) h = refl
+is_call (undo a b c) h = refl
 is_call (audit a b c) h = refl
 is_call (gen n a) h = ap (λ k. Some (gen k a)) (decimal_is_IsNumeral n (omega (arith, h))).1
 
@@ -54,4 +56,5 @@ names_command words (save a b c, says, u) = (command.Save (lent a) (lent b) (len
 names_command words (resume a b c, says, u) = (command.Resume (lent a) (lent b) (lent c), says.line)
 names_command words (migrate a b c d e f, says, u) =
     (command.Migrate (lent a) (lent b) (lent c) (lent d) (lent e) (lent f), says.line)
+names_command words (undo a b c, says, u) = (command.Undo (lent a) (lent b) (lent c), says.line)
 names_command words (audit a b c, says, u) = (command.Audit (lent a) (lent b) (lent c), says.line)

@@ -1,6 +1,6 @@
 -- Texts are accepted or refused, not both.
 use Rattle.std.proofs.Common.{ℕ, List, [], ◌∷◌}
-use Rattle.alpaca_cli.specs.Calls.{Call, mean, try_, build, run, asm, dis, gen, save, resume, migrate, audit, promise_of}
+use Rattle.alpaca_cli.specs.Calls.{Call, mean, try_, build, run, asm, dis, gen, save, resume, migrate, undo, audit, promise_of}
 use Rattle.plain_commands.specs.command_answers.Refusals.{Refusal}
 use Rattle.state_commands.specs.Migrated.{editions}
 use Rattle.alpaca_cli.specs.Products.{AreAccepted}
@@ -19,6 +19,10 @@ not_refused law (try_ c d i) [] place r a b = a
 not_refused law (try_ c d i) (x ∷ []) place r a b = a
 not_refused law (try_ c d i) (x ∷ y ∷ []) place r a b = no_try law.sources x y place r a b
 not_refused law (try_ c d i) (x ∷ y ∷ z ∷ more) place r a b = a
+not_refused law (undo c d i) [] place r a b = a
+not_refused law (undo c d i) (x ∷ []) place r a b = a
+not_refused law (undo c d i) (x ∷ y ∷ []) place r a b = no_try law.sources x y place r a b
+not_refused law (undo c d i) (x ∷ y ∷ z ∷ more) place r a b = a
 not_refused law (build c i) [] place r a b = a
 not_refused law (build c i) (x ∷ []) place r a b = law.sources x a.0 r a.1 b.0
 not_refused law (build c i) (x ∷ y ∷ more) place r a b = a

@@ -1,7 +1,7 @@
 -- Whatever a command makes of its texts has one ending.
 use Rattle.std.proofs.Common.{◌≡◌, ◌∙◌, ℕ, List, [], ◌∷◌, sym}
 use Rattle.plain_commands.specs.fram_board.Laws.{HasOneRun}
-use Rattle.alpaca_cli.specs.Calls.{Call, mean, try_, build, run, asm, dis, gen, save, resume, migrate, audit}
+use Rattle.alpaca_cli.specs.Calls.{Call, mean, try_, build, run, asm, dis, gen, save, resume, migrate, undo, audit}
 use Rattle.plain_commands.specs.command_answers.Promises.{Product}
 use Rattle.alpaca_cli.specs.Products.{IsProduct}
 use Rattle.plain_commands.proofs.Interface.{run_ending, audit_ending}
@@ -17,6 +17,10 @@ one_ending law (try_ c d i) [] p q a b = absurd a
 one_ending law (try_ c d i) (x ∷ []) p q a b = absurd a
 one_ending law (try_ c d i) (x ∷ y ∷ []) p q a b = a.1 ∙ sym b.1
 one_ending law (try_ c d i) (x ∷ y ∷ z ∷ more) p q a b = absurd a
+one_ending law (undo c d i) [] p q a b = absurd a
+one_ending law (undo c d i) (x ∷ []) p q a b = absurd a
+one_ending law (undo c d i) (x ∷ y ∷ []) p q a b = a.1 ∙ sym b.1
+one_ending law (undo c d i) (x ∷ y ∷ z ∷ more) p q a b = absurd a
 one_ending law (build c i) [] p q a b = absurd a
 one_ending law (build c i) (x ∷ []) p q a b = a.1 ∙ sym b.1
 one_ending law (build c i) (x ∷ y ∷ more) p q a b = absurd a

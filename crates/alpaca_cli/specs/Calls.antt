@@ -10,7 +10,7 @@ use Rattle.plain_commands.specs.Asm.{asm_promise}
 use Rattle.plain_commands.specs.Dis.{dis_promise}
 use Rattle.plain_commands.specs.Audit.{audit_promise}
 use Rattle.compiler_commands.specs.Build.{build_promise}
-use Rattle.compiler_commands.specs.Try.{try_promise}
+use Rattle.compiler_commands.specs.Try.{try_promise, undo_promise}
 use Rattle.compiler_commands.specs.Gen.{gen_promise}
 use Rattle.state_commands.specs.Saved.{save_promise}
 use Rattle.alpaca_cli.specs.OfSources.{SavedStatesStay, IsOfItsSource, RestsInItsSource}
@@ -29,6 +29,7 @@ pub data Call : Type 0 where
   save : (image trace state : List ℕ) → Call
   resume : (image state trace : List ℕ) → Call
   migrate : (source image state new_source new_image new_state : List ℕ) → Call
+  undo : (source trace image : List ℕ) → Call
   audit : (source report trace : List ℕ) → Call
 
 -- what a command that was read from its line calls for
@@ -44,6 +45,7 @@ call_of (command.Save image trace state) = save image.now trace.now state.now
 call_of (command.Resume image state trace) = resume image.now state.now trace.now
 call_of (command.Migrate source image state new_source new_image new_state) =
     migrate source.now image.now state.now new_source.now new_image.now new_state.now
+call_of (command.Undo source trace image) = undo source.now trace.now image.now
 call_of (command.Audit source report trace) = audit source.now report.now trace.now
 
 -- its line: its first word, and then the names, and the number in its decimal digits
@@ -59,6 +61,7 @@ line_text (save image trace state) = codes "save" ∷ image ∷ trace ∷ state 
 line_text (resume image state trace) = codes "resume" ∷ image ∷ state ∷ trace ∷ []
 line_text (migrate source image state new_source new_image new_state) =
     codes "migrate" ∷ source ∷ image ∷ state ∷ new_source ∷ new_image ∷ new_state ∷ []
+line_text (undo source trace image) = codes "undo" ∷ source ∷ trace ∷ image ∷ []
 line_text (audit source report trace) = codes "audit" ∷ source ∷ report ∷ trace ∷ []
 
 -- what it promises
@@ -73,6 +76,7 @@ promise_of (gen number image) = gen_promise number image
 promise_of (save image trace state) = save_promise SavedStatesStay image trace state
 promise_of (resume image state trace) = resume_promise IsOfItsSource image state trace
 promise_of (migrate source image state new_source new_image new_state) = migrate_promise RestsInItsSource source image state new_source new_image new_state
+promise_of (undo source trace image) = undo_promise source trace image
 promise_of (audit source report trace) = audit_promise source report trace
 
 -- the names of the files that it reads, in order

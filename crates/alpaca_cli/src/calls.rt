@@ -7,7 +7,7 @@ ghost use Rattle.alpaca_cli.specs.Calls.{HasNumber, IsMigration, IsOnStates, IsP
 
 use command_line::Command;
 use compiled_states::{fresh_states_belong, migrated_states_belong, states_are_told, states_stay};
-use compiler_commands::{BuildNames, TryNames, answer_build, answer_gen, answer_try};
+use compiler_commands::{BuildNames, TryNames, answer_build, answer_gen, answer_try, answer_undo};
 use plain_commands::answers::Status;
 use plain_commands::outside::{Shelf, Sink};
 use plain_commands::{
@@ -93,6 +93,18 @@ fn answer_compiler_command<H: Shelf, O: Sink, E: Sink>(
                 image,
             };
             answer_try(alloc, names, shelf, out, err)
+        }
+        Command::Undo {
+            source,
+            trace,
+            image,
+        } => {
+            let names = TryNames {
+                source,
+                trace,
+                image,
+            };
+            answer_undo(alloc, names, shelf, out, err)
         }
         Command::Build { source, image } => {
             answer_build(alloc, BuildNames { source, image }, shelf, out, err)

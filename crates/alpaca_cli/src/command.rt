@@ -50,7 +50,8 @@ fn answer<H: Shelf, O: Sink, E: Sink>(
 /// `mean SRC TRACE` writes to `out` the report of the source's meaning on the trace's readings, `run IMAGE TRACE` that of the
 /// image's run on the board under the trace's charges, and `dis IMAGE` the assembler text of the image. `asm ASM IMAGE` puts the
 /// image of the assembler text under the name IMAGE, and `build SRC IMAGE` that of the source, whose bound it writes; `try SRC TRACE
-/// IMAGE` puts it too, and writes the report of its run. `gen N IMAGE` puts the image of the source that is generated from N, and writes
+/// IMAGE` puts it too, and writes the report of its run; `undo SRC TRACE IMAGE` does the same with the image of the runtime that works in place and puts
+/// old words back. `gen N IMAGE` puts the image of the source that is generated from N, and writes
 /// four lines of its run. `save IMAGE TRACE STATE` runs the image, or the state that it is, puts the state at the run's end and writes
 /// the last line of its report; `resume IMAGE STATE TRACE` writes the report of the run that goes on from a state of the image.
 /// `migrate SRC IMAGE STATE NEWSRC NEWIMAGE NEWSTATE` puts the state of a new edition of the program that goes on in place of an old state.

@@ -1,9 +1,9 @@
 -- What a run follows from a power-up or a done on takes no more readings, and offers no more words, than a task's text has.
-use Rattle.std.proofs.Common.{◌≡◌, ℕ, zero, suc, ◌+◌, ◌%◌, ◌≤◌, ◌==◌, Bool, true, false, if◌then◌else◌, List, [], ◌∷◌, ◌++◌, length, sym, ap, ◌∙◌, subst, arith}
-use Rattle.machine_effects.specs.fram_board.Effects.{Effect, Store}
-use Rattle.machine_effects.specs.World.{World, world_after_one, world_after, fram_after, readings_taken, looks_taken}
-use Rattle.machine_effects.specs.Inputs.{Inputs, InputsAreWords}
-use Rattle.machine_effects.proofs.Interface.{world_after-append}
+use Rattle.std.proofs.Common.{◌≡◌, ℕ, zero, suc, ◌+◌, ◌%◌, ◌≤◌, ◌==◌, Bool, true, false, if◌then◌else◌, List, [], ◌∷◌, ◌++◌, length, refl, sym, ap, subst}
+use Rattle.std.proofs.Common.{arith}
+use Rattle.machine_effects.specs.fram_board.Effects.{Effect}
+use Rattle.machine_effects.specs.World.{World, fram_after, readings_taken, looks_taken}
+use Rattle.machine_effects.specs.Inputs.{Inputs}
 use Rattle.cost_bound.specs.Counts.{emits_of}
 use Rattle.source_values.specs.Runs.{CheckedProgram, State, task_body}
 use Rattle.array_versions.specs.Behaviour.{behaviour, started}
@@ -15,17 +15,15 @@ use Rattle.runtime_effects.specs.Stages.{copied_in, start_effects, is_at_end, ta
 use Rattle.boot_runtime.specs.Entries.{task_entries}
 use Rattle.boot_runtime.specs.Listing.{privates_in}
 use Rattle.crash_rules.specs.Model.{Model, ModelLaws, ProgramEffects, program_effects, with_commit, attempt_from, script}
-use Rattle.crash_rules.specs.Model.{AttemptContract, Comes, Lacks}
 use Rattle.crash_rules.specs.History.{Done, History, inputs_from}
-use Rattle.crash_rules.specs.Laws.{Origin, Resting, Pending, IsPending, IsSettled, StartsFrom, FromUndecided, FromDecided, FromCommitting}
-use Rattle.crash_rules.specs.Laws.{StandsFor, FollowsScript}
-use Rattle.crash_rules.proofs.Interface.{world_fram}
+use Rattle.crash_rules.specs.Laws.{Origin, Resting, Pending, StandsFor, FollowsScript}
 use Rattle.compiled_model.specs.Parts.{redo_model, task_program}
 use Rattle.compiled_model.proofs.Interface.{is_redo}
 use Rattle.task_readings.specs.Readings.{block_readings}
-use Rattle.charge_limits.specs.Laws.{readings_from, ReadingsAreFew, words_offered, words_from, WordsAreFew}
-use Rattle.charge_limits.proofs.Weights.{weighed, weighed-append, readings_weigh, words_weigh, none_offered, offered-append}
+use Rattle.charge_limits.specs.Laws.{readings_from, ReadingsAreFew, words_from, WordsAreFew}
+use Rattle.charge_limits.proofs.Weights.{weighed, weighed-append, readings_weigh, words_weigh, none_offered}
 use Rattle.charge_limits.proofs.Takes.{program_takes}
+use Rattle.charge_limits.proofs.Models.{offered, Offers, offered_from, words_follow}
 use Rattle.charge_limits.proofs.Lowered.{task_few}
 
 -- ---- the runtime takes no reading, and its starts offer no word
@@ -90,7 +88,7 @@ module _ (weight : ℕ) where
 
 sends_no_reading : (n number p : ℕ) (f : ℕ → ℕ) → weighed 0 (sends n number p f) ≤ 0
 sends_no_reading zero number p f = omega arith
-sends_no_reading (suc n) number p f = sends_no_reading n _ (p + 2) f
+sends_no_reading (suc n) number p f = let rest = sends_no_reading n ((number + 1) % 0x10000) (p + 2) f in omega (arith, rest)
 
 commit_none : (l : MemoryMap) (f : ℕ → ℕ) → weighed 0 (commit_effects l f) ≤ 0
 commit_none l f = commit_weighs 0 l 0 f (sends_no_reading (f (word_place l EmitCount)) (f (word_place l SentBase)) l.emits.address f)
@@ -100,9 +98,6 @@ commit_none l f = commit_weighs 0 l 0 f (sends_no_reading (f (word_place l EmitC
 sends_few : (n number p : ℕ) (f : ℕ → ℕ) → weighed 1 (sends n number p f) ≤ n
 sends_few zero number p f = omega arith
 sends_few (suc n) number p f = let rest = sends_few n ((number + 1) % 0x10000) (p + 2) f in omega (arith, rest)
-
-offered : List Effect → ℕ
-offered es = length (words_offered es)
 
 -- ---- scripts
 
@@ -174,89 +169,29 @@ module _ (p : CheckedProgram) (l : MemoryMap) where
       let within = d.decided.sends.within_emits in
       omega (arith, few, count, within)
 
-  -- an attempt with its commit, where it comes to its end
-  ended_offers_few : (s : State) (x : World) (inputs : Inputs) (a : ProgramEffects) → offered a.effects ≡ 0 → AttemptContract m s inputs x a
-      → offered (with_commit m x.fram inputs a).effects ≤ emits_of (task_body p s.task)
-  ended_offers_few s x inputs a none (Comes next c) =
-      let gate : List Effect = Store m.marks.gate 1 ∷ [] in
-      let es = c.before ++ gate in
-      let decided = decided_offers_few s next _ c.decided in
-      let there : (world_after_one (Store m.marks.gate 1) (world_after c.before x)).fram ≡ fram_after es x.fram =
-      ap (λ y. y.fram) (sym (world_after-append c.before gate x)) ∙ world_fram es x in
-      let same = ap (λ f. offered (commit_effects l f)) there in
-      let commit : offered (commit_effects l (fram_after es x.fram)) ≤ emits_of (task_body p s.task) = omega (arith, decided, same) in
-      let attempt : offered es ≡ 0 = ap (λ q. offered q.effects) (sym c.is) ∙ none in
-      let all = offered-append es (commit_effects l (fram_after es x.fram)) in
-      let made : offered (with_commit m x.fram inputs (program_effects es true)).effects ≤ emits_of (task_body p s.task) =
-      omega (arith, commit, attempt, all) in
-      subst (λ q. offered (with_commit m x.fram inputs q).effects ≤ emits_of (task_body p s.task)) (sym c.is) made
-  ended_offers_few s x inputs a none (Lacks c) =
-      let tail : Bool → List Effect = λ ends. if ends then commit_effects l (fram_after a.effects x.fram) else [] in
-      let all = offered-append a.effects (tail a.ends) in
-      let last = ap (λ ends. offered (tail ends)) c.is in
-      omega (arith, all, none, last)
+  -- a pending one no more than the buffer has room for
+  committing_offers_few : (to : State) (x : World) → m.Committing to x → offered (commit_effects l x.fram) ≤ l.emits.words
+  committing_offers_few to x c = let few = commit_offers_few x.fram in let room = c.pending.emit_count in omega (arith, few, room)
 
-  module _ (laws : ModelLaws m) where
-    -- a world that is undecided at a state
-    undecided_few : (booted : Bool) (s : State) (x : World) (inputs : Inputs) → InputsAreWords inputs → m.Undecided s x
-        → offered (script m booted x.fram inputs).effects ≤ emits_of (task_body p s.task)
-    undecided_few booted s x inputs words u =
-        let commit = program_effects (m.commit x.fram inputs) true in
-        let attempt = with_commit m x.fram inputs (attempt_from m booted x.fram inputs) in
-        let is : script m booted x.fram inputs ≡ attempt = ap (λ gate. if gate == 1 then commit else attempt) (laws.undecided_gate s x u) in
-        subst (λ q. offered q.effects ≤ emits_of (task_body p s.task)) (sym is) (from booted)
-      where
-        made : offered (with_commit m x.fram inputs (m.attempt x.fram inputs)).effects ≤ emits_of (task_body p s.task)
-        made = ended_offers_few s x inputs (m.attempt x.fram inputs) (attempt_offers_none x.fram inputs) (laws.attempts s x inputs words u)
-
-        from : (b : Bool) → offered (with_commit m x.fram inputs (attempt_from m b x.fram inputs)).effects ≤ emits_of (task_body p s.task)
-        from true = made
-        from false = made
-
-    -- one with a commit that is due
-    committing_few : (booted : Bool) (to : State) (x : World) (inputs : Inputs) (n : ℕ) → m.Committing to x → offered (commit_effects l x.fram) ≤ n
-        → offered (script m booted x.fram inputs).effects ≤ n
-    committing_few booted to x inputs n c few =
-        let commit = program_effects (m.commit x.fram inputs) true in
-        let attempt = with_commit m x.fram inputs (attempt_from m booted x.fram inputs) in
-        let is : script m booted x.fram inputs ≡ commit = ap (λ gate. if gate == 1 then commit else attempt) (laws.committing_gate to x c) in
-        subst (λ q. offered q.effects ≤ n) (sym is) few
-
-    -- where nothing is pending the words are those of the state's task
-    settled_words : (n : ℕ) (origin : Origin State) (ds : List Done) (s : State) → IsSettled origin ds → n ≤ emits_of (task_body p s.task)
-        → n ≤ words_from p l origin ds s
-    settled_words n (Resting first) ds s settled h = h
-    settled_words n (Pending to) [] s settled h = absurd settled
-    settled_words n (Pending to) (d ∷ ds) s settled h = h
-
-    pending_words : (n : ℕ) (origin : Origin State) (ds : List Done) (s : State) → IsPending origin ds → n ≤ l.emits.words → n ≤ words_from p l origin ds s
-    pending_words n (Resting first) ds s pending h = absurd pending
-    pending_words n (Pending to) [] s pending h = h
-    pending_words n (Pending to) (d ∷ ds) s pending h = absurd pending
-
-    script_offers_few : (booted : Bool) (origin : Origin State) (ds : List Done) (s : State) (x : World) (inputs : Inputs) → InputsAreWords inputs
-        → StartsFrom m origin ds s x → offered (script m booted x.fram inputs).effects ≤ words_from p l origin ds s
-    script_offers_few booted origin ds s x inputs words (FromUndecided settled u) =
-        settled_words _ origin ds s settled (undecided_few booted s x inputs words u)
-    script_offers_few booted origin ds s x inputs words (FromDecided next settled d) =
-        settled_words _ origin ds s settled
-        (committing_few booted next x inputs _ (laws.decided_committing s next x d) (decided_offers_few s next x d))
-    script_offers_few booted origin ds s x inputs words (FromCommitting pending c) =
-        let few = commit_offers_few x.fram in
-        let room = c.pending.emit_count in
-        pending_words _ origin ds s pending (committing_few booted s x inputs l.emits.words c (omega (arith, few, room)))
-
-    words_follow : (readings : List ℕ) (origin : Origin State) (h : History) → FollowsScript m readings h → (stands : StandsFor m readings origin h)
-        → offered h.effects ≤ words_from p l origin h.completed stands.state
-    words_follow readings origin h follows stands =
-        let all = offered-append h.effects follows.follows.rest in
-        let same = ap offered follows.follows.joins in
-        let whole = script_offers_few h.booted origin h.completed stands.state h.start _ follows.words stands.starts in
-        omega (arith, all, same, whole)
+  -- as the law of models wants it
+  offers : Offers m (λ s. emits_of (task_body p s.task)) l.emits.words
+  offers = record {
+    recoveries = λ f. refl;
+    attempts = attempt_offers_none;
+    decided = λ s next x inputs d. decided_offers_few s next x d;
+    committing = λ to x inputs c. committing_offers_few to x c;
+  }
 
 pub readings_are_few : ReadingsAreFew
 readings_are_few p l logs readings h follows =
     follows_few p l readings h (subst (λ m. FollowsScript m readings h) (is_redo p l logs) follows)
+
+-- the two say the same of a source
+same_words : (p : CheckedProgram) (l : MemoryMap) (origin : Origin State) (ds : List Done) (s : State)
+    → offered_from (λ t. emits_of (task_body p t.task)) l.emits.words origin ds s ≡ words_from p l origin ds s
+same_words p l (Resting first) ds s = refl
+same_words p l (Pending to) [] s = refl
+same_words p l (Pending to) (d ∷ ds) s = refl
 
 -- the law for a model
 abbrev WordsFollow : CheckedProgram → MemoryMap → Model State → Type 0
@@ -264,4 +199,9 @@ WordsFollow p l m = ModelLaws m → (readings : List ℕ) (origin : Origin State
     → (stands : StandsFor m readings origin h) → offered h.effects ≤ words_from p l origin h.completed stands.state
 
 pub words_are_few : WordsAreFew
-words_are_few p l logs = subst (WordsFollow p l) (sym (is_redo p l logs)) (words_follow p l)
+words_are_few p l logs = subst (WordsFollow p l) (sym (is_redo p l logs)) under_redo
+  where
+    under_redo : WordsFollow p l (redo_model p l)
+    under_redo laws readings origin h follows stands =
+        subst (λ n. offered h.effects ≤ n) (same_words p l origin h.completed stands.state)
+        (words_follow (redo_model p l) laws (λ s. emits_of (task_body p s.task)) l.emits.words (offers p l) readings origin h follows stands)

@@ -21,7 +21,7 @@ use Rattle.command_line.specs.CommandLine.{AreTexts, IsLine, Subcommand, all_sai
 use Rattle.command_line.specs.CommandLine.{plain_line_of, said_behind, subcommand_named, subcommands}
 use Rattle.command_line.specs.Commands.{IsPlainLine, NamesCommand, line_found, plain_line, values_of}
 use Rattle.command_line.specs.declared.Command.{Command}
-use Rattle.command_line.specs.declared.Command.TheVariants.{Mean, Try, Build, Run, Asm, Dis, Gen, Save, Resume, Migrate, Audit}
+use Rattle.command_line.specs.declared.Command.TheVariants.{Mean, Try, Build, Run, Asm, Dis, Gen, Save, Resume, Migrate, Undo, Audit}
 use Rattle.command_line.proofs.Files.{files_said, said_length, IsGiven, IsInOrder, built_subcommand, file_row, given_row, more_given, rows_for}
 use Rattle.command_line.proofs.FirstWord.{has_name, named}
 use Rattle.command_line.proofs.Lines.{Line, all_in_order, in_order, line_reads, line_says, line_there}
@@ -139,6 +139,13 @@ subcommand_of_line (Resume image state trace) name files e =
 subcommand_of_line (Migrate source image state new_source new_image new_state) name files e =
     let named : name ≡ codes "migrate" = ap (λ l. unwrap_or (slice_get l 0) []) (sym e) in
     (of_names (codes "migrate") migrated_files, ap subcommand_named named, let all = ap length (sym e) in omega arith)
+subcommand_of_line (Undo source trace image) name files e =
+    let named : name ≡ codes "undo" = ap (λ l. unwrap_or (slice_get l 0) []) (sym e) in (
+      record { name = codes "undo"; files = codes "SRC" ∷ codes "TRACE" ∷ codes "IMAGE" ∷ [] },
+      ap subcommand_named named,
+      let all = ap length (sym e) in
+          omega arith,
+    )
 subcommand_of_line (Audit source report trace) name files e =
     let named : name ≡ codes "audit" = ap (λ l. unwrap_or (slice_get l 0) []) (sym e) in (
       record { name = codes "audit"; files = codes "SRC" ∷ codes "REPORT" ∷ codes "TRACE" ∷ [] },
@@ -260,9 +267,13 @@ all_have_lines = (
                   (
                     of_files (of_names (codes "migrate") migrated_files) refl (six (codes "migrate") Migrate (λ a b d e f g. refl)),
                     (
-                      of_files (of_names (codes "audit") (codes "SRC" ∷ codes "REPORT" ∷ codes "TRACE" ∷ [])) refl
-                          (three (codes "audit") Audit (λ a b d. refl)),
-                      tt,
+                      of_files (of_names (codes "undo") (codes "SRC" ∷ codes "TRACE" ∷ codes "IMAGE" ∷ [])) refl
+                          (three (codes "undo") Undo (λ a b d. refl)),
+                      (
+                        of_files (of_names (codes "audit") (codes "SRC" ∷ codes "REPORT" ∷ codes "TRACE" ∷ [])) refl
+                            (three (codes "audit") Audit (λ a b d. refl)),
+                        tt,
+                      ),
                     ),
                   ),
                 ),

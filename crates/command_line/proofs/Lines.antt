@@ -72,7 +72,10 @@ all_in_order = (
                         ),
                       ),
                     ),
-                    ((refl, refl, refl, refl, refl, (refl, refl, refl, refl, refl, (refl, refl, refl, refl, refl, (refl, refl)))), tt),
+                    (
+                      (refl, refl, refl, refl, refl, (refl, refl, refl, refl, refl, (refl, refl, refl, refl, refl, (refl, refl)))),
+                      ((refl, refl, refl, refl, refl, (refl, refl, refl, refl, refl, (refl, refl, refl, refl, refl, (refl, refl)))), tt),
+                    ),
                   ),
                 ),
               ),

@@ -32,6 +32,7 @@ subcommands = record { name = codes "mean"; files = codes "SRC" ∷ codes "TRACE
       name = codes "migrate";
       files = codes "SRC" ∷ codes "IMAGE" ∷ codes "STATE" ∷ codes "NEWSRC" ∷ codes "NEWIMAGE" ∷ codes "NEWSTATE" ∷ [];
     }
+    ∷ record { name = codes "undo"; files = codes "SRC" ∷ codes "TRACE" ∷ codes "IMAGE" ∷ [] }
     ∷ record { name = codes "audit"; files = codes "SRC" ∷ codes "REPORT" ∷ codes "TRACE" ∷ [] } ∷ []
 
 -- N is a number, and each other one is a file

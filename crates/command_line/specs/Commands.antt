@@ -3,7 +3,7 @@ use Rattle.std.specs.Prelude.{◌≡◌, List, [], ◌∷◌, codes, decimal, Op
 use Rattle.clap.specs.Words.{Row, Text, first_of}
 use Rattle.command_line.specs.CommandLine.{all_said, line_of, plain_line_of, subcommand_named}
 use Rattle.command_line.specs.declared.Command.{Command}
-use Rattle.command_line.specs.declared.Command.TheVariants.{Mean, Try, Build, Run, Asm, Dis, Gen, Save, Resume, Migrate, Audit}
+use Rattle.command_line.specs.declared.Command.TheVariants.{Mean, Try, Build, Run, Asm, Dis, Gen, Save, Resume, Migrate, Undo, Audit}
 
 -- the words of a command's line, with neither a `--` nor a hyphen in front of a file, and with a number in its decimal digits
 abbrev pub plain_line : Command → List Text
@@ -18,6 +18,7 @@ plain_line (Save image trace state) = codes "save" ∷ image.now ∷ trace.now �
 plain_line (Resume image state trace) = codes "resume" ∷ image.now ∷ state.now ∷ trace.now ∷ []
 plain_line (Migrate source image state new_source new_image new_state) =
     codes "migrate" ∷ source.now ∷ image.now ∷ state.now ∷ new_source.now ∷ new_image.now ∷ new_state.now ∷ []
+plain_line (Undo source trace image) = codes "undo" ∷ source.now ∷ trace.now ∷ image.now ∷ []
 plain_line (Audit source report trace) = codes "audit" ∷ source.now ∷ report.now ∷ trace.now ∷ []
 
 -- the first values of these arguments, where each has one
@@ -51,4 +52,4 @@ plain_names = codes "mean" ∷ codes "run" ∷ codes "asm" ∷ codes "dis" ∷ c
 
 -- the commands that compile a source
 abbrev pub compiler_names : List Text
-compiler_names = codes "build" ∷ codes "try" ∷ codes "gen" ∷ []
+compiler_names = codes "build" ∷ codes "try" ∷ codes "undo" ∷ codes "gen" ∷ []

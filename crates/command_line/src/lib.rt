@@ -26,7 +26,7 @@ use clap::{Arg, ArgMatches, value_parser};
 use std::alloc::{AllocError, Global};
 
 /// The commands, each with the names of what has to follow it: files, and the number N.
-static COMMANDS: [(&str, &[&str]); 11] = [
+static COMMANDS: [(&str, &[&str]); 12] = [
     ("mean", &["SRC", "TRACE"]),
     ("try", &["SRC", "TRACE", "IMAGE"]),
     ("build", &["SRC", "IMAGE"]),
@@ -40,6 +40,7 @@ static COMMANDS: [(&str, &[&str]); 11] = [
         "migrate",
         &["SRC", "IMAGE", "STATE", "NEWSRC", "NEWIMAGE", "NEWSTATE"],
     ),
+    ("undo", &["SRC", "TRACE", "IMAGE"]),
     ("audit", &["SRC", "REPORT", "TRACE"]),
 ];
 
@@ -127,6 +128,15 @@ pub enum Command<'a> {
         new_image: &'a str,
         /// The file that is to hold the new state.
         new_state: &'a str,
+    },
+    /// `undo SRC TRACE IMAGE`: the same as `try`, with the runtime that works in place and puts old words back.
+    Undo {
+        /// The file of the source.
+        source: &'a str,
+        /// The file of the trace.
+        trace: &'a str,
+        /// The file that is to hold the image.
+        image: &'a str,
     },
     /// `audit SRC REPORT TRACE`: whether the source could have told the report on the trace's readings.
     Audit {
@@ -224,6 +234,14 @@ fn compiler_command_named<'a>(name: &str, files: &ArgMatches<'a>) -> Option<Comm
         "try" => {
             let (source, trace, image) = three_files(files, "SRC", "TRACE", "IMAGE")?;
             Some(Command::Try {
+                source,
+                trace,
+                image,
+            })
+        }
+        "undo" => {
+            let (source, trace, image) = three_files(files, "SRC", "TRACE", "IMAGE")?;
+            Some(Command::Undo {
                 source,
                 trace,
                 image,

@@ -6,7 +6,7 @@ use Rattle.compiled_states.proofs.Names.{row_length, RuntimeWord, CurrentTask, G
 use Rattle.compiled_states.proofs.Names.{home_region, AreApart, WordStands, apart_of, even_of, words_stand, IsOpen, IsAtRest, SoundAtRest, program_places}
 use Rattle.compiled_states.proofs.Names.{row_in, state_view, state_in, MapValue, ImageValue, IsFram, fram_of, CheckedProgram, first_state, IsImageOf}
 use Rattle.compiled_states.proofs.Names.{steady, steady_low, map_ring, is_in_ring, is_ring_at, is_pending, runtime_of, KeepsRing, None, true}
-use Rattle.compiled_states.proofs.Names.{fresh_world, logs_redo, images_are_fresh, worlds_stand, BelongsTo, images_belong, world_of, state_with, MayHaveAccepted}
+use Rattle.compiled_states.proofs.Names.{fresh_world, logs_so, images_are_fresh, worlds_stand, BelongsTo, images_belong, world_of, state_with, MayHaveAccepted}
 use Rattle.compiled_states.proofs.Names.{HasFramWords, HasCodeWords, BelongsAt, MigratedStatesBelong}
 use Rattle.fram_state.specs.Sound as state
 use Rattle.source_values.specs.Runs as runs
@@ -150,7 +150,7 @@ module _ (text : List ℕ) (image : ImageValue) (of : IsImageOf text image) (old
   fresh : IsOpen (program_places p l) (state_view p l) (first_state p) (fresh_world image)
   fresh =
       let P : Model runs.State → Type 0 = λ k. k.Rests (first_state p) (fresh_world image) in
-      (subst P (is_redo p l (logs_redo text p allow image c)) (images_are_fresh text p allow image ok c).rests).is_open
+      (subst P (is_redo p l (logs_so text p allow image c)) (images_are_fresh text p allow image ok c).rests).is_open
 
   new_world : BelongsTo p l image (world_of (record { image = image; receiver = 0 }) [])
   new_world = images_belong text p allow image ok c

@@ -62,7 +62,7 @@ pub use Rattle.fram_state.specs.declared.entry.Entry.{Entry}
 pub use Rattle.compiled_model.specs.Places.{program_places}
 pub use Rattle.compiled_model.specs.View.{row_in, state_in, state_view}
 pub use Rattle.layout_facts.proofs.Interface.{among_back, among_either, among_front, shared_words_are_of_variables}
-pub use Rattle.image_laws.proofs.Interface.{half, images_are_fresh, laid_out, logs_redo, worlds_stand}
+pub use Rattle.image_laws.proofs.Interface.{half, images_are_fresh, laid_out, logs_so, worlds_stand}
 pub use Rattle.image_laws.specs.Compiled.{IsCompiled, IsImageOf}
 pub use Rattle.image_laws.specs.Laws.{IsFreshImage, fresh_world}
 pub use Rattle.image_reports.proofs.Interface.{images_belong, images_resume, made}

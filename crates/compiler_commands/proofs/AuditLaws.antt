@@ -1,4 +1,4 @@
--- What `try` prints is a report that its source could have told.
+-- What `try` or `undo` prints is a report that its source could have told.
 use Rattle.std.proofs.Common.{◌≡◌, ◌∙◌, ℕ, Bool, true, false, List, [], ◌∷◌, ◌++◌, length, map, All, Option, Some, None, arith, refl, sym, ap, ap₂, subst, inr}
 use Rattle.std.specs.Prelude.{if◌then◌else◌}
 use Rattle.std.proofs.lemmas.List.{length-map}
@@ -24,7 +24,8 @@ use Rattle.plain_commands.specs.source_report.SourceReport.{given_of, readings_o
 use Rattle.source_runs.specs.Tells.{Answers, no_answers, answer_by, answers_behind, CommittedAttempt, attempts_by, attempts_of, spans_in, given_to}
 use Rattle.source_runs.specs.Tells.{at_first, IsEndOf}
 use Rattle.source_maps.specs.Maps.{event_ring, map_of}
-use Rattle.compiler_commands.specs.Built.{IsBuilt}
+use Rattle.memory_map.specs.declared.runtime.Logging.{Logging}
+use Rattle.compiler_commands.specs.Built.{IsBuiltFor}
 use Rattle.compiler_commands.specs.Audited.{TriedReportsAreGood, TriedReportsAreAnsweredYes}
 use Rattle.plain_commands.proofs.Interface.{of_same}
 
@@ -90,8 +91,8 @@ no_ring : (events : Bool) → events ≡ false → (if events then Some event_ri
 no_ring true off = absurd (cc off)
 no_ring false off = refl
 
-ringless : (source file : List ℕ) (p : CheckedProgram) (allow : Allow) (image : ImageValue) (built : IsBuilt source p allow image file)
-    → uses_events p ≡ false → built.map.ring ≡ None
+ringless : {logging : Logging} (source file : List ℕ) (p : CheckedProgram) (allow : Allow) (image : ImageValue)
+    (built : IsBuiltFor logging source p allow image file) → uses_events p ≡ false → built.map.ring ≡ None
 ringless source file p allow image built off =
     let c = built.compiled in
     let both : Some built.map ≡ Some (map_of source p c.layout allow) = sym built.mapped ∙ c.map in
@@ -99,7 +100,7 @@ ringless source file p allow image built off =
     ap (λ (k : MapValue). k.ring) same ∙ no_ring c.layout.runtime.events (ap (λ r. r.events) c.is_layout.runtime ∙ off)
 
 pub tried_reports_are_good : TriedReportsAreGood
-tried_reports_are_good source trace file output t no_event none =
+tried_reports_are_good logging source trace file output t no_event none =
     let r = t.report.outcome in
     let heard = t.told.heard in
     let spans = spans_in t.told.attempts in
@@ -131,6 +132,6 @@ tried_reports_are_good source trace file output t no_event none =
     )
 
 pub tried_reports_are_answered_yes : TriedReportsAreAnsweredYes
-tried_reports_are_answered_yes source trace file output t no_event none ending line a =
-    let good = tried_reports_are_good source trace file output t no_event none in
+tried_reports_are_answered_yes logging source trace file output t no_event none ending line a =
+    let good = tried_reports_are_good logging source trace file output t no_event none in
     of_same source trace output t.program t.allow t.charges good.0 good.1 t.trace_said ending line a (a.only t.program t.allow t.accepted)

@@ -1,4 +1,4 @@
--- What `build` and `try` make, whose source keeps its text.
+-- What `build`, `try` and `undo` make, whose source keeps its text.
 use Rattle.std.proofs.Common.{◌≡◌, ℕ, List, Ok, sym, subst}
 use Rattle.plain_commands.specs.alp_io.Report.{bound_line}
 use Rattle.plain_commands.specs.cost_bound.declared.allowance.Allow.{Allow}
@@ -9,7 +9,8 @@ use Rattle.plain_commands.specs.source_values.Runs.{CheckedProgram}
 use Rattle.plain_commands.specs.source_meaning.Acceptance.{IsAcceptedText}
 use Rattle.plain_commands.specs.command_answers.Ending.{well}
 use Rattle.compiler_commands.specs.Build.{Builds}
-use Rattle.compiler_commands.specs.Built.{IsBuilt}
+use Rattle.memory_map.specs.declared.runtime.Logging.{Logging}
+use Rattle.compiler_commands.specs.Built.{IsBuiltFor, IsBuilt}
 use Rattle.compiler_commands.specs.Try.{Tries}
 use Rattle.source_runs.specs.Traces.{IsTraceOfWords}
 use Rattle.image_reports.specs.ImageLaw.{ImagesKeepTheLaws}
@@ -30,15 +31,15 @@ builds law source text file p allow image kept accepted built told output bound 
       built = built;
       bound = bound;
       told = told;
-      lawful = law text p allow image own built.compiled;
+      lawful = law _ text p allow image own built.compiled;
     } in subst (λ x. Builds x file output) kept made
 
-pub tries : (source trace text file : List ℕ) (p : CheckedProgram) (allow : Allow) (image : ImageValue) (charges : TraceValue) → text ≡ source
-    → IsAcceptedText source p allow → trace_of trace ≡ Ok charges → (built : IsBuilt text p allow image file)
+pub tries : {logging : Logging} (source trace text file : List ℕ) (p : CheckedProgram) (allow : Allow) (image : ImageValue) (charges : TraceValue) → text ≡ source
+    → IsAcceptedText source p allow → trace_of trace ≡ Ok charges → (built : IsBuiltFor logging text p allow image file)
     → IsTold text p built.map image charges
-    → (output : List ℕ) → IsRunReport image charges well output → Tries source trace file output
-tries source trace text file p allow image charges kept accepted said built told output report =
-    let tried : Tries text trace file output = record {
+    → (output : List ℕ) → IsRunReport image charges well output → Tries logging source trace file output
+tries {logging} source trace text file p allow image charges kept accepted said built told output report =
+    let tried : Tries logging text trace file output = record {
       program = p;
       allow = allow;
       image = image;
@@ -49,4 +50,4 @@ tries source trace text file p allow image charges kept accepted said built told
       report = report;
       told = told.told output report;
       answered = told.answered output report;
-    } in subst (λ x. Tries x trace file output) kept tried
+    } in subst (λ x. Tries logging x trace file output) kept tried

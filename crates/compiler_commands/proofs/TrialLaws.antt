@@ -22,7 +22,8 @@ use Rattle.plain_commands.specs.source_meaning.Acceptance.{IsAcceptedText}
 use Rattle.source_maps.specs.Maps.{map_of}
 use Rattle.source_runs.specs.Tells.{CommittedAttempt, IsEndOf, IsToldBySource}
 use Rattle.source_runs.specs.Traces.{IsTraceOfWords}
-use Rattle.image_laws.specs.Compiled.{IsCompiled}
+use Rattle.memory_map.specs.declared.runtime.Logging.{Logging}
+use Rattle.image_laws.specs.Compiled.{IsCompiledFor}
 use Rattle.event_orders.specs.Answers.{AnswersInOrder}
 use Rattle.image_reports.specs.Laws.{ImagesAreTold, ImagesAnswerInOrder}
 use Rattle.plain_commands.specs.declared.run.RunEnding.{RunEnding}
@@ -43,12 +44,12 @@ ends_well (Stopped (stop.Illegal pc word)) next why is = absurd is
 ends_well (Stopped (stop.Bus pc address)) next why is = absurd is
 
 -- of its map's values as an image has it
-module _ (law : ImagesAreTold) (order : ImagesAnswerInOrder) (runs : HasRun) (text : List ℕ) (p : CheckedProgram) (allow : Allow) (image : ImageValue)
-    (accepted : IsAcceptedText text p allow) (compiled : IsCompiled text p allow image) where
+module _ {logging : Logging} (law : ImagesAreTold) (order : ImagesAnswerInOrder) (runs : HasRun) (text : List ℕ) (p : CheckedProgram) (allow : Allow)
+    (image : ImageValue) (accepted : IsAcceptedText text p allow) (compiled : IsCompiledFor logging text p allow image) where
   on_trace : (trace : TraceValue) → IsTraceOfWords trace → IsTold text p (map_of text p compiled.layout allow) image trace
   on_trace trace words =
       let run = runs (charges_of trace.charges) (fresh image.words trace.readings trace.events) in
-      let law_told = law text p allow image accepted compiled trace words in
+      let law_told = law logging text p allow image accepted compiled trace words in
       let m = map_of text p compiled.layout allow in
       let Told : RunOutcome → List ℕ → Type 0 = IsToldBySource text p m (charges_of trace.charges) (fresh image.words trace.readings trace.events) in
       let told_so : (output : List ℕ) (r : IsRunReport image trace well output) → Told r.outcome output =
@@ -61,7 +62,7 @@ module _ (law : ImagesAreTold) (order : ImagesAnswerInOrder) (runs : HasRun) (te
         answered = λ output r.
             let P : List CommittedAttempt → Type 0 =
             λ attempts. AnswersInOrder (map (λ (a : CommittedAttempt). a.answers) attempts) (accepted_events (Some m) r.outcome.moments) in
-            subst P (sym (told_so output r).attempts_are) (order text p allow image accepted compiled trace words r.outcome r.run);
+            subst P (sym (told_so output r).attempts_are) (order logging text p allow image accepted compiled trace words r.outcome r.run);
       }
 
   pub is_told : IsToldOnTraces text p image

@@ -7,6 +7,7 @@ ghost use Rattle.plain_commands.specs.command_answers.Outcomes.{FailsBy};
 ghost use Rattle.compiler_commands.specs.Build.{build_promise};
 
 use crate::built::built_of;
+use memory_map::Logging;
 use crate::gen_lines::write_bound;
 use image_reports::images_keep_the_laws;
 use plain_commands::answers::{
@@ -49,7 +50,7 @@ pub fn build_texts<'t, H: Shelf, O: Sink>(
 {
     images_keep_the_laws();
     let source = source_of(alloc, names.source, source)?;
-    let built = built_of(alloc, &source)?;
+    let built = built_of(alloc, Logging::Redo, &source)?;
     put_file(alloc, shelf, names.image, built.text.as_slice())?;
     write_bound(out, source.allow().cycles)?;
     Ok(())

@@ -3,12 +3,13 @@ ghost use Rattle.std.specs.Prelude.{◌≡◌, IfOk, IfErr};
 ghost use Rattle.task_ast.specs.View.{program_of};
 ghost use Rattle.plain_commands.specs.source_meaning.Acceptance.{IsAcceptedText};
 ghost use Rattle.plain_commands.specs.command_answers.declared.failure.Failure.TheVariants.{Memory};
-ghost use Rattle.image_laws.specs.Compiled.{IsCompiled};
-ghost use Rattle.compiler_commands.specs.Built.{IsBuilt};
+ghost use Rattle.image_laws.specs.Compiled.{IsCompiledFor};
+ghost use Rattle.compiler_commands.specs.Built.{IsBuiltFor};
 ghost use Rattle.compiler_commands.specs.ToldRuns.{IsToldOnTraces};
 
 use image_reports::{images_answer_in_order, images_are_mapped, images_are_told};
-use link_image::link;
+use link_image::link_for;
+use memory_map::Logging;
 use plain_commands::answers::Failure;
 use plain_commands::boards::board_has_one_run;
 use plain_commands::texts::{Accepted, Image, print_image};
@@ -22,9 +23,9 @@ pub struct Built {
 }
 
 // On any trace the run of a source's image ends well and is told by the source, which has the accepted events in order.
-fn image_is_told(source: &Accepted, image: &Image)
+fn image_is_told(logging: Logging, source: &Accepted, image: &Image)
     requires accepted { IsAcceptedText source.now.text.items (program_of source.now.checked.source) source.now.allow }
-    requires compiled { IsCompiled source.now.text.items (program_of source.now.checked.source) source.now.allow image.now }
+    requires compiled { IsCompiledFor logging source.now.text.items (program_of source.now.checked.source) source.now.allow image.now }
     ensures { IsToldOnTraces source.now.text.items (program_of source.now.checked.source) image.now }
 {
     board_has_one_run();
@@ -32,16 +33,20 @@ fn image_is_told(source: &Accepted, image: &Image)
     images_answer_in_order();
 }
 
-/// The image of a source and its text; `Memory` where memory was refused.
-pub fn built_of<'t>(alloc: Global, source: &Accepted) -> Result<Built, Failure<'t>>
+/// The image of a source for a runtime that logs so, and its text; `Memory` where memory was refused.
+pub fn built_of<'t>(
+    alloc: Global,
+    logging: Logging,
+    source: &Accepted,
+) -> Result<Built, Failure<'t>>
     requires { IsAcceptedText source.now.text.items (program_of source.now.checked.source) source.now.allow }
-    ensures built { IfOk result (λ b. IsBuilt source.now.text.items (program_of source.now.checked.source) source.now.allow b.image b.text.items) }
+    ensures built { IfOk result (λ b. IsBuiltFor logging source.now.text.items (program_of source.now.checked.source) source.now.allow b.image b.text.items) }
     ensures told { IfOk result (λ b. IsToldOnTraces source.now.text.items (program_of source.now.checked.source) b.image) }
     ensures failure { IfErr result (λ e. e ≡ Memory) }
 {
     images_are_mapped();
-    let image = link(alloc, source)?;
-    image_is_told(source, &image);
+    let image = link_for(alloc, logging, source)?;
+    image_is_told(logging, source, &image);
     let text = print_image(alloc, &image)?;
     Ok(Built { image, text })
 }

@@ -19,6 +19,7 @@ ghost use Rattle.plain_commands.specs.command_answers.Outcomes.{FailsBy};
 ghost use Rattle.compiler_commands.specs.Gen.{gen_promise};
 
 use crate::built::{Built, built_of};
+use memory_map::Logging;
 use crate::gen_lines::{GenNumbers, write_lines};
 use plain_commands::answers::{Failure, Status, answer_failure, put_file};
 use plain_commands::board_runs::{RunEnd, Watch, run};
@@ -128,7 +129,7 @@ pub fn gen_texts<'t, H: Shelf, O: Sink>(
 {
     let source = source_of(alloc, "gen", text)?;
     let trace = trace_of_number(alloc, words.number, source.allow().cycles)?;
-    let built = built_of(alloc, &source)?;
+    let built = built_of(alloc, Logging::Redo, &source)?;
     put_generated(alloc, words, &source, &trace, &built, shelf, out)
 }
 

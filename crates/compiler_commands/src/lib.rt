@@ -1,4 +1,4 @@
-//! The commands that compile: `build`, `try` and `gen`.
+//! The commands that compile: `build`, `try`, `undo` and `gen`.
 #![tactic(auto)]
 
 mod build;
@@ -9,7 +9,7 @@ mod try_;
 
 pub use build::{BuildNames, answer_build};
 pub use generate::answer_gen;
-pub use try_::{TryNames, answer_try};
+pub use try_::{TryNames, answer_try, answer_undo};
 
-// The whole compiler as a call.
-pub use link_image::compile;
+// The whole compiler as a call, for each runtime.
+pub use link_image::{compile, compile_undo};

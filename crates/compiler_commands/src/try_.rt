@@ -1,13 +1,14 @@
-//! `try SRC TRACE IMAGE`: the image of a source, put as an image text, and the report of its run on the trace.
+//! `try SRC TRACE IMAGE` and `undo SRC TRACE IMAGE`: the image of a source, put as an image text, and the report of its run on the trace.
 ghost use Rattle.std.specs.Prelude.{◌≡◌, ◌<◌, ◌≤◌, ◌^◌, ◌∷◌, [], ℕ, List, IfOk, IfErr, length};
 ghost use Rattle.plain_commands.specs.alp_io.Shelf.{NeverFall};
 ghost use Rattle.plain_commands.specs.command_answers.Ending.{Ending, well};
-ghost use Rattle.compiler_commands.specs.Try.{try_promise};
+ghost use Rattle.compiler_commands.specs.Try.{trial_promise, try_promise, undo_promise};
 ghost use Rattle.plain_commands.specs.RunReport.{IsReportFrom};
 ghost use Rattle.plain_commands.specs.command_answers.CommandAnswers.{CommandAnswers, IsWhole, TextAnswers};
 ghost use Rattle.plain_commands.specs.command_answers.Outcomes.{Breaks, FailsBy, Gains};
 
 use crate::built::built_of;
+use memory_map::Logging;
 use plain_commands::answers::{
     Failure, Status, answer_failure, answer_unread, put_file, read_texts,
 };
@@ -18,7 +19,7 @@ use plain_commands::texts::{Trace, source_of, trace_of};
 use plain_commands::{RunEnding, write_report};
 use std::alloc::Global;
 
-/// The names of the files of `try SRC TRACE IMAGE`.
+/// The names of the files of `try SRC TRACE IMAGE` or `undo SRC TRACE IMAGE`.
 #[derive(Clone, Copy)]
 pub struct TryNames<'n> {
     /// The file of the source.
@@ -62,7 +63,7 @@ fn write_trial<O: Sink>(
     }
 }
 
-/// Puts the image of the source, and writes the report of its run on the trace. All memory but that of the put is taken before it.
+/// Puts the image of the source for a runtime that logs so, and writes the report of its run on the trace. All memory but that of the put is taken before it.
 ///
 /// # Errors
 /// `Refused` for the first text that is refused, `Memory` where memory was refused; no file is changed and nothing is written then.
@@ -70,6 +71,7 @@ fn write_trial<O: Sink>(
 /// the output gained a proper prefix of the report.
 pub fn try_texts<'t, H: Shelf, O: Sink>(
     alloc: Global,
+    logging: Logging,
     names: TryNames<'t>,
     texts: TryTexts<'t>,
     shelf: &mut H,
@@ -79,18 +81,18 @@ pub fn try_texts<'t, H: Shelf, O: Sink>(
     requires trace { length texts.trace.now ≤ 1048576 }
     ensures counts { NeverFall (H.counts shelf.old) (H.counts shelf.new) }
     ensures faults { O.faults out.old ≤ O.faults out.new }
-    ensures whole { IfOk result (λ _. IsWhole (try_promise names.entry.source.now names.entry.trace.now names.entry.image.now)
+    ensures whole { IfOk result (λ _. IsWhole (trial_promise logging names.entry.source.now names.entry.trace.now names.entry.image.now)
         (texts.entry.source.now ∷ texts.entry.trace.now ∷ []) well
         (record { old = H.files shelf.old; new = H.files shelf.new; counts_old = H.counts shelf.old; counts_new = H.counts shelf.new })
         (record { old = O.contents out.old; new = O.contents out.new; faults_old = O.faults out.old; faults_new = O.faults out.new })) }
-    ensures failure { IfErr result (λ e. FailsBy e (try_promise names.entry.source.now names.entry.trace.now names.entry.image.now)
+    ensures failure { IfErr result (λ e. FailsBy e (trial_promise logging names.entry.source.now names.entry.trace.now names.entry.image.now)
         (texts.entry.source.now ∷ texts.entry.trace.now ∷ [])
         (record { old = H.files shelf.old; new = H.files shelf.new; counts_old = H.counts shelf.old; counts_new = H.counts shelf.new })
         (record { old = O.contents out.old; new = O.contents out.new; faults_old = O.faults out.old; faults_new = O.faults out.new })) }
 {
     let source = source_of(alloc, names.source, texts.source)?;
     let trace = trace_of(alloc, names.trace, texts.trace)?;
-    let built = built_of(alloc, &source)?;
+    let built = built_of(alloc, logging, &source)?;
     let mut board = Board::new(alloc, &built.image, trace.readings(), trace.events())?;
     let mut watch = Watch::new(alloc, &built.image)?;
     put_file(alloc, shelf, names.image, built.text.as_slice())?;
@@ -100,6 +102,7 @@ pub fn try_texts<'t, H: Shelf, O: Sink>(
 
 fn try_of<H: Shelf, O: Sink, E: Sink>(
     alloc: Global,
+    logging: Logging,
     names: TryNames<'_>,
     texts: TryTexts<'_>,
     shelf: &mut H,
@@ -111,15 +114,49 @@ fn try_of<H: Shelf, O: Sink, E: Sink>(
     ensures counts { NeverFall (H.counts shelf.old) (H.counts shelf.new) }
     ensures out_faults { O.faults out.old ≤ O.faults out.new }
     ensures err_faults { E.faults err.old ≤ E.faults err.new }
-    ensures answers { TextAnswers result (try_promise names.entry.source.now names.entry.trace.now names.entry.image.now)
+    ensures answers { TextAnswers result (trial_promise logging names.entry.source.now names.entry.trace.now names.entry.image.now)
         (texts.entry.source.now ∷ texts.entry.trace.now ∷ [])
         (record { old = H.files shelf.old; new = H.files shelf.new; counts_old = H.counts shelf.old; counts_new = H.counts shelf.new })
         (record { old = O.contents out.old; new = O.contents out.new; faults_old = O.faults out.old; faults_new = O.faults out.new })
         (record { old = E.contents err.old; new = E.contents err.new; faults_old = E.faults err.old; faults_new = E.faults err.new }) }
 {
-    match try_texts(alloc, names, texts, shelf, out) {
+    match try_texts(alloc, logging, names, texts, shelf, out) {
         Ok(()) => Status::Done,
         Err(failure) => answer_failure(err, failure),
+    }
+}
+
+// The answer to a trial of a source for a runtime that logs so.
+fn answer_trial<H: Shelf, O: Sink, E: Sink>(
+    alloc: Global,
+    logging: Logging,
+    names: TryNames<'_>,
+    shelf: &mut H,
+    out: &mut O,
+    err: &mut E,
+) -> Status
+    ensures counts { NeverFall (H.counts shelf.old) (H.counts shelf.new) }
+    ensures out_faults { O.faults out.old ≤ O.faults out.new }
+    ensures err_faults { E.faults err.old ≤ E.faults err.new }
+    ensures answers { CommandAnswers result (trial_promise logging names.entry.source.now names.entry.trace.now names.entry.image.now)
+        (record { old = H.files shelf.old; new = H.files shelf.new; counts_old = H.counts shelf.old; counts_new = H.counts shelf.new })
+        (record { old = O.contents out.old; new = O.contents out.new; faults_old = O.faults out.old; faults_new = O.faults out.new })
+        (record { old = E.contents err.old; new = E.contents err.new; faults_old = E.faults err.old; faults_new = E.faults err.new }) }
+{
+    match read_texts(alloc, shelf, names.source, names.trace) {
+        Ok(texts) => try_of(
+            alloc,
+            logging,
+            names,
+            TryTexts {
+                source: texts.first.as_slice(),
+                trace: texts.second.as_slice(),
+            },
+            shelf,
+            out,
+            err,
+        ),
+        Err(unread) => answer_unread(err, unread),
     }
 }
 
@@ -139,18 +176,24 @@ pub fn answer_try<H: Shelf, O: Sink, E: Sink>(
         (record { old = O.contents out.old; new = O.contents out.new; faults_old = O.faults out.old; faults_new = O.faults out.new })
         (record { old = E.contents err.old; new = E.contents err.new; faults_old = E.faults err.old; faults_new = E.faults err.new }) }
 {
-    match read_texts(alloc, shelf, names.source, names.trace) {
-        Ok(texts) => try_of(
-            alloc,
-            names,
-            TryTexts {
-                source: texts.first.as_slice(),
-                trace: texts.second.as_slice(),
-            },
-            shelf,
-            out,
-            err,
-        ),
-        Err(unread) => answer_unread(err, unread),
-    }
+    answer_trial(alloc, Logging::Redo, names, shelf, out, err)
+}
+
+/// The answer to `undo SRC TRACE IMAGE`: as `try`, of the image that works in the shared words themselves and puts old words back.
+pub fn answer_undo<H: Shelf, O: Sink, E: Sink>(
+    alloc: Global,
+    names: TryNames<'_>,
+    shelf: &mut H,
+    out: &mut O,
+    err: &mut E,
+) -> Status
+    ensures counts { NeverFall (H.counts shelf.old) (H.counts shelf.new) }
+    ensures out_faults { O.faults out.old ≤ O.faults out.new }
+    ensures err_faults { E.faults err.old ≤ E.faults err.new }
+    ensures answers { CommandAnswers result (undo_promise names.entry.source.now names.entry.trace.now names.entry.image.now)
+        (record { old = H.files shelf.old; new = H.files shelf.new; counts_old = H.counts shelf.old; counts_new = H.counts shelf.new })
+        (record { old = O.contents out.old; new = O.contents out.new; faults_old = O.faults out.old; faults_new = O.faults out.new })
+        (record { old = E.contents err.old; new = E.contents err.new; faults_old = E.faults err.old; faults_new = E.faults err.new }) }
+{
+    answer_trial(alloc, Logging::Undo, names, shelf, out, err)
 }

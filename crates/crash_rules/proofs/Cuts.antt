@@ -123,7 +123,7 @@ module _ {St : Type 0} (given : Setting St) where
 
   -- where the transition began that a history is in
   abbrev pub BeganAt : History → St → Type 0
-  BeganAt v s = StartsFrom m origin v.completed s v.start
+  BeganAt v s = StartsFrom m origin v.booted v.completed s v.start
 
   told_more : (v : History) (es : List Effect) → IsTold v → world_after es v.world ≡ world_after (v.effects ++ es) v.start
   told_more v es t = ap (world_after es) t ∙ sym (world_after-append v.effects es v.start)
@@ -203,7 +203,7 @@ module _ {St : Type 0} (given : Setting St) where
             stands = record {
               state = next;
               reached = due.done k.world p.rests;
-              starts = FromUndecided (settled_more origin v.completed (done_of v k.world)) (laws.settled_undecided next k.world there);
+              starts = FromUndecided (settled_more origin v.completed (done_of v k.world)) (laws.settled_undecided next k.world there) (λ z. there);
               phase = UndecidedPhase refl (settled_more origin v.completed (done_of v k.world)) (laws.settled_undecided next k.world there);
             };
             since = refl;
@@ -684,7 +684,7 @@ module _ {St : Type 0} (given : Setting St) where
       same (CommittingPhase d p n u) = CommittingPhase d p n u
 
       from : Phase m readings origin st.state h → BeganAt (behind_boot h) st.state
-      from (UndecidedPhase d k u) = FromUndecided k u
+      from (UndecidedPhase d k u) = FromUndecided k u (λ z. absurd (cc z))
       from (DecidedPhase next d t u) =
           FromDecided next (transits_settled origin h.completed (decided_given readings h) st.state next t) u
       from (CommittingPhase d p n u) = FromCommitting p u

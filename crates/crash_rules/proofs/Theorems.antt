@@ -294,7 +294,7 @@ runs_may_begin m laws readings = record {
   resting = λ s x u. record {
     state = s;
     reached = refl;
-    starts = FromUndecided tt u;
+    starts = FromUndecided tt u (λ z. absurd (cc z));
     phase = UndecidedPhase (ap (λ n. n == 1) (laws.undecided_gate s x u)) tt u;
   };
   pending = λ to x d. record {

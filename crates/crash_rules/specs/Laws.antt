@@ -61,18 +61,18 @@ pub data Phase {St : Type 0} (m : Model St) (readings : List ℕ) (origin : Orig
   CommittingPhase : h.decided ≡ true → IsPending origin h.completed → HasNoSpan h.span_from h.span_to h.answers → m.Committing s h.world
       → Phase m readings origin s h
 
--- the world of the last boot or done, behind these dones, whose last one left a state: it is undecided at the state, or decided from it; or has the
--- commit that was pending at the start, which leaves the state
-pub data StartsFrom {St : Type 0} (m : Model St) (origin : Origin St) (ds : List Done) (s : St) (x : World) : Type 0 where
-  FromUndecided : IsSettled origin ds → m.Undecided s x → StartsFrom m origin ds s x
-  FromDecided : (next : St) → IsSettled origin ds → m.Decided s next x → StartsFrom m origin ds s x
-  FromCommitting : IsPending origin ds → m.Committing s x → StartsFrom m origin ds s x
+-- the world of the last boot or done, behind these dones, whose last one left a state: it is undecided at the state, behind a done with nothing to
+-- recover; or decided from it; or has the commit that was pending at the start, which leaves the state
+pub data StartsFrom {St : Type 0} (m : Model St) (origin : Origin St) (booted : Bool) (ds : List Done) (s : St) (x : World) : Type 0 where
+  FromUndecided : IsSettled origin ds → m.Undecided s x → (booted ≡ false → m.Settled s x) → StartsFrom m origin booted ds s x
+  FromDecided : (next : St) → IsSettled origin ds → m.Decided s next x → StartsFrom m origin booted ds s x
+  FromCommitting : IsPending origin ds → m.Committing s x → StartsFrom m origin booted ds s x
 
 -- a history stands for a run of the source
 pub record StandsFor {St : Type 0} (m : Model St) (readings : List ℕ) (origin : Origin St) (h : History) : Type 0 where
   pub state : St  -- the state of the last done; while the commit that was pending at the start isn't done, the one that it leaves
   pub reached : Reaches m readings origin h.completed state
-  pub starts : StartsFrom m origin h.completed state h.start
+  pub starts : StartsFrom m origin h.booted h.completed state h.start
   pub phase : Phase m readings origin state h
 
 -- effects are a prefix of a script: the commit, or the start, the task on the readings from a position on and on the looks that these

@@ -3,7 +3,7 @@ use Rattle.image_laws.proofs.Names.{◌≡◌, ◌≢◌, ℕ, ◌+◌, ◌-◌,
 use Rattle.image_laws.proofs.Names.{true, false, List, length, All, slice_index, Allow, CheckedProgram, State, first_state, initial_rows}
 use Rattle.image_laws.proofs.Names.{IsAcceptedText, ImageValue, place_of, is_fram, IsFram, fram_of, IsSharedWord, HoldsWords, RestsAt, privates_are_few}
 use Rattle.image_laws.proofs.Names.{HasLayout, tasks_match, program_places, is_within, shared_word, state_view, Model, is_redo, code_words, code_region}
-use Rattle.image_laws.proofs.Names.{data_word, IsCompiled, fresh_world, IsFreshImage, ImagesAreFresh, reset_vector, CurrentTask, Gate, Base, MemoryMap}
+use Rattle.image_laws.proofs.Names.{data_word, IsCompiledFor, fresh_world, IsFreshImage, reset_vector, CurrentTask, Gate, ListLength, Base, MemoryMap}
 use Rattle.image_laws.proofs.Names.{word_place, end_of, IsLaidOut, Bool, eq-eqb, leb-true, ltb-true, ⊎_elim, ◌⊎◌, nat_le, nat_lt, event_vector}
 use Rattle.image_laws.proofs.Names.{program_end, handler_place, head_place, is_ring}
 use Rattle.image_laws.proofs.Names.{HasHandler, handler_length, handler_words, handler_region, with_handler}
@@ -16,14 +16,15 @@ use Rattle.lower.specs.Lowered.{lowered}
 use Rattle.linked_code.specs.Linked.{CodeFits}
 use Rattle.linked_code.proofs.Interface.{linked_is_code}
 use Rattle.compiled_runs.proofs.Interface.{sources_have_room}
-use Rattle.memory_map.specs.declared.runtime.Logging.TheVariants.{Redo}
+use Rattle.memory_map.specs.declared.runtime.Logging.{Logging}
+use Rattle.image_laws.proofs.Names.{compiled_model, either_logging, is_logged}
 use Rattle.memory_map.specs.declared.words.RuntimeWord.{RuntimeWord}
 use Rattle.memory_map.proofs.Interface.{apart_of, even_of}
 use Rattle.runtime_code.proofs.Interface.{places_are_in_fram}
 use Rattle.image_laws.proofs.Fram.{place_in_fram, within, outside_before, outside_behind, none_before, none_behind, holds_by}
 use Rattle.image_laws.proofs.Initial.{initial_rows_are}
 use Rattle.image_laws.proofs.States.{finds_state}
-use Rattle.image_laws.proofs.Laid.{laid_out, logs_redo}
+use Rattle.image_laws.proofs.Laid.{laid_out}
 
 holds_words : (words : List ℕ) → All (λ w. w < 0x10000) words → HoldsWords (fram_of words)
 holds_words words all a = zero_unless ((a % 2 == 0) && is_fram a) (slice_index words (place_of a)) (index_small words (place_of a) all)
@@ -55,8 +56,8 @@ in_handler k w below =
     ∙ ap (λ b. cond b (slice_index handler_words ((a - handler_place) / 2)) w) (within handler_region a (omega arith) (omega (arith, below)))
     ∙ ap (slice_index handler_words) (half handler_place k)
 
-module _ (text : List ℕ) (p : CheckedProgram) (allow : Allow) (image : ImageValue) (ok : IsAcceptedText text p allow) (runs : IsRunnable p)
-    (c : IsCompiled text p allow image) where
+module _ {logging : Logging} (text : List ℕ) (p : CheckedProgram) (allow : Allow) (image : ImageValue) (ok : IsAcceptedText text p allow)
+    (runs : IsRunnable p) (c : IsCompiledFor logging text p allow image) where
   abbrev l : MemoryMap
   l = c.layout
 
@@ -67,7 +68,7 @@ module _ (text : List ℕ) (p : CheckedProgram) (allow : Allow) (image : ImageVa
   laid = record {
     allowed = ok.allowed;
     plan = c.is_plan;
-    logging = Redo;
+    logging = logging;
     layout = c.is_layout;
     few = privates_are_few text p allow c.plans l (laid_out text p allow image ok c);
   }
@@ -219,6 +220,18 @@ module _ (text : List ℕ) (p : CheckedProgram) (allow : Allow) (image : ImageVa
     shared = shared_at;
   }
 
+  -- and nothing is listed
+  none_listed : f (word_place l ListLength) ≡ 0
+  none_listed =
+      let apart = apart_of l rules in
+      zero_at (word_place l ListLength) (words_are ListLength) (λ e. omega (arith, e)) (omega (arith, apart))
+
+  rests_clear : (compiled_model p l).Rests (first_state p) (fresh_world image)
+  rests_clear =
+      let P : Model State → Type 0 = λ m. m.Rests (first_state p) (fresh_world image) in
+      ⊎_elim {C = (compiled_model p l).Rests (first_state p) (fresh_world image)} (λ redo. subst P (sym (is_redo p l redo)) rests)
+      (λ undo. subst P (sym (is_logged p l undo)) (record { rests = rests; none = none_listed })) (either_logging l.runtime.logging)
+
   pub is_fresh : IsFreshImage text p allow l image
   is_fresh = record {
     fits = fits;
@@ -226,9 +239,10 @@ module _ (text : List ℕ) (p : CheckedProgram) (allow : Allow) (image : ImageVa
     vector = vector;
     handler = handler;
     ring = ring;
-    rests = (let P : Model State → Type 0 = λ m. m.Rests (first_state p) (fresh_world image) in subst P (sym (is_redo p l (logs_redo text p allow image c))) rests);
+    rests = rests_clear;
     has_words = finds_state text p allow c.plans l laid (first_state p) (fresh_world image) rests;
   }
 
-pub images_are_fresh : ImagesAreFresh
+pub images_are_fresh : {logging : Logging} (text : List ℕ) (p : CheckedProgram) (allow : Allow) (image : ImageValue) → IsAcceptedText text p allow
+    → (c : IsCompiledFor logging text p allow image) → IsFreshImage text p allow c.layout image
 images_are_fresh text p allow image ok c = is_fresh text p allow image ok (accepted_texts_run text p allow ok) c

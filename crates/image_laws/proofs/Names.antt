@@ -14,7 +14,7 @@ pub use Rattle.event_handler.specs.Handler.{HasHandler, handler_length, handler_
 pub use Rattle.memory_map.specs.MemoryMap.{MemoryMap, word_place}
 pub use Rattle.memory_map.specs.Places.{AreInOrder, IsLaidOut, end_of, home_region, scalar_words}
 pub use Rattle.memory_map.specs.declared.place.VariablePlace.{VariablePlace}
-pub use Rattle.memory_map.specs.declared.words.RuntimeWord.TheVariants.{Base, CurrentTask, Gate}
+pub use Rattle.memory_map.specs.declared.words.RuntimeWord.TheVariants.{Base, CurrentTask, Gate, ListLength}
 -- traces and images
 pub use Rattle.image_text.specs.ImageValue.{ImageValue, place_of}
 -- the board
@@ -37,12 +37,13 @@ pub use Rattle.source_maps.specs.Maps.{map_of, value_type_of, variables_of}
 -- word programs and their code
 pub use Rattle.whole_programs.proofs.Interface.{privates_are_few}
 -- compiled sources
-pub use Rattle.compiled_model.proofs.Interface.{is_redo}
+pub use Rattle.compiled_model.proofs.Interface.{either_logging, is_logged, is_redo}
+pub use Rattle.compiled_model.specs.Parts.{compiled_model}
 pub use Rattle.compiled_model.specs.Places.{program_places}
 pub use Rattle.compiled_model.specs.View.{are_rows, are_words, is_within, shared_word, state_in, state_view, word_of_row}
 pub use Rattle.layout_facts.proofs.Interface.{tasks_match, view_has_their_words, words_of_variables_are_shared, worlds_have_states}
 pub use Rattle.layout_facts.specs.Facts.{HasLayout}
 -- this crate
-pub use Rattle.image_laws.specs.Compiled.{IsCompiled}
+pub use Rattle.image_laws.specs.Compiled.{IsCompiledFor}
 pub use Rattle.image_laws.specs.Laws.{ImagesAreFresh, ImagesAreOne, ImagesHaveStates, IsFreshImage, MapsFindStates, fresh_world}
 pub use Rattle.image_laws.specs.Words.{AreImageWords, code_region, code_words, data_word, handler_region, image_word, with_handler}

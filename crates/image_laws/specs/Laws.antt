@@ -10,6 +10,7 @@ use Rattle.image_text.specs.ImageValue.{ImageValue}
 use Rattle.machine_effects.specs.World.{World}
 use Rattle.machine_effects.specs.Machine.{IsFram, fram_of}
 use Rattle.code_forms.specs.Placed.{Holds}
+use Rattle.memory_map.specs.declared.runtime.Logging.{Logging}
 use Rattle.memory_map.specs.MemoryMap.{MemoryMap}
 use Rattle.stands_for.specs.StandsFor.{HoldsWords, IsAtRest, IsPendingCommit}
 use Rattle.source_runs.specs.Transitions.{HasWordsOf}
@@ -20,7 +21,7 @@ use Rattle.compiled_model.specs.View.{state_in, state_left}
 use Rattle.compiled_model.specs.Parts.{compiled_model}
 use Rattle.image_laws.specs.Words.{code_words}
 use Rattle.source_maps.specs.Maps.{map_of}
-use Rattle.image_laws.specs.Compiled.{IsCompiled, IsImageOf}
+use Rattle.image_laws.specs.Compiled.{IsCompiledFor, IsCompiled, IsImageFor}
 
 -- the world of an image before anything was done
 abbrev pub fresh_world : ImageValue → World
@@ -37,15 +38,15 @@ pub record IsFreshImage (text : List ℕ) (p : CheckedProgram) (allow : Allow) (
   pub rests : (compiled_model p l).Rests (first_state p) (fresh_world image)
   pub has_words : HasWordsOf (map_of text p l allow) (fresh_world image) (first_state p)
 
--- the image of an accepted source rests at the source's first state, before any run
+-- the image of an accepted source, for either runtime, rests at the source's first state, before any run
 abbrev pub ImagesAreFresh : Type 0
-ImagesAreFresh = (text : List ℕ) (p : CheckedProgram) (allow : Allow) (image : ImageValue) → IsAcceptedText text p allow
-    → (c : IsCompiled text p allow image) → IsFreshImage text p allow c.layout image
+ImagesAreFresh = (logging : Logging) (text : List ℕ) (p : CheckedProgram) (allow : Allow) (image : ImageValue) → IsAcceptedText text p allow
+    → (c : IsCompiledFor logging text p allow image) → IsFreshImage text p allow c.layout image
 
 -- where the world rests at a state of the source, the map finds the state's words in it
 abbrev pub MapsFindStates : Type 0
-MapsFindStates = (text : List ℕ) (p : CheckedProgram) (allow : Allow) (image : ImageValue) → IsAcceptedText text p allow
-    → (c : IsCompiled text p allow image) → (s : State) (x : World) → (compiled_model p c.layout).Rests s x
+MapsFindStates = (logging : Logging) (text : List ℕ) (p : CheckedProgram) (allow : Allow) (image : ImageValue) → IsAcceptedText text p allow
+    → (c : IsCompiledFor logging text p allow image) → (s : State) (x : World) → (compiled_model p c.layout).Rests s x
     → HasWordsOf (map_of text p c.layout allow) x s
 
 -- Each world of words has a state, which the map finds. Where no commit is pending the world rests at it, and a pending commit leaves the
@@ -55,11 +56,11 @@ pub record HasStates (text : List ℕ) (p : CheckedProgram) (allow : Allow) (l :
   pub rest : (x : World) → IsAtRest (program_places p l) x → (compiled_model p l).Rests (state_in l x) x
   pub commit : (x : World) → IsPendingCommit (program_places p l) x → (compiled_model p l).Committing (state_left l x) x
 
--- so with the image of each accepted source
+-- so with the image of each accepted source that works in copies
 abbrev pub ImagesHaveStates : Type 0
 ImagesHaveStates = (text : List ℕ) (p : CheckedProgram) (allow : Allow) (image : ImageValue) → IsAcceptedText text p allow
     → (c : IsCompiled text p allow image) → HasStates text p allow c.layout
 
--- an accepted text has one image
+-- an accepted text has one image for each runtime
 abbrev pub ImagesAreOne : Type 0
-ImagesAreOne = (text : List ℕ) (a b : ImageValue) → IsImageOf text a → IsImageOf text b → a ≡ b
+ImagesAreOne = (logging : Logging) (text : List ℕ) (a b : ImageValue) → IsImageFor logging text a → IsImageFor logging text b → a ≡ b

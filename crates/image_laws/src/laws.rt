@@ -2,7 +2,7 @@
 
 ghost use Rattle.image_laws.specs.Laws.{ImagesAreFresh, ImagesAreOne, ImagesHaveStates, MapsFindStates};
 
-use privatise::one_layout;
+use privatise::{one_layout, one_logged_layout};
 use source_meaning::one_program;
 use war_analysis::one_plan;
 
@@ -12,13 +12,14 @@ pub fn images_are_fresh()
     ensures { ImagesAreFresh }
 {}
 
-/// An accepted text has one image.
+/// An accepted text has one image for each runtime.
 pub fn images_are_one()
     ensures { ImagesAreOne }
 {
     one_program();
     one_plan();
     one_layout();
+    one_logged_layout();
 }
 
 /// Where a world rests at a state of the source, the image's map finds the state's words in it.

@@ -3,9 +3,10 @@ use Rattle.image_reports.proofs.Names.{◌≡◌, ◌<◌, ◌≤◌, ◌+◌, �
 use Rattle.image_reports.proofs.Names.{fresh, started, BoardCharge, RunOutcome, Run, World, fram_of, fresh_is_whole, words_of, Holds, CheckedProgram, State}
 use Rattle.image_reports.proofs.Names.{first_state, first_history, Origin, Resting, StandsFor, Begins, runs_may_begin, outside_of, ArePowerStates}
 use Rattle.image_reports.proofs.Names.{IsPlacedProgram, IsRunOfWords, MemoryMap, compiled_model, source_code, compiled_program, code_keeps_the_laws}
-use Rattle.image_reports.proofs.Names.{code_is_placed, runs_leave_the_code, BearsModel, map_of, IsCompiled, fresh_world, IsFreshImage, IsReadyToRun}
+use Rattle.image_reports.proofs.Names.{code_is_placed, runs_leave_the_code, BearsModel, map_of, IsCompiledFor, fresh_world, IsFreshImage, IsReadyToRun}
 use Rattle.image_reports.proofs.Names.{runtime_marks, world_with, KeepsCode, steady, Bool, true, false, if◌then◌else◌, ◌==◌, ap, eqb-true, slice_index}
 use Rattle.image_reports.proofs.Names.{place_of}
+use Rattle.memory_map.specs.declared.runtime.Logging.{Logging}
 use Rattle.std.proofs.Common.{◌&&◌, inr}
 use Rattle.std.proofs.Math.Path.{fun_ext}
 use Rattle.event_places.specs.Places.{answer_place, is_ring}
@@ -37,7 +38,8 @@ pub record Beginning : Type 0 where
   pub program : CheckedProgram
   pub allow : Allow
   pub image : ImageValue
-  pub compiled : IsCompiled text program allow image
+  pub logging : Logging
+  pub compiled : IsCompiledFor logging text program allow image
   pub ready : IsReadyToRun program compiled.layout
   pub new : IsFreshImage text program allow compiled.layout image
   pub fram : List ℕ
@@ -93,8 +95,8 @@ module _ (at : Beginning) where
 
 -- ---- the fresh board
 
-module _ (text : List ℕ) (p : CheckedProgram) (allow : Allow) (image : ImageValue) (c : IsCompiled text p allow image) (ready : IsReadyToRun p c.layout)
-    (new : IsFreshImage text p allow c.layout image) where
+module _ {logging : Logging} (text : List ℕ) (p : CheckedProgram) (allow : Allow) (image : ImageValue) (c : IsCompiledFor logging text p allow image)
+    (ready : IsReadyToRun p c.layout) (new : IsFreshImage text p allow c.layout image) where
   -- HEAD and the ring are 0 at first
   word_by : (c : Bool) (w : ℕ) → (c ≡ true → w ≡ 0) → w ≡ (if c then 0 else w)
   word_by true w h = h refl
@@ -132,14 +134,16 @@ module _ (text : List ℕ) (p : CheckedProgram) (allow : Allow) (image : ImageVa
       let P : (ℕ → ℕ) → Type 0 = λ f. KeepsCode p c.layout image f in
       subst P fram_is (record { code = λ a even from to. refl; vector = refl; handler = new.handler })
 
-module _ (text : List ℕ) (p : CheckedProgram) (allow : Allow) (image : ImageValue) (c : IsCompiled text p allow image) (readings : List ℕ)
-    (events : List Event) (inputs : AreInputs readings events) (ready : IsReadyToRun p c.layout) (new : IsFreshImage text p allow c.layout image) where
+module _ {logging : Logging} (text : List ℕ) (p : CheckedProgram) (allow : Allow) (image : ImageValue) (c : IsCompiledFor logging text p allow image)
+    (readings : List ℕ) (events : List Event) (inputs : AreInputs readings events) (ready : IsReadyToRun p c.layout)
+    (new : IsFreshImage text p allow c.layout image) where
   abbrev pub at_first : Beginning
   at_first = record {
     text = text;
     program = p;
     allow = allow;
     image = image;
+    logging = logging;
     compiled = c;
     ready = ready;
     new = new;

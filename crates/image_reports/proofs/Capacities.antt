@@ -1,15 +1,16 @@
 -- An image and its attempts keep to the capacities of the runtime's buffers.
 use Rattle.image_reports.proofs.Names.{◌≡◌, ◌≤◌, ℕ, arith, List, Allow, ImageValue, IsFram, fram_of, CheckedProgram, IsRunnable, IsAcceptedText}
 use Rattle.image_reports.proofs.Names.{accepted_texts_run, Gate, ListLength, EmitCount, MemoryMap, word_place, each_weaker, KeepsCapacities, CountsFit}
-use Rattle.image_reports.proofs.Names.{AttemptsFit, IsCompiled, laid_out, place_in_fram, zero_at, version}
+use Rattle.image_reports.proofs.Names.{AttemptsFit, IsCompiledFor, laid_out, place_in_fram, zero_at, version}
+use Rattle.memory_map.specs.declared.runtime.Logging.{Logging}
 use Rattle.memory_map.proofs.Interface.{apart_of}
 use Rattle.runtime_code.proofs.Interface.{places_are_in_fram}
 use Rattle.task_attempts.specs.Laws.{IsBelowCode}
 use Rattle.task_attempts.proofs.Interface.{stores_below_code}
 use Rattle.whole_programs.specs.Laws.{IsLaidOutText}
 
-module _ (text : List ℕ) (p : CheckedProgram) (allow : Allow) (image : ImageValue) (ok : IsAcceptedText text p allow)
-    (c : IsCompiled text p allow image) where
+module _ {logging : Logging} (text : List ℕ) (p : CheckedProgram) (allow : Allow) (image : ImageValue) (ok : IsAcceptedText text p allow)
+    (c : IsCompiledFor logging text p allow image) where
   runs : IsRunnable p
   runs = accepted_texts_run text p allow ok
 

@@ -2,10 +2,13 @@
 use Rattle.image_reports.proofs.Names.{◌<◌, length, runs_may_begin}
 use Rattle.image_reports.proofs.Names.{ℕ, subst, arith, List, ImageValue, BoardValue, fresh, Moment, last_board, CheckedProgram, State, first_state}
 use Rattle.image_reports.proofs.Names.{MemoryMap, Model, History, Resting, trace_inputs, traces_are_few, stops_where_short, SoundAtRest, compiled_model}
-use Rattle.image_reports.proofs.Names.{is_redo, logs_redo, false, map_of, word_place, CurrentTask, Allow, IsCompiled, IsAcceptedText, IsTaskWithin, cost_of, state_within}
+use Rattle.image_reports.proofs.Names.{is_redo, logs_so, false, map_of, word_place, CurrentTask, Allow, IsCompiledFor, IsAcceptedText, IsTaskWithin, cost_of}
+use Rattle.image_reports.proofs.Names.{state_within}
+use Rattle.memory_map.specs.declared.runtime.Logging.{Logging}
 use Rattle.image_reports.proofs.Names.{KeepsCapacities, compiled_program, sources_are_ready, [], world_with, laid_out, images_are_fresh, known_behind}
 use Rattle.image_reports.proofs.Names.{KeepsCode}
-use Rattle.image_reports.proofs.Names.{HoldsAt, ImagesKeepTheLaws, ImagesAreTold, ImagesKeepCapacities, HoldsFrom, ImagesBelong}
+use Rattle.image_reports.specs.ImageLaw.{IsLawful}
+use Rattle.image_reports.proofs.Names.{HoldsAt, ImagesAreTold, ImagesKeepCapacities, ImagesBelong}
 use Rattle.image_reports.specs.Laws.{ImagesKeepToNeeds}
 use Rattle.image_reports.proofs.Names.{◌≡◌, ◌≤◌, ◌⊎◌, ◌∙◌, ◌++◌, true, refl, sym, ap, inl, inr, fram_of, Gate, Bool, Option, Some, None, MapValue}
 use Rattle.image_reports.proofs.Names.{RunOutcome, Run, if◌then◌else◌, ImagesAnswerInOrder, IsLawfulRun}
@@ -29,26 +32,34 @@ use Rattle.image_reports.proofs.Begins.{at_first, bears, fram_is, own_code, rest
 use Rattle.image_reports.proofs.Capacities.{fresh_capacities}
 use Rattle.image_reports.proofs.CompiledTold.{models_are_of_sources}
 use Rattle.image_reports.proofs.Told.{source, runs_are_told}
-use Rattle.image_reports.proofs.Onward.{Onward, front, unheard, opens, raises, pays, rings, takes, answered}
+use Rattle.image_reports.proofs.Onward.{Onward, Front, front, unheard, opens, raises, pays, rings, takes, answered}
 use Rattle.image_reports.proofs.Needs.{needs_model_laws, need_within, needs_pay}
 
--- the fresh image belongs to itself
+-- the fresh image keeps to its capacities
+kept_at_first : {logging : Logging} (text : List ℕ) (p : CheckedProgram) (allow : Allow) (image : ImageValue) (ok : IsAcceptedText text p allow)
+    → (c : IsCompiledFor logging text p allow image) → KeepsCapacities c.layout (world_with image.words []).fram
+kept_at_first text p allow image ok c =
+    let ready = sources_are_ready text p allow c.plans c.layout (laid_out text p allow image ok c) in
+    let new = images_are_fresh text p allow image ok c in
+    subst (λ f. KeepsCapacities c.layout f) (fram_is text p allow image c ready new) (fresh_capacities text p allow image ok c)
+
+-- and belongs to itself
 pub images_belong : ImagesBelong
 images_belong text p allow image ok c =
     let ready = sources_are_ready text p allow c.plans c.layout (laid_out text p allow image ok c) in
     let new = images_are_fresh text p allow image ok c in
     let P : Model State → Type 0 = λ m. m.Rests (first_state p) (world_with image.words []) in
-    let o = (subst P (is_redo p c.layout (logs_redo text p allow image c)) (rests text p allow image c ready new)).is_open in
+    let o = (subst P (is_redo p c.layout (logs_so text p allow image c)) (rests text p allow image c ready new)).is_open in
     let cur = o.current_task in let task = o.is_task in
     record {
       code = own_code text p allow image c ready new;
-      capacities = subst (λ f. KeepsCapacities c.layout f) (fram_is text p allow image c ready new) (fresh_capacities text p allow image ok c);
+      capacities = kept_at_first text p allow image ok c;
       sound = SoundAtRest (record { words = o.words; current_task = omega (arith, cur, task); gate = o.gate; base = o.base; versions = o.versions });
     }
 
 -- what holds at a board of a run that began with the fresh one
 held_at : (p : CheckedProgram) (l : MemoryMap) (image : ImageValue) (readings : List ℕ) (b : BoardValue) (ms : List Moment) (h : History)
-    → HoldsFrom p l image (world_with image.words []) (Resting (first_state p)) readings b ms h → HoldsAt p l image readings b ms h
+    → Front p l image (world_with image.words []) (Resting (first_state p)) readings b ms h → HoldsAt p l image readings b ms h
 held_at p l image readings b ms h k =
     let Code : (ℕ → ℕ) → Type 0 = λ f. KeepsCode p l image f in
     let Capacities : (ℕ → ℕ) → Type 0 = λ f. KeepsCapacities l f in
@@ -60,17 +71,18 @@ held_at p l image readings b ms h k =
       accepted = k.accepted;
       takes_few = k.takes_few;
       offers_few = k.offers_few;
-      capacities = subst Capacities k.fram k.belongs.capacities;
+      capacities = subst Capacities k.fram k.capacities;
       versions = k.versions;
-      code = subst Code k.fram k.belongs.code;
+      versions_in_place = k.versions_in_place;
+      code = subst Code k.fram k.code;
       fetches = k.fetches;
       events = k.events;
       room = k.room;
     }
 
 -- the first task costs what the fresh world says, whose CUR names it
-first_within : (text : List ℕ) (p : CheckedProgram) (allow : Allow) (image : ImageValue) (ok : IsAcceptedText text p allow)
-    → (c : IsCompiled text p allow image)
+first_within : {logging : Logging} (text : List ℕ) (p : CheckedProgram) (allow : Allow) (image : ImageValue) (ok : IsAcceptedText text p allow)
+    → (c : IsCompiledFor logging text p allow image)
     → IsTaskWithin (compiled_model p c.layout) (first_state p) (cost_of p ((world_with image.words []).fram (word_place c.layout CurrentTask)))
 first_within text p allow image ok c =
     let l = c.layout in
@@ -82,8 +94,8 @@ first_within text p allow image ok c =
     (is.rests (first_state p) x (rests text p allow image c ready (images_are_fresh text p allow image ok c)))
 
 -- a source has a task: the first one
-some_task : (text : List ℕ) (p : CheckedProgram) (allow : Allow) (image : ImageValue) (ok : IsAcceptedText text p allow)
-    → (c : IsCompiled text p allow image) → 0 < length p.tasks
+some_task : {logging : Logging} (text : List ℕ) (p : CheckedProgram) (allow : Allow) (image : ImageValue) (ok : IsAcceptedText text p allow)
+    → (c : IsCompiledFor logging text p allow image) → 0 < length p.tasks
 some_task text p allow image ok c =
     let s = first_state p in
     let x = world_with image.words [] in
@@ -92,8 +104,8 @@ some_task text p allow image ok c =
     omega (arith, below)
 
 -- the first task needs what the fresh world says
-first_need : (text : List ℕ) (p : CheckedProgram) (allow : Allow) (image : ImageValue) (ok : IsAcceptedText text p allow)
-    → (c : IsCompiled text p allow image)
+first_need : {logging : Logging} (text : List ℕ) (p : CheckedProgram) (allow : Allow) (image : ImageValue) (ok : IsAcceptedText text p allow)
+    → (c : IsCompiledFor logging text p allow image)
     → IsTaskWithin (with_needs p c.layout (compiled_model p c.layout)) (first_state p)
     (need_of p c.layout ((world_with image.words []).fram (word_place c.layout CurrentTask)))
 first_need text p allow image ok c =
@@ -112,8 +124,8 @@ record HasEmptyRing (f : ℕ → ℕ) : Type 0 where
   tail : f tail_place ≡ 0
   sent : f sent_place ≡ 0
 
-fresh_ring : (text : List ℕ) (p : CheckedProgram) (allow : Allow) (image : ImageValue) → IsAcceptedText text p allow
-    → (c : IsCompiled text p allow image) → HasEmptyRing (fram_of image.words)
+fresh_ring : {logging : Logging} (text : List ℕ) (p : CheckedProgram) (allow : Allow) (image : ImageValue) → IsAcceptedText text p allow
+    → (c : IsCompiledFor logging text p allow image) → HasEmptyRing (fram_of image.words)
 fresh_ring text p allow image ok c =
     let new = images_are_fresh text p allow image ok c in
     let zero : (a : ℕ) → IsFram a → program_end ≤ a → (a < handler_place) ⊎ (is_ring a ≡ true) → fram_of image.words a ≡ 0 = new.ring in
@@ -124,8 +136,8 @@ fresh_ring text p allow image ok c =
     }
 
 -- its ring keeps its rule: nothing waits
-fresh_keeps_ring : (text : List ℕ) (p : CheckedProgram) (allow : Allow) (image : ImageValue) → IsAcceptedText text p allow
-    → (c : IsCompiled text p allow image) → KeepsRing (word_place c.layout Gate) (fram_of image.words)
+fresh_keeps_ring : {logging : Logging} (text : List ℕ) (p : CheckedProgram) (allow : Allow) (image : ImageValue) → IsAcceptedText text p allow
+    → (c : IsCompiledFor logging text p allow image) → KeepsRing (word_place c.layout Gate) (fram_of image.words)
 fresh_keeps_ring text p allow image ok c =
     let ring = fresh_ring text p allow image ok c in
     let head = ring.head in
@@ -133,14 +145,16 @@ fresh_keeps_ring text p allow image ok c =
     let sent = ring.sent in
     record { head = omega (arith, head, tail); sent = λ pending. omega (arith, head, tail, sent) }
 
-pub images_keep_the_laws : ImagesKeepTheLaws
+pub images_keep_the_laws : {logging : Logging} (text : List ℕ) (p : CheckedProgram) (allow : Allow) (image : ImageValue) → IsAcceptedText text p allow
+    → (c : IsCompiledFor logging text p allow image)
+    → IsLawful text p allow c.layout image
 images_keep_the_laws text p allow image ok c cs starts readings events inputs r go =
     let l = c.layout in
     let on : Onward = record {
       start = at_first text p allow image c readings events inputs (sources_are_ready text p allow c.plans l (laid_out text p allow image ok c))
           (images_are_fresh text p allow image ok c);
       accepted = ok;
-      belongs = images_belong text p allow image ok c;
+      capacities = kept_at_first text p allow image ok c;
       charges = cs;
       outcome = r;
       run = run_of_words image.words c.words.count c.words.are_words 0 cs starts readings events inputs r go;
@@ -160,8 +174,8 @@ images_keep_the_laws text p allow image ok c cs starts readings events inputs r 
       answered = λ events. answered on events (fresh_keeps_ring text p allow image ok c);
       raises = raises on;
       progress = pays on false (first_within text p allow image ok c);
-      needs = needs_pay on
-          ((runs_may_begin (with_needs p l (compiled_model p l)) (needs_model_laws p l on.start.ready) readings).resting (first_state p)
+      needs = λ redo. needs_pay on redo
+          ((runs_may_begin (with_needs p l (compiled_model p l)) (needs_model_laws p l redo on.start.ready) readings).resting (first_state p)
           (world_with image.words []) (undecided text p allow image c on.start.ready on.start.new)) (some_task text p allow image ok c) false
           (first_need text p allow image ok c);
       told = runs_are_told text p allow image ok c cs readings events inputs r on.run;
@@ -170,13 +184,13 @@ images_keep_the_laws text p allow image ok c cs starts readings events inputs r 
 -- ---- on a trace
 
 pub images_are_told : ImagesAreTold
-images_are_told text p allow image ok c trace t r run =
+images_are_told logging text p allow image ok c trace t r run =
     let few = traces_are_few trace t in
     (images_keep_the_laws text p allow image ok c (charges_of trace.charges) few.0 trace.readings trace.events (trace_inputs trace t) r run).told few.1
 
 -- where the source takes events its answers are in order by the law, else it has none
-module _ (text : List ℕ) (p : CheckedProgram) (allow : Allow) (image : ImageValue) (ok : IsAcceptedText text p allow) (c : IsCompiled text p allow image)
-    (trace : TraceValue) (t : IsTraceOfWords trace) (r : RunOutcome)
+module _ {logging : Logging} (text : List ℕ) (p : CheckedProgram) (allow : Allow) (image : ImageValue) (ok : IsAcceptedText text p allow)
+    (c : IsCompiledFor logging text p allow image) (trace : TraceValue) (t : IsTraceOfWords trace) (r : RunOutcome)
     (run : Run (charges_of trace.charges) (fresh image.words trace.readings trace.events) r) where
   abbrev l : MemoryMap
   l = c.layout
@@ -213,10 +227,10 @@ module _ (text : List ℕ) (p : CheckedProgram) (allow : Allow) (image : ImageVa
           none_in_order answers (accepted_events (Some m) r.moments) (none_answered m none (at_start m b) no_answers r.moments refl refl)
 
 pub images_answer_in_order : ImagesAnswerInOrder
-images_answer_in_order text p allow image ok c trace t r run = in_order text p allow image ok c trace t r run
+images_answer_in_order logging text p allow image ok c trace t r run = in_order text p allow image ok c trace t r run
 
 pub images_keep_capacities : ImagesKeepCapacities
-images_keep_capacities text p allow image ok c trace t r run ms rest e =
+images_keep_capacities logging text p allow image ok c trace t r run ms rest e =
     let few = traces_are_few trace t in
     ((images_keep_the_laws text p allow image ok c (charges_of trace.charges) few.0 trace.readings trace.events (trace_inputs trace t) r run).fronts ms
     rest e).capacities
@@ -225,3 +239,4 @@ pub images_keep_to_needs : ImagesKeepToNeeds
 images_keep_to_needs text p allow image ok c trace t r run =
     let few = traces_are_few trace t in
     (images_keep_the_laws text p allow image ok c (charges_of trace.charges) few.0 trace.readings trace.events (trace_inputs trace t) r run).needs
+    (logs_so text p allow image c)

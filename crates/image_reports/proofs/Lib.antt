@@ -9,6 +9,7 @@ mod Answered
 pub mod Told
 pub mod Capacities
 pub mod ImageStart
+mod InPlace
 pub mod ImageCode
 pub mod Untouched
 pub mod Onward

@@ -65,8 +65,8 @@ pub use Rattle.compiled_bounds.specs.Laws.{AttemptsFit, CountsFit}
 pub use Rattle.compiled_bounds.specs.Capacities.{KeepsCapacities}
 pub use Rattle.compiled_laws.proofs.Interface.{sources_are_ready}
 pub use Rattle.compiled_laws.specs.Ready.{IsReadyToRun}
-pub use Rattle.image_laws.proofs.Interface.{images_are_fresh, laid_out, logs_redo, maps_find_states, place_in_fram, version, worlds_stand, zero_at}
-pub use Rattle.image_laws.specs.Compiled.{IsCompiled}
+pub use Rattle.image_laws.proofs.Interface.{images_are_fresh, laid_out, logs_so, maps_find_states, place_in_fram, version, worlds_stand, zero_at}
+pub use Rattle.image_laws.specs.Compiled.{IsCompiled, IsCompiledFor}
 pub use Rattle.image_laws.specs.Laws.{HasStates, IsFreshImage, fresh_world}
 -- this crate
 pub use Rattle.image_reports.specs.ImageLaw.{FetchesCode, HoldsAt, ImagesKeepTheLaws, IsRaisedSoon, KeepsCode, RaisesVersion, VersionsBelow, known_behind}

@@ -30,6 +30,11 @@ use Rattle.fram_board.proofs.Interface.{fill_is_a_power_state}
 use Rattle.std.proofs.Common.{⊎_elim}
 use Rattle.runtime_effects.specs.Needs.{IsEventWord}
 use Rattle.compiled_model.specs.Needs.{StoresBelow}
+use Rattle.crash_rules.specs.Laws.{Pending, FollowsScript, AcceptedWords}
+use Rattle.crash_rules.specs.Model.{IsBetween}
+use Rattle.fram_board.specs.Run.{accepted_words}
+use Rattle.machine_effects.specs.World.{readings_taken}
+use Rattle.machine_effects.specs.View.{IsWhole}
 use Rattle.boot_runtime.specs.Entries.{task_entries}
 use Rattle.boot_runtime.specs.Listing.{privates_in}
 use Rattle.machine_effects.specs.Machine.{is_prepared}
@@ -48,11 +53,12 @@ use Rattle.run_charges.proofs.Interface.{no_instruction, last-append, sees, reac
 use Rattle.board_run.specs.Events.{NeverReads, hand_after, head_of, no_hand}
 use Rattle.model_runs.specs.EventLaws.{StartsWith}
 use Rattle.model_runs.proofs.Interface.{moments_wait, never_reads, runs_so, runs_alone}
-use Rattle.memory_map.specs.declared.runtime.Logging.TheVariants.{Redo}
+use Rattle.memory_map.specs.declared.runtime.Logging.TheVariants.{Redo, Undo}
 use Rattle.memory_map.specs.declared.runtime.Logging.{Logging}
 use Rattle.memory_map.specs.declared.runtime.Role.{Role}
 use Rattle.compiled_model.specs.Parts.{start_of as start_due}
 use Rattle.image_reports.specs.ImageLaw.{InCode, AtAcceptance, InHandler}
+use Rattle.charge_limits.specs.Laws.{readings_from, words_offered, words_from}
 use Rattle.image_reports.proofs.Begins.{holds_as, Beginning, first_world, first_board, begins, bears}
 use Rattle.image_reports.proofs.HandlerWords.{stage_holds}
 use Rattle.image_reports.proofs.Accounted.{moments_account}
@@ -80,7 +86,10 @@ use Rattle.charge_limits.proofs.Interface.{readings_are_few, words_are_few}
 use Rattle.image_reports.proofs.Capacities.{attempts_fit}
 use Rattle.image_reports.proofs.CompiledTold.{models_are_of_sources}
 use Rattle.image_reports.proofs.Told.{source}
+use Rattle.compiled_runs.proofs.Interface.{by_redo, by_undo}
+use Rattle.image_reports.specs.ImageLaw.{due_in_place}
 use Rattle.image_reports.proofs.ImageStart.{versions_below}
+use Rattle.image_reports.proofs.InPlace.{below_in_place}
 use Rattle.image_reports.proofs.Untouched.{NeverThere, untouched}
 use Rattle.image_reports.proofs.ImageCode.{GoesOn, StopsAtReadings, StandsOn, stands_on, stops_next, IsWithin, placed_within, same_words, words_fetched}
 
@@ -94,8 +103,8 @@ front_are [] rest are = tt
 front_are (m ∷ ms) rest are = (are.0, front_are ms rest are.1)
 
 -- what a run stands for is sound
-phase_sound : (p : CheckedProgram) (l : MemoryMap) → l.runtime.logging ≡ Redo → ModelLaws (compiled_model p l) → (readings : List ℕ) (origin : Origin State) (s : State) (h : History)
-    → Phase (compiled_model p l) readings origin s h → IsSound (program_places p l) h.world
+pub phase_sound : (p : CheckedProgram) (l : MemoryMap) → l.runtime.logging ≡ Redo → ModelLaws (compiled_model p l) → (readings : List ℕ)
+    (origin : Origin State) (s : State) (h : History) → Phase (compiled_model p l) readings origin s h → IsSound (program_places p l) h.world
 phase_sound p l logs laws readings origin s h phase =
     let P : Model State → Type 0 = λ m. ModelLaws m → Phase m readings origin s h → IsSound (program_places p l) h.world in
     subst P (sym (is_redo p l logs)) under_redo laws phase
@@ -119,18 +128,70 @@ answers_of_dones : (ds : List Done) → map (λ (d : Done). d.answers) ds ≡ ma
 answers_of_dones [] = refl
 answers_of_dones (d ∷ ds) = ap (λ (rest : List (List ℕ)). d.answers ∷ rest) (answers_of_dones ds)
 
--- a run of an image from a world that belongs to it
+-- What holds at each boundary between two steps of a run that goes on so, for either runtime; some of it where the runtime works in copies alone.
+pub record Front (p : CheckedProgram) (l : MemoryMap) (image : ImageValue) (x : World) (origin : Origin State) (readings : List ℕ) (b : BoardValue)
+    (ms : List Moment) (h : History) : Type 0 where
+  pub whole : IsWhole b
+  pub fram : h.world.fram ≡ (outside_of b).fram
+  pub words : h.world.accepted ≡ x.accepted ++ accepted_words ms
+  pub number : TakesNextBehind h.world.accepted b.receiver
+  pub taken : h.taken ≡ b.taken
+  pub effects : FollowsScript (compiled_model p l) readings h
+  pub stands : StandsFor (compiled_model p l) readings origin h
+  pub never_lost : h.decided ≡ true → ((outside_of b).fram (word_place l Gate) ≡ 1)
+      × ((s : State) → (compiled_model p l).Undecided s h.world → ⊥)
+  pub accepted : AcceptedWords (compiled_model p l) readings origin h stands.state h.decided
+  pub takes_few : l.runtime.logging ≡ Redo → length (readings_taken h.effects) ≤ readings_from p l h.start.fram
+  pub offers_few : l.runtime.logging ≡ Redo → length (words_offered h.effects) ≤ words_from p l origin h.completed stands.state
+  pub sent : (to : State) → origin ≡ Pending to → h.completed ≡ [] → IsBetween x.accepted to.emitted h.world.accepted
+  pub versions : l.runtime.logging ≡ Redo → h.effects ≡ start_due l h.start.fram → VersionsBelow l (outside_of b).fram
+  pub versions_in_place : l.runtime.logging ≡ Undo → h.start.fram (word_place l Gate) ≡ 0 → h.effects ≡ due_in_place p l h.booted h.start.fram
+      → VersionsBelow l (outside_of b).fram
+  pub code : KeepsCode p l image h.world.fram
+  pub capacities : KeepsCapacities l h.world.fram
+  pub sound : l.runtime.logging ≡ Redo → IsSound (program_places p l) h.world
+  pub kept : (a : ℕ) → l.boot.address ≤ a → (IsEventWord l a → ⊥) → (outside_of b).fram a ≡ x.fram a
+  pub fetches : StepsOn p l image b
+  pub events : EventsHold l b (hand_after (head_of image.map) ms no_hand)
+  pub room : l.runtime.events ≡ true → HasRoom b
+
+-- where it does, all that is said of a saved state's
+pub holds_from : (p : CheckedProgram) (l : MemoryMap) (image : ImageValue) (x : World) (origin : Origin State) (readings : List ℕ) (b : BoardValue)
+    (ms : List Moment) (h : History) → l.runtime.logging ≡ Redo → Front p l image x origin readings b ms h
+    → HoldsFrom p l image x origin readings b ms h
+holds_from p l image x origin readings b ms h redo k = record {
+  whole = k.whole;
+  fram = k.fram;
+  words = k.words;
+  number = k.number;
+  taken = k.taken;
+  effects = k.effects;
+  stands = k.stands;
+  never_lost = k.never_lost;
+  accepted = k.accepted;
+  takes_few = k.takes_few redo;
+  offers_few = k.offers_few redo;
+  sent = k.sent;
+  versions = k.versions redo;
+  belongs = record { code = k.code; capacities = k.capacities; sound = k.sound redo };
+  kept = k.kept;
+  fetches = k.fetches;
+  events = k.events;
+  room = k.room;
+}
+
+-- a run of an image from a world that has its code, and keeps to its capacities
 pub record Onward : Type 0 where
   pub start : Beginning
   pub accepted : IsAcceptedText start.text start.program start.allow
-  pub belongs : BelongsTo start.program start.compiled.layout start.image (world_with start.fram start.before)
+  pub capacities : KeepsCapacities start.compiled.layout (world_with start.fram start.before).fram
   pub charges : List BoardCharge
   pub outcome : RunOutcome
   pub run : IsRunOfWords charges (started start.fram start.number start.readings start.events) outcome
 
 module _ (onward : Onward) where
-  open onward use {start as beginning, accepted as ok, belongs, charges as cs, outcome as r, run}
-  open (onward.start) use {text, program as p, allow, image, compiled as c, ready, new, fram, number, before, counted, origin, readings}
+  open onward use {start as beginning, accepted as ok, capacities, charges as cs, outcome as r, run}
+  open (onward.start) use {text, program as p, allow, image, logging, compiled as c, ready, new, fram, number, before, counted, code, origin, readings}
 
   abbrev l : MemoryMap
   l = c.layout
@@ -180,7 +241,7 @@ module _ (onward : Onward) where
   never_there : (a : ℕ) → l.boot.address ≤ a → (IsEventWord l a → ⊥) → NeverThere a program bearing.program.changes (runtime_marks l) (outside_of b) first
   never_there a from no_counter es t k charged q up there n =
       let P : ℕ → ℕ → Type 0 = StoresBelow l l.boot.address in
-      let scripts = scripts_store_below p l ready.code.logging ready.code.apart ready.stores in
+      let scripts = scripts_store_below p l ready.code.apart ready.stores in
       each_weaker P (IsElsewhere a)
       (λ d w h e. ⊎_elim {C = ⊥} (λ low. omega (arith, low, from, e)) (λ counter. no_counter (subst (IsEventWord l) e counter)) h) _
       (stores_only model program P ready.model bearing.program scripts readings origin q
@@ -392,7 +453,7 @@ module _ (onward : Onward) where
     keeps_code = record {
       code = λ a even from to. same_words (outside_of t).fram (fram_of image.words) (words_of (source_code p l)) l.boot.address a at.ready.holds new.code
           (code_is_placed p l new.fits).even even from to;
-      vector = at.ready.vector ∙ belongs.code.vector;
+      vector = at.ready.vector ∙ code.vector;
       handler = at.ready.handler;
     }
 
@@ -408,7 +469,7 @@ module _ (onward : Onward) where
 
     keeps_capacities : KeepsCapacities l (outside_of t).fram
     keeps_capacities =
-        capacities_are_kept program p l ready.code.apart (attempts_fit text p allow image ok c) readings origin x cs b r run bearing belongs.capacities
+        capacities_are_kept program p l ready.code.apart (attempts_fit text p allow image ok c) readings origin x cs b r run bearing capacities
         ms rest e
 
     kept : (a : ℕ) → l.boot.address ≤ a → (IsEventWord l a → ⊥) → (outside_of t).fram a ≡ x.fram a
@@ -417,7 +478,7 @@ module _ (onward : Onward) where
         ∙ untouched a program bearing.program.changes (runtime_marks l) at.charges (outside_of b) at.end (first_history (runtime_marks l) x) h
         (never_there a from no_counter) at.charged
 
-    pub front : HoldsFrom p l image x origin readings t ms h
+    pub front : Front p l image x origin readings t ms h
     front =
         let known = fronts_are_lawful model program readings origin x cs b r run bearing ms rest e in
         let lawful = known.0 in
@@ -439,36 +500,40 @@ module _ (onward : Onward) where
           never_lost = λ decided. let kept = never_lost model ready.model readings origin h lawful decided in
               (ap (λ f. f (word_place l Gate)) same ∙ kept.0, kept.1);
           accepted = sent_once model ready.model readings origin h lawful.stands;
-          takes_few = readings_are_few p l ready.code.logging readings h lawful.follows;
-          offers_few = words_are_few p l ready.code.logging ready.model readings origin h lawful.follows lawful.stands;
+          takes_few = λ redo. readings_are_few p l redo readings h lawful.follows;
+          offers_few = λ redo. words_are_few p l redo ready.model readings origin h lawful.follows lawful.stands;
           sent = λ to is none.
               let P : Origin State → Type 0 = λ o. Begins model readings o x (outside_of b) in
               pending_sends model program ready.model bearing.program readings to at.end h
               (record { world = x; start = outside_of b; begins = subst P is (begins beginning); charges = at.charges; leads = at.charged }) none;
-          versions = λ made.
+          versions = λ redo made.
               let P : (ℕ → ℕ) → Type 0 = λ f. VersionsBelow l f in
               let Raised : Logging → Role → Type 0 = λ logging role. VersionsBelow l (fram_after (start_under logging l h.start.fram) h.start.fram) in
               let f : (outside_of t).fram ≡ fram_after (start_due l h.start.fram) h.start.fram =
               same ∙ ap (λ w. w.fram) lawful.world ∙ world_fram h.effects h.start ∙ ap (λ es. fram_after es h.start.fram) made in
               let kept = began ms rest e in
-              subst P (sym f) (under_map l Raised ready.code.logging (versions_below (program_places p l) ready.code.apart (privates_in (task_entries l)) ready.code.privates
-              h.start.fram kept.versions (kept.words (word_place l Version))));
-          belongs = record {
-            code = subst Code same keeps_code;
-            capacities = subst Capacities same keeps_capacities;
-            sound = phase_sound p l ready.code.logging ready.model readings origin lawful.stands.state h lawful.stands.phase;
-          };
+              subst P (sym f) (under_map l Raised redo (versions_below (program_places p l) ready.code.apart (privates_in (task_entries l))
+              (by_redo p l redo ready.code).privates h.start.fram kept.versions (kept.words (word_place l Version))));
+          versions_in_place = λ undo gate made.
+              let P : (ℕ → ℕ) → Type 0 = λ f. VersionsBelow l f in
+              let f : (outside_of t).fram ≡ fram_after (due_in_place p l h.booted h.start.fram) h.start.fram =
+              same ∙ ap (λ w. w.fram) lawful.world ∙ world_fram h.effects h.start ∙ ap (λ es. fram_after es h.start.fram) made in
+              subst P (sym f) (below_in_place p l undo ready.code.apart ready.code.room (by_undo p l undo ready.code).privates ready.model origin h.booted
+              h.completed lawful.stands.state h.start lawful.stands.starts gate);
+          code = subst Code same keeps_code;
+          capacities = subst Capacities same keeps_capacities;
+          sound = λ redo. phase_sound p l redo ready.model readings origin lawful.stands.state h lawful.stands.phase;
           kept = kept;
           fetches = fetches t h at (standing ms rest e);
           events = events_hold;
           room = room t h at (standing ms rest e);
         }
 
-  -- VER is raised by the fifth instruction of a charge, the seventh where the source takes events
+  -- VER is raised by the fifth instruction of a charge, the seventh where the source takes events; so where the runtime works in copies
   abbrev soon : ℕ
   soon = with_events l.runtime.events 2 + 5
 
-  module _ (t : BoardValue) (h : History) (at : IsReached t h) (power : PowerState) (powers : IsPowerState power) where
+  module _ (redo : l.runtime.logging ≡ Redo) (t : BoardValue) (h : History) (at : IsReached t h) (power : PowerState) (powers : IsPowerState power) where
     abbrev start : BoardValue
     start = powered t power
 
@@ -482,7 +547,7 @@ module _ (onward : Onward) where
         let made = leads on t h at.ready power powers steps is own_steps in
         let last = (reach on t h at.ready power powers steps is own_steps).end in
         ap (λ f. f (word_place l Version)) (sym (stands_fram (last_board start steps) last.u last.stands))
-        ∙ power_ups_raise_version p l ready.code begun (is_powered on t h at.ready power powers looks see) gate low last.u
+        ∙ power_ups_raise_version p l redo ready.code begun (is_powered on t h at.ready power powers looks see) gate low last.u
         (ap (λ n. (going program.step n begun).status) (sym many) ∙ made)
 
   -- what a charge that begins so owes
@@ -500,14 +565,14 @@ module _ (onward : Onward) where
   few_steps true = omega arith
   few_steps false = omega arith
 
-  raises_from : (t : BoardValue) → BeginsCharge t → (steps begun more : List Moment) → steps ≡ begun ++ more → program_steps begun ≡ soon
-      → AreInstructionMoments begun → (boot : Moment) → boot.action ≡ PowerUp → IsMomentFrom t boot → AreMoments boot.after begun
+  raises_from : l.runtime.logging ≡ Redo → (t : BoardValue) → BeginsCharge t → (steps begun more : List Moment) → steps ≡ begun ++ more
+      → program_steps begun ≡ soon → AreInstructionMoments begun → (boot : Moment) → boot.action ≡ PowerUp → IsMomentFrom t boot → AreMoments boot.after begun
       → RaisesFrom steps boot
-  raises_from t from steps begun more cut many are boot up (Instructs i done current answer same is) moments =
+  raises_from redo t from steps begun more cut many are boot up (Instructs i done current answer same is) moments =
       absurd (let other = sym up ∙ ap (λ y. y.action) is in cc (other))
-  raises_from t from steps begun more cut many are boot up (Serves n done next answer served is) moments =
+  raises_from redo t from steps begun more cut many are boot up (Serves n done next answer served is) moments =
       absurd (let other = sym up ∙ ap (λ y. y.action) is in cc (other))
-  raises_from t from steps begun more cut many are boot up (PowersUp power powers is) moments =
+  raises_from redo t from steps begun more cut many are boot up (PowersUp power powers is) moments =
       let P : Moment → Type 0 = λ y. AreMoments y.after begun → RaisesFrom steps y in
       let few = few_steps l.runtime.events in
       subst P (sym is)
@@ -516,11 +581,11 @@ module _ (onward : Onward) where
         rest = more;
         are = cut;
         soon = omega (arith, many, few);
-        raised = raised_soon t from.history from.at power powers begun own_steps are many gate (below_end _ (from.fram_words (word_place l Version)) end);
+        raised = raised_soon redo t from.history from.at power powers begun own_steps are many gate (below_end _ (from.fram_words (word_place l Version)) end);
       }) moments
 
-  pub raises : RaisesVersion l r.moments
-  raises ms steps rest boot e up are many =
+  pub raises : l.runtime.logging ≡ Redo → RaisesVersion l r.moments
+  raises redo ms steps rest boot e up are many =
       let few = few_steps l.runtime.events in
       let part = own_part soon steps (omega (arith, many, few)) in
       let begun = part.first in
@@ -537,7 +602,7 @@ module _ (onward : Onward) where
       let same : (outside_of boot.before).fram ≡ h.world.fram = ap (λ s. s.fram) (follows_keeps t boot.before moments.0).outside ∙ known in
       let from : BeginsCharge boot.before =
       record { history = h; at = at; fram_words = subst HoldsWords (sym same) (keeps_versions ms tail e).words } in
-      raises_from boot.before from steps begun more part.are part.many (front_are begun more (subst AreInstructionMoments part.are are)) boot up moments.1
+      raises_from redo boot.before from steps begun more part.are part.many (front_are begun more (subst AreInstructionMoments part.are are)) boot up moments.1
       moments.2
 
   -- behind the first instructions of a charge the CPU accepts interrupts, outside the handler

@@ -20,9 +20,10 @@ use Rattle.image_reports.proofs.Begins.{bears, run_of_words}
 use Rattle.crash_rules.specs.Model.{bound}
 use Rattle.task_needs.specs.Needs.{need_of}
 use Rattle.task_needs.specs.Lists.{with_needs}
-use Rattle.image_reports.proofs.Names.{◌≤◌}
+use Rattle.image_reports.proofs.Names.{◌≤◌, logs_so, last_board, known_from}
+use Rattle.memory_map.specs.declared.runtime.Logging.TheVariants.{Redo}
 use Rattle.image_reports.proofs.Needs.{needs_model_laws, need_within, needs_bound, needs_pay}
-use Rattle.image_reports.proofs.Onward.{Onward, starts_with, front, unheard, ringless, opens, raises, pays, rings, takes, answered}
+use Rattle.image_reports.proofs.Onward.{Onward, holds_from, starts_with, front, unheard, ringless, opens, raises, pays, rings, takes, answered}
 
 -- the world of a saved state that belongs to an image
 module _ (text : List ℕ) (p : CheckedProgram) (allow : Allow) (image : ImageValue) (ok : IsAcceptedText text p allow) (c : IsCompiled text p allow image)
@@ -45,6 +46,9 @@ module _ (text : List ℕ) (p : CheckedProgram) (allow : Allow) (image : ImageVa
 
   ready : IsReadyToRun p l
   ready = sources_are_ready text p allow c.plans l (laid_out text p allow image ok c)
+
+  redo : l.runtime.logging ≡ Redo
+  redo = logs_so text p allow image c
 
   states : HasStates text p allow l
   states = worlds_stand text p allow image ok c
@@ -90,10 +94,10 @@ module _ (text : List ℕ) (p : CheckedProgram) (allow : Allow) (image : ImageVa
   begun_needs : (readings : List ℕ) → IsSound (program_places p l) x → StandsFor costed readings origin (first_history (runtime_marks l) x)
   begun_needs readings (SoundAtRest q) =
       subst (λ o. StandsFor costed readings o (first_history (runtime_marks l) x)) (at_rest q.gate)
-      ((runs_may_begin costed (needs_model_laws p l ready) readings).resting (state_in l x) x (undecided_there q))
+      ((runs_may_begin costed (needs_model_laws p l redo ready) readings).resting (state_in l x) x (undecided_there q))
   begun_needs readings (SoundPending q) =
       subst (λ o. StandsFor costed readings o (first_history (runtime_marks l) x)) (in_commit q.gate)
-      ((runs_may_begin costed (needs_model_laws p l ready) readings).pending (state_left l x) x (states.commit x q))
+      ((runs_may_begin costed (needs_model_laws p l redo ready) readings).pending (state_left l x) x (states.commit x q))
 
   -- the world's CUR names a task
   some_task : IsSound (program_places p l) x → 0 < length p.tasks
@@ -130,6 +134,7 @@ module _ (text : List ℕ) (p : CheckedProgram) (allow : Allow) (image : ImageVa
         program = p;
         allow = allow;
         image = image;
+        logging = Redo;
         compiled = c;
         ready = ready;
         new = images_are_fresh text p allow image ok c;
@@ -145,7 +150,7 @@ module _ (text : List ℕ) (p : CheckedProgram) (allow : Allow) (image : ImageVa
         begun = begun_by readings belongs.sound;
       };
       accepted = ok;
-      belongs = belongs;
+      capacities = belongs.capacities;
       charges = cs;
       outcome = r;
       run = run;
@@ -174,7 +179,7 @@ module _ (text : List ℕ) (p : CheckedProgram) (allow : Allow) (image : ImageVa
 
     resumed : IsResumedRun text p allow l image x cs b r
     resumed = record {
-      fronts = front on;
+      fronts = λ ms rest e. holds_from p l image x origin readings (last_board b ms) ms (known_from l x ms) redo (front on ms rest e);
       stops = stops_where_short model (compiled_program p l) readings origin x cs b r run bearing;
       unheard = unheard on;
       ringless = ringless on;
@@ -182,10 +187,10 @@ module _ (text : List ℕ) (p : CheckedProgram) (allow : Allow) (image : ImageVa
       rings = rings on;
       takes = takes on;
       answered = answered on;
-      raises = raises on;
+      raises = raises on redo;
       progress = pays on (x.fram (word_place l Gate) == 1) (first_within (x.fram (word_place l Gate) == 1));
-      needs = needs_pay on (begun_needs readings belongs.sound) (some_task belongs.sound) (x.fram (word_place l Gate) == 1)
-          (first_need (x.fram (word_place l Gate) == 1) (needs_bound on (some_task belongs.sound)) belongs.sound);
+      needs = needs_pay on redo (begun_needs readings belongs.sound) (some_task belongs.sound) (x.fram (word_place l Gate) == 1)
+          (first_need (x.fram (word_place l Gate) == 1) (needs_bound on redo (some_task belongs.sound)) belongs.sound);
       told = onward;
     }
 

@@ -1,9 +1,10 @@
 -- The headline.
 use Rattle.image_reports.proofs.Names.{◌<◌, ◌^◌, ℕ, sym, refl, ap, subst, Option, List, Allow, MapValue, ImageValue, BoardValue, fresh, BoardCharge}
 use Rattle.image_reports.proofs.Names.{RunOutcome, start_with, start_of, report_of, CheckedProgram, IsRunnable, IsAcceptedText, accepted_texts_run}
-use Rattle.image_reports.proofs.Names.{IsRunOfWords, all_amounts, compiled_program, IsToldBySource, map_of, IsCompiled, [], world_with, laid_out}
+use Rattle.image_reports.proofs.Names.{IsRunOfWords, all_amounts, compiled_program, IsToldBySource, map_of, IsCompiledFor, [], world_with, laid_out}
 use Rattle.image_reports.proofs.Names.{images_are_fresh}
 use Rattle.image_reports.proofs.Names.{maps_find_states, sources_are_ready, ImagesAreMapped}
+use Rattle.memory_map.specs.declared.runtime.Logging.{Logging}
 use Rattle.energy_trace.specs.TraceValue.{Event}
 use Rattle.source_runs.specs.Traces.{AreInputs}
 use Rattle.image_reports.specs.Sources.{IsSourcesMap}
@@ -13,7 +14,8 @@ use Rattle.image_reports.proofs.CompiledTold.{compiled_runs_are_told}
 use Rattle.image_reports.proofs.Begins.{begins_with_source}
 use Rattle.image_reports.proofs.InFront.{map_is_in_front}
 
-module _ (text : List ℕ) (p : CheckedProgram) (allow : Allow) (image : ImageValue) (ok : IsAcceptedText text p allow) (c : IsCompiled text p allow image) where
+module _ {logging : Logging} (text : List ℕ) (p : CheckedProgram) (allow : Allow) (image : ImageValue) (ok : IsAcceptedText text p allow)
+    (c : IsCompiledFor logging text p allow image) where
   runs : IsRunnable p
   runs = accepted_texts_run text p allow ok
 
@@ -24,6 +26,7 @@ module _ (text : List ℕ) (p : CheckedProgram) (allow : Allow) (image : ImageVa
     few_tasks = runs.few_tasks;
     allowed = ok.allowed;
     plan = c.is_plan;
+    logging = logging;
     layout = c.is_layout;
   })
 
@@ -59,4 +62,4 @@ module _ (text : List ℕ) (p : CheckedProgram) (allow : Allow) (image : ImageVa
       (begins_with_source text p allow image c readings events inputs ready new) run few)
 
 pub images_are_mapped : ImagesAreMapped
-images_are_mapped text p allow image ok c = (made text p allow image ok c).of_source
+images_are_mapped logging text p allow image ok c = (made text p allow image ok c).of_source

@@ -2,7 +2,7 @@
 -- effects since the last boot or done, what the board stands for, the words accepted, the counts, the code that is fetched, what became of
 -- the events, how it ends, and its report. Where the source takes events a handler runs between any two instructions of the code: it is the
 -- image's, and what holds of the code is said of what happens outside it.
-use Rattle.std.specs.Prelude.{◌≡◌, ◌≢◌, ℕ, ◌+◌, ◌*◌, ◌^◌, ◌%◌, ◌<◌, ◌≤◌, true, false, List, [], ◌∷◌, ◌++◌, length, map, Some}
+use Rattle.std.specs.Prelude.{◌≡◌, ◌≢◌, ℕ, ◌+◌, ◌*◌, ◌^◌, ◌%◌, ◌<◌, ◌≤◌, Bool, true, false, if◌then◌else◌, List, [], ◌∷◌, ◌++◌, length, map, Some}
 use Rattle.address_space.specs.Limits.{stack_floor, stack_top}
 use Rattle.event_places.specs.Places.{handler_place, head_place}
 use Rattle.msp_isa.specs.declared.instructions.Instr.{Instr}
@@ -14,6 +14,7 @@ use Rattle.msp_step.specs.declared.machine.Stop.TheVariants as stop
 use Rattle.energy_trace.specs.TraceValue.{Event}
 use Rattle.image_map.specs.MapValue.{MapValue}
 use Rattle.image_text.specs.ImageValue.{ImageValue}
+use Rattle.fram_board.specs.Effects.{Effect}
 use Rattle.fram_board.specs.declared.board.NextStep.TheVariants as next_step
 use Rattle.fram_board.specs.Events.{words_in}
 use Rattle.fram_board.specs.Board.{BoardValue, fresh, IsNextStep}
@@ -21,7 +22,7 @@ use Rattle.fram_board.specs.Run.{BoardCharge, PowerUp, Moment, Stopped, RunOutco
 use Rattle.board_run.specs.History.{start_of}
 use Rattle.board_run.specs.Events.{Hand, NeverReads, hand_after, head_of, no_hand}
 use Rattle.board_run.specs.Report.{report_of}
-use Rattle.machine_effects.specs.World.{World, readings_taken}
+use Rattle.machine_effects.specs.World.{World, fram_after, readings_taken}
 use Rattle.machine_effects.specs.Machine.{fram_of}
 use Rattle.machine_effects.specs.Runs.{last_board}
 use Rattle.event_handler.specs.Handler.{Stage, HasHandler, instruction_at, place_at}
@@ -35,6 +36,8 @@ use Rattle.source_meaning.specs.Acceptance.{IsAcceptedText}
 use Rattle.source_runs.specs.Traces.{AreInputs}
 use Rattle.source_runs.specs.Tells.{at_first, attempts_of, no_answers, cost_of, EachChargePays, IsToldBySource}
 use Rattle.source_maps.specs.Maps.{map_of}
+use Rattle.memory_map.specs.declared.runtime.Logging.{Logging}
+use Rattle.memory_map.specs.declared.runtime.Logging.TheVariants.{Redo, Undo}
 use Rattle.memory_map.specs.declared.words.RuntimeWord.TheVariants.{Gate, Version}
 use Rattle.memory_map.specs.MemoryMap.{MemoryMap, word_place}
 use Rattle.crash_rules.specs.Model.{Marks, CommitContract}
@@ -50,7 +53,7 @@ use Rattle.model_runs.specs.Runs.{IsShort, all_amounts}
 use Rattle.task_needs.specs.Needs.{need_of}
 use Rattle.charge_limits.specs.Laws.{readings_from, words_offered, words_from}
 use Rattle.image_laws.specs.Words.{code_words}
-use Rattle.image_laws.specs.Compiled.{IsCompiled}
+use Rattle.image_laws.specs.Compiled.{IsCompiledFor}
 use Rattle.image_laws.specs.Laws.{fresh_world}
 
 -- the words by which what happens in a run is told: GATE, and ANS where the source takes events
@@ -75,6 +78,10 @@ pub record TellsOfBoard (b : BoardValue) (ms : List Moment) (h : History) : Type
 -- each version word is below VER
 abbrev pub VersionsBelow : MemoryMap → (ℕ → ℕ) → Type 0
 VersionsBelow l f = (i : ℕ) → i < l.versions.words → f (l.versions.address + 2 * i) < f (word_place l Version)
+
+-- what is due in front of a task's own code, where the runtime works in place: behind a boot the entries are put back, then the start
+abbrev pub due_in_place : CheckedProgram → MemoryMap → Bool → (ℕ → ℕ) → List Effect
+due_in_place p l booted f = let es = if booted then (compiled_model p l).recover f else [] in es ++ start_due l (fram_after es f)
 
 -- the address behind the code
 abbrev pub code_end : CheckedProgram → MemoryMap → ℕ
@@ -156,15 +163,18 @@ pub record HoldsAt (p : CheckedProgram) (l : MemoryMap) (image : ImageValue) (re
       × ((s : State) → (compiled_model p l).Undecided s h.world → ⊥)
   -- between a done, or the start, and the next decide no word is accepted; between a decide and its done a prefix of that task's
   pub accepted : AcceptedWords (compiled_model p l) readings (Resting (first_state p)) h stands.state h.decided
-  -- since the last boot or done no more readings were taken than the text of the task has that CUR named there, and no more words were offered than
-  -- that of the state of the last done emits; each on the path with the most
-  pub takes_few : length (readings_taken h.effects) ≤ readings_from p l h.start.fram
-  pub offers_few : length (words_offered h.effects) ≤ words_from p l (Resting (first_state p)) h.completed stands.state
+  -- where the runtime works in copies: since the last boot or done no more readings were taken than the text of the task has that CUR named there, and
+  -- no more words were offered than that of the state of the last done emits; each on the path with the most
+  pub takes_few : l.runtime.logging ≡ Redo → length (readings_taken h.effects) ≤ readings_from p l h.start.fram
+  pub offers_few : l.runtime.logging ≡ Redo → length (words_offered h.effects) ≤ words_from p l (Resting (first_state p)) h.completed stands.state
   -- CLN and EN are within the map's capacities, and version words at most VER
   pub capacities : KeepsCapacities l (outside_of b).fram
   -- as a task's first own instruction runs, whose start is made and which has done nothing yet, each version word is below VER. (With
-  -- exactly the start's effects the code comes to the task's own: `start_is_made` of `boot_runtime`.)
-  pub versions : h.effects ≡ start_due l h.start.fram → VersionsBelow l (outside_of b).fram
+  -- exactly the start's effects the code comes to the task's own: `start_is_made` of `boot_runtime`.) So where the runtime works in copies
+  pub versions : l.runtime.logging ≡ Redo → h.effects ≡ start_due l h.start.fram → VersionsBelow l (outside_of b).fram
+  -- and where it works in place, behind what is put back, if no commit was pending
+  pub versions_in_place : l.runtime.logging ≡ Undo → h.start.fram (word_place l Gate) ≡ 0 → h.effects ≡ due_in_place p l h.booted h.start.fram
+      → VersionsBelow l (outside_of b).fram
   -- no store fell on the code, nor on the handler
   pub code : KeepsCode p l image (outside_of b).fram
   -- every word that is fetched is the fresh image's
@@ -221,15 +231,16 @@ pub record IsLawfulRun (text : List ℕ) (p : CheckedProgram) (allow : Allow) (l
   pub takes : l.runtime.events ≡ true → TakesInOrder (word_place l Gate) (fresh image.words readings events) r.moments
   -- and the transitions have the accepted words, in order and each once
   pub answered : l.runtime.events ≡ true → AnswersHold l (map_of text p l allow) (fresh image.words readings events) r
-  -- in a charge that begins with GATE 0 and VER not 65535, VER is raised within the first 40 instructions, if the charge has them
-  pub raises : RaisesVersion l r.moments
+  -- in a charge that begins with GATE 0 and VER not 65535, VER is raised within the first 40 instructions, if the charge has them and the runtime works
+  -- in copies
+  pub raises : l.runtime.logging ≡ Redo → RaisesVersion l r.moments
   -- a charge that is spent has n transitions, if it has n bounds and 100 for each event that arose in it; and it is less than those and the costs of
   -- the tasks that were completed in it, and of the one that was to come
   pub progress : let m = map_of text p l allow in let b = fresh image.words readings events in
       EachChargePays m (λ h. cost_of p h.task) cs b (at_first m b) r
-  -- and each is less than those and what the tasks need by the code that is linked, of which none needs more than its part of the bound: so one that
-  -- holds what the next n tasks need has n transitions
-  pub needs : let m = map_of text p l allow in let b = fresh image.words readings events in
+  -- and where it does, each is less than those and what the tasks need by the code that is linked, of which none needs more than its part of the bound:
+  -- so one that holds what the next n tasks need has n transitions
+  pub needs : l.runtime.logging ≡ Redo → let m = map_of text p l allow in let b = fresh image.words readings events in
       EachChargePays m (λ h. need_of p l h.task) cs b (at_first m b) r
   -- its report is told by the source, where the charges have fewer than 2^64 cycles and instructions in all
   pub told : all_amounts cs < 2 ^ 64
@@ -241,7 +252,7 @@ abbrev pub IsLawful : List ℕ → CheckedProgram → Allow → MemoryMap → Im
 IsLawful text p allow l image = (cs : List BoardCharge) → ArePowerStates cs → (readings : List ℕ) (events : List Event) → AreInputs readings events
     → (r : RunOutcome) → Run cs (fresh image.words readings events) r → IsLawfulRun text p allow l image cs readings events r
 
--- it holds of every accepted text and its image
+-- it holds of every accepted text and its image for either runtime
 abbrev pub ImagesKeepTheLaws : Type 0
-ImagesKeepTheLaws = (text : List ℕ) (p : CheckedProgram) (allow : Allow) (image : ImageValue) → IsAcceptedText text p allow
-    → (c : IsCompiled text p allow image) → IsLawful text p allow c.layout image
+ImagesKeepTheLaws = (logging : Logging) (text : List ℕ) (p : CheckedProgram) (allow : Allow) (image : ImageValue) → IsAcceptedText text p allow
+    → (c : IsCompiledFor logging text p allow image) → IsLawful text p allow c.layout image

@@ -1,4 +1,4 @@
--- The headline: the report of the image of an accepted source, on any trace, is told by the source.
+-- The headline: the report of the image of an accepted source, for either runtime, on any trace, is told by the source.
 use Rattle.std.specs.Prelude.{◌≡◌, ℕ, List, ◌++◌, map, Some}
 use Rattle.cost_bound.specs.declared.allowance.Allow.{Allow}
 use Rattle.energy_trace.specs.TraceValue.{TraceValue}
@@ -17,23 +17,24 @@ use Rattle.source_runs.specs.Naming.{IsMapOf}
 use Rattle.source_runs.specs.Traces.{IsTraceOfWords}
 use Rattle.source_runs.specs.Tells.{at_first, EachChargePays, IsToldBySource, attempts_of, no_answers}
 use Rattle.event_orders.specs.Answers.{AnswersInOrder}
+use Rattle.memory_map.specs.declared.runtime.Logging.{Logging}
 use Rattle.compiled_bounds.specs.Capacities.{KeepsCapacities}
 use Rattle.source_maps.specs.Maps.{map_of}
 use Rattle.task_needs.specs.Needs.{need_of}
-use Rattle.image_laws.specs.Compiled.{IsCompiled}
+use Rattle.image_laws.specs.Compiled.{IsCompiledFor, IsCompiled}
 
 -- on any trace of words, the report of the one run of its fresh board is told by the source
 abbrev pub ImagesAreTold : Type 0
-ImagesAreTold = (text : List ℕ) (p : CheckedProgram) (allow : Allow) (image : ImageValue) → IsAcceptedText text p allow
-    → (c : IsCompiled text p allow image) → (trace : TraceValue) → IsTraceOfWords trace → (r : RunOutcome)
+ImagesAreTold = (logging : Logging) (text : List ℕ) (p : CheckedProgram) (allow : Allow) (image : ImageValue) → IsAcceptedText text p allow
+    → (c : IsCompiledFor logging text p allow image) → (trace : TraceValue) → IsTraceOfWords trace → (r : RunOutcome)
     → Run (charges_of trace.charges) (fresh image.words trace.readings trace.events) r
     → IsToldBySource text p (map_of text p c.layout allow) (charges_of trace.charges) (fresh image.words trace.readings trace.events) r
     (report_of (start_of image) trace.events r)
 
 -- and the answers that its transitions had, joined, are the first of the events that were accepted, in order and each once
 abbrev pub ImagesAnswerInOrder : Type 0
-ImagesAnswerInOrder = (text : List ℕ) (p : CheckedProgram) (allow : Allow) (image : ImageValue) → IsAcceptedText text p allow
-    → (c : IsCompiled text p allow image) → (trace : TraceValue) → IsTraceOfWords trace → (r : RunOutcome)
+ImagesAnswerInOrder = (logging : Logging) (text : List ℕ) (p : CheckedProgram) (allow : Allow) (image : ImageValue) → IsAcceptedText text p allow
+    → (c : IsCompiledFor logging text p allow image) → (trace : TraceValue) → IsTraceOfWords trace → (r : RunOutcome)
     → Run (charges_of trace.charges) (fresh image.words trace.readings trace.events) r
     → let m = map_of text p c.layout allow in
     AnswersInOrder (map (λ a. a.answers) (attempts_of m (at_first m (fresh image.words trace.readings trace.events)) no_answers r.moments))
@@ -41,19 +42,19 @@ ImagesAnswerInOrder = (text : List ℕ) (p : CheckedProgram) (allow : Allow) (im
 
 -- the map of an image names the variables and the tasks of the source
 abbrev pub ImagesAreMapped : Type 0
-ImagesAreMapped = (text : List ℕ) (p : CheckedProgram) (allow : Allow) (image : ImageValue) → IsAcceptedText text p allow
-    → (c : IsCompiled text p allow image) → IsMapOf text p (map_of text p c.layout allow)
+ImagesAreMapped = (logging : Logging) (text : List ℕ) (p : CheckedProgram) (allow : Allow) (image : ImageValue) → IsAcceptedText text p allow
+    → (c : IsCompiledFor logging text p allow image) → IsMapOf text p (map_of text p c.layout allow)
 
 -- and at each of its boards the runtime's counts keep to the capacities of its buffers, and version words to VER
 abbrev pub ImagesKeepCapacities : Type 0
-ImagesKeepCapacities = (text : List ℕ) (p : CheckedProgram) (allow : Allow) (image : ImageValue) → IsAcceptedText text p allow
-    → (c : IsCompiled text p allow image) → (trace : TraceValue) → IsTraceOfWords trace → (r : RunOutcome)
+ImagesKeepCapacities = (logging : Logging) (text : List ℕ) (p : CheckedProgram) (allow : Allow) (image : ImageValue) → IsAcceptedText text p allow
+    → (c : IsCompiledFor logging text p allow image) → (trace : TraceValue) → IsTraceOfWords trace → (r : RunOutcome)
     → Run (charges_of trace.charges) (fresh image.words trace.readings trace.events) r
     → (ms rest : List Moment) → r.moments ≡ ms ++ rest
     → KeepsCapacities c.layout (outside_of (last_board (fresh image.words trace.readings trace.events) ms)).fram
 
--- and each charge that is spent is less than what the tasks need whose transitions were completed in it, and the one that was to come, beside what events
--- take
+-- and, where the runtime works in copies, each charge that is spent is less than what the tasks need whose transitions were completed in it, and the one
+-- that was to come, beside what events take
 abbrev pub ImagesKeepToNeeds : Type 0
 ImagesKeepToNeeds = (text : List ℕ) (p : CheckedProgram) (allow : Allow) (image : ImageValue) → IsAcceptedText text p allow
     → (c : IsCompiled text p allow image) → (trace : TraceValue) → IsTraceOfWords trace → (r : RunOutcome)

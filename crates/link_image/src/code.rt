@@ -7,17 +7,19 @@ ghost use Rattle.array_versions.specs.Form.{IsWhole};
 ghost use Rattle.link_image.specs.Needs.{IsShort};
 ghost use Rattle.word_code.specs.Code.{repeated, code_of};
 ghost use Rattle.linked_code.specs.Parts.{filler, chained, PartsInOrder};
-ghost use Rattle.linked_code.specs.Linked.{linked, task_part, task_parts, CodeFits};
+ghost use Rattle.linked_code.specs.Linked.{boot_code, bytes_of_boot, commit_code, StartsFit, linked, task_part, task_parts, CodeFits};
 
-use boot_runtime::boot_code;
 use codegen::{Form, WordProgram, emit, instruction_of};
-use commit_runtime::commit_code;
-use memory_map::{Layout, TaskLayout};
+use memory_map::{Layout, Logging, TaskLayout};
 use msp_encode::encode;
+use runtime_code::start_address;
 use std::alloc::{AllocError, Global};
 
 /// A jump to itself.
 const FILLER: u16 = 0x3FFF;
+
+/// The bytes of the recovery, which stands in front of an attempt's start where attempts work in the shared words.
+const RECOVERY_BYTES: u16 = 36;
 
 // Adds the words of code.
 fn push_code(words: &mut Vec<u16>, code: &[Form]) -> Result<(), AllocError>
@@ -96,6 +98,33 @@ fn push_tasks(
     Ok(())
 }
 
+// The instructions of the boot, with the start of an attempt, by how the runtime logs.
+fn boot_of(alloc: Global, logging: Logging, layout: &Layout) -> Result<Vec<Form>, AllocError>
+    requires room { layout.now.boot.address + bytes_of_boot logging layout.now < 65536 }
+    requires starts { StartsFit logging layout.now }
+    ensures { IfOk result (λ code. code.items ≡ boot_code logging layout.now) }
+{
+    let at = layout.boot().address;
+    match logging {
+        Logging::Redo => boot_runtime::boot_code(alloc, layout, at),
+        Logging::Undo => undo_runtime::boot_code(alloc, layout, at),
+    }
+}
+
+// Those of the commit.
+fn commit_of(alloc: Global, logging: Logging, layout: &Layout) -> Result<Vec<Form>, AllocError>
+    requires { layout.now.boot.address + 52 < 65536 }
+    ensures { IfOk result (λ code. code.items ≡ commit_code logging layout.now) }
+{
+    match logging {
+        Logging::Redo => commit_runtime::commit_code(alloc, layout),
+        Logging::Undo => {
+            let looked = start_address(layout.runtime().events, layout.boot().address);
+            undo_runtime::commit_code(alloc, layout, looked + RECOVERY_BYTES)
+        }
+    }
+}
+
 /// The words of the code of a layout and the programs of its tasks, from the boot's address on.
 pub fn code_words(
     alloc: Global,
@@ -107,8 +136,9 @@ pub fn code_words(
     ensures { IfOk result (λ words. words.items ≡ words_of (linked layout.now (map program_of programs.now))) }
 {
     let start = layout.boot().address;
-    let boot = boot_code(alloc, layout, start)?;
-    let commit = commit_code(alloc, layout)?;
+    let logging = layout.runtime().logging;
+    let boot = boot_of(alloc, logging, layout)?;
+    let commit = commit_of(alloc, logging, layout)?;
     let mut words = Vec::new(alloc);
     push_part(&mut words, start, start, boot.as_slice())?;
     push_part(

@@ -9,4 +9,4 @@ mod code;
 mod linking;
 mod words;
 
-pub use linking::{compile, link};
+pub use linking::{compile, compile_undo, link_for};

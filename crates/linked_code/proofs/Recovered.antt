@@ -19,7 +19,7 @@ use Rattle.boot_runtime.proofs.runtime_code.Interface.{with_events_even, comes_o
 use Rattle.boot_runtime.specs.Entries.{entry_of, task_entries}
 use Rattle.boot_runtime.specs.Listing.{entry_at}
 use Rattle.boot_runtime.specs.Laws.{NamesHandler}
-use Rattle.undo_effects.specs.Stages.{recovery, undo_start, undo_commit}
+use Rattle.undo_runtime.specs.undo_effects.Stages.{recovery, undo_start, undo_commit}
 use Rattle.undo_runtime.specs.Entries.{task_of, logged_tasks, FitsList}
 use Rattle.undo_runtime.specs.Listing.{LoggedTask, task_at, privates_in, recovery_steps, recovery_cycles, start_steps, start_cycles}
 use Rattle.undo_runtime.specs.Listing.{commit_steps, commit_cycles}

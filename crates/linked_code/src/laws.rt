@@ -10,7 +10,6 @@ pub fn linked_is_code()
 {}
 
 /// Boot, commit and each task's code stand at their places in it.
-#[tactic(auto, using(crate::proofs::Linked::linked_stands))]
 pub fn linked_code_stands()
     ensures { LinkedStands }
 {}

@@ -78,7 +78,7 @@ impl Failing {
 // What the program tells of words that are no line.
 const USAGE: &[u8] =
     b"usage: alpaca mean SRC TRACE | try SRC TRACE IMAGE | build SRC IMAGE | run IMAGE TRACE | asm ASM IMAGE | dis IMAGE | gen N IMAGE \
-      | save IMAGE TRACE STATE | resume IMAGE STATE TRACE | migrate SRC IMAGE STATE NEWSRC NEWIMAGE NEWSTATE | audit SRC REPORT TRACE\n";
+      | save IMAGE TRACE STATE | resume IMAGE STATE TRACE | migrate SRC IMAGE STATE NEWSRC NEWIMAGE NEWSTATE | undo SRC TRACE IMAGE | audit SRC REPORT TRACE\n";
 
 // Whether an output is this text; it is said then.
 fn is_said(found: &mut Vec<u8>, text: &[u8]) -> bool {

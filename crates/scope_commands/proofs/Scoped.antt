@@ -26,7 +26,7 @@ scoped law source p allow rows output accepted needs lines = record {
   lines = lines;
   lawful = λ image compiled.
       let P : MemoryMap → Type 0 = λ l. IsLawful source p allow l image in
-      subst P (needs.only compiled.plans compiled.layout compiled.is_plan compiled.is_layout) (law source p allow image accepted compiled);
+      subst P (needs.only compiled.plans compiled.layout compiled.is_plan compiled.is_layout) (law _ source p allow image accepted compiled);
 }
 
 -- what is made of it

@@ -16,7 +16,7 @@ use Rattle.cost_bound.specs.Allowance.{CheckedTask}
 use Rattle.source_report.specs.source_values.Runs.{CheckedProgram}
 use Rattle.memory_map.specs.declared.place.VariablePlace.{VariablePlace}
 use Rattle.memory_map.specs.MemoryMap.{MemoryMap, TaskPlace}
-use Rattle.source_maps.specs.Maps.{map_words, map_list, map_buffer, event_ring, variables_of, tasks_of, map_of}
+use Rattle.source_maps.specs.Maps.{map_words, map_list, map_buffer, map_copies, event_ring, variables_of, tasks_of, map_of}
 use Rattle.source_maps.specs.Adding.{bare_map, with_variables, with_tasks}
 use Rattle.source_maps.proofs.Takes.{all_variables, all_tasks}
 
@@ -50,7 +50,7 @@ bare_is l allow m w a b d e i j k n =
 -- the same with the place of the copies
 pub copies_are : (l : MemoryMap) (allow : Allow) (m n : MapValue) (c : Place) → m ≡ record (bare_map l allow) { copies = None; ring = None }
     → n ≡ record m { copies = Some c }
-    → c ≡ map_buffer l.copies → n ≡ record (bare_map l allow) { ring = None }
+    → c ≡ map_copies l → n ≡ record (bare_map l allow) { ring = None }
 copies_are l allow m n c e f g =
     f ∙ ap (λ (m : MapValue). record m { copies = Some c }) e ∙ ap (λ c. record (bare_map l allow) { copies = Some c; ring = None }) g
 

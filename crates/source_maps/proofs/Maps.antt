@@ -22,7 +22,9 @@ use Rattle.memory_map.specs.Places.{end_of, list_entry_room, HasItsPlace, IsLaid
 use Rattle.memory_map.proofs.Interface.{parts_in_fram, words_stand}
 use Rattle.privatise.specs.Layouts.{IsTaskLayout}
 use Rattle.memory_map.specs.event_places.Places.{head_place, tail_place, count_place, sent_place, answer_place, ring_place}
-use Rattle.source_maps.specs.Maps.{map_words, map_list, map_buffer, event_ring, variables_of, private_names, shared_name, tasks_of, map_of}
+use Rattle.source_maps.specs.Maps.{map_words, map_list, map_buffer, copied_words, map_copies, event_ring, variables_of, private_names, shared_name, tasks_of, map_of}
+use Rattle.memory_map.specs.declared.runtime.Logging.{Logging}
+use Rattle.memory_map.specs.declared.runtime.Logging.TheVariants.{Redo, Undo}
 use Rattle.source_maps.specs.Adding.{TakesTasks}
 use Rattle.source_maps.specs.Placing.{ArePlacesOf}
 use Rattle.source_maps.specs.Laws.{MapsAreOfSources}
@@ -76,15 +78,20 @@ pub record ArePlaced (l : MemoryMap) : Type 0 where
   pub list : IsPlace (map_list l)
   pub emits : IsPlace (map_buffer l.emits)
   pub versions : IsPlace (map_buffer l.versions)
-  pub copies : IsPlace (map_buffer l.copies)
+  pub copies : IsPlace (map_copies l)
   pub low : fram_first ≤ l.homes.address
   pub high : end_of l.homes ≤ program_end
+
+-- no runtime has more words of copies than the layout
+copied_most : (logging : Logging) (n : ℕ) → copied_words logging n ≤ n
+copied_most Redo n = omega arith
+copied_most Undo n = omega arith
 
 pub are_placed : (l : MemoryMap) → IsLaidOut l → ArePlaced l
 are_placed l h =
     let r = parts_in_fram l h in
     let list = r.list.end in let emits = r.emits.end in let versions = r.versions.end in
-    let copies = r.copies.end in
+    let copies = r.copies.end in let copied = copied_most l.runtime.logging l.copies.words in
     let entries : l.list.words ≡ list_entry_room * l.entries = h.list in
     record {
       list = record { address = fram_word l.list.address r.list.from (omega (arith, list)) r.list.even; capacity = omega (arith, list, entries) };
@@ -93,7 +100,7 @@ are_placed l h =
         address = fram_word l.versions.address r.versions.from (omega (arith, versions)) r.versions.even;
         capacity = omega (arith, versions);
       };
-      copies = record { address = fram_word l.copies.address r.copies.from (omega (arith, copies)) r.copies.even; capacity = omega (arith, copies) };
+      copies = record { address = fram_word l.copies.address r.copies.from (omega (arith, copies)) r.copies.even; capacity = omega (arith, copies, copied) };
       low = r.homes.from;
       high = r.homes.end;
     }

@@ -5,7 +5,7 @@ use Rattle.image_map.specs.MapValue.{MapValue, TaskValue, takes_variable, with_v
 use Rattle.cost_bound.specs.declared.allowance.Allow.{Allow}
 use Rattle.source_report.specs.source_values.Runs.{CheckedProgram}
 use Rattle.memory_map.specs.MemoryMap.{MemoryMap}
-use Rattle.source_maps.specs.Maps.{map_words, map_list, map_buffer, map_ring, variables_of, tasks_of}
+use Rattle.source_maps.specs.Maps.{map_words, map_list, map_buffer, map_copies, map_ring, variables_of, tasks_of}
 
 -- the map of a layout and an allowance, without variables and tasks
 abbrev pub bare_map : MemoryMap → Allow → MapValue
@@ -15,7 +15,7 @@ bare_map l allow = record {
   list = map_list l;
   emits = map_buffer l.emits;
   versions = map_buffer l.versions;
-  copies = Some (map_buffer l.copies);
+  copies = Some (map_copies l);
   ring = map_ring l;
   variables = [];
   tasks = [];

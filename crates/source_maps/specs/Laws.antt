@@ -5,7 +5,8 @@ use Rattle.cost_bound.specs.Allowance.{CheckedProgram, IsAllowed}
 use Rattle.privatise.specs.war_analysis.PlanValue.{TaskPlanValue}
 use Rattle.privatise.specs.war_analysis.Plans.{IsPlan}
 use Rattle.memory_map.specs.MemoryMap.{MemoryMap}
-use Rattle.privatise.specs.Layouts.{IsLayout}
+use Rattle.memory_map.specs.declared.runtime.Logging.{Logging}
+use Rattle.privatise.specs.Layouts.{IsLayoutFor}
 use Rattle.image_map.specs.Kept.{IsMap}
 use Rattle.source_runs.specs.Naming.{IsMapOf}
 use Rattle.source_maps.specs.Names.{HasNames}
@@ -13,14 +14,15 @@ use Rattle.source_maps.specs.Maps.{map_of}
 use Rattle.source_maps.specs.Adding.{TakesSource}
 use Rattle.source_maps.specs.Placing.{ArePlacesOf}
 
--- a source with names of its own, few variables and tasks, an allowance, a plan and a layout
+-- a source with names of its own, few variables and tasks, an allowance, a plan and a layout for some runtime
 pub record IsLaidOutSource (text : List ℕ) (p : CheckedProgram) (allow : Allow) (plans : List TaskPlanValue) (l : MemoryMap) : Type 0 where
   pub names : HasNames text p
   pub few_shared : length p.shared ≤ 256
   pub few_tasks : length p.tasks ≤ 64
   pub allowed : IsAllowed p allow
   pub plan : IsPlan p plans
-  pub layout : IsLayout p allow plans l
+  pub logging : Logging
+  pub layout : IsLayoutFor logging p allow plans l
 
 -- the map keeps the rules of maps, names the source's variables and tasks, and can be made one line behind the other; each variable has a
 -- place of its kind, and each private scalar is a variable

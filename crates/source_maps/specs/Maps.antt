@@ -20,6 +20,8 @@ use Rattle.source_runs.specs.Naming.{length_of}
 use Rattle.memory_map.specs.declared.place.VariablePlace.{VariablePlace}
 use Rattle.memory_map.specs.declared.place.PrivateScalar.{PrivateScalar}
 use Rattle.memory_map.specs.declared.place.Region.{Region}
+use Rattle.memory_map.specs.declared.runtime.Logging.{Logging}
+use Rattle.memory_map.specs.declared.runtime.Logging.TheVariants.{Redo, Undo}
 use Rattle.memory_map.specs.declared.words.RuntimeWord.TheVariants.{CurrentTask, NextTask, Gate, ListLength, EmitCount, Base, SentBase, Version}
 use Rattle.memory_map.specs.event_places.Places.{head_place, tail_place, count_place, sent_place, answer_place, ring_place}
 use Rattle.memory_map.specs.MemoryMap.{MemoryMap, TaskPlace, word_place}
@@ -94,6 +96,15 @@ map_list m = record { address = m.list.address; capacity = m.entries }
 abbrev pub map_buffer : Region → Place
 map_buffer r = record { address = r.address; capacity = r.words }
 
+-- the words of copies that a map names: where the runtime works in the shared words there are none
+abbrev pub copied_words : Logging → ℕ → ℕ
+copied_words Redo words = words
+copied_words Undo words = 0
+
+-- the place of the private copies
+abbrev pub map_copies : MemoryMap → Place
+map_copies m = record { address = m.copies.address; capacity = copied_words m.runtime.logging m.copies.words }
+
 -- the ring of a source that takes events: it stands at one place in each image
 abbrev pub event_ring : RingPlaces
 event_ring = record {
@@ -116,7 +127,7 @@ map_of text p l allow = record {
   list = map_list l;
   emits = map_buffer l.emits;
   versions = map_buffer l.versions;
-  copies = Some (map_buffer l.copies);
+  copies = Some (map_copies l);
   ring = map_ring l;
   variables = variables_of text p.shared l.variables;
   tasks = tasks_of text p.shared p.tasks l.tasks;

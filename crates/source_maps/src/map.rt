@@ -16,7 +16,7 @@ use alp_text::Span;
 use cost_bound::Allow;
 use event_places::{ANSWER, EVENT_COUNT, HEAD, RING, SENT_TAIL, TAIL};
 use image_map::{Map, Name, Place, RingPlaces, RuntimeWords, ValueType, Variable};
-use memory_map::{Layout, PrivateScalar, Region, RuntimeWord, TaskLayout, VariablePlace};
+use memory_map::{Layout, Logging, PrivateScalar, Region, RuntimeWord, TaskLayout, VariablePlace};
 use source_report::spelled;
 use std::alloc::{AllocError, Global};
 use task_ast::{
@@ -206,6 +206,27 @@ fn map_buffer(region: Region) -> Place
     }
 }
 
+// How many words of copies a map names: where the runtime works in the shared words there are none.
+fn copied_words(logging: Logging, words: u32) -> u32
+    ensures { result ≡ maps.copied_words logging words }
+{
+    match logging {
+        Logging::Redo => words,
+        Logging::Undo => 0,
+    }
+}
+
+// The place of the private copies.
+fn map_copies(layout: &Layout) -> Place
+    ensures { result ≡ maps.map_copies layout.now }
+{
+    let copies = layout.copies();
+    Place {
+        address: copies.address,
+        capacity: copied_words(layout.runtime().logging, copies.words),
+    }
+}
+
 // The ring, which stands at one place in each image of a source that takes events.
 fn event_ring() -> RingPlaces
     ensures { result ≡ maps.event_ring }
@@ -250,7 +271,7 @@ pub fn map_of(
     let list = map_list(layout);
     let emits = map_buffer(layout.emits());
     let versions = map_buffer(layout.versions());
-    let copies = map_buffer(layout.copies());
+    let copies = map_copies(layout);
     let mut map = Map::new(alloc, allow.cycles, words, list, emits, versions);
     map.set_copies(copies);
     set_ring(&mut map, layout.runtime().events);

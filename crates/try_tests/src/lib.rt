@@ -16,3 +16,5 @@ mod rows;
 mod saved;
 #[cfg(test)]
 mod sources;
+#[cfg(test)]
+mod undo;

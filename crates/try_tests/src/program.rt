@@ -47,13 +47,23 @@ pub fn run(alloc: Global, words: &[&str], files: &[(&str, &[u8])]) -> Result<Ans
     })
 }
 
-/// What `try` answers on a source and a trace.
-pub fn tries(alloc: Global, source: &str, trace: &str) -> Result<Answer, Fail> {
+// What a command that compiles a source and runs its image answers on a source and a trace.
+fn runs(alloc: Global, command: &str, source: &str, trace: &str) -> Result<Answer, Fail> {
     run(
         alloc,
-        &["try", "s", "t", "i"],
+        &[command, "s", "t", "i"],
         &[("s", source.as_bytes()), ("t", trace.as_bytes())],
     )
+}
+
+/// What `try` answers on a source and a trace.
+pub fn tries(alloc: Global, source: &str, trace: &str) -> Result<Answer, Fail> {
+    runs(alloc, "try", source, trace)
+}
+
+/// What `undo` answers on them.
+pub fn undoes(alloc: Global, source: &str, trace: &str) -> Result<Answer, Fail> {
+    runs(alloc, "undo", source, trace)
 }
 
 /// What `mean` answers on them.

@@ -6,8 +6,8 @@ pub returns-in_default : goal.returns-in_default
 returns-in_default c =
     let d = c.in_default in
     let (mean, (run, (asm, (dis, (audit, _))))) = c.requires.plain in
-    let (build, (try, (gen, _))) = c.requires.compiler in
+    let (build, (try, (undo, (gen, _)))) = c.requires.compiler in
     none_found c.args.name.now (rows_of (found_of c.args.files.now)) (
       mean,
-      (try, (build, (run, (asm, (dis, (gen, (d.not-save, (d.not-resume, (d.not-migrate, (audit, tt)))))))))),
+      (try, (build, (run, (asm, (dis, (gen, (d.not-save, (d.not-resume, (d.not-migrate, (undo, (audit, tt))))))))))),
     )

@@ -1,19 +1,34 @@
-use Rattle.link_image.proofs.Names.{◌≡◌, ◌∙◌, ◌+◌, ◌*◌, ◌++◌, ap, sym, subst, length, map, arith, length-map, reset_vector, end_of, instructions, program_of}
+use Rattle.link_image.proofs.Names.{◌≡◌, ◌∙◌, ◌+◌, ◌*◌, ◌++◌, ◌<◌, ap, sym, subst, length, map, arith, length-map, reset_vector, end_of, instructions, program_of, apart_of}
 use Rattle.link_image.proofs.Names.{chained, PartsInOrder, task_parts, Bool, List, ℕ, TaskPlace}
 use Rattle.link_image.proofs.code.code_words.Goals as goal
-use Rattle.boot_runtime.specs.Entries.{task_entries}
-use Rattle.boot_runtime.specs.Listing.{boot_forms}
+use Rattle.linked_code.specs.Linked.{boot_code, commit_code, bytes_of_boot, StartsFit}
 use Rattle.link_image.proofs.Written.{words_in, after_boot, commit_behind, after_commit, tasks_behind, same_count, each_short}
+
+pub boot_of-requires-clause-room : goal.boot_of-requires-clause-room
+boot_of-requires-clause-room c =
+    let l = c.args.layout.now in
+    let fits = c.requires.fits in
+    let room = fits.boot in
+    let apart = apart_of l fits.rules in
+    let commit = apart.commit in
+    let code = apart.code in
+    let high = apart.high in
+    subst (λ g. l.boot.address + bytes_of_boot g l < 65536) (sym (ap (λ r. r.logging) c.runtime-logging.ensures)) (omega (arith, room, commit, code, high))
+
+pub boot_of-requires-clause-starts : goal.boot_of-requires-clause-starts
+boot_of-requires-clause-starts c =
+    subst (λ g. StartsFit g c.args.layout.now) (sym (ap (λ r. r.logging) c.runtime-logging.ensures)) c.requires.fits.starts
 
 pub push_part-requires-2 : goal.push_part-requires-2
 push_part-requires-2 c =
     let l = c.args.layout.now in
     let ps = map program_of c.args.programs.now in
     let start : c.boot-start.result.address ≡ l.boot.address = ap (λ r. r.address) c.boot-start.ensures in
+    let logs = ap (λ r. r.logging) c.runtime-logging.ensures in
     let boot = after_boot l ps c.requires.fits c.boot-start.result.address c.new-words.result.items c.push_part.new.words.items c.as_slice.result.now start
     c.new-words.ensures.items
     (c.as_slice.ensures.value ∙ c.in_ok-boot.ensures
-    ∙ ap (λ a. boot_forms l l.commit.address (task_entries l) a) start) c.in_ok-push_part.ensures in
+    ∙ ap (λ g. boot_code g l) logs) c.in_ok-push_part.ensures in
     let at : c.commit.result.address ≡ l.commit.address = ap (λ r. r.address) c.commit.ensures in
     let behind = commit_behind l ps c.requires.fits c.boot-start.result.address c.push_part.new.words.items boot in
     record { behind = omega (arith, at, behind) }
@@ -28,13 +43,14 @@ push_tasks-requires-clause-order c =
     let l = c.args.layout.now in
     let ps = map program_of c.args.programs.now in
     let start : c.boot-start.result.address ≡ l.boot.address = ap (λ r. r.address) c.boot-start.ensures in
+    let logs = ap (λ r. r.logging) c.runtime-logging.ensures in
     let boot = after_boot l ps c.requires.fits c.boot-start.result.address c.new-words.result.items c.push_part.new.words.items c.as_slice.result.now start
     c.new-words.ensures.items
     (c.as_slice.ensures.value ∙ c.in_ok-boot.ensures
-    ∙ ap (λ a. boot_forms l l.commit.address (task_entries l) a) start) c.in_ok-push_part.ensures in
+    ∙ ap (λ g. boot_code g l) logs) c.in_ok-push_part.ensures in
     let commit = after_commit l ps c.requires.fits c.boot-start.result.address c.commit.result.address c.push_part.new.words.items
     c.push_part-2.new.words.items c.as_slice-2.result.now
-    start (ap (λ r. r.address) c.commit.ensures) (c.as_slice-2.ensures.value ∙ c.in_ok-commit.ensures) boot c.in_ok-push_part-2.ensures in
+    start (ap (λ r. r.address) c.commit.ensures) (c.as_slice-2.ensures.value ∙ c.in_ok-commit.ensures ∙ ap (λ g. commit_code g l) logs) boot c.in_ok-push_part-2.ensures in
     let end = c.boot-start.result.address + 2 * length c.push_part-2.new.words.items in
     subst (λ ts. PartsInOrder end (task_parts c.runtime-events.result.events ts ps) reset_vector) (sym c.tasks.ensures)
     (subst (λ events. PartsInOrder end (task_parts events l.tasks ps) reset_vector) (sym (ap (λ r. r.events) c.runtime-events.ensures))
@@ -52,13 +68,14 @@ returns c =
     let l = c.args.layout.now in
     let ps = map program_of c.args.programs.now in
     let start : c.boot-start.result.address ≡ l.boot.address = ap (λ r. r.address) c.boot-start.ensures in
+    let logs = ap (λ r. r.logging) c.runtime-logging.ensures in
     let boot = after_boot l ps c.requires.fits c.boot-start.result.address c.new-words.result.items c.push_part.new.words.items c.as_slice.result.now start
     c.new-words.ensures.items
     (c.as_slice.ensures.value ∙ c.in_ok-boot.ensures
-    ∙ ap (λ a. boot_forms l l.commit.address (task_entries l) a) start) c.in_ok-push_part.ensures in
+    ∙ ap (λ g. boot_code g l) logs) c.in_ok-push_part.ensures in
     let commit = after_commit l ps c.requires.fits c.boot-start.result.address c.commit.result.address c.push_part.new.words.items
     c.push_part-2.new.words.items c.as_slice-2.result.now
-    start (ap (λ r. r.address) c.commit.ensures) (c.as_slice-2.ensures.value ∙ c.in_ok-commit.ensures) boot c.in_ok-push_part-2.ensures in
+    start (ap (λ r. r.address) c.commit.ensures) (c.as_slice-2.ensures.value ∙ c.in_ok-commit.ensures ∙ ap (λ g. commit_code g l) logs) boot c.in_ok-push_part-2.ensures in
     let behind : Bool → List TaskPlace → List ℕ = λ events ts. c.push_part-2.new.words.items ++ words_in
     (chained (c.boot-start.result.address + 2 * length c.push_part-2.new.words.items) (task_parts events ts ps)) in
     c.in_ok-push_tasks.ensures

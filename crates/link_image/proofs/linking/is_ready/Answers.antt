@@ -4,6 +4,6 @@ use Rattle.link_image.proofs.Ready.{ready}
 
 pub returns : goal.returns
 returns c =
-    ready c.programs_are_whole.ensures c.args.accepted.now.text.items (program_of c.args.accepted.now.checked.source) c.args.accepted.now.allow
+    ready c.programs_are_whole.ensures c.args.logging c.args.accepted.now.text.items (program_of c.args.accepted.now.checked.source) c.args.accepted.now.allow
     c.args.plan.now c.args.layout.now
     c.requires.accepted c.args.accepted.now.runnable c.requires.planned c.requires.laid_out

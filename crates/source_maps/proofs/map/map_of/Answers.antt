@@ -32,20 +32,19 @@ new-map-requires-clause-versions c =
 
 pub set_copies-requires : goal.set_copies-requires
 set_copies-requires c =
-    subst (λ p. IsFramWord p.address) (sym (c.map_buffer-copies.ensures ∙ ap map_buffer c.copies.ensures))
-    (are_placed c.args.layout.now c.rules.ensures).copies.address
+    subst (λ p. IsFramWord p.address) (sym c.map_copies-copies.ensures) (are_placed c.args.layout.now c.rules.ensures).copies.address
 
 pub returns : goal.returns
 returns c =
     made c.args.text.now (program_of c.args.source.now) c.args.layout.now c.args.allow.now c.set_ring.new.added c.add_variables.new.added c.add_tasks.new.added
     c.as_slice.result.now c.as_slice-2.result.now c.variables.result.now (map task_of c.as_slice-3.result.now) c.tasks.result.now
     (ring_is_set c.args.layout.now c.args.allow.now c.set_copies.new.self c.set_ring.new.added _
-    (copies_are c.args.layout.now c.args.allow.now c.new-map.result c.set_copies.new.self c.map_buffer-copies.result
+    (copies_are c.args.layout.now c.args.allow.now c.new-map.result c.set_copies.new.self c.map_copies-copies.result
     (bare_is c.args.layout.now c.args.allow.now c.new-map.result c.map_words-words.result c.map_list-list.result c.map_buffer-emits.result
     c.map_buffer-versions.result
     c.new-map.ensures c.map_words-words.ensures c.map_list-list.ensures (c.map_buffer-emits.ensures ∙ ap map_buffer c.emits.ensures)
     (c.map_buffer-versions.ensures ∙ ap map_buffer c.versions.ensures))
-    c.set_copies.ensures (c.map_buffer-copies.ensures ∙ ap map_buffer c.copies.ensures))
+    c.set_copies.ensures c.map_copies-copies.ensures)
     (ap (λ r. r.events) c.runtime.ensures) c.set_ring.ensures)
     c.as_slice.ensures.value c.as_slice-2.ensures.value c.variables.ensures (ap (map task_of) c.as_slice-3.ensures.value) c.tasks.ensures
     c.in_ok-add_variables.ensures c.in_ok-add_tasks.ensures

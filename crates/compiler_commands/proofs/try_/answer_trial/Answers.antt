@@ -1,6 +1,6 @@
 use Rattle.std.proofs.Common.{refl}
 use Rattle.plain_commands.proofs.command_answers.Interface.{of_two_read, of_unread}
-use Rattle.compiler_commands.proofs.try_.answer_try.Goals as goal
+use Rattle.compiler_commands.proofs.try_.answer_trial.Goals as goal
 
 pub returns-in-Ok-clause-answers : goal.returns-in-Ok-clause-answers
 returns-in-Ok-clause-answers g c =
