@@ -35,7 +35,7 @@ use Rattle.undo_states.specs.Program.{LoggingContract}
 use Rattle.undo_states.proofs.Interface.{settled_stands, logging_starts}
 use Rattle.compiled_model.specs.Places.{program_places}
 use Rattle.compiled_model.specs.View.{state_view}
-use Rattle.compiled_model.specs.Parts.{has_jumped, task_program, private_homes, logged_model, started_under}
+use Rattle.compiled_model.specs.Parts.{has_jumped, task_program, private_homes, logged_model, compiled_model, started_under}
 use Rattle.compiled_model.specs.Needs.{LeavesFor, boot_cycles, logged_cycles}
 use Rattle.compiled_model.proofs.Interface.{is_logged, under_map}
 use Rattle.linked_code.specs.Linked.{ProgramsAreWhole, attempt_start}
