@@ -123,10 +123,13 @@ module _ (l : ProgramPlaces) (apart : memory.AreApart l.map) where
   pub stores_within : {St : Type 0} (v : StateView St) (s : St) (es : List Effect) (x : World) → HoldsThroughout (UndoneAt l v s) es x
       → EachStore (λ a w. a ≡ word_place m ListLength → w ≤ l.list_capacity (v.task s)) es
   stores_within v s [] x h = tt
-  stores_within v s (Store a w ∷ es) x h = ((λ e.
-      let few = (first_of v s es (world_after_one (Store a w) x) h.1).within in
-      let stored : put x.fram a w (word_place m ListLength) ≡ w = ap (put x.fram a w) (sym e) ∙ put_same x.fram a w in
-      omega (arith, few, stored)), stores_within v s es (world_after_one (Store a w) x) h.1)
+  stores_within v s (Store a w ∷ es) x h = (
+    (λ e.
+        let few = (first_of v s es (world_after_one (Store a w) x) h.1).within in
+        let stored : put x.fram a w (word_place m ListLength) ≡ w = ap (put x.fram a w) (sym e) ∙ put_same x.fram a w in
+        omega (arith, few, stored)),
+    stores_within v s es (world_after_one (Store a w) x) h.1,
+  )
   stores_within v s (Take r ∷ es) x h = (tt, stores_within v s es x h.1)
   stores_within v s (Outside o ∷ es) x h = (tt, stores_within v s es (world_after_one (Outside o) x) h.1)
 
