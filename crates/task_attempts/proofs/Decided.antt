@@ -229,7 +229,7 @@ module _ (st : Started) where
         subst (IsSharedWord sites) (sym home) (given.source.words.is_shared r.number n (2 * n + r.home) word)
 
     is_copy : (q : CopyPair) → IsPair q → IsCopyWord sites q.copy
-    is_copy q (of_element e h home copied) = subst (IsCopyWord sites) (sym copied) (facts.copies e (listed_copied e h))
+    is_copy q (of_element e h home copied) = subst (IsCopyWord sites) (sym copied) (facts.seen.copies e (listed_copied e h))
     is_copy q (of_private r n h below home copied) = subst (IsCopyWord sites) (sym copied) (private_copy p l given.privates s.task i r n h below)
 
     is_copied : (q : CopyPair) → IsPair q → z.fram q.copy ≡ view.word next q.home

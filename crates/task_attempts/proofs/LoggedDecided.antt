@@ -76,14 +76,14 @@ module _ (st : Logged) where
   -- NEXT and SB
   runtime_plain : (a : ℕ) → l.row + 2 ≤ a → a < l.list.address → (a ≡ word_place l Gate → ⊥) → (a ≡ word_place l Base → ⊥)
       → (a ≡ word_place l ListLength → ⊥) → (a ≡ word_place l Version → ⊥) → IsPlainWord sites a
-  runtime_plain a low high gate base length version =
+  runtime_plain a low high gate base count number =
       let apart = given.source.apart in
       record {
         current = λ q. omega (arith, low, q);
         gate = gate;
         base = base;
-        length = length;
-        version = version;
+        length = count;
+        version = number;
         list = inl high;
         behind = inl (omega (arith, apart, high));
       }

@@ -26,7 +26,7 @@ module _ (st : Started) where
       let entry : PrivateScalar = record { number = v; home = home; copy = copy; width = width } in
       let c : Contains i.layout.privates entry = r.each v home copy width e private in
       ap x.fram (ap (λ z. 2 * n + z) (r.private v home copy width e private))
-      ∙ start.copies (word_pair entry n) (among_privates p l given s.task i entry n c below)
+      ∙ start.copies (word_pair entry n) (among_privates p l given.privates s.task i entry n c below)
       ∙ given.source.words.is_word s.shared v n (2 * n + home) (scalar_home l v home copy width n e below)
       ∙ sym (refreshed_other (is_held run) (held_words run) (held_word run) (length l.variables) (own run) v n (private_unheld v private))
   scalar_stands v n home copy width false e below left =
