@@ -35,7 +35,7 @@ use Rattle.undo_states.specs.Program.{LoggingContract}
 use Rattle.undo_states.proofs.Interface.{settled_stands, logging_starts}
 use Rattle.compiled_model.specs.Places.{program_places}
 use Rattle.compiled_model.specs.View.{state_view}
-use Rattle.compiled_model.specs.Parts.{has_jumped, task_program, private_homes, logged_model, started_under}
+use Rattle.compiled_model.specs.Parts.{has_jumped, task_program, private_homes, logged_model, compiled_model, started_under}
 use Rattle.compiled_model.specs.Needs.{LeavesFor, boot_cycles, logged_cycles}
 use Rattle.compiled_model.proofs.Interface.{is_logged, under_map}
 use Rattle.linked_code.specs.Linked.{ProgramsAreWhole, attempt_start}
@@ -368,5 +368,6 @@ under_undo p l logs r laws =
           makes_within p l logs r own s next x b k e d _ (own_commit p l logs r own s.task d.closes.sends.is_task);
       makes_commit = λ to x b k e d.
           let from = d.from in let task = d.decided.closes.sends.is_task in
-          makes_within p l logs r own from to x b k e d.decided _ (any_commit p l logs r own from.task task _ ((by_undo p l logs r).costs.commits from.task task));
+          makes_within p l logs r own from to x b k e d.decided _
+          (any_commit p l logs r own from.task task _ ((by_undo p l logs r).costs.commits from.task task));
     })

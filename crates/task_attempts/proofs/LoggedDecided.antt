@@ -1,5 +1,5 @@
 -- Under undo what a task does keeps the world undecided, and behind the last store of a transition it is decided to the state that the source comes to.
-use Rattle.task_attempts.proofs.Names.{◌≡◌, ℕ, ◌+◌, ◌*◌, ◌<◌, ◌≤◌, List, [], ◌∷◌, ◌++◌, length, Some, true, false, Bool, refl, sym, ap, ◌∙◌, subst, ⊎_elim, inl}
+use Rattle.task_attempts.proofs.Names.{◌≡◌, ℕ, ◌+◌, ◌*◌, ◌%◌, ◌<◌, ◌≤◌, List, [], ◌∷◌, ◌++◌, length, Some, true, false, Bool, refl, sym, ap, ◌∙◌, subst, ⊎_elim, inl}
 use Rattle.task_attempts.proofs.Names.{inr, arith, Effect, Store, World, world_after, EachStore, each_store-front, each_store-back, HoldsThroughout, State, Shared}
 use Rattle.task_attempts.proofs.Names.{word_at, some_path_writes, map_seen, StoresWords, CurrentTask, NextTask, Gate, Base, SentBase, ListLength, Version, word_place}
 use Rattle.task_attempts.proofs.Names.{where_events, sent_place, VariablePlace, Scalar, Array, slice_get, scalar_address, scalar_words, IsScalarWord, Element, IsElement}

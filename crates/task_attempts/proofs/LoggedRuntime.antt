@@ -5,7 +5,7 @@ use Rattle.task_attempts.proofs.Names.{Effect, Store, EachStore, World, fram_aft
 use Rattle.task_attempts.proofs.Names.{MemoryMap, word_place, CurrentTask, Gate, ListLength, EmitCount, Base, SentBase, NextTask, Version, ProgramPlaces, StateView}
 use Rattle.machine_effects.specs.World.{looks_taken, world_after_one}
 use Rattle.machine_effects.specs.Inputs.{Look}
-use Rattle.machine_effects.proofs.Interface.{put_same, put_other, looks_taken-append}
+use Rattle.machine_effects.proofs.Interface.{put_same, put_other, looks_taken-append, fram_untouched}
 use Rattle.memory_map.specs.Laws as memory
 use Rattle.memory_map.specs.event_places.Places.{tail_place, count_place, sent_place}
 use Rattle.runtime_effects.specs.Stages.{cleared, clearing_if, is_at_end, emits_sent, tail_moved}
@@ -18,13 +18,6 @@ use Rattle.event_rules.specs.Taking.{Before, Open, Advances, Clears, Moves, Ends
 use Rattle.event_rules.proofs.Interface.{looks_after, joined, off_ring}
 use Rattle.task_attempts.proofs.InOrder.{leaves_high, leaves_gate}
 use Rattle.task_attempts.proofs.Runtime.{behind_row, clearing_off, clearing_sees_none, sends_off, sends_see_none}
-
--- a word to which none of these effects stores
-elsewhere_keeps : (b : ℕ) (es : List Effect) (f : ℕ → ℕ) → EachStore (λ a w. a ≡ b → ⊥) es → fram_after es f b ≡ f b
-elsewhere_keeps b [] f h = refl
-elsewhere_keeps b (Store a w ∷ es) f h = elsewhere_keeps b es (put f a w) h.1 ∙ put_other f a w b (λ e. h.0 (sym e))
-elsewhere_keeps b (Take r ∷ es) f h = elsewhere_keeps b es f h.1
-elsewhere_keeps b (Outside o ∷ es) f h = elsewhere_keeps b es f h.1
 
 -- two facts of each store
 pub each_both : (P Q : ℕ → ℕ → Type 0) (es : List Effect) → EachStore P es → EachStore Q es → EachStore (λ a w. P a w × Q a w) es
@@ -79,7 +72,7 @@ module _ (l : ProgramPlaces) (apart : memory.AreApart l.map) where
   -- an opening leaves CLN
   opened_keeps : (f : ℕ → ℕ) → fram_after (undo_opening m f) f (word_place m ListLength) ≡ f (word_place m ListLength)
   opened_keeps f =
-      elsewhere_keeps (word_place m ListLength) (undo_opening m f) f
+      fram_untouched (undo_opening m f) (word_place m ListLength) f
       (opening_stores (λ a. a ≡ word_place m ListLength → ⊥) m f (λ i h e. omega (arith, apart, e)) (λ e. omega (arith, e)) (λ e. omega (arith, e))
       (λ e. omega (arith, apart, e)))
 
