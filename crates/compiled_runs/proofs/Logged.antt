@@ -368,5 +368,6 @@ under_undo p l logs r laws =
           makes_within p l logs r own s next x b k e d _ (own_commit p l logs r own s.task d.closes.sends.is_task);
       makes_commit = λ to x b k e d.
           let from = d.from in let task = d.decided.closes.sends.is_task in
-          makes_within p l logs r own from to x b k e d.decided _ (any_commit p l logs r own from.task task _ ((by_undo p l logs r).costs.commits from.task task));
+          makes_within p l logs r own from to x b k e d.decided _
+          (any_commit p l logs r own from.task task _ ((by_undo p l logs r).costs.commits from.task task));
     })

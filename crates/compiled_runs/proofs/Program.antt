@@ -331,7 +331,8 @@ pub record CodeMakes (p : CheckedProgram) (l : MemoryMap) (costs : Costs p l) : 
       → boot_cycles l + commit_cycles l.runtime.events l.entries l.entries l.emits.words ≤ most
       → Makes (compiled_program p l) (redo_model p l).delay most (program_effects ((redo_model p l).commit b.fram b.inputs) true) b
 
-pub code_makes : (p : CheckedProgram) (l : MemoryMap) → l.runtime.logging ≡ Redo → CanRun p l → ModelLaws (redo_model p l) → (costs : Costs p l) → CodeMakes p l costs
+pub code_makes : (p : CheckedProgram) (l : MemoryMap) → l.runtime.logging ≡ Redo → CanRun p l → ModelLaws (redo_model p l) → (costs : Costs p l)
+    → CodeMakes p l costs
 code_makes p l logs r laws costs =
     let source : Source = record { program = p; map = l; logs = logs; can = r; laws = laws; costs = costs } in
     record {

@@ -9,13 +9,12 @@ use Rattle.task_attempts.proofs.Names.{WordState, End}
 use Rattle.task_attempts.proofs.Names.{GoesOn, Jumps, Broken, behaviour, started, behaves_by_effects, whole_ends_soundly, StoresWords, stores_words, Ends}
 use Rattle.task_attempts.proofs.Names.{program_effects, IsElsewhere, Model, AttemptContract, Comes, Lacks, Decides, RunsShort, TakesAndStores, EndsAs}
 use Rattle.task_attempts.proofs.Names.{BlocksAgree}
-use Rattle.task_attempts.proofs.Names.{lowered_block, task_program, outcome_of, whole_task, has_jumped, effects_of, program_parts, redo_model, LeavesFor}
+use Rattle.task_attempts.proofs.Names.{lowered_block, task_program, outcome_of, whole_task, has_jumped, effects_of, program_parts, LeavesFor}
 use Rattle.task_attempts.proofs.Names.{inl, IsBelowCode, Gate, word_place}
 use Rattle.array_versions.specs.Program.{Program}
 use Rattle.array_versions.specs.Behaviour.{Short as Starves, Strays}
 use Rattle.machine_effects.specs.World.{fram_after}
 use Rattle.source_values.specs.Statements.{goes_on}
-use Rattle.task_needs.specs.Lists.{ListsWithin, ListsAtEnd}
 use Rattle.array_versions.specs.Laws.{EndsByEffects, IsSound}
 use Rattle.source_meaning.proofs.Interface.{emits_same}
 use Rattle.task_attempts.proofs.Names.{◌%◌, ◌+◌, ◌<◌, NextTask, SentBase, Base, ListLength, sent_place, event_index, where_events, entry_effects, runs_of}
@@ -31,20 +30,34 @@ use Rattle.task_attempts.proofs.Asks.{Asks, AsksFrom}
 use Rattle.task_attempts.proofs.Answered.{program_asks}
 use Rattle.task_attempts.proofs.InOrder.{IsNoClosing, statements_advance, closing, task_advances}
 use Rattle.task_attempts.proofs.Rows.{HasRows, block_rows}
-use Rattle.task_attempts.proofs.Quiet.{stores_each, stores_as, quiet_through, answers_seen}
+use Rattle.crash_rules.specs.Model.{HoldsThroughout}
+use Rattle.memory_map.specs.declared.runtime.Logging.{Logging}
+use Rattle.memory_map.specs.declared.runtime.Role.{Role}
+use Rattle.memory_map.specs.Spots.{element}
+use Rattle.lower.specs.Agreement.{DidWithin}
+use Rattle.task_attempts.proofs.Names.{model_by, StandsFor, IsElement, Element, Some}
+use Rattle.task_attempts.proofs.Quiet.{stores_each, stores_as, answers_seen}
 use Rattle.task_attempts.proofs.Tasks.{body_is, program_is}
-use Rattle.task_attempts.proofs.Stores.{Safe, StoresOf, task_safe, emits_fit}
-use Rattle.task_attempts.proofs.Starts.{held_attempt, held_runs, attempt_stands, readings_and}
-use Rattle.task_attempts.proofs.Started.{Started, scene}
-use Rattle.task_attempts.proofs.Decided.{setting, bounds, Transition, before, effects_are, safe_before, quiet_before, quiet_start, quiet_of, next, decided, few}
-use Rattle.task_attempts.proofs.Decided.{z_behind, lists_within}
+use Rattle.task_attempts.proofs.Tame.{Tame, task_tame, emits_fit}
+use Rattle.task_attempts.proofs.Starts.{held_attempt, held_runs, readings_and}
+use Rattle.task_attempts.proofs.Started.{Attempting, scene}
+use Rattle.task_attempts.proofs.Leaving.{StoresOf, setting, bounds, Transition, before, effects_are, tame_before, next, few, z, z_behind}
 
-module _ (run : Started) where
-  open run use {program as p, map as l, given, state as s, is_task, task as i, world as x, inputs, start as st}
-  open (scene run) use {here, code, space, facts, sites, view, ver}
+-- what a runtime's model asks beside, of a started attempt: the state stands for the source's attempt; what statements do keeps the world undecided
+-- throughout, also up to a transition; and behind its last store the world is decided
+pub record Keeps (logging : Logging) (role : Role) (run : Attempting) : Type 0 where
+  pub stands : StandsFor (scene run).here run.first (held_attempt run) [] (started run.world.fram run.inputs)
+  pub throughout : (es : List Effect) → DidWithin (scene run).here (bounds run) es → StoresWords es
+      → HoldsThroughout ((model_by logging role run.program run.map).Undecided run.state) es run.world
+  pub until : (t : Transition run) → HoldsThroughout ((model_by logging role run.program run.map).Undecided run.state) (before run t) run.world
+  pub decided : (t : Transition run) → (model_by logging role run.program run.map).Decided run.state (next run t) (z run t)
+
+module _ (logging : Logging) (role : Role) (run : Attempting) (keeps_to : Keeps logging role run) where
+  open run use {program as p, map as l, given, state as s, task as i, own, facts, world as x, inputs, undecided}
+  open (scene run) use {here, code, space, sites, view, ver}
 
   abbrev model : Model State
-  model = redo_model p l
+  model = model_by logging role p l
 
   -- what is known of a behaviour's effects and end, and of the source's outcome
   record Meets (es : List Effect) (e : End) (o : Outcome) : Type 0 where
@@ -57,20 +70,20 @@ module _ (run : Started) where
     source : completion_of (attempt_of p s.task s.shared (readings_and run (answers_told es))) ≡ completion_of o
 
   -- where no events are taken no store is to ANS
-  off_answer : (es : List Effect) → TakesAndStores (Safe run) es → l.runtime.events ≡ false → EachStore (IsElsewhere answer_place) es
+  off_answer : (es : List Effect) → TakesAndStores (Tame run) es → l.runtime.events ≡ false → EachStore (IsElsewhere answer_place) es
   off_answer es h off =
       let apart = given.apart in
-      stores_each (Safe run) (IsElsewhere answer_place)
+      stores_each (Tame run) (IsElsewhere answer_place)
       (λ a w q e. ⊎_elim (λ low. omega (arith, apart, low, e)) (λ counter. let on = counter.events in cc (on, off)) q.below) es h
 
-  off_gate : (es : List Effect) → TakesAndStores (Safe run) es → EachStore (IsElsewhere (word_place l Gate)) es
-  off_gate es h = stores_each (Safe run) (IsElsewhere (word_place l Gate)) (λ a w q e. q.quiet.gate e) es h
+  off_gate : (es : List Effect) → TakesAndStores (Tame run) es → EachStore (IsElsewhere (word_place l Gate)) es
+  off_gate es h = stores_each (Tame run) (IsElsewhere (word_place l Gate)) (λ a w q e. q.gate e) es h
 
-  below_code : (es : List Effect) → TakesAndStores (Safe run) es → EachStore (IsBelowCode l) es
+  below_code : (es : List Effect) → TakesAndStores (Tame run) es → EachStore (IsBelowCode l) es
   below_code es h =
       let c = given.code in
       let fits = emits_fit run in
-      stores_each (Safe run) (IsBelowCode l) (λ a w q. record {
+      stores_each (Tame run) (IsBelowCode l) (λ a w q. record {
         from = q.from;
         below = ⊎_elim {C = StoresBelow l l.boot.address a w} (λ b. inl (omega (arith, b, c))) (λ counter. inr counter) q.below;
         list = q.list_length;
@@ -80,8 +93,8 @@ module _ (run : Started) where
   -- ---- short
 
   module _ (es : List Effect) (h : Meets es Starves short) where
-    safe_short : TakesAndStores (Safe run) es
-    safe_short = stores_as (StoresOf run) (Safe run) (task_safe run) es h.agrees.stores h.of_words
+    safe_short : TakesAndStores (Tame run) es
+    safe_short = stores_as (StoresOf run) (Tame run) (λ a w k small. task_tame run a w k) es h.agrees.stores h.of_words
 
     answers_so_far : answers_in model.marks es ≡ answers_told es
     answers_so_far = answers_seen l es (off_answer es safe_short)
@@ -90,7 +103,7 @@ module _ (run : Started) where
     runs_short = record {
       is = refl;
       elsewhere = off_gate es safe_short;
-      undecided = quiet_through sites view s ver es x (quiet_of run es safe_short h.of_words) (quiet_start run);
+      undecided = keeps_to.throughout es h.agrees h.of_words;
       short = ap (λ answers. whole_task p s (record { readings = inputs.readings; answers = answers })) answers_so_far ∙ ap (outcome_of s) h.source;
     }
 
@@ -129,7 +142,7 @@ module _ (run : Started) where
     answers_are =
         let apart = given.apart in
         answers_seen l whole (λ off. each_store-append (IsElsewhere answer_place) front (Store (word_place l Gate) 1 ∷ [])
-        (off_answer front (safe_before run t) off) ((λ e. omega (arith, apart, e)), tt))
+        (off_answer front (tame_before run t) off) ((λ e. omega (arith, apart, e)), tt))
         ∙ sym (ap answers_told (effects_are run t))
 
     exact : whole_task p s (given_by model.marks whole) ≡ Ends (next run t) nothing_given
@@ -145,10 +158,10 @@ module _ (run : Started) where
       before = front;
       left = record { readings = m.left; looks = end.inputs.looks };
       is = ap (λ e. program_effects e true) (effects_are run t);
-      elsewhere = off_gate front (safe_before run t);
+      elsewhere = off_gate front (tame_before run t);
       reads = record { readings = reads; looks = looks };
-      undecided = quiet_through sites view s ver front x (quiet_before run t) (quiet_start run);
-      decided = decided run t;
+      undecided = keeps_to.until t;
+      decided = keeps_to.decided t;
       exact = exact;
     }
 
@@ -158,7 +171,7 @@ module _ (run : Started) where
         let c = given.code in
         subst (EachStore (IsBelowCode l)) (sym (effects_are run t))
         (each_store-append (IsBelowCode l) front (Store (word_place l Gate) 1 ∷ [])
-        (below_code front (safe_before run t)) (
+        (below_code front (tame_before run t)) (
           record {
             from = omega (arith, apart);
             below = inl (omega (arith, apart, c));
@@ -191,15 +204,15 @@ module _ (run : Started) where
   leaves es Starves o h = tt
   leaves es _ _ h = absurd h.agrees
 
-  lists : (es : List Effect) (e : End) (o : Outcome) → Meets es e o → ListsAtEnd p l s.task (fram_after es x.fram) e
-  lists es (Jumps to end) (to_task task m) h =
-      subst (ListsWithin p l s.task) (z_behind run (t es to end task m h)) (lists_within run (t es to end task m h))
-  lists es (Jumps to end) (goes_on m) h = absurd h.agrees
-  lists es (Jumps to end) short h = absurd h.agrees
-  lists es (GoesOn end) o h = tt
-  lists es Starves o h = tt
-  lists es Strays o h = tt
-  lists es Broken o h = tt
+  -- where a task leaves, what holds of FRAM behind each transition
+  ends_with : (P : (ℕ → ℕ) → End → Type 0) → ((t : Transition run) → P (z run t).fram (Jumps t.to t.end)) → ((es : List Effect) → P (fram_after es x.fram) Starves)
+      → (es : List Effect) (e : End) (o : Outcome) → Meets es e o → P (fram_after es x.fram) e
+  ends_with P left none es (GoesOn t) o h = absurd h.sound
+  ends_with P left none es Broken o h = absurd h.sound
+  ends_with P left none es (Jumps to end) (to_task task m) h =
+      let leaves = t es to end task m h in subst (λ f. P f (Jumps to end)) (z_behind run leaves) (left leaves)
+  ends_with P left none es Starves o h = none es
+  ends_with P left none es _ _ h = absurd h.agrees
 
   -- ---- the program
 
@@ -219,7 +232,7 @@ module _ (run : Started) where
   ends_well : EndsWell (length p.tasks) (run_block code attempt)
   ends_well =
       subst (TransitionComes (length p.tasks)) (get_or_from_slice_get p.tasks s.task i.task i.task i.task_is)
-      (given.runnable.transition_comes s.task i.task is_task) attempt
+      (given.runnable.transition_comes s.task i.task undecided.is_open.is_task) attempt
 
   meets : BlocksAgree → InputsAreWords inputs → Meets (behaviour program (started x.fram inputs)).effects (behaviour program (started x.fram inputs)).end
       (run_block code attempt)
@@ -230,42 +243,43 @@ module _ (run : Started) where
         -- the program agrees with the attempt from what FRAM has, which comes to what the source's attempt comes to
         agrees = subst (EndsAs here (bounds run) [] [] b.effects b.end)
             (ap (λ l. run_block code (answered_by l (held_attempt run))) (append-nil told) ∙ held_runs run told)
-            (agree (setting run) code (held_attempt run) [] w refl facts.formed facts.admits (λ v h. h) (attempt_stands run)
+            (agree (setting run) code (held_attempt run) [] w refl facts.formed facts.admits (λ v h. h) keeps_to.stands
             (let f = few_emits in omega (arith, f)) (λ v. omega arith) []);
         by_effects = behaves_by_effects program w;
         sound = whole_ends_soundly program x.fram inputs facts.whole;
         of_words = stores_words program w facts.of_words
-            (record { stack = tt; locals = λ n v e. cc e; fram = st.undecided.is_open.words; inputs = small });
+            (record { stack = tt; locals = λ n v e. cc e; fram = undecided.is_open.words; inputs = small });
         well = ends_well;
         rows = block_rows code attempt (length s.shared) refl;
-        source = ap (λ b. completion_of (run_block b attempt)) (body_is p l given s.task i);
+        source = ap (λ b. completion_of (run_block b attempt)) (body_is p l s.task i);
       }
 
   pub program_keeps : BlocksAgree → InputsAreWords inputs
       → AttemptContract model s inputs x ((program_parts p l).body s.task x.fram inputs)
   program_keeps agree small =
       let b = behaviour program (started x.fram inputs) in
-      subst (λ q. AttemptContract model s inputs x (effects_of (behaviour q (started x.fram inputs)))) (sym (program_is p l given s.task i))
+      subst (λ q. AttemptContract model s inputs x (effects_of (behaviour q (started x.fram inputs)))) (sym (program_is p l s.task i own run.own_is))
       (keeps b.effects b.end (run_block code attempt) (meets agree small))
 
   pub program_stores : BlocksAgree → InputsAreWords inputs → EachStore (IsBelowCode l) ((program_parts p l).body s.task x.fram inputs).effects
   program_stores agree small =
       let b = behaviour program (started x.fram inputs) in
-      subst (λ q. EachStore (IsBelowCode l) (behaviour q (started x.fram inputs)).effects) (sym (program_is p l given s.task i))
+      subst (λ q. EachStore (IsBelowCode l) (behaviour q (started x.fram inputs)).effects) (sym (program_is p l s.task i own run.own_is))
       (stores_before_code b.effects b.end (run_block code attempt) (meets agree small))
 
   pub program_leaves : BlocksAgree → InputsAreWords inputs → LeavesFor l.commit.address (behaviour (task_program p l s.task) (started x.fram inputs)).end
   program_leaves agree small =
       let b = behaviour program (started x.fram inputs) in
-      subst (λ q. LeavesFor l.commit.address (behaviour q (started x.fram inputs)).end) (sym (program_is p l given s.task i))
+      subst (λ q. LeavesFor l.commit.address (behaviour q (started x.fram inputs)).end) (sym (program_is p l s.task i own run.own_is))
       (leaves b.effects b.end (run_block code attempt) (meets agree small))
 
-  pub program_lists : BlocksAgree → InputsAreWords inputs → let b = behaviour (task_program p l s.task) (started x.fram inputs) in
-      ListsAtEnd p l s.task (fram_after b.effects x.fram) b.end
-  program_lists agree small =
+  pub program_ends : (P : (ℕ → ℕ) → End → Type 0) → ((t : Transition run) → P (z run t).fram (Jumps t.to t.end))
+      → ((es : List Effect) → P (fram_after es x.fram) Starves) → BlocksAgree → InputsAreWords inputs
+      → let b = behaviour (task_program p l s.task) (started x.fram inputs) in P (fram_after b.effects x.fram) b.end
+  program_ends P left none agree small =
       let b = behaviour program (started x.fram inputs) in
-      subst (λ q. let done = behaviour q (started x.fram inputs) in ListsAtEnd p l s.task (fram_after done.effects x.fram) done.end)
-      (sym (program_is p l given s.task i)) (lists b.effects b.end (run_block code attempt) (meets agree small))
+      subst (λ q. let done = behaviour q (started x.fram inputs) in P (fram_after done.effects x.fram) done.end)
+      (sym (program_is p l s.task i own run.own_is)) (ends_with P left none b.effects b.end (run_block code attempt) (meets agree small))
 
   -- ---- words of the ring
 
@@ -273,7 +287,9 @@ module _ (run : Started) where
   off_sent : (a w : ℕ) → StoresOf run a w → a ≢ sent_place
   off_sent a w (at_variable v n h e is) same = let low = facts.apart.below (scalar v n) h in omega (arith, is, same, low)
   off_sent a w (at_copy y h is) same = let low = facts.apart.below (copy y) h in omega (arith, is, same, low)
-  off_sent a w (at_element undo y h is) same = let redo = facts.redo in absurd (cc (redo, undo))
+  off_sent a w (at_element undo y h is) same =
+      let e : IsElement here y = record { elements = h.elements; length = h.length; copies = Some h.copies; is_array = h.is_array; below = h.below } in
+      let low = facts.apart.below (element y) e in omega (arith, is, same, low)
   off_sent a w (at_version y h is e) same = let low = facts.apart.below (version y) h in omega (arith, is, same, low)
   off_sent a w (in_list lo hi) same = let apart = facts.apart in omega (arith, lo, hi, same, apart)
   off_sent a w (at_list_length is h) same = let apart = facts.apart in omega (arith, is, same, apart)
@@ -288,12 +304,12 @@ module _ (run : Started) where
   no_closing : (es : List Effect) → TakesAndStores (StoresOf run) es → StoresWords es → EachStore (IsNoClosing gate) es
   no_closing es h words =
       stores_each (λ a w. StoresOf run a w × (w < 0x10000)) (IsNoClosing gate)
-      (λ a w q. ((λ e. (task_safe run a w q.0 q.1).quiet.gate e), off_sent a w q.0)) es (stores_as (StoresOf run) (λ a w. StoresOf run a w × (w < 0x10000))
+      (λ a w q. ((λ e. (task_tame run a w q.0).gate e), off_sent a w q.0)) es (stores_as (StoresOf run) (λ a w. StoresOf run a w × (w < 0x10000))
       (λ a w q small. (q, small)) es h words)
 
   -- of an undecided world GATE isn't 1
   gate_open : x.fram gate ≢ 1
-  gate_open e = let zero = st.undecided.is_open.gate in omega (arith, zero, e)
+  gate_open e = let zero = undecided.is_open.gate in omega (arith, zero, e)
 
   -- a task's effects, as a program of words of the ring
   abbrev InOrder : List Effect → Taking → Type 0
@@ -302,7 +318,7 @@ module _ (run : Started) where
   -- the stores of a transition but the last two
   abbrev ordinary_part : ℕ → ℕ → ℕ → List Effect
   ordinary_part task count base =
-      Store (word_place l NextTask) (task % 65536) ∷ (entry_effects (word_place l ListLength) l.list.address count (runs_of i.layout.privates)
+      Store (word_place l NextTask) (task % 65536) ∷ (entry_effects (word_place l ListLength) l.list.address count (runs_of own.privates)
       ++ Store (word_place l SentBase) base ∷ [])
 
   -- with SE and GATE behind them
@@ -310,7 +326,7 @@ module _ (run : Started) where
       → transition_effects here task count base index ++ Store gate 1 ∷ [] ≡ ordinary_part task count base ++ (Store sent_place index ∷ Store gate 1 ∷ [])
   closing_is task count base index on =
       let first = Store (word_place l NextTask) (task % 65536) in
-      let entries = entry_effects (word_place l ListLength) l.list.address count (runs_of i.layout.privates) in
+      let entries = entry_effects (word_place l ListLength) l.list.address count (runs_of own.privates) in
       let sent = Store (word_place l SentBase) base in
       ap (λ b. (first ∷ (entries ++ sent ∷ where_events b (Store sent_place index ∷ []))) ++ Store gate 1 ∷ []) on
       ∙ ap (λ es. first ∷ es) (together entries sent (Store sent_place index) (Store gate 1))
@@ -320,13 +336,13 @@ module _ (run : Started) where
       together (y ∷ es) e f g = ap (λ fs. y ∷ fs) (together es e f g)
 
   -- each of them is none to a word that counts events
-  ordinary : (task count base : ℕ) → count + length (runs_of i.layout.privates) ≤ list_of p.shared code
+  ordinary : (task count base : ℕ) → count + length (runs_of own.privates) ≤ list_of p.shared code
       → EachStore (IsOffRing gate) (ordinary_part task count base)
   ordinary task count base few =
       let apart = facts.apart in
-      let entries = entry_effects (word_place l ListLength) l.list.address count (runs_of i.layout.privates) in (
+      let entries = entry_effects (word_place l ListLength) l.list.address count (runs_of own.privates) in (
         (omega (arith, apart), λ e. omega (arith, e)),
-        each_store-append (IsOffRing gate) entries (Store (word_place l SentBase) base ∷ []) (entries_off (runs_of i.layout.privates) count few)
+        each_store-append (IsOffRing gate) entries (Store (word_place l SentBase) base ∷ []) (entries_off (runs_of own.privates) count few)
             ((omega (arith, apart), λ e. omega (arith, e)), tt),
       )
     where
@@ -366,7 +382,7 @@ module _ (run : Started) where
       let front = ordinary_part task count base in
       let is_ordinary = ordinary task count base (few run (t es to end task m h)) in
       let none : looks_taken front ≡ [] =
-      entries_see_none (runs_of i.layout.privates) (word_place l ListLength) l.list.address count (Store (word_place l SentBase) base ∷ []) in
+      entries_see_none (runs_of own.privates) (word_place l ListLength) l.list.address count (Store (word_place l SentBase) base ∷ []) in
       let below : gate < tail_place = omega (arith, apart) in
       let ends = closing gate below front is_ordinary none index in
       let whole : es ≡ left.body ++ ends = left.effects ∙ ap (λ fs. left.body ++ fs) (closing_is task count base index on) in
@@ -385,5 +401,5 @@ module _ (run : Started) where
       let w = started x.fram inputs in
       let b = behaviour program w in
       subst (λ q. let r = effects_of (behaviour q w) in (u : Taking) × InOrder r.effects u × (r.ends ≡ true → u ≡ Before))
-      (sym (program_is p l given s.task i))
+      (sym (program_is p l s.task i own run.own_is))
       (task_in_order b.effects b.end (run_block code attempt) (meets agree small) on (program_asks program w))

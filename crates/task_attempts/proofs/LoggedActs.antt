@@ -13,7 +13,8 @@ use Rattle.source_values.specs.Runs.{CheckedProgram, State}
 use Rattle.task_ast.specs.Paths.{CheckedBlock}
 use Rattle.lower.specs.Seen.{map_seen}
 use Rattle.lower.specs.Spots.{Room}
-use Rattle.lower.specs.Stores.{TakesAndStores, IsAnswerStore, IsPlainStore, to_variable, to_emit_count, to_buffer, to_answer, Act, alone, to_element, act_effects, IsAct}
+use Rattle.lower.specs.Stores.{TakesAndStores, IsAnswerStore, IsPlainStore, to_variable, to_emit_count, to_buffer, to_answer, Act, alone, to_element}
+use Rattle.lower.specs.Stores.{act_effects, IsAct}
 use Rattle.lower.specs.Stores.{acts_effects, AreActs}
 use Rattle.stands_for.specs.Layout.{IsSharedWord, HaveRoom}
 use Rattle.undo_effects.specs.Stages.{first_logged, element_stored}

@@ -4,12 +4,12 @@ use Rattle.task_attempts.proofs.Names.{entries_from, word_at, Shared, started, S
 use Rattle.task_attempts.proofs.Names.{scalar_home, IsPlaceOfScalar, scalar_place, words_scalar, ScalarWidth, PrivateScalar, Scalar, scalar_words, scalar_address}
 use Rattle.task_attempts.proofs.Names.{words_at, IsScalarWord}
 use Rattle.task_attempts.proofs.Tasks.{among_privates}
-use Rattle.task_attempts.proofs.Started.{Run, scene, Started, redo_run}
+use Rattle.task_attempts.proofs.Started.{Attempting, scene, Started, redo_run}
 use Rattle.task_attempts.proofs.Held.{refreshed_other}
 use Rattle.task_attempts.proofs.Starts.{is_scalar_at, unheld_of, is_held, held_words, held_word, own, held, held_attempt, home_stands, attempt_stands}
 
 module _ (st : Started) where
-  abbrev run : Run
+  abbrev run : Attempting
   run = redo_run st
 
   open st use {program as p, map as l, given, state as s, task as i, facts, world as x, inputs, start}

@@ -21,17 +21,17 @@ module _ (l : ProgramPlaces) (apart : memory.AreApart l.map) where
   abbrev m : MemoryMap
   m = l.map
 
-  abbrev gate : ℕ
+  abbrev pub gate : ℕ
   gate = word_place m Gate
 
-  abbrev Off : ℕ → ℕ → Type 0
+  abbrev pub Off : ℕ → ℕ → Type 0
   Off = IsOffRing gate
 
-  abbrev OffRing : List Effect → Type 0
+  abbrev pub OffRing : List Effect → Type 0
   OffRing es = EachStore Off es
 
   -- a word behind the runtime's, in front of the words that count events
-  behind_row : (a w : ℕ) → m.list.address ≤ a → a < tail_place → Off a w
+  pub behind_row : (a w : ℕ) → m.list.address ≤ a → a < tail_place → Off a w
   behind_row a w lo hi = (hi, λ e. omega (arith, apart, lo, e))
 
   -- ---- the start
@@ -44,14 +44,14 @@ module _ (l : ProgramPlaces) (apart : memory.AreApart l.map) where
   cleared_sees_none zero p = refl
   cleared_sees_none (suc n) p = cleared_sees_none n (p + 2)
 
-  clearing_off : (c : Bool) → OffRing (clearing_if m c)
+  pub clearing_off : (c : Bool) → OffRing (clearing_if m c)
   clearing_off true =
       each_store-append Off (cleared m.versions.words m.versions.address) (Store (word_place m Version) 0 ∷ [])
       (cleared_off m.versions.words m.versions.address (omega (arith, apart)) (omega (arith, apart)))
       ((omega (arith, apart), λ e. omega (arith, e)), tt)
   clearing_off false = tt
 
-  clearing_sees_none : (c : Bool) → looks_taken (clearing_if m c) ≡ []
+  pub clearing_sees_none : (c : Bool) → looks_taken (clearing_if m c) ≡ []
   clearing_sees_none true =
       looks_taken-append (cleared m.versions.words m.versions.address) (Store (word_place m Version) 0 ∷ [])
       ∙ ap (λ ls. ls ++ []) (cleared_sees_none m.versions.words m.versions.address)
@@ -118,11 +118,11 @@ module _ (l : ProgramPlaces) (apart : memory.AreApart l.map) where
   home_sees_none [] f = refl
   home_sees_none (q ∷ ps) f = home_sees_none ps (put f q.home (f q.copy))
 
-  sends_off : (n number p : ℕ) (f : ℕ → ℕ) → OffRing (sends n number p f)
+  pub sends_off : (n number p : ℕ) (f : ℕ → ℕ) → OffRing (sends n number p f)
   sends_off zero number p f = tt
   sends_off (suc n) number p f = (tt, sends_off n ((number + 1) % 0x10000) (p + 2) f)
 
-  sends_see_none : (n number p : ℕ) (f : ℕ → ℕ) → looks_taken (sends n number p f) ≡ []
+  pub sends_see_none : (n number p : ℕ) (f : ℕ → ℕ) → looks_taken (sends n number p f) ≡ []
   sends_see_none zero number p f = refl
   sends_see_none (suc n) number p f = sends_see_none n ((number + 1) % 0x10000) (p + 2) f
 

@@ -12,7 +12,7 @@ use Rattle.task_attempts.proofs.Tasks.{IsAt, task_at}
 -- what is alike under each runtime: a source with its layout, a state of it, the state's task with its layout and the place that is its own, the world
 -- behind the start of an attempt, where no shared word has changed but those that are written in place, the inputs that are left, and how many words
 -- the start has listed
-pub record Run : Type 0 where
+pub record Attempting : Type 0 where
   pub program : CheckedProgram
   pub map : MemoryMap
   pub given : IsSource program map
@@ -38,7 +38,7 @@ pub record Scene : Type 0 where
   pub view : StateView State
   pub ver : ℕ
 
-abbrev pub scene : Run → Scene
+abbrev pub scene : Attempting → Scene
 scene run = record {
   here = task_places run.map run.task.task run.own;
   code = run.task.task.body;
@@ -61,7 +61,7 @@ pub record Started : Type 0 where
   pub inputs : Inputs
   pub start : StartedAt (program_places program map) (state_view program map) state (privates_in (task_entries map) state.task) world
 
-abbrev pub redo_run : Started → Run
+abbrev pub redo_run : Started → Attempting
 redo_run st = record {
   program = st.program;
   map = st.map;
@@ -110,7 +110,7 @@ pub record Logged : Type 0 where
   pub inputs : Inputs
   pub start : LoggingAt (program_places program map) (state_view program map) state (private_homes map state.task) world
 
-abbrev pub undo_run : Logged → Run
+abbrev pub undo_run : Logged → Attempting
 undo_run st = record {
   program = st.program;
   map = st.map;

@@ -12,7 +12,7 @@ use Rattle.task_attempts.proofs.Names.{version_address, element_address, IsWordO
 use Rattle.lower.proofs.Interface.{scalar as seen_scalar, array as seen_array, read as seen_read}
 use Rattle.task_attempts.proofs.Tasks.{body_is, among_privates}
 use Rattle.task_attempts.proofs.Names.{IsRedo, IsUndo, ListLength}
-use Rattle.task_attempts.proofs.Started.{Run, scene, Started, redo_run, Logged, undo_run}
+use Rattle.task_attempts.proofs.Started.{Attempting, scene, Started, redo_run, Logged, undo_run}
 use Rattle.task_attempts.proofs.Held.{refreshed, refreshed_count, refreshed_locals, refreshed_rows, refreshed_other, refreshed_held, refreshed_runs}
 use Rattle.task_attempts.proofs.Rows.{rows_count}
 use Rattle.task_attempts.proofs.Words.{own_unmarked, element_word}
@@ -34,7 +34,7 @@ unheld_of true true false h = absurd (let none : false ≡ true = h in cc)
 unheld_of true false c h = refl
 unheld_of false b c h = refl
 
-module _ (run : Run) where
+module _ (run : Attempting) where
   open run use {program as p, map as l, given, state as s, task as i, own as own_place, facts, world as x, inputs, undecided}
   open (scene run) use {here, code}
 

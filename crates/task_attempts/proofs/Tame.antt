@@ -9,9 +9,9 @@ use Rattle.task_attempts.proofs.Entries.{IsTransitionStore, at_next_task, at_sen
 use Rattle.task_attempts.proofs.Given.{IsVersionWord}
 use Rattle.task_attempts.proofs.Words.{element_word}
 use Rattle.task_attempts.proofs.Tasks.{body_is}
-use Rattle.task_attempts.proofs.Started.{Run, scene}
+use Rattle.task_attempts.proofs.Started.{Attempting, scene}
 
-module _ (run : Run) where
+module _ (run : Attempting) where
   open run use {program as p, map as l, given, state as s, task as i, own, facts, undecided}
   open (scene run) use {here, code, space, ver}
 
