@@ -1,19 +1,15 @@
 -- A compiled source that takes events enables interrupts by the second instruction of a charge, and leaves them enabled.
-use Rattle.image_reports.proofs.Names.{◌≡◌, ◌+◌, ◌<◌, ◌≤◌, ℕ, zero, suc, Bool, true, false, refl, sym, ap, ◌∙◌, subst, arith, List, [], ◌∷◌, ◌++◌}
+use Rattle.image_reports.proofs.Names.{◌≡◌, ◌+◌, ℕ, zero, suc, Bool, true, false, refl, sym, ap, ◌∙◌, subst, arith, List, [], ◌∷◌, ◌++◌}
 use Rattle.image_reports.proofs.Names.{CheckedProgram}
-use Rattle.image_reports.proofs.Names.{MemoryMap, MachineBoard, Code, StepOutcome, Goes, Stops, At, continued, going, exec, compiled_program, placed_code}
-use Rattle.image_reports.proofs.Names.{source_code}
+use Rattle.image_reports.proofs.Names.{MemoryMap, MachineBoard, Code, Goes, Stops, At, continued, going, exec, placed_code}
 use Rattle.std.specs.Prelude.{◌-◌, ◌/◌}
 use Rattle.address_space.specs.Limits.{stack_start}
-use Rattle.msp_step.specs.Registers.{Registers}
 use Rattle.msp_step.specs.Step.{is_interruptible}
 use Rattle.machine_effects.specs.alp_words.declared.Flags.{Flags}
 use Rattle.code_forms.specs.Forms.{Form, SetStack, EnableInterrupts, Core, board_of, register_file}
 use Rattle.code_forms.specs.Code.{Stands}
 use Rattle.code_forms.specs.Placed.{instructions, placed}
 use Rattle.code_forms.proofs.Interface.{stands_front, does, forms_stand, code_stays_open}
-use Rattle.fram_board.specs.Effects.{Effect}
-use Rattle.msp_step.specs.declared.machine.Stop.{Stop}
 use Rattle.memory_map.specs.declared.runtime.Logging.{Logging}
 use Rattle.memory_map.specs.declared.runtime.Logging.TheVariants.{Redo, Undo}
 use Rattle.memory_map.specs.MemoryMap.{where_events}
