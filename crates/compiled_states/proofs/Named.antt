@@ -1,10 +1,10 @@
 -- What the map of a source names: the words of the runtime, the buffers, the variables and the copies, which are all in front of the code; and the
 -- ring, where the source takes events.
 use Rattle.compiled_states.proofs.Names.{◌≡◌, ◌⊎◌, inl, inr, ℕ, zero, suc, ◌+◌, ◌*◌, ◌%◌, ◌<◌, ◌≤◌, ◌||◌, Bool, true, false, List, [], ◌∷◌, length, Some, None}
-use Rattle.compiled_states.proofs.Names.{map, refl, sym, ap, arith, slice_get, false≢true, cases_lt, or_cases, or_from, or_left, or_right, Extent}
-use Rattle.compiled_states.proofs.Names.{SharedDeclaration, Allow, CheckedProgram, TaskPlanValue, VariablePlace, Scalar, Array, MemoryMap, end_of, scalar_words}
+use Rattle.compiled_states.proofs.Names.{map, refl, sym, ap, arith, slice_get, false≢true, cases_lt, or_cases, or_from, or_left, or_right}
+use Rattle.compiled_states.proofs.Names.{SharedDeclaration, Allow, CheckedProgram, TaskPlanValue, VariablePlace, MemoryMap, end_of}
 use Rattle.compiled_states.proofs.Names.{home_region, AreInOrder, AreApart, apart_of, in_order_end, IsSharedWord, program_places, shared_words_are_of_variables}
-use Rattle.compiled_states.proofs.Names.{IsFram, length_of, map_words, map_list, map_buffer, value_type_of, variable_of, variables_of, map_of, IsOfKind}
+use Rattle.compiled_states.proofs.Names.{IsFram, length_of, map_words, map_list, map_buffer, value_type_of, variable_of, variables_of, map_of}
 use Rattle.compiled_states.proofs.Names.{ArePlacesOf, MapValue, word_count, holds, is_held, place_words, list_words, variable_words, runtime_words, buffers}
 use Rattle.compiled_states.proofs.Names.{is_in_ring, is_shared, is_named, map_ring}
 use Rattle.std.proofs.Common.{subst}
