@@ -25,7 +25,7 @@ map_same : (t text : List ℕ) (s source : Source VariableName TaskName) (l : Me
     → map_of t (program_of s) l a ≡ map_of text (program_of source) l allow
 map_same t text s source l a allow e f g =
     ap (λ x. map_of x (program_of s) l a) e ∙ ap (λ (x : Source VariableName TaskName). map_of text (program_of x) l a) f
-      ∙ ap (λ x. map_of text (program_of source) l x) g
+    ∙ ap (λ x. map_of text (program_of source) l x) g
 
 pub with_map-requires : goal.with_map-requires
 with_map-requires c =
