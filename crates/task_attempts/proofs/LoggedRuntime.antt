@@ -196,7 +196,8 @@ module _ (l : ProgramPlaces) (apart : memory.AreApart l.map) where
         λ a c b n. put_other g3 (word_place m ListLength) 0 a n ∙ put_other g2 (word_place m Base) base a b
         ∙ put_other g1 (word_place m CurrentTask) current a c in
         let end_gate : g4 gate ≡ 1 =
-        kept gate (λ e. omega (arith, e)) (λ e. omega (arith, e)) (λ e. omega (arith, e)) ∙ put_other g tail_place tail gate (λ e. omega (arith, apart, e)) ∙ g_gate in
+        kept gate (λ e. omega (arith, e)) (λ e. omega (arith, e)) (λ e. omega (arith, e))
+        ∙ put_other g tail_place tail gate (λ e. omega (arith, apart, e)) ∙ g_gate in
         let end_sent : g4 sent_place ≡ tail =
         kept sent_place (λ e. omega (arith, apart, e)) (λ e. omega (arith, apart, e)) (λ e. omega (arith, apart, e))
         ∙ put_other g tail_place tail sent_place (λ e. omega (arith, e)) ∙ g_sent in
