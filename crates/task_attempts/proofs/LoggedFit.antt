@@ -1,5 +1,5 @@
 -- The places of a task under undo: its scalars where they stand, each listed by the start or written in place, and its elements with their version words.
-use Rattle.std.proofs.Common.{◌≡◌, ℕ, zero, suc, ◌+◌, ◌*◌, ◌<◌, ◌⊎◌, ⊎_elim, inl, inr, Bool, true, false, not, List, [], ◌∷◌, ◌++◌, length, map, refl, sym}
+use Rattle.std.proofs.Common.{◌≡◌, ℕ, zero, suc, ◌+◌, ◌*◌, ◌<◌, ◌⊎◌, ⊎_elim, inl, inr, true, false, not, List, [], ◌∷◌, ◌++◌, length, map, sym}
 use Rattle.std.proofs.Common.{ap, ◌∙◌}
 use Rattle.std.proofs.Common.{subst, arith, get_or, Some, slice_get}
 use Rattle.std.specs.Prelude.{Contains}
@@ -19,14 +19,13 @@ use Rattle.memory_map.specs.declared.runtime.Logging.TheVariants.{Undo}
 use Rattle.memory_map.specs.declared.place.VariablePlace.TheVariants.{Scalar}
 use Rattle.memory_map.specs.MemoryMap.{MemoryMap, TaskPlace}
 use Rattle.memory_map.specs.Places.{scalar_words, HasItsPlace}
-use Rattle.memory_map.specs.Spots.{Places, places_of, home_in, scalar_address, IsScalarWord, IsWordOf, Element, IsElement, IsCopied, element_address}
+use Rattle.memory_map.specs.Spots.{Places, places_of, home_in, scalar_address, IsScalarWord, Element, IsElement, IsCopied, element_address}
 use Rattle.memory_map.specs.Spots.{version_address}
-use Rattle.memory_map.specs.Spots.{Spot, SpotsStand, version}
+use Rattle.memory_map.specs.Spots.{SpotsStand, version}
 use Rattle.memory_map.proofs.Interface.{spots_are_apart}
 use Rattle.lower.specs.Seen.{some_path_writes, map_seen, task_seen}
-use Rattle.lower.specs.Spots.{Room}
 use Rattle.lower.proofs.Interface.{seen_laid_out}
-use Rattle.stands_for.specs.Layout.{IsSharedWord, HaveRoom}
+use Rattle.stands_for.specs.Layout.{IsSharedWord}
 use Rattle.undo_effects.specs.Entries.{IsLogged}
 use Rattle.undo_states.specs.States.{entry_at}
 use Rattle.stands_for.specs.Layout.{StateView}
@@ -35,7 +34,7 @@ use Rattle.undo_states.proofs.Interface.{ArePairs}
 use Rattle.compiled_model.specs.Places.{program_places}
 use Rattle.compiled_model.specs.Parts.{private_homes}
 use Rattle.layout_facts.specs.Facts.{HasLayout, IsTaskAt, task_room, task_places}
-use Rattle.layout_facts.proofs.Interface.{places_are_apart, tasks_have_room, homes_at}
+use Rattle.layout_facts.proofs.Interface.{tasks_have_room, homes_at}
 use Rattle.task_attempts.proofs.LoggedActs.{IsPair, ActsFit}
 
 -- ---- the words that a start lists

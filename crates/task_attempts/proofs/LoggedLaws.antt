@@ -1,6 +1,7 @@
 -- What tasks owe under undo.
-use Rattle.task_attempts.proofs.Names.{ℕ, List, [], sym, subst, inl, inr, ⊎_elim, arith, World, world_after, fram_after, EachStore, Inputs, InputsAreWords}
-use Rattle.task_attempts.proofs.Names.{◌≡◌, ◌+◌, ◌≤◌, ◌++◌, length, true, ap, ◌∙◌, Gate, MemoryMap, CheckedProgram, AttemptsStore, each_store-append, State, world_fram}
+use Rattle.task_attempts.proofs.Names.{ℕ, List, sym, subst, inl, inr, ⊎_elim, arith, World, world_after, fram_after, EachStore, Inputs, InputsAreWords}
+use Rattle.task_attempts.proofs.Names.{◌≡◌, ◌≤◌, ◌++◌, length, true, ap, ◌∙◌, Gate, MemoryMap, CheckedProgram, AttemptsStore, each_store-append, State}
+use Rattle.task_attempts.proofs.Names.{world_fram}
 use Rattle.task_attempts.proofs.Names.{each_weaker, blocks_agree, program_places, state_view, program_parts, IsBelowCode, word_place, CurrentTask, ListLength}
 use Rattle.task_attempts.proofs.Names.{EmitCount, Undo}
 use Rattle.memory_map.specs.declared.runtime.Role.TheVariants.{Alone}

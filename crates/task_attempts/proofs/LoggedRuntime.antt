@@ -1,8 +1,9 @@
 -- Under undo: an attempt's start clears EC, and lists within the list; a recovery leaves the words that count events; and a commit moves TAIL.
-use Rattle.std.proofs.Common.{◌≡◌, ◌≢◌, ℕ, zero, suc, ◌+◌, ◌*◌, ◌%◌, ◌<◌, ◌≤◌, List, [], ◌∷◌, ◌++◌, length, refl, sym, ap, ◌∙◌, subst, arith, Bool, true, false}
+use Rattle.std.proofs.Common.{◌≡◌, ◌≢◌, ℕ, zero, suc, ◌+◌, ◌%◌, ◌≤◌, List, [], ◌∷◌, ◌++◌, length, refl, sym, ap, ◌∙◌, subst, arith, Bool, true, false}
 use Rattle.std.proofs.Common.{append_assoc}
 use Rattle.task_attempts.proofs.Names.{Effect, Store, EachStore, World, fram_after, each_store-append, put, where_events, HoldsThroughout, Take, Outside}
-use Rattle.task_attempts.proofs.Names.{MemoryMap, word_place, CurrentTask, Gate, ListLength, EmitCount, Base, SentBase, NextTask, Version, ProgramPlaces, StateView}
+use Rattle.task_attempts.proofs.Names.{MemoryMap, word_place, CurrentTask, Gate, ListLength, EmitCount, Base, SentBase, NextTask, Version, ProgramPlaces}
+use Rattle.task_attempts.proofs.Names.{StateView}
 use Rattle.machine_effects.specs.World.{looks_taken, world_after_one}
 use Rattle.machine_effects.specs.Inputs.{Look}
 use Rattle.machine_effects.proofs.Interface.{put_same, put_other, looks_taken-append, fram_untouched}
@@ -12,7 +13,7 @@ use Rattle.runtime_effects.specs.Stages.{cleared, clearing_if, is_at_end, emits_
 use Rattle.undo_effects.specs.Entries.{entry_place}
 use Rattle.undo_effects.specs.Stages.{word_logged, words_logged, numbering_effects, undo_opening, undo_start, recovery, moved_on, let_go, undo_commit}
 use Rattle.undo_effects.proofs.Interface.{opening_stores}
-use Rattle.undo_states.specs.States.{list_length, UndoneAt, ClosesTo}
+use Rattle.undo_states.specs.States.{UndoneAt, ClosesTo}
 use Rattle.undo_states.proofs.Interface.{recovery_stores}
 use Rattle.event_rules.specs.Taking.{Before, Open, Advances, Clears, Moves, Ends, Stores, FollowsSeeing, Ended, Next, IsOffRing}
 use Rattle.event_rules.proofs.Interface.{looks_after, joined, off_ring}
@@ -195,7 +196,8 @@ module _ (l : ProgramPlaces) (apart : memory.AreApart l.map) where
         λ a c b n. put_other g3 (word_place m ListLength) 0 a n ∙ put_other g2 (word_place m Base) base a b
         ∙ put_other g1 (word_place m CurrentTask) current a c in
         let end_gate : g4 gate ≡ 1 =
-        kept gate (λ e. omega (arith, e)) (λ e. omega (arith, e)) (λ e. omega (arith, e)) ∙ put_other g tail_place tail gate (λ e. omega (arith, apart, e)) ∙ g_gate in
+        kept gate (λ e. omega (arith, e)) (λ e. omega (arith, e)) (λ e. omega (arith, e))
+        ∙ put_other g tail_place tail gate (λ e. omega (arith, apart, e)) ∙ g_gate in
         let end_sent : g4 sent_place ≡ tail =
         kept sent_place (λ e. omega (arith, apart, e)) (λ e. omega (arith, apart, e)) (λ e. omega (arith, apart, e))
         ∙ put_other g tail_place tail sent_place (λ e. omega (arith, e)) ∙ g_sent in

@@ -1,7 +1,8 @@
 -- What tasks owe under redo.
 use Rattle.task_attempts.proofs.Names.{ℕ, List, sym, subst, inl, inr, ⊎_elim, arith, World, world_after, fram_after, EachStore, Inputs, InputsAreWords}
-use Rattle.task_attempts.proofs.Names.{CopyPair, behaviour, started, MemoryMap, CheckedProgram, AttemptContract, redo_model, task_program, effects_of}
-use Rattle.task_attempts.proofs.Names.{AttemptsStore, each_store-append, State, task_entries, privates_in, world_fram, each_weaker, numbered_starts, blocks_agree}
+use Rattle.task_attempts.proofs.Names.{CopyPair, behaviour, started, MemoryMap, CheckedProgram, redo_model, task_program}
+use Rattle.task_attempts.proofs.Names.{AttemptsStore, each_store-append, State, task_entries, privates_in, world_fram, each_weaker, numbered_starts}
+use Rattle.task_attempts.proofs.Names.{blocks_agree}
 use Rattle.task_attempts.proofs.Names.{program_places, state_view, program_parts, IsBelowCode, word_place, CurrentTask, Redo}
 use Rattle.task_attempts.proofs.Names.{◌≡◌, ◌++◌, true, ap, ◌∙◌, Gate}
 use Rattle.runtime_effects.specs.Stages.{start_effects}
@@ -17,7 +18,7 @@ use Rattle.task_attempts.proofs.Given.{IsGiven}
 use Rattle.task_attempts.proofs.Quiet.{quiet_through}
 use Rattle.task_attempts.proofs.Started.{Started, redo_run, scene, attempt_at}
 use Rattle.task_attempts.proofs.RedoStarts.{redo_stands}
-use Rattle.task_attempts.proofs.Leaving.{before, z}
+use Rattle.task_attempts.proofs.Leaving.{before}
 use Rattle.task_attempts.proofs.Decided.{quiet_start, quiet_of, quiet_before, lists_within, decided}
 use Rattle.task_attempts.proofs.Contracts.{Keeps, program_keeps, program_stores, program_ends, program_in_order}
 use Rattle.task_attempts.proofs.Runtime.{start_in_order, commit_in_order}

@@ -1,7 +1,7 @@
 -- A started attempt under redo stands for the source's attempt: private scalars have their copies.
 use Rattle.task_attempts.proofs.Names.{◌≡◌, ℕ, ◌+◌, ◌*◌, ◌<◌, [], length, Bool, true, false, refl, sym, ap, ◌∙◌, subst, arith, Contains, Some, slice_get}
 use Rattle.task_attempts.proofs.Names.{entries_from, word_at, Shared, started, StandsFor, some_path_writes, map_seen, word_pair, scalar_of_seen, is_private_in}
-use Rattle.task_attempts.proofs.Names.{scalar_home, IsPlaceOfScalar, scalar_place, words_scalar, ScalarWidth, PrivateScalar, Scalar, scalar_words, scalar_address}
+use Rattle.task_attempts.proofs.Names.{scalar_home, scalar_place, words_scalar, ScalarWidth, PrivateScalar, Scalar, scalar_words, scalar_address}
 use Rattle.task_attempts.proofs.Names.{words_at, IsScalarWord}
 use Rattle.task_attempts.proofs.Tasks.{among_privates}
 use Rattle.task_attempts.proofs.Started.{Attempting, scene, Started, redo_run}

@@ -1,6 +1,7 @@
 -- The laws of compiled tasks, under the runtime of the memory map.
 use Rattle.task_attempts.proofs.Names.{sym, subst, ⊎_elim, World, Inputs, InputsAreWords, behaviour, started, AttemptContract, model_by, started_under}
-use Rattle.task_attempts.proofs.Names.{task_program, effects_of, AttemptsStore, State, keeps_the_laws, blocks_agree, program_places, state_view, Model, ModelLaws}
+use Rattle.task_attempts.proofs.Names.{task_program, effects_of, AttemptsStore, State, keeps_the_laws, blocks_agree, program_places, state_view, Model}
+use Rattle.task_attempts.proofs.Names.{ModelLaws}
 use Rattle.task_attempts.proofs.Names.{program_parts, TasksKeepTheirContract, CompiledSourcesKeepTheLaws, IsBelowCode, AttemptsStoreBelowCode}
 use Rattle.task_attempts.proofs.Names.{TasksLeaveForTheCommit, Redo, Undo}
 use Rattle.memory_map.specs.declared.runtime.Logging.{Logging}
