@@ -1,7 +1,7 @@
 -- How many words are offered since the last power-up or done, in any model whose starts, tasks and recoveries offer none.
 use Rattle.std.proofs.Common.{◌≡◌, ℕ, ◌+◌, ◌≤◌, ◌==◌, Bool, true, false, if◌then◌else◌, List, [], ◌∷◌, ◌++◌, length, refl, sym, ap, ◌∙◌, subst, arith}
 use Rattle.machine_effects.specs.fram_board.Effects.{Effect, Store}
-use Rattle.machine_effects.specs.World.{World, world_after_one, world_after, fram_after, looks_taken}
+use Rattle.machine_effects.specs.World.{World, world_after_one, world_after, fram_after}
 use Rattle.machine_effects.specs.Inputs.{Inputs, InputsAreWords}
 use Rattle.machine_effects.proofs.Interface.{world_after-append}
 use Rattle.crash_rules.specs.Model.{Model, ModelLaws, ProgramEffects, program_effects, inputs_behind, with_commit, attempt_from, script}

@@ -6,7 +6,7 @@ use Rattle.machine_effects.specs.World.{World, fram_after, readings_taken, looks
 use Rattle.machine_effects.specs.Inputs.{Inputs}
 use Rattle.cost_bound.specs.Counts.{emits_of}
 use Rattle.source_values.specs.Runs.{CheckedProgram, State, task_body}
-use Rattle.array_versions.specs.Behaviour.{behaviour, started}
+use Rattle.array_versions.specs.Behaviour.{started}
 use Rattle.memory_map.specs.declared.words.RuntimeWord.TheVariants.{CurrentTask, Gate, EmitCount, SentBase}
 use Rattle.memory_map.specs.MemoryMap.{MemoryMap, word_place, where_events}
 use Rattle.runtime_effects.specs.Places.{CopyPair, listed}

@@ -1,7 +1,7 @@
 -- What effects weigh: a reading one, and a word that is offered any weight. So both are counted in one go.
 use Rattle.std.proofs.Common.{◌≡◌, ℕ, suc, ◌+◌, ◌<◌, ◌≤◌, List, [], ◌∷◌, ◌++◌, length, arith}
 use Rattle.machine_effects.specs.fram_board.Effects.{Effect, Store, Take, Outside, Offered, Looked}
-use Rattle.machine_effects.specs.World.{readings_taken, IsPrefix}
+use Rattle.machine_effects.specs.World.{readings_taken}
 use Rattle.charge_limits.specs.Laws.{words_offered}
 
 abbrev pub weighed : ℕ → List Effect → ℕ

@@ -68,7 +68,8 @@ all_logged events v1 v2 privates scalars body price list emits v e b =
     omega (arith, v, e, b, clears, logs, lists, sends, boot, start, commit)
 
 module _ (logging : Logging) (p : CheckedProgram) (allow : Allow) (plans : List TaskPlanValue) (l : MemoryMap) (allowed : IsAllowed p allow)
-    (few : PrivatesAreCounted p l) (layout : IsLayoutFor logging p allow plans l) (t : ℕ) (fram : ℕ → ℕ) (inputs : Inputs) (task : CheckedTask) (own : TaskPlace)
+    (few : PrivatesAreCounted p l) (layout : IsLayoutFor logging p allow plans l) (t : ℕ) (fram : ℕ → ℕ) (inputs : Inputs) (task : CheckedTask)
+    (own : TaskPlace)
     (at_task : slice_get p.tasks t ≡ Some task) (at_own : slice_get l.tasks t ≡ Some own) where
   body_is : task_body p t ≡ task.body
   body_is = ap body_of at_task
@@ -127,7 +128,8 @@ module _ (logging : Logging) (p : CheckedProgram) (allow : Allow) (plans : List 
       let same = same_privates in let few = privates_are in let body = body_costs in
       let most = all_logged l.runtime.events l.versions.words (versions_of p) (length (private_homes l t)) (scalars_of p.shared (task_body p t))
       (spent (task_program p l t) (started fram inputs)) (block_price cycles_column (task_body p t))
-      (list_of p.shared (task_body p t)) (emits_of (task_body p t)) (layout.versions ∙ allowed.versions) (omega (arith, same, few)) (omega (arith, same, body)) in
+      (list_of p.shared (task_body p t)) (emits_of (task_body p t)) (layout.versions ∙ allowed.versions) (omega (arith, same, few))
+      (omega (arith, same, body)) in
       omega (arith, most)
 
 pub logged_tasks_keep_to_the_bound : LoggedTasksKeepToTheBound

@@ -6,6 +6,5 @@ mod laws;
 
 pub use laws::{
     bound_is_the_sources, capacities_are_kept, logged_tasks_keep_to_the_bound,
-    needs_keep_to_the_bound, table_covers_needs,
-    tasks_keep_to_the_bound,
+    needs_keep_to_the_bound, table_covers_needs, tasks_keep_to_the_bound,
 };

@@ -23,9 +23,11 @@ pub is_logged : (p : CheckedProgram) (l : MemoryMap) → l.runtime.logging ≡ U
 is_logged p l logs = ap₂ (λ logging role. model_by logging role p l) logs (only_alone l.runtime.role)
 
 -- from how it logs to the map
-pub under_map : {as : Logging} (l : MemoryMap) (P : Logging → Role → Type 0) → l.runtime.logging ≡ as → P as Alone → P l.runtime.logging l.runtime.role
-under_map {as} l P logs h = subst (λ role. P l.runtime.logging role) (sym (only_alone l.runtime.role)) (subst (λ logging. P logging Alone) (sym logs) h)
+pub under_map : {chosen : Logging} (l : MemoryMap) (P : Logging → Role → Type 0) → l.runtime.logging ≡ chosen → P chosen Alone
+    → P l.runtime.logging l.runtime.role
+under_map {chosen} l P logs h = subst (λ role. P l.runtime.logging role) (sym (only_alone l.runtime.role)) (subst (λ logging. P logging Alone) (sym logs) h)
 
 -- and from the map
-pub from_map : {as : Logging} (l : MemoryMap) (P : Logging → Role → Type 0) → l.runtime.logging ≡ as → P l.runtime.logging l.runtime.role → P as Alone
-from_map {as} l P logs h = subst (λ logging. P logging Alone) logs (subst (λ role. P l.runtime.logging role) (only_alone l.runtime.role) h)
+pub from_map : {chosen : Logging} (l : MemoryMap) (P : Logging → Role → Type 0) → l.runtime.logging ≡ chosen → P l.runtime.logging l.runtime.role
+    → P chosen Alone
+from_map {chosen} l P logs h = subst (λ logging. P logging Alone) logs (subst (λ role. P l.runtime.logging role) (only_alone l.runtime.role) h)

@@ -135,7 +135,8 @@ module _ (p : CheckedProgram) (l : MemoryMap) (start commit : (ℕ → ℕ) → 
         let all = join_stall (exec code) to_steps q.steps (at.front ++ es) done.effects to_cycles q.cycles (board_of at.core) (board_of there.end)
         q.price stop.NoReading there.leads q.stalls in
         let most = k.within in let body_most = q.within in
-        let Stalling : List Effect → Type 0 = λ fs. Stalls (exec code) (to_steps + q.steps) fs (to_cycles + q.cycles) (board_of at.core) q.price stop.NoReading in
+        let Stalling : List Effect → Type 0 = λ fs. Stalls (exec code) (to_steps + q.steps) fs (to_cycles + q.cycles) (board_of at.core) q.price
+        stop.NoReading in
         record {
           steps = to_steps + q.steps;
           cycles = to_cycles + q.cycles;

@@ -3,7 +3,7 @@ use Rattle.std.proofs.Common.{◌≡◌, ◌<◌, ◌≤◌, ◌+◌, ℕ, Bool,
 use Rattle.std.proofs.lemmas.List.Elements.{All-nil}
 use Rattle.fram_board.specs.Effects.{Effect}
 use Rattle.machine_effects.specs.World.{World, fram_after, world_after}
-use Rattle.machine_effects.specs.Inputs.{Look, Inputs, InputsAreWords, no_inputs}
+use Rattle.machine_effects.specs.Inputs.{Look, InputsAreWords, no_inputs}
 use Rattle.machine_effects.specs.Machine.{Code, MachineBoard}
 use Rattle.machine_effects.proofs.Interface.{code_changes_by_effects, fram_after-append}
 use Rattle.code_forms.specs.Forms.{Core, board_of}
@@ -15,7 +15,7 @@ use Rattle.word_code.specs.Code.{code_spent}
 use Rattle.memory_map.specs.declared.runtime.Logging.{Logging}
 use Rattle.memory_map.specs.declared.runtime.Logging.TheVariants.{Undo}
 use Rattle.memory_map.specs.declared.runtime.Role.{Role}
-use Rattle.memory_map.specs.declared.words.RuntimeWord.TheVariants.{CurrentTask, Gate, ListLength, EmitCount, SentBase, Version}
+use Rattle.memory_map.specs.declared.words.RuntimeWord.TheVariants.{CurrentTask, ListLength, EmitCount, SentBase, Version}
 use Rattle.memory_map.specs.MemoryMap.{MemoryMap, word_place, with_events}
 use Rattle.runtime_effects.specs.Stages.{is_at_end}
 use Rattle.runtime_code.specs.Comes.{IsAt}
@@ -30,12 +30,12 @@ use Rattle.crash_rules.specs.Runs.{Program, ProgramLaws, Makes}
 use Rattle.crash_rules.proofs.Interface.{world_fram}
 use Rattle.stands_for.specs.Layout.{IsSharedWord}
 use Rattle.stands_for.specs.StandsFor.{HoldsWords}
-use Rattle.undo_states.specs.States.{list_length, UndoneAt, SettledAt, LoggingAt, ClosesFrom}
+use Rattle.undo_states.specs.States.{LoggingAt}
 use Rattle.undo_states.specs.Program.{LoggingContract}
 use Rattle.undo_states.proofs.Interface.{settled_stands, logging_starts}
 use Rattle.compiled_model.specs.Places.{program_places}
 use Rattle.compiled_model.specs.View.{state_view}
-use Rattle.compiled_model.specs.Parts.{has_jumped, task_program, private_homes, logged_model, started_under}
+use Rattle.compiled_model.specs.Parts.{has_jumped, task_program, private_homes, logged_model, compiled_model, started_under}
 use Rattle.compiled_model.specs.Needs.{LeavesFor, boot_cycles, logged_cycles}
 use Rattle.compiled_model.proofs.Interface.{is_logged, under_map}
 use Rattle.linked_code.specs.Linked.{ProgramsAreWhole, attempt_start}
@@ -368,5 +368,6 @@ under_undo p l logs r laws =
           makes_within p l logs r own s next x b k e d _ (own_commit p l logs r own s.task d.closes.sends.is_task);
       makes_commit = λ to x b k e d.
           let from = d.from in let task = d.decided.closes.sends.is_task in
-          makes_within p l logs r own from to x b k e d.decided _ (any_commit p l logs r own from.task task _ ((by_undo p l logs r).costs.commits from.task task));
+          makes_within p l logs r own from to x b k e d.decided _
+          (any_commit p l logs r own from.task task _ ((by_undo p l logs r).costs.commits from.task task));
     })

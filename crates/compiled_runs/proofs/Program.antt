@@ -1,5 +1,5 @@
 -- The code makes each attempt and each commit within what its task costs.
-use Rattle.std.proofs.Common.{◌≡◌, ◌<◌, ◌≤◌, ◌+◌, ℕ, Bool, true, List, [], ◌++◌, length, refl, sym, ap, ◌∙◌, subst, arith, append-nil}
+use Rattle.std.proofs.Common.{◌≡◌, ◌<◌, ◌≤◌, ◌+◌, ℕ, Bool, true, List, [], ◌++◌, length, refl, sym, ap, ◌∙◌, subst, arith}
 use Rattle.fram_board.specs.Effects.{Effect}
 use Rattle.machine_effects.specs.World.{World, fram_after, world_after}
 use Rattle.machine_effects.specs.Inputs.{InputsAreWords}
@@ -20,7 +20,7 @@ use Rattle.boot_runtime.specs.Laws.{NamesHandler}
 use Rattle.boot_runtime.proofs.Interface.{clearing_is_dearest}
 use Rattle.commit_runtime.specs.Listing.{commit_steps, commit_cycles}
 use Rattle.lower.specs.Lowered.{lowered}
-use Rattle.crash_rules.specs.Model.{Model, ProgramEffects, program_effects, ModelLaws, with_commit}
+use Rattle.crash_rules.specs.Model.{Model, program_effects, ModelLaws, with_commit}
 use Rattle.crash_rules.specs.Runs.{Program, Makes}
 use Rattle.stands_for.specs.Program.{StartContract}
 use Rattle.stands_for.specs.StandsFor.{HoldsWords, StartedAt}
@@ -331,7 +331,8 @@ pub record CodeMakes (p : CheckedProgram) (l : MemoryMap) (costs : Costs p l) : 
       → boot_cycles l + commit_cycles l.runtime.events l.entries l.entries l.emits.words ≤ most
       → Makes (compiled_program p l) (redo_model p l).delay most (program_effects ((redo_model p l).commit b.fram b.inputs) true) b
 
-pub code_makes : (p : CheckedProgram) (l : MemoryMap) → l.runtime.logging ≡ Redo → CanRun p l → ModelLaws (redo_model p l) → (costs : Costs p l) → CodeMakes p l costs
+pub code_makes : (p : CheckedProgram) (l : MemoryMap) → l.runtime.logging ≡ Redo → CanRun p l → ModelLaws (redo_model p l) → (costs : Costs p l)
+    → CodeMakes p l costs
 code_makes p l logs r laws costs =
     let source : Source = record { program = p; map = l; logs = logs; can = r; laws = laws; costs = costs } in
     record {

@@ -67,7 +67,8 @@ NeedsKeepTheLaws = (p : CheckedProgram) (l : MemoryMap) → l.runtime.logging �
 
 -- and the code makes each attempt and each commit within the task's need, whatever else was pending at the start
 abbrev pub CodeKeepsToNeeds : Type 0
-CodeKeepsToNeeds = (p : CheckedProgram) (l : MemoryMap) → l.runtime.logging ≡ Redo → CanRun p l → TasksListFew p l → NeedsAreWithin p l → ModelLaws (compiled_model p l)
+CodeKeepsToNeeds = (p : CheckedProgram) (l : MemoryMap) → l.runtime.logging ≡ Redo → CanRun p l → TasksListFew p l → NeedsAreWithin p l
+    → ModelLaws (compiled_model p l)
     → ProgramLaws (with_needs p l (compiled_model p l)) (compiled_program p l)
 
 -- it is instructions placed in FRAM in front of the handler, and a power-up with the boot's address in the reset vector comes to its entry
@@ -77,7 +78,8 @@ CodeIsPlaced = (p : CheckedProgram) (l : MemoryMap) → CodeFits l (lowered l p)
 
 -- under redo from a power-up with GATE 0 and VER not at its end, the fifth instruction raises VER, the seventh where there are events
 abbrev pub PowerUpsRaiseVersion : Type 0
-PowerUpsRaiseVersion = (p : CheckedProgram) (l : MemoryMap) → l.runtime.logging ≡ Redo → CanRun p l → (b : MachineBoard) → IsBooting l b → b.fram (word_place l Gate) ≡ 0
+PowerUpsRaiseVersion = (p : CheckedProgram) (l : MemoryMap) → l.runtime.logging ≡ Redo → CanRun p l → (b : MachineBoard) → IsBooting l b
+    → b.fram (word_place l Gate) ≡ 0
     → b.fram (word_place l Version) < 0xFFFF → (t : MachineBoard) → (going (compiled_program p l).step (with_events l.runtime.events 2 + 5) b).status ≡ At t
     → t.fram (word_place l Version) ≡ b.fram (word_place l Version) + 1
 

@@ -1,7 +1,9 @@
 -- The layout of a source leaves no word unused in front of its code.
 use Rattle.compiled_states.proofs.Names.{◌≡◌, ℕ, ◌+◌, ◌*◌, ◌≤◌, Bool, true, false, List, [], ◌∷◌, ◌∙◌, arith, Extent, SharedDeclaration, Allow, CheckedProgram}
 use Rattle.compiled_states.proofs.Names.{CheckedTask, IsAllowed, shared_sum_from, place_part, version_part, is_written, total, greatest, task_words, list_of}
-use Rattle.compiled_states.proofs.Names.{versions_of, TaskPlanValue, MemoryMap, end_of, AreApart, apart_of, IsLayout}
+use Rattle.compiled_states.proofs.Names.{versions_of, TaskPlanValue, MemoryMap, end_of, AreApart, apart_of}
+use Rattle.memory_map.specs.declared.runtime.Logging.{Logging}
+use Rattle.privatise.specs.Layouts.{IsLayoutFor}
 use Rattle.task_ast.specs.declared.Extent.TheVariants.{Scalar, Long, Array}
 use Rattle.cost_bound.specs.Counts.{CheckedBlock, emits_of}
 use Rattle.cost_bound.specs.Allowance.{plain_words_of}
@@ -57,7 +59,8 @@ no_room l a room = record {
   boot = omega (arith, a, room);
 }
 
-pub layout_is_full : (p : CheckedProgram) (allow : Allow) (plans : List TaskPlanValue) (l : MemoryMap) → IsAllowed p allow → IsLayout p allow plans l
+pub layout_is_full : {logging : Logging} (p : CheckedProgram) (allow : Allow) (plans : List TaskPlanValue) (l : MemoryMap) → IsAllowed p allow
+    → IsLayoutFor logging p allow plans l
     → IsFull l
 layout_is_full p allow plans l h laid =
     let a = apart_of l laid.rules in

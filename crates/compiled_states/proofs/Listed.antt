@@ -9,7 +9,7 @@ use Rattle.std.proofs.lemmas.List.Sums.{sum_by-cons}
 use Rattle.runtime_effects.proofs.Interface.{run_length}
 use Rattle.fram_state.specs.Stretch.{words_at}
 use Rattle.compiled_states.proofs.Words.{steady_at}
-use Rattle.compiled_states.proofs.Named.{Mapped, its_map, shared_is, is_a_shared}
+use Rattle.compiled_states.proofs.Named.{Mapped, its_map, copies_are, shared_is, is_a_shared}
 
 -- ---- pairs
 
@@ -97,7 +97,8 @@ module _ (own : Mapped) where
       let b = and_parts (is_even e.copy) _ a.1 in
       let c = and_parts (lies_in (words_at e.copy e.words) (copies_words m.copies)) _ b.1 in
       let d = and_parts (is_even e.home) (are_shared m.variables e.words e.home) c.1 in
-      let there = and_parts (nat_le l.copies.address e.copy) (nat_le (e.copy + 2 * e.words) (end_of l.copies)) c.0 in
+      let there = and_parts (nat_le l.copies.address e.copy) (nat_le (e.copy + 2 * e.words) (end_of l.copies))
+      (subst (λ r. lies_in (words_at e.copy e.words) r ≡ true) (copies_are own) c.0) in
       let some = leb-true 1 e.words a.0 in
       record {
         some = omega (arith, some);
@@ -115,8 +116,9 @@ module _ (own : Mapped) where
       and_from (nat_le 1 (suc n)) _ (le-leb 1 (suc n) (omega arith))
       (and_from (is_even copy) _ (eq-eqb (copy % 2) 0 c.even)
       (and_from (lies_in (words_at copy (suc n)) (copies_words m.copies)) _
+      (subst (λ r. lies_in (words_at copy (suc n)) r ≡ true) (sym (copies_are own))
       (and_from (nat_le l.copies.address copy) (nat_le (copy + 2 * suc n) (end_of l.copies)) (le-leb l.copies.address copy c.from)
-      (le-leb (copy + 2 * suc n) (end_of l.copies) (copies_end n home copy copied)))
+      (le-leb (copy + 2 * suc n) (end_of l.copies) (copies_end n home copy copied))))
       (and_from (is_even home) (are_shared m.variables (suc n) home) (eq-eqb (home % 2) 0 home_is.even) (are_homes (suc n) home copy homes))))
 
   entry_is_good : (home copy words : ℕ) → IsGood (record { home = home; copy = copy; words = words })

@@ -1,12 +1,16 @@
 -- What the map of a source names: the words of the runtime, the buffers, the variables and the copies, which are all in front of the code; and the
 -- ring, where the source takes events.
 use Rattle.compiled_states.proofs.Names.{◌≡◌, ◌⊎◌, inl, inr, ℕ, zero, suc, ◌+◌, ◌*◌, ◌%◌, ◌<◌, ◌≤◌, ◌||◌, Bool, true, false, List, [], ◌∷◌, length, Some, None}
-use Rattle.compiled_states.proofs.Names.{map, refl, sym, ap, arith, slice_get, false≢true, cases_lt, or_cases, or_from, or_left, or_right, Extent}
-use Rattle.compiled_states.proofs.Names.{SharedDeclaration, Allow, CheckedProgram, TaskPlanValue, VariablePlace, Scalar, Array, MemoryMap, end_of, scalar_words}
+use Rattle.compiled_states.proofs.Names.{map, refl, sym, ap, arith, slice_get, false≢true, cases_lt, or_cases, or_from, or_left, or_right}
+use Rattle.compiled_states.proofs.Names.{SharedDeclaration, Allow, CheckedProgram, TaskPlanValue, VariablePlace, MemoryMap, end_of}
 use Rattle.compiled_states.proofs.Names.{home_region, AreInOrder, AreApart, apart_of, in_order_end, IsSharedWord, program_places, shared_words_are_of_variables}
-use Rattle.compiled_states.proofs.Names.{IsFram, length_of, map_words, map_list, map_buffer, value_type_of, variable_of, variables_of, map_of, IsOfKind}
+use Rattle.compiled_states.proofs.Names.{IsFram, length_of, map_words, map_list, map_buffer, value_type_of, variable_of, variables_of, map_of}
 use Rattle.compiled_states.proofs.Names.{ArePlacesOf, MapValue, word_count, holds, is_held, place_words, list_words, variable_words, runtime_words, buffers}
 use Rattle.compiled_states.proofs.Names.{is_in_ring, is_shared, is_named, map_ring}
+use Rattle.std.proofs.Common.{subst}
+use Rattle.fram_state.specs.Named.{copies_words}
+use Rattle.memory_map.specs.declared.runtime.Logging.TheVariants.{Redo}
+use Rattle.source_maps.specs.Maps.{copied_words}
 use Rattle.layout_facts.specs.Facts.{HasLayout}
 use Rattle.image_reports.proofs.Interface.{words_are}
 use Rattle.compiled_states.proofs.Full.{IsFull, layout_is_full}
@@ -73,6 +77,7 @@ pub record Mapped : Type 0 where
   pub plans : List TaskPlanValue
   pub layout : MemoryMap
   pub laid : HasLayout program allow plans layout
+  pub redo : layout.runtime.logging ≡ Redo
   pub kinds : ArePlacesOf program.shared layout.variables
   pub tasks : length (map_of text program layout allow).tasks ≡ length program.tasks
 
@@ -81,7 +86,7 @@ abbrev pub its_map : Mapped → MapValue
 its_map own = map_of own.text own.program own.layout own.allow
 
 module _ (own : Mapped) where
-  open own use {text, program as p, allow, plans, layout as l, laid, kinds}
+  open own use {text, program as p, allow, plans, layout as l, laid, redo, kinds}
 
   abbrev m : MapValue
   m = its_map own
@@ -91,6 +96,10 @@ module _ (own : Mapped) where
 
   full : IsFull l
   full = layout_is_full p allow plans l laid.allowed laid.layout
+
+  -- the runtime works in copies, so the map names them all
+  pub copies_are : copies_words m.copies ≡ place_words (map_buffer l.copies)
+  copies_are = ap (λ g. place_words (record { address = l.copies.address; capacity = copied_words g l.copies.words })) redo
 
   pub shared_is : (a : ℕ) → a % 2 ≡ 0 → is_shared m.variables a ≡ true → IsSharedWord (program_places p l) a
   shared_is a even h =
@@ -124,7 +133,8 @@ module _ (own : Mapped) where
       let emits : end_of l.emits ≤ a = omega (arith, k, from) in
       let versions : end_of l.versions ≤ a = omega (arith, k, from) in
       let homes : end_of l.homes ≤ a = omega (arith, k, from) in
-      let copies : end_of l.copies ≤ a = omega (arith, k, from) in
+      let behind : end_of l.copies ≤ a = omega (arith, k, from) in
+      let copies : (copies_words m.copies).to ≤ a = subst (λ r. r.to ≤ a) (sym copies_are) behind in
       or_from (is_held (runtime_words (map_words l)) a) (is_held (buffers m) a || (is_in_ring (map_ring l) a || is_shared m.variables a))
       (none_held (runtime_words (map_words l)) a (
         omega (arith, row),
@@ -163,10 +173,10 @@ module _ (own : Mapped) where
       by_copies : end_of l.homes ≤ a → is_named m a ≡ true
       by_copies from =
           let k = full in
-          let here : holds (place_words (map_buffer l.copies)) a ≡ true =
-          within (place_words (map_buffer l.copies)) a (omega (arith, k, from)) (omega (arith, k, below)) in
+          let here : holds (copies_words m.copies) a ≡ true = subst (λ r. holds r a ≡ true) (sym copies_are)
+          (within (place_words (map_buffer l.copies)) a (omega (arith, k, from)) (omega (arith, k, below))) in
           of_buffers a (or_right (holds (list_words (map_list l)) a) _ (or_right (holds (place_words (map_buffer l.emits)) a) _
-          (or_right (holds (place_words (map_buffer l.versions)) a) _ (or_left (holds (place_words (map_buffer l.copies)) a) false here))))
+          (or_right (holds (place_words (map_buffer l.versions)) a) _ (or_left (holds (copies_words m.copies) a) false here))))
 
       by_homes : l.homes.address ≤ a → (a < end_of l.homes) ⊎ (end_of l.homes ≤ a) → is_named m a ≡ true
       by_homes from (inl lt) =

@@ -15,7 +15,7 @@ use Rattle.fram_state.specs.declared.fault.Rule.TheVariants as rule
 use Rattle.fram_state.specs.declared.fault.Rule.{Rule}
 use Rattle.fram_state.specs.declared.runtime.Runtime.{Runtime}
 use Rattle.compiled_states.proofs.Words.{steady_at, steady_small, each_at_most, all_at_most}
-use Rattle.compiled_states.proofs.Named.{Mapped, its_map}
+use Rattle.compiled_states.proofs.Named.{Mapped, its_map, copies_are}
 use Rattle.compiled_states.proofs.Listed.{all_length, good_entries, good_words, good_homes, good_copies, pairs_are, counts_some, all_pairs, entries_at, AreGood}
 use Rattle.compiled_states.proofs.Listed.{are_good_entries, by_pairs, some_counts}
 
@@ -392,7 +392,7 @@ module _ (own : Mapped) (saved : Saved) where
       pending_list =
           let end = parts.copies.end in
           and_from (fits_fram (copies_words m.copies)) (are_entries m (entries_of (words_from words l.list.address (3 * r.list_length))) l.entries)
-          (le-leb (end_of l.copies) 65536 (omega (arith, end)))
+          (subst (λ r. fits_fram r ≡ true) (sym (copies_are own)) (le-leb (end_of l.copies) 65536 (omega (arith, end))))
           (ap (λ k. are_entries m (entries_of (words_from words l.list.address (3 * k))) l.entries) (sym (at ListLength))
           ∙ and_from (list_all (is_entry m) entries) (nat_le (words_of entries) l.entries) all_entries (le-leb (words_of entries) l.entries few_words))
 

@@ -3,7 +3,7 @@ use Rattle.compiled_states.proofs.Names.{◌≡◌, ◌⊎◌, inl, inr, ℕ, �
 use Rattle.compiled_states.proofs.Names.{◌+◌, ◌*◌, Bool, true, apart_of, is_ring, steady_low, steady_off, append-nil, replicate, length-map}
 use Rattle.compiled_states.proofs.Names.{length-replicate, cases_lt, State, is_named, MemoryMap, MapValue, ImageValue}
 use Rattle.compiled_states.proofs.Names.{BoardValue, BoardCharge, Moment, RunOutcome, Run, saved, World, IsFram, fram_of, last_board}
-use Rattle.compiled_states.proofs.Names.{Allow, CheckedProgram, map_of, IsCompiled, IsImageOf, IsFreshImage, laid_out, images_are_fresh}
+use Rattle.compiled_states.proofs.Names.{Allow, CheckedProgram, map_of, IsCompiled, IsImageOf, IsFreshImage, laid_out, logs_so, images_are_fresh}
 use Rattle.compiled_states.proofs.Names.{BelongsTo, known_from, IsToldOnward, IsResumedRun, made, images_belong, images_resume, world_of}
 use Rattle.compiled_states.proofs.Names.{steady, is_in_ring, map_ring, is_ring_at, is_pending, runtime_of, KeepsRing, IfSome}
 use Rattle.compiled_states.proofs.Names.{MayHaveAccepted, HasFramWords, HasCodeWords, board_of, LeavesItsStates, StatesAreWorlds, WorldsAreStates}
@@ -63,6 +63,7 @@ module _ (text : List ℕ) (image : ImageValue) (of : IsImageOf text image) wher
       layout = c.is_layout;
       few = privates_are_few text p allow c.plans l (laid_out text p allow image ok c);
     };
+    redo = logs_so text p allow image c;
     kinds = source_map.places;
     tasks = same_tasks;
   }

@@ -2,7 +2,7 @@
 use Rattle.compiled_states.proofs.Names.{Bool, true, false, if◌then◌else◌, None}
 use Rattle.std.specs.Prelude.{is_some}
 use Rattle.source_maps.specs.Maps.{event_ring}
-use Rattle.compiled_states.proofs.Names.{◌≡◌, ℕ, suc, List, [], ◌∷◌, length, map, Some, refl, sym, ap, ap₂, ◌∙◌, arith, slice_get}
+use Rattle.compiled_states.proofs.Names.{◌≡◌, ℕ, suc, List, [], ◌∷◌, length, map, Some, refl, ap, ap₂, ◌∙◌, arith, slice_get}
 use Rattle.compiled_states.proofs.Names.{SharedDeclaration, CheckedTask, TaskPlanValue, VariablePlace, TaskPlace}
 use Rattle.compiled_states.proofs.Names.{IsTaskLayout, TaskValue, variables_of, shared_name, task_value_of, tasks_of}
 use Rattle.compiled_states.proofs.Names.{map_of, ArePlacesOf, ImagesSuitTheirSources}

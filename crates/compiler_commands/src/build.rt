@@ -7,9 +7,9 @@ ghost use Rattle.plain_commands.specs.command_answers.Outcomes.{FailsBy};
 ghost use Rattle.compiler_commands.specs.Build.{build_promise};
 
 use crate::built::built_of;
-use memory_map::Logging;
 use crate::gen_lines::write_bound;
 use image_reports::images_keep_the_laws;
+use memory_map::Logging;
 use plain_commands::answers::{
     Failure, Status, answer_failure, answer_unread, put_file, read_file,
 };

@@ -19,8 +19,8 @@ ghost use Rattle.plain_commands.specs.command_answers.Outcomes.{FailsBy};
 ghost use Rattle.compiler_commands.specs.Gen.{gen_promise};
 
 use crate::built::{Built, built_of};
-use memory_map::Logging;
 use crate::gen_lines::{GenNumbers, write_lines};
+use memory_map::Logging;
 use plain_commands::answers::{Failure, Status, answer_failure, put_file};
 use plain_commands::board_runs::{RunEnd, Watch, run};
 use plain_commands::boards::Board;

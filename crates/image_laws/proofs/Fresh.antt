@@ -77,7 +77,7 @@ module _ {logging : Logging} (text : List ℕ) (p : CheckedProgram) (allow : All
   rules = c.is_layout.rules
 
   fits : CodeFits l (lowered l p)
-  fits = sources_have_room p allow c.plans l ok.allowed c.is_layout c.is_plan.count
+  fits = sources_have_room logging p allow c.plans l ok.allowed c.is_layout c.is_plan.count
       (λ k task own at own_at. (tasks_match p allow c.plans l laid k task own (record { is_task = at; is_layout = own_at })).count)
 
   pub code_end : l.boot.address + 2 * length (code_words p l) ≤ end_of l.code

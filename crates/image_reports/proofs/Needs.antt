@@ -1,5 +1,5 @@
 -- Each charge of a run pays for its transitions by what their tasks need.
-use Rattle.image_reports.proofs.Names.{◌<◌, ◌≤◌, ◌+◌, ◌*◌, ℕ, zero, suc, refl, ap, ◌≡◌, ◌∙◌, subst, arith, List, length, Bool, MapValue, BoardValue}
+use Rattle.image_reports.proofs.Names.{◌<◌, ◌≤◌, ◌*◌, ℕ, zero, suc, refl, ap, ◌≡◌, ◌∙◌, subst, arith, List, length, Bool, MapValue, BoardValue}
 use Rattle.image_reports.proofs.Names.{BoardCharge}
 use Rattle.image_reports.proofs.Names.{RunOutcome, World, CheckedProgram, State, map_of, MemoryMap, Model, ModelLaws, History, first_history, Program}
 use Rattle.image_reports.proofs.Names.{StandsFor, BearsModel, IsFirstWithin, IsTaskWithin, task_costs, cost_due, at_first, EachChargePays}
@@ -18,7 +18,7 @@ use Rattle.compiled_bounds.proofs.Interface.{needs_keep_to_the_bound}
 use Rattle.compiled_runs.proofs.Interface.{needs_keep_the_laws, code_keeps_to_needs, by_redo}
 use Rattle.image_reports.specs.Sources.{IsSourcesMap}
 use Rattle.image_reports.proofs.CompiledTold.{models_are_of_sources}
-use Rattle.image_reports.proofs.Begins.{Beginning, first_world, first_board, bears}
+use Rattle.image_reports.proofs.Begins.{first_world, first_board, bears}
 use Rattle.image_reports.proofs.Onward.{Onward, starts_with}
 use Rattle.image_reports.proofs.Told.{source}
 

@@ -14,7 +14,7 @@ use Rattle.image_reports.proofs.Names.{fronts_are_lawful, HoldsWords, IsSound, S
 use Rattle.image_reports.proofs.Names.{redo_model, compiled_model, start_under, is_redo, under_map, KeepsCapacities, KeepsVersions}
 use Rattle.image_reports.proofs.Names.{phase_keeps_versions, capacities_are_kept, source_code, placed_code, compiled_program, code_is_placed}
 use Rattle.image_reports.proofs.Names.{power_ups_raise_version, scripts_store_below, at_first, EachChargePays, runtime_marks, VersionsBelow, KeepsCode}
-use Rattle.image_reports.proofs.Names.{IsRaisedSoon, RaisesVersion, BelongsTo, known_from, HoldsFrom}
+use Rattle.image_reports.proofs.Names.{IsRaisedSoon, RaisesVersion, known_from, HoldsFrom, ImageValue, StandsFor}
 use Rattle.std.proofs.lemmas.Bool.{and_parts}
 use Rattle.event_places.specs.Places.{answer_place, handler_place, is_ring}
 use Rattle.std.specs.Prelude.{if◌then◌else◌, None}

@@ -1,23 +1,21 @@
 -- A compiled source that takes events enables interrupts by the second instruction of a charge, and leaves them enabled.
-use Rattle.image_reports.proofs.Names.{◌≡◌, ◌+◌, ◌<◌, ◌≤◌, ℕ, zero, suc, Bool, true, false, refl, sym, ap, ◌∙◌, subst, arith, List, [], ◌∷◌, ◌++◌}
+use Rattle.image_reports.proofs.Names.{◌≡◌, ◌+◌, ℕ, zero, suc, Bool, true, false, refl, sym, ap, ◌∙◌, subst, arith, List, [], ◌∷◌, ◌++◌}
 use Rattle.image_reports.proofs.Names.{CheckedProgram}
-use Rattle.image_reports.proofs.Names.{MemoryMap, MachineBoard, Code, StepOutcome, Goes, Stops, At, continued, going, exec, compiled_program, placed_code}
-use Rattle.image_reports.proofs.Names.{source_code}
+use Rattle.image_reports.proofs.Names.{MemoryMap, MachineBoard, Code, Goes, Stops, At, continued, going, exec, placed_code}
 use Rattle.std.specs.Prelude.{◌-◌, ◌/◌}
 use Rattle.address_space.specs.Limits.{stack_start}
-use Rattle.msp_step.specs.Registers.{Registers}
 use Rattle.msp_step.specs.Step.{is_interruptible}
 use Rattle.machine_effects.specs.alp_words.declared.Flags.{Flags}
 use Rattle.code_forms.specs.Forms.{Form, SetStack, EnableInterrupts, Core, board_of, register_file}
 use Rattle.code_forms.specs.Code.{Stands}
 use Rattle.code_forms.specs.Placed.{instructions, placed}
 use Rattle.code_forms.proofs.Interface.{stands_front, does, forms_stand, code_stays_open}
-use Rattle.fram_board.specs.Effects.{Effect}
-use Rattle.msp_step.specs.declared.machine.Stop.{Stop}
+use Rattle.memory_map.specs.declared.runtime.Logging.{Logging}
+use Rattle.memory_map.specs.declared.runtime.Logging.TheVariants.{Redo, Undo}
 use Rattle.memory_map.specs.MemoryMap.{where_events}
 use Rattle.lower.specs.Lowered.{lowered}
 use Rattle.boot_runtime.specs.Listing.{fixed_forms, interrupts_enabled, interrupts_set}
-use Rattle.linked_code.specs.Linked.{CodeFits, linked_forms, boot_part, commit_part, task_parts}
+use Rattle.linked_code.specs.Linked.{CodeFits, linked_forms, boot_code, boot_part, commit_part, task_parts}
 use Rattle.linked_code.specs.Parts.{CodePart, chained, filler, part_end}
 use Rattle.linked_code.proofs.Interface.{linked_is_code}
 use Rattle.compiled_runs.specs.Program.{IsBooting}
@@ -73,6 +71,11 @@ module _ (p : CheckedProgram) (l : MemoryMap) (fits : CodeFits l (lowered l p)) 
       let none : (at - at) / 2 ≡ 0 = omega arith in
       ap (λ n. repeated n filler ++ ((boot_part l).forms ++ chained (part_end (boot_part l)) (rest_of_parts l p))) none
 
+  -- under each runtime it begins so
+  front_stands : (logging : Logging) → Stands code at (boot_code logging l) → Stands code at (interrupts_enabled l)
+  front_stands Redo boot = stands_front code at (interrupts_enabled l) _ (stands_front code at (fixed_forms l l.commit.address) _ boot)
+  front_stands Undo boot = stands_front code at (interrupts_enabled l) _ boot
+
   boot_stands : Stands code at (interrupts_set)
   boot_stands =
       let P : List Form → Type 0 = λ ms. Stands (placed l.runtime.events at (instructions ms)) at ms in
@@ -80,9 +83,7 @@ module _ (p : CheckedProgram) (l : MemoryMap) (fits : CodeFits l (lowered l p)) 
       let all : Stands code at (linked_forms l (lowered l p)) = forms_stand l.runtime.events (linked_forms l (lowered l p)) at in
       let parted : Stands code at ((boot_part l).forms ++ chained (part_end (boot_part l)) (rest_of_parts l p)) = subst Q first_part all in
       let boot = stands_front code at (boot_part l).forms (chained (part_end (boot_part l)) (rest_of_parts l p)) parted in
-      let fixed = stands_front code at (fixed_forms l l.commit.address) _ boot in
-      let head = stands_front code at (interrupts_enabled l) _ fixed in
-      subst (λ (e : Bool). Stands code at (where_events e interrupts_set)) on head
+      subst (λ (e : Bool). Stands code at (where_events e interrupts_set)) on (front_stands l.runtime.logging boot)
 
   -- behind the first two instructions of a charge they are enabled
   pub opens : (n : ℕ) (s t : MachineBoard) → IsBooting l s → (going (exec code) (suc (suc n)) s).status ≡ At t → is_interruptible t.registers ≡ true

@@ -1,7 +1,8 @@
 -- What the undo runtime's start lists of a task: the words of its private scalars.
 use Rattle.layout_facts.proofs.Names.{◌≡◌, ℕ, zero, suc, ◌+◌, ◌*◌, ◌<◌, ◌≤◌, ◌⊎◌, inl, inr, true, false, List, [], ◌∷◌, ◌++◌, length, map, refl, sym, ap, ◌∙◌}
 use Rattle.layout_facts.proofs.Names.{arith, subst, Some, slice_get, option_map, slice_get-map, get_or_from_slice_get, cases_lt, All, All-head, All-tail}
-use Rattle.layout_facts.proofs.Names.{Allow, CheckedProgram, CheckedTask, TaskPlanValue, element, body_of, task_body, is_private_in, program_places, IsSharedWord}
+use Rattle.layout_facts.proofs.Names.{Allow, CheckedProgram, CheckedTask, TaskPlanValue, element, body_of, task_body, is_private_in, program_places}
+use Rattle.layout_facts.proofs.Names.{IsSharedWord}
 use Rattle.layout_facts.proofs.Names.{HasLayout, IsTaskAt, PrivateScalar, MemoryMap, TaskPlace, scalar_words, HasItsPlace, scalar_home}
 use Rattle.std.proofs.Common.{zero-le}
 use Rattle.std.proofs.lemmas.List.Elements.{All-nil, All-cons, All-append}

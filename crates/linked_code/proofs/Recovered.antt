@@ -96,7 +96,8 @@ module _ (l : MemoryMap) (programs : List Program) (fits : CodeFits l programs) 
       let n = u.fram (word_place l ListLength) in
       let es = recovery l u.fram in
       at_start es (with_events events 2 + 2 + recovery_steps n) (with_events events 3 + 6 + recovery_cycles n) u (fram_after es u.fram) u.inputs
-      (recovery_is_made (code l programs fits whole) l l.commit.address tasks l.boot.address u is_boot e named (omega (arith, z)) (λ q. omega (arith, z, q)) can)
+      (recovery_is_made (code l programs fits whole) l l.commit.address tasks l.boot.address u is_boot e named (omega (arith, z)) (λ q. omega (arith, z, q))
+      can)
 
   -- from the start of an attempt, where nothing is listed, to the code of the task that CUR names
   abbrev pub FromStart : Core → (ℕ → ℕ) → Inputs → Type 0
@@ -121,7 +122,8 @@ module _ (l : MemoryMap) (programs : List Program) (fits : CodeFits l programs) 
       let P : ℕ → Type 0 = λ address. Comes (code l programs fits whole) es (start_steps events clears l.versions.words (length t.privates))
       (start_cycles events clears l.versions.words (length t.privates)) v (Enters address (stack_origin events) (fram_after es f) inputs) in
       subst P (same_code l.tasks k)
-      (from_there v (subst (λ g. IsAt (start_by g l) f inputs v) logs h) (undo_start_is_made (code l programs fits whole) l l.commit.address tasks l.boot.address (core_at start_at f inputs v) is_boot refl
+      (from_there v (subst (λ g. IsAt (start_by g l) f inputs v) logs h)
+      (undo_start_is_made (code l programs fits whole) l l.commit.address tasks l.boot.address (core_at start_at f inputs v) is_boot refl
       (omega (arith, named, count, e)) word none))
 
   -- the commit on FRAM

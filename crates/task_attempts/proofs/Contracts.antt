@@ -12,13 +12,13 @@ use Rattle.task_attempts.proofs.Names.{BlocksAgree}
 use Rattle.task_attempts.proofs.Names.{lowered_block, task_program, outcome_of, whole_task, has_jumped, effects_of, program_parts, LeavesFor}
 use Rattle.task_attempts.proofs.Names.{inl, IsBelowCode, Gate, word_place}
 use Rattle.array_versions.specs.Program.{Program}
-use Rattle.array_versions.specs.Behaviour.{Short as Starves, Strays}
+use Rattle.array_versions.specs.Behaviour.{Short as Starves}
 use Rattle.machine_effects.specs.World.{fram_after}
-use Rattle.source_values.specs.Statements.{goes_on}
 use Rattle.array_versions.specs.Laws.{EndsByEffects, IsSound}
 use Rattle.source_meaning.proofs.Interface.{emits_same}
 use Rattle.task_attempts.proofs.Names.{◌%◌, ◌+◌, ◌<◌, NextTask, SentBase, Base, ListLength, sent_place, event_index, where_events, entry_effects, runs_of}
-use Rattle.task_attempts.proofs.Names.{transition_effects, each_store-front, at_variable, at_copy, at_element, at_version, in_list, at_list_length, at_emit_count}
+use Rattle.task_attempts.proofs.Names.{transition_effects, each_store-front, at_variable, at_copy, at_element, at_version, in_list, at_list_length}
+use Rattle.task_attempts.proofs.Names.{at_emit_count}
 use Rattle.task_attempts.proofs.Names.{in_buffer}
 use Rattle.task_attempts.proofs.Names.{at_answer, scalar, copy, list_of}
 use Rattle.memory_map.specs.Spots.{version}
@@ -35,7 +35,7 @@ use Rattle.memory_map.specs.declared.runtime.Logging.{Logging}
 use Rattle.memory_map.specs.declared.runtime.Role.{Role}
 use Rattle.memory_map.specs.Spots.{element}
 use Rattle.lower.specs.Agreement.{DidWithin}
-use Rattle.task_attempts.proofs.Names.{model_by, StandsFor, IsElement, Element, Some}
+use Rattle.task_attempts.proofs.Names.{model_by, StandsFor, IsElement, Some}
 use Rattle.task_attempts.proofs.Quiet.{stores_each, stores_as, answers_seen}
 use Rattle.task_attempts.proofs.Tasks.{body_is, program_is}
 use Rattle.task_attempts.proofs.Tame.{Tame, task_tame, emits_fit}
@@ -205,8 +205,8 @@ module _ (logging : Logging) (role : Role) (run : Attempting) (keeps_to : Keeps 
   leaves es _ _ h = absurd h.agrees
 
   -- where a task leaves, what holds of FRAM behind each transition
-  ends_with : (P : (ℕ → ℕ) → End → Type 0) → ((t : Transition run) → P (z run t).fram (Jumps t.to t.end)) → ((es : List Effect) → P (fram_after es x.fram) Starves)
-      → (es : List Effect) (e : End) (o : Outcome) → Meets es e o → P (fram_after es x.fram) e
+  ends_with : (P : (ℕ → ℕ) → End → Type 0) → ((t : Transition run) → P (z run t).fram (Jumps t.to t.end))
+      → ((es : List Effect) → P (fram_after es x.fram) Starves) → (es : List Effect) (e : End) (o : Outcome) → Meets es e o → P (fram_after es x.fram) e
   ends_with P left none es (GoesOn t) o h = absurd h.sound
   ends_with P left none es Broken o h = absurd h.sound
   ends_with P left none es (Jumps to end) (to_task task m) h =

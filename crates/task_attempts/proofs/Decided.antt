@@ -1,19 +1,17 @@
 -- Behind the last store of a transition the world is decided to the state that the source comes to.
-use Rattle.task_attempts.proofs.Names.{◌≡◌, ℕ, ◌+◌, ◌*◌, ◌%◌, ◌<◌, ◌≤◌, List, [], ◌∷◌, ◌++◌, length, length-append, map, get_or, Some, None, true, false, refl}
-use Rattle.task_attempts.proofs.Names.{sym, ap, ◌∙◌, subst, ⊎_elim, inl, arith, append_assoc, append-nil, Contains, slice_get, flat_map, get_or_past, cases_lt}
-use Rattle.task_attempts.proofs.Names.{cases_Bool, length-map, slice_get_cases, slice_get_within, Effect, Store, World, world_after_one, world_after}
-use Rattle.task_attempts.proofs.Names.{fram_after, fram_after-append, world_after-append, each_store-front, put_same, put_other, each_store-back, world_fram}
-use Rattle.task_attempts.proofs.Names.{SharedDeclaration, Shared, emits_of, stores_of, is_written, list_of, word_at, Attempt, State, initial_words, task_body}
-use Rattle.task_attempts.proofs.Names.{WordState, CopyPair, scalar_pairs, entries_from, listed, scalar_pairs_count, some_path_writes, takes_append, few_entries}
-use Rattle.task_attempts.proofs.Names.{runs_are_few, scalar_seen, array_seen, array_read, runs_of, IsAmong, IsSharedWord, IsCopyWord, EntriesHaveWords}
-use Rattle.task_attempts.proofs.Names.{SendsAndCloses, CopiesHome, DecidedFrom, put_words, TakesAndStores, transition_effects, element_pair, Bounds, Left}
-use Rattle.task_attempts.proofs.Names.{place_length, listed_of, stays_in_place, are_rows, scalar_home, privates_few, contains_at, scalar_found, found_word}
-use Rattle.task_attempts.proofs.Names.{among_either, among_front, among_back, word_pair, among_scalars, scalars_among, StoresWords, CurrentTask, NextTask, Gate}
-use Rattle.task_attempts.proofs.Names.{ListLength, EmitCount, Base, SentBase, Version, VariablePlace, Scalar, Array, PrivateScalar, word_place, scalar_words}
-use Rattle.task_attempts.proofs.Names.{scalar_address, private_words, IsScalarWord, Element, IsElement, IsCopied, Spot, IsSpot, scalar, copy, spot_address}
+use Rattle.task_attempts.proofs.Names.{◌≡◌, ℕ, ◌+◌, ◌*◌, ◌<◌, ◌≤◌, List, ◌++◌, length, length-append, map, Some, true, false, refl}
+use Rattle.task_attempts.proofs.Names.{sym, ap, ◌∙◌, subst, ⊎_elim, inl, arith, Contains, slice_get, flat_map}
+use Rattle.task_attempts.proofs.Names.{cases_Bool, length-map, Effect, World}
+use Rattle.task_attempts.proofs.Names.{each_store-front, each_store-back}
+use Rattle.task_attempts.proofs.Names.{list_of, State, task_body}
+use Rattle.task_attempts.proofs.Names.{CopyPair, scalar_pairs, entries_from, listed, scalar_pairs_count, some_path_writes, takes_append, few_entries}
+use Rattle.task_attempts.proofs.Names.{scalar_seen, runs_of, IsAmong, IsSharedWord, IsCopyWord, EntriesHaveWords}
+use Rattle.task_attempts.proofs.Names.{CopiesHome, DecidedFrom, TakesAndStores, element_pair}
+use Rattle.task_attempts.proofs.Names.{stays_in_place, scalar_home, contains_at, scalar_found, found_word}
+use Rattle.task_attempts.proofs.Names.{among_either, among_front, among_back, word_pair, among_scalars, scalars_among, StoresWords, Gate}
+use Rattle.task_attempts.proofs.Names.{ListLength, Scalar, Array, PrivateScalar, word_place, scalar_words}
+use Rattle.task_attempts.proofs.Names.{private_words, Element, IsElement, IsCopied, copy}
 use Rattle.task_attempts.proofs.Names.{element_address, copy_address, IsWordOf, scalars_of}
-use Rattle.lower.specs.Agreement as agreement
-use Rattle.war_analysis.proofs.Interface.{element as item_at}
 use Rattle.memory_map.specs.Spots.{element}
 use Rattle.task_attempts.proofs.Quiet.{IsQuiet, IsQuietAt, quiet_behind, stores_as}
 use Rattle.task_attempts.proofs.Entries.{IsTransitionStore, transition_stores, closed_count, closed_pairs, closed_entries, Closing}
@@ -229,7 +227,7 @@ module _ (st : Started) where
         subst (IsSharedWord sites) (sym home) (given.source.words.is_shared r.number n (2 * n + r.home) word)
 
     is_copy : (q : CopyPair) → IsPair q → IsCopyWord sites q.copy
-    is_copy q (of_element e h home copied) = subst (IsCopyWord sites) (sym copied) (facts.copies e (listed_copied e h))
+    is_copy q (of_element e h home copied) = subst (IsCopyWord sites) (sym copied) (facts.seen.copies e (listed_copied e h))
     is_copy q (of_private r n h below home copied) = subst (IsCopyWord sites) (sym copied) (private_copy p l given.privates s.task i r n h below)
 
     is_copied : (q : CopyPair) → IsPair q → z.fram q.copy ≡ view.word next q.home

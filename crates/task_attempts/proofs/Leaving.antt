@@ -1,19 +1,20 @@
 -- A transition of a task, under each runtime: its effects, what FRAM is behind its last store, the state that the source comes to, and what the commit
 -- sends and closes.
-use Rattle.task_attempts.proofs.Names.{◌≡◌, ℕ, ◌+◌, ◌*◌, ◌%◌, ◌<◌, ◌≤◌, List, [], ◌∷◌, ◌++◌, length, get_or, Some, None, true, false, refl, sym, ap, ◌∙◌}
+use Rattle.task_attempts.proofs.Names.{◌≡◌, ℕ, ◌+◌, ◌*◌, ◌%◌, ◌<◌, ◌≤◌, List, [], ◌∷◌, ◌++◌, length, get_or, Some, None, true, refl, sym, ap, ◌∙◌}
 use Rattle.task_attempts.proofs.Names.{subst, ⊎_elim, inl, arith, append_assoc, append-nil, slice_get, get_or_past, cases_lt, cases_Bool, slice_get_cases}
 use Rattle.task_attempts.proofs.Names.{slice_get_within, Effect, Store, World, world_after_one, world_after, fram_after, fram_after-append, world_after-append}
-use Rattle.task_attempts.proofs.Names.{each_store-front, each_store-back, put_same, put_other, world_fram, SharedDeclaration, Shared, emits_of, stores_of, is_written}
+use Rattle.task_attempts.proofs.Names.{each_store-front, put_same, put_other, world_fram, SharedDeclaration, Shared, emits_of, stores_of, is_written}
 use Rattle.task_attempts.proofs.Names.{list_of, word_at, Attempt, State, initial_words, WordState, some_path_writes, takes_append, few_entries, runs_are_few}
-use Rattle.task_attempts.proofs.Names.{scalar_seen, array_seen, array_read, runs_of, SendsAndCloses, put_words, TakesAndStores, transition_effects, Bounds, Left}
+use Rattle.task_attempts.proofs.Names.{scalar_seen, array_seen, array_read, runs_of, SendsAndCloses, put_words, TakesAndStores, transition_effects, Bounds}
+use Rattle.task_attempts.proofs.Names.{Left}
 use Rattle.task_attempts.proofs.Names.{place_length, listed_of, are_rows, privates_few, StoresWords, CurrentTask, NextTask, Gate, ListLength, EmitCount, Base}
-use Rattle.task_attempts.proofs.Names.{SentBase, Version, VariablePlace, Scalar, Array, word_place, scalar_address, private_words, IsScalarWord, Element, IsElement}
+use Rattle.task_attempts.proofs.Names.{SentBase, Version, VariablePlace, Scalar, Array, word_place, scalar_address, IsScalarWord, Element, IsElement}
 use Rattle.task_attempts.proofs.Names.{Spot, IsSpot, scalar, spot_address, element_address, IsWordOf, event_index, program_end, Redo, Undo, Logging, map_seen}
 use Rattle.lower.specs.Agreement as agreement
 use Rattle.stands_for.specs.StandsFor.{IsOpen, HoldsWords}
 use Rattle.war_analysis.proofs.Interface.{element as item_at}
 use Rattle.task_attempts.proofs.Rows.{rows_are, rows_count, declared_length}
-use Rattle.task_attempts.proofs.Names.{Take, Outside, Looked, Offered, put, IsTaskStore, CheckedBlock}
+use Rattle.task_attempts.proofs.Names.{Take, Outside, Looked, Offered, put, IsTaskStore}
 use Rattle.task_attempts.proofs.Quiet.{stays_within}
 use Rattle.task_attempts.proofs.Entries.{IsTransitionStore, transition_stores, closing, closed, closed_sent, closed_next, closed_left, IsLeft, Closing}
 use Rattle.task_attempts.proofs.Tasks.{body_is}

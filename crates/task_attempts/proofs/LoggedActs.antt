@@ -1,23 +1,24 @@
 -- What a task does under undo, act after act, keeps the world undecided; what is logged stays logged.
-use Rattle.std.proofs.Common.{◌≡◌, ◌≢◌, ℕ, ◌+◌, ◌*◌, ◌<◌, ◌≤◌, ◌⊎◌, ⊎_elim, inl, inr, true, Bool, List, [], ◌∷◌, ◌++◌, refl, sym, ap, ◌∙◌, subst, arith}
+use Rattle.std.proofs.Common.{◌≡◌, ℕ, ◌+◌, ◌*◌, ◌<◌, ◌≤◌, ◌⊎◌, ⊎_elim, inl, inr, true, Bool, List, [], ◌∷◌, refl, sym, subst, arith}
 use Rattle.fram_board.specs.Effects.{Effect, Store, Take, Outside, Offered, Looked}
 use Rattle.machine_effects.specs.World.{World, fram_after, world_after, EachStore}
 use Rattle.machine_effects.proofs.Interface.{each_store-front, each_store-back}
 use Rattle.crash_rules.proofs.Interface.{world_fram}
 use Rattle.memory_map.specs.Laws.{AreApart}
 use Rattle.memory_map.specs.MemoryMap.{MemoryMap, TaskPlace, word_place}
-use Rattle.memory_map.specs.declared.words.RuntimeWord.TheVariants.{ListLength, EmitCount, Version}
-use Rattle.memory_map.specs.event_places.Places.{count_place, answer_place}
+use Rattle.memory_map.specs.declared.words.RuntimeWord.TheVariants.{EmitCount}
+use Rattle.memory_map.specs.event_places.Places.{count_place}
 use Rattle.memory_map.specs.Spots.{Places, places_of, scalar_address, IsScalarWord, Element, IsCopied, element_address, version_address}
 use Rattle.source_values.specs.Runs.{CheckedProgram, State}
 use Rattle.task_ast.specs.Paths.{CheckedBlock}
 use Rattle.lower.specs.Seen.{map_seen}
 use Rattle.lower.specs.Spots.{Room}
-use Rattle.lower.specs.Stores.{TakesAndStores, IsAnswerStore, IsPlainStore, to_variable, to_emit_count, to_buffer, to_answer, Act, alone, to_element, act_effects, IsAct}
+use Rattle.lower.specs.Stores.{IsPlainStore, to_variable, to_emit_count, to_buffer, to_answer, Act, alone, to_element}
+use Rattle.lower.specs.Stores.{act_effects, IsAct}
 use Rattle.lower.specs.Stores.{acts_effects, AreActs}
 use Rattle.stands_for.specs.Layout.{IsSharedWord, HaveRoom}
 use Rattle.undo_effects.specs.Stages.{first_logged, element_stored}
-use Rattle.undo_states.proofs.Interface.{IsPlainWord, ArePairs, GoesOn, Kept, plain_goes, shared_goes, taken_goes, element_goes, kept-append}
+use Rattle.undo_states.proofs.Interface.{IsPlainWord, ArePairs, GoesOn, Kept, plain_goes, shared_goes, element_goes, kept-append}
 use Rattle.compiled_model.specs.Places.{program_places}
 use Rattle.compiled_model.specs.View.{state_view}
 

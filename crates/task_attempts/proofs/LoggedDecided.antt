@@ -1,10 +1,10 @@
 -- Under undo what a task does keeps the world undecided, and behind the last store of a transition it is decided to the state that the source comes to.
-use Rattle.task_attempts.proofs.Names.{◌≡◌, ℕ, ◌+◌, ◌*◌, ◌<◌, ◌≤◌, List, [], ◌∷◌, ◌++◌, length, Some, true, false, Bool, refl, sym, ap, ◌∙◌, subst, ⊎_elim, inl}
-use Rattle.task_attempts.proofs.Names.{inr, arith, Effect, Store, World, world_after, EachStore, each_store-front, each_store-back, HoldsThroughout, State, Shared}
-use Rattle.task_attempts.proofs.Names.{word_at, some_path_writes, map_seen, StoresWords, CurrentTask, NextTask, Gate, Base, SentBase, ListLength, Version, word_place}
-use Rattle.task_attempts.proofs.Names.{where_events, sent_place, VariablePlace, Scalar, Array, slice_get, scalar_address, scalar_words, IsScalarWord, Element, IsElement}
-use Rattle.task_attempts.proofs.Names.{element_address, IsWordOf, IsSharedWord, Undo, home_region}
-use Rattle.memory_map.specs.Spots.{element, version}
+use Rattle.task_attempts.proofs.Names.{◌≡◌, ℕ, ◌+◌, ◌*◌, ◌%◌, ◌<◌, ◌≤◌, List, [], ◌∷◌, ◌++◌, Some, true, false, Bool, refl, sym, ap, ◌∙◌, subst, inl}
+use Rattle.task_attempts.proofs.Names.{inr, arith, Effect, Store, World, world_after, each_store-front, each_store-back, HoldsThroughout, State}
+use Rattle.task_attempts.proofs.Names.{some_path_writes, StoresWords, CurrentTask, NextTask, Gate, Base, SentBase, ListLength, Version, word_place}
+use Rattle.task_attempts.proofs.Names.{where_events, sent_place, VariablePlace, Scalar, Array, slice_get, scalar_address, Element}
+use Rattle.task_attempts.proofs.Names.{IsWordOf, Undo, home_region}
+use Rattle.memory_map.specs.Spots.{element}
 use Rattle.lower.specs.Seen.{task_seen}
 use Rattle.lower.specs.Agreement.{DidWithin}
 use Rattle.stands_for.specs.StandsFor.{IsOpen}
@@ -76,14 +76,14 @@ module _ (st : Logged) where
   -- NEXT and SB
   runtime_plain : (a : ℕ) → l.row + 2 ≤ a → a < l.list.address → (a ≡ word_place l Gate → ⊥) → (a ≡ word_place l Base → ⊥)
       → (a ≡ word_place l ListLength → ⊥) → (a ≡ word_place l Version → ⊥) → IsPlainWord sites a
-  runtime_plain a low high gate base length version =
+  runtime_plain a low high gate base count number =
       let apart = given.source.apart in
       record {
         current = λ q. omega (arith, low, q);
         gate = gate;
         base = base;
-        length = length;
-        version = version;
+        length = count;
+        version = number;
         list = inl high;
         behind = inl (omega (arith, apart, high));
       }

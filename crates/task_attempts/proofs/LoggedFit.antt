@@ -1,12 +1,15 @@
 -- The places of a task under undo: its scalars where they stand, each listed by the start or written in place, and its elements with their version words.
-use Rattle.std.proofs.Common.{◌≡◌, ℕ, zero, suc, ◌+◌, ◌*◌, ◌<◌, ◌⊎◌, ⊎_elim, inl, inr, Bool, true, false, not, List, [], ◌∷◌, ◌++◌, length, map, refl, sym, ap, ◌∙◌}
+use Rattle.std.proofs.Common.{◌≡◌, ℕ, zero, suc, ◌+◌, ◌*◌, ◌<◌, ◌⊎◌, ⊎_elim, inl, inr, true, false, not, List, [], ◌∷◌, ◌++◌, length, map, sym}
+use Rattle.std.proofs.Common.{ap, ◌∙◌}
 use Rattle.std.proofs.Common.{subst, arith, get_or, Some, slice_get}
 use Rattle.std.specs.Prelude.{Contains}
 use Rattle.std.proofs.lemmas.Bool.{cases_Bool}
 use Rattle.std.proofs.lemmas.List.Elements.{All-nil}
 use Rattle.std.proofs.lemmas.Option.{slice_get_within}
-use Rattle.task_attempts.proofs.Names.{and_from, is_private_in, stays_in_place, scalar_of_seen, scalar_place, words_scalar, IsPlaceOfScalar, scalar_home, scalar_is}
-use Rattle.task_attempts.proofs.Names.{words_of_variables_are_shared, addresses_are, elements_stand, task_body, body_of, emits_of, list_of, CheckedTask, words_at}
+use Rattle.task_attempts.proofs.Names.{and_from, is_private_in, stays_in_place, scalar_of_seen, scalar_place, words_scalar, IsPlaceOfScalar, scalar_home}
+use Rattle.task_attempts.proofs.Names.{scalar_is}
+use Rattle.task_attempts.proofs.Names.{words_of_variables_are_shared, addresses_are, elements_stand, task_body, body_of, emits_of, list_of, CheckedTask}
+use Rattle.task_attempts.proofs.Names.{words_at}
 use Rattle.cost_bound.specs.declared.allowance.Allow.{Allow}
 use Rattle.war_analysis.specs.PlanValue.{TaskPlanValue}
 use Rattle.source_values.specs.Runs.{CheckedProgram, State}
@@ -16,13 +19,13 @@ use Rattle.memory_map.specs.declared.runtime.Logging.TheVariants.{Undo}
 use Rattle.memory_map.specs.declared.place.VariablePlace.TheVariants.{Scalar}
 use Rattle.memory_map.specs.MemoryMap.{MemoryMap, TaskPlace}
 use Rattle.memory_map.specs.Places.{scalar_words, HasItsPlace}
-use Rattle.memory_map.specs.Spots.{Places, places_of, home_in, scalar_address, IsScalarWord, IsWordOf, Element, IsElement, IsCopied, element_address, version_address}
-use Rattle.memory_map.specs.Spots.{Spot, SpotsStand, version}
+use Rattle.memory_map.specs.Spots.{Places, places_of, home_in, scalar_address, IsScalarWord, Element, IsElement, IsCopied, element_address}
+use Rattle.memory_map.specs.Spots.{version_address}
+use Rattle.memory_map.specs.Spots.{SpotsStand, version}
 use Rattle.memory_map.proofs.Interface.{spots_are_apart}
 use Rattle.lower.specs.Seen.{some_path_writes, map_seen, task_seen}
-use Rattle.lower.specs.Spots.{Room}
 use Rattle.lower.proofs.Interface.{seen_laid_out}
-use Rattle.stands_for.specs.Layout.{IsSharedWord, HaveRoom}
+use Rattle.stands_for.specs.Layout.{IsSharedWord}
 use Rattle.undo_effects.specs.Entries.{IsLogged}
 use Rattle.undo_states.specs.States.{entry_at}
 use Rattle.stands_for.specs.Layout.{StateView}
@@ -31,7 +34,7 @@ use Rattle.undo_states.proofs.Interface.{ArePairs}
 use Rattle.compiled_model.specs.Places.{program_places}
 use Rattle.compiled_model.specs.Parts.{private_homes}
 use Rattle.layout_facts.specs.Facts.{HasLayout, IsTaskAt, task_room, task_places}
-use Rattle.layout_facts.proofs.Interface.{places_are_apart, tasks_have_room, homes_at}
+use Rattle.layout_facts.proofs.Interface.{tasks_have_room, homes_at}
 use Rattle.task_attempts.proofs.LoggedActs.{IsPair, ActsFit}
 
 -- ---- the words that a start lists
@@ -152,7 +155,8 @@ module _ (p : CheckedProgram) (allow : Allow) (plans : List TaskPlanValue) (l : 
       let e = elements_stand p allow plans l h s.task task layout at in
       record {
         shared = λ element number k. subst (IsSharedWord (program_places p l)) (sym k.at)
-            (words_of_variables_are_shared p allow plans l h k.item.array k.item.index (element_address here k.item) (e.word k.item (an_element k.item k.copied)));
+            (words_of_variables_are_shared p allow plans l h k.item.array k.item.index (element_address here k.item)
+            (e.word k.item (an_element k.item k.copied)));
         index = λ element number k. (e.version k.item (as_redo k.item k.copied)).0;
         below = λ element number k. (e.version k.item (as_redo k.item k.copied)).1;
         is = λ element number k. k.version_at ∙ (e.version k.item (as_redo k.item k.copied)).2;

@@ -1,30 +1,24 @@
 -- Under undo: an attempt's start clears EC, and lists within the list; a recovery leaves the words that count events; and a commit moves TAIL.
-use Rattle.std.proofs.Common.{◌≡◌, ◌≢◌, ℕ, zero, suc, ◌+◌, ◌*◌, ◌%◌, ◌<◌, ◌≤◌, List, [], ◌∷◌, ◌++◌, length, refl, sym, ap, ◌∙◌, subst, arith, Bool, true, false}
+use Rattle.std.proofs.Common.{◌≡◌, ◌≢◌, ℕ, zero, suc, ◌+◌, ◌%◌, ◌≤◌, List, [], ◌∷◌, ◌++◌, length, refl, sym, ap, ◌∙◌, subst, arith, Bool, true, false}
 use Rattle.std.proofs.Common.{append_assoc}
 use Rattle.task_attempts.proofs.Names.{Effect, Store, EachStore, World, fram_after, each_store-append, put, where_events, HoldsThroughout, Take, Outside}
-use Rattle.task_attempts.proofs.Names.{MemoryMap, word_place, CurrentTask, Gate, ListLength, EmitCount, Base, SentBase, NextTask, Version, ProgramPlaces, StateView}
+use Rattle.task_attempts.proofs.Names.{MemoryMap, word_place, CurrentTask, Gate, ListLength, EmitCount, Base, SentBase, NextTask, Version, ProgramPlaces}
+use Rattle.task_attempts.proofs.Names.{StateView}
 use Rattle.machine_effects.specs.World.{looks_taken, world_after_one}
 use Rattle.machine_effects.specs.Inputs.{Look}
-use Rattle.machine_effects.proofs.Interface.{put_same, put_other, looks_taken-append}
+use Rattle.machine_effects.proofs.Interface.{put_same, put_other, looks_taken-append, fram_untouched}
 use Rattle.memory_map.specs.Laws as memory
 use Rattle.memory_map.specs.event_places.Places.{tail_place, count_place, sent_place}
 use Rattle.runtime_effects.specs.Stages.{cleared, clearing_if, is_at_end, emits_sent, tail_moved}
 use Rattle.undo_effects.specs.Entries.{entry_place}
 use Rattle.undo_effects.specs.Stages.{word_logged, words_logged, numbering_effects, undo_opening, undo_start, recovery, moved_on, let_go, undo_commit}
 use Rattle.undo_effects.proofs.Interface.{opening_stores}
-use Rattle.undo_states.specs.States.{list_length, UndoneAt, ClosesTo}
+use Rattle.undo_states.specs.States.{UndoneAt, ClosesTo}
 use Rattle.undo_states.proofs.Interface.{recovery_stores}
 use Rattle.event_rules.specs.Taking.{Before, Open, Advances, Clears, Moves, Ends, Stores, FollowsSeeing, Ended, Next, IsOffRing}
 use Rattle.event_rules.proofs.Interface.{looks_after, joined, off_ring}
 use Rattle.task_attempts.proofs.InOrder.{leaves_high, leaves_gate}
 use Rattle.task_attempts.proofs.Runtime.{behind_row, clearing_off, clearing_sees_none, sends_off, sends_see_none}
-
--- a word to which none of these effects stores
-elsewhere_keeps : (b : ℕ) (es : List Effect) (f : ℕ → ℕ) → EachStore (λ a w. a ≡ b → ⊥) es → fram_after es f b ≡ f b
-elsewhere_keeps b [] f h = refl
-elsewhere_keeps b (Store a w ∷ es) f h = elsewhere_keeps b es (put f a w) h.1 ∙ put_other f a w b (λ e. h.0 (sym e))
-elsewhere_keeps b (Take r ∷ es) f h = elsewhere_keeps b es f h.1
-elsewhere_keeps b (Outside o ∷ es) f h = elsewhere_keeps b es f h.1
 
 -- two facts of each store
 pub each_both : (P Q : ℕ → ℕ → Type 0) (es : List Effect) → EachStore P es → EachStore Q es → EachStore (λ a w. P a w × Q a w) es
@@ -79,7 +73,7 @@ module _ (l : ProgramPlaces) (apart : memory.AreApart l.map) where
   -- an opening leaves CLN
   opened_keeps : (f : ℕ → ℕ) → fram_after (undo_opening m f) f (word_place m ListLength) ≡ f (word_place m ListLength)
   opened_keeps f =
-      elsewhere_keeps (word_place m ListLength) (undo_opening m f) f
+      fram_untouched (undo_opening m f) (word_place m ListLength) f
       (opening_stores (λ a. a ≡ word_place m ListLength → ⊥) m f (λ i h e. omega (arith, apart, e)) (λ e. omega (arith, e)) (λ e. omega (arith, e))
       (λ e. omega (arith, apart, e)))
 
@@ -130,10 +124,13 @@ module _ (l : ProgramPlaces) (apart : memory.AreApart l.map) where
   pub stores_within : {St : Type 0} (v : StateView St) (s : St) (es : List Effect) (x : World) → HoldsThroughout (UndoneAt l v s) es x
       → EachStore (λ a w. a ≡ word_place m ListLength → w ≤ l.list_capacity (v.task s)) es
   stores_within v s [] x h = tt
-  stores_within v s (Store a w ∷ es) x h = ((λ e.
-      let few = (first_of v s es (world_after_one (Store a w) x) h.1).within in
-      let stored : put x.fram a w (word_place m ListLength) ≡ w = ap (put x.fram a w) (sym e) ∙ put_same x.fram a w in
-      omega (arith, few, stored)), stores_within v s es (world_after_one (Store a w) x) h.1)
+  stores_within v s (Store a w ∷ es) x h = (
+    (λ e.
+        let few = (first_of v s es (world_after_one (Store a w) x) h.1).within in
+        let stored : put x.fram a w (word_place m ListLength) ≡ w = ap (put x.fram a w) (sym e) ∙ put_same x.fram a w in
+        omega (arith, few, stored)),
+    stores_within v s es (world_after_one (Store a w) x) h.1,
+  )
   stores_within v s (Take r ∷ es) x h = (tt, stores_within v s es x h.1)
   stores_within v s (Outside o ∷ es) x h = (tt, stores_within v s es (world_after_one (Outside o) x) h.1)
 
@@ -199,7 +196,8 @@ module _ (l : ProgramPlaces) (apart : memory.AreApart l.map) where
         λ a c b n. put_other g3 (word_place m ListLength) 0 a n ∙ put_other g2 (word_place m Base) base a b
         ∙ put_other g1 (word_place m CurrentTask) current a c in
         let end_gate : g4 gate ≡ 1 =
-        kept gate (λ e. omega (arith, e)) (λ e. omega (arith, e)) (λ e. omega (arith, e)) ∙ put_other g tail_place tail gate (λ e. omega (arith, apart, e)) ∙ g_gate in
+        kept gate (λ e. omega (arith, e)) (λ e. omega (arith, e)) (λ e. omega (arith, e))
+        ∙ put_other g tail_place tail gate (λ e. omega (arith, apart, e)) ∙ g_gate in
         let end_sent : g4 sent_place ≡ tail =
         kept sent_place (λ e. omega (arith, apart, e)) (λ e. omega (arith, apart, e)) (λ e. omega (arith, apart, e))
         ∙ put_other g tail_place tail sent_place (λ e. omega (arith, e)) ∙ g_sent in

@@ -1,5 +1,5 @@
 -- A started attempt under undo stands for the source's attempt: each scalar stands where it is.
-use Rattle.task_attempts.proofs.Names.{◌≡◌, ℕ, ◌+◌, ◌*◌, ◌<◌, [], length, ap, ◌∙◌, subst, arith, slice_get, word_at, Shared, started, StandsFor, map_seen}
+use Rattle.task_attempts.proofs.Names.{◌≡◌, ℕ, ◌+◌, ◌*◌, ◌<◌, [], ap, ◌∙◌, subst, arith, slice_get, word_at, Shared, started, StandsFor, map_seen}
 use Rattle.task_attempts.proofs.Names.{scalar_of_seen, scalar_home, scalar_place, words_scalar, scalar_words, scalar_address, words_at, IsScalarWord}
 use Rattle.task_attempts.proofs.Started.{Attempting, scene, Logged, undo_run}
 use Rattle.task_attempts.proofs.Starts.{held, held_attempt, home_stands, attempt_stands}

@@ -1,7 +1,7 @@
 -- A started attempt under redo stands for the source's attempt: private scalars have their copies.
 use Rattle.task_attempts.proofs.Names.{◌≡◌, ℕ, ◌+◌, ◌*◌, ◌<◌, [], length, Bool, true, false, refl, sym, ap, ◌∙◌, subst, arith, Contains, Some, slice_get}
 use Rattle.task_attempts.proofs.Names.{entries_from, word_at, Shared, started, StandsFor, some_path_writes, map_seen, word_pair, scalar_of_seen, is_private_in}
-use Rattle.task_attempts.proofs.Names.{scalar_home, IsPlaceOfScalar, scalar_place, words_scalar, ScalarWidth, PrivateScalar, Scalar, scalar_words, scalar_address}
+use Rattle.task_attempts.proofs.Names.{scalar_home, scalar_place, words_scalar, ScalarWidth, PrivateScalar, Scalar, scalar_words, scalar_address}
 use Rattle.task_attempts.proofs.Names.{words_at, IsScalarWord}
 use Rattle.task_attempts.proofs.Tasks.{among_privates}
 use Rattle.task_attempts.proofs.Started.{Attempting, scene, Started, redo_run}
@@ -26,7 +26,7 @@ module _ (st : Started) where
       let entry : PrivateScalar = record { number = v; home = home; copy = copy; width = width } in
       let c : Contains i.layout.privates entry = r.each v home copy width e private in
       ap x.fram (ap (λ z. 2 * n + z) (r.private v home copy width e private))
-      ∙ start.copies (word_pair entry n) (among_privates p l given s.task i entry n c below)
+      ∙ start.copies (word_pair entry n) (among_privates p l given.privates s.task i entry n c below)
       ∙ given.source.words.is_word s.shared v n (2 * n + home) (scalar_home l v home copy width n e below)
       ∙ sym (refreshed_other (is_held run) (held_words run) (held_word run) (length l.variables) (own run) v n (private_unheld v private))
   scalar_stands v n home copy width false e below left =

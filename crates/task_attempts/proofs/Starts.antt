@@ -1,18 +1,18 @@
 -- A started attempt stands for the source's attempt of the task.
 use Rattle.task_attempts.proofs.Names.{◌≡◌, ℕ, ◌+◌, ◌*◌, ◌<◌, [], length, Option, Some, None, Bool, true, false, ◌&&◌, not, refl, sym, ap, ◌∙◌, subst, ⊎_elim}
-use Rattle.task_attempts.proofs.Names.{arith, cases_Bool, and_parts, and_from, slice_get_within, Contains, slice_get, slice_index_or, entries_from}
+use Rattle.task_attempts.proofs.Names.{arith, cases_Bool, and_parts, and_from, slice_get_within, slice_get, slice_index_or, entries_from}
 use Rattle.task_attempts.proofs.Names.{is_private_of, Variables, word_at, Attempt, run_block, fresh_attempt, task_body, Shared, started}
 use Rattle.task_attempts.proofs.Names.{List, TaskInputs, answered_by}
 use Rattle.task_attempts.proofs.Names.{own_word, place_length}
-use Rattle.task_attempts.proofs.Names.{StandsFor, some_path_writes, map_seen, SeenFrom, seen_from, IsScalarIn, word_pair, scalar_of_seen, scalar_found}
-use Rattle.task_attempts.proofs.Names.{found_word, in_place_written, in_place_not_private, is_private_in, stays_in_place, program_places, scalar_home}
-use Rattle.task_attempts.proofs.Names.{IsPlaceOfScalar, scalar_place, words_scalar, Version, ScalarWidth, PrivateScalar, VariablePlace, Scalar, Array}
+use Rattle.task_attempts.proofs.Names.{StandsFor, some_path_writes, map_seen, SeenFrom, seen_from, IsScalarIn, scalar_found}
+use Rattle.task_attempts.proofs.Names.{found_word, in_place_written, in_place_not_private, stays_in_place, program_places}
+use Rattle.task_attempts.proofs.Names.{IsPlaceOfScalar, Version, VariablePlace, Scalar, Array}
 use Rattle.task_attempts.proofs.Names.{scalar_words, home_region, word_place, scalar_address, words_at, home_in, IsScalarWord, Element, IsElement, IsCopied}
 use Rattle.task_attempts.proofs.Names.{version_address, element_address, IsWordOf}
 use Rattle.lower.proofs.Interface.{scalar as seen_scalar, array as seen_array, read as seen_read}
-use Rattle.task_attempts.proofs.Tasks.{body_is, among_privates}
+use Rattle.task_attempts.proofs.Tasks.{body_is}
 use Rattle.task_attempts.proofs.Names.{IsRedo, IsUndo, ListLength}
-use Rattle.task_attempts.proofs.Started.{Attempting, scene, Started, redo_run, Logged, undo_run}
+use Rattle.task_attempts.proofs.Started.{Attempting, scene}
 use Rattle.task_attempts.proofs.Held.{refreshed, refreshed_count, refreshed_locals, refreshed_rows, refreshed_other, refreshed_held, refreshed_runs}
 use Rattle.task_attempts.proofs.Rows.{rows_count}
 use Rattle.task_attempts.proofs.Words.{own_unmarked, element_word}

@@ -1,13 +1,13 @@
 -- Where a task's program stores under redo: at words that an undecided world doesn't speak of.
 use Rattle.task_attempts.proofs.Names.{◌≡◌, ℕ, ◌+◌, ◌*◌, ◌<◌, ◌≤◌, ◌∙◌, Some, false, not, sym, ap, subst, ⊎_elim, arith, cases_Bool, and_from, true, slice_get}
-use Rattle.task_attempts.proofs.Names.{emits_of, list_of, task_body, CurrentTask, Gate, ListLength, EmitCount, Base, Version, Scalar, word_place, IsSharedWord}
+use Rattle.task_attempts.proofs.Names.{list_of, task_body, CurrentTask, Gate, Base, Version, Scalar, word_place, IsSharedWord}
 use Rattle.task_attempts.proofs.Names.{IsCopyWord, scalar_home, IsPlaceOfScalar, scalar_place, words_scalar, some_path_writes, map_seen, scalar_of_seen}
-use Rattle.task_attempts.proofs.Names.{scalar_is, scalar_address, words_at, IsScalarWord, PrivateScalar, end_of, scalar_words, IsTaskStore, at_variable}
+use Rattle.task_attempts.proofs.Names.{scalar_is, scalar_address, words_at, IsScalarWord, PrivateScalar, scalar_words, IsTaskStore, at_variable}
 use Rattle.task_attempts.proofs.Names.{at_copy, at_element, at_version, in_list, at_list_length, at_emit_count, in_buffer, is_private_in, stays_in_place}
 use Rattle.task_attempts.proofs.Entries as transition
 use Rattle.task_attempts.proofs.Given.{IsVersionWord}
 use Rattle.task_attempts.proofs.Quiet.{IsQuiet}
-use Rattle.task_attempts.proofs.Names.{IsEventWord, StoresBelow, at_answer, inl, inr}
+use Rattle.task_attempts.proofs.Names.{at_answer}
 use Rattle.task_attempts.proofs.Entries.{IsTransitionStore, at_next_task, at_sent_base, at_sent_tail, in_entries}
 use Rattle.task_attempts.proofs.Tasks.{body_is, private_copy}
 use Rattle.memory_map.specs.event_places.Places.{count_place}

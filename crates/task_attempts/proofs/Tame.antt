@@ -1,12 +1,11 @@
 -- Where a task's program stores, under each runtime: elsewhere than GATE, before the code, and CLN and EN within their capacities.
-use Rattle.task_attempts.proofs.Names.{◌≡◌, ℕ, ◌+◌, ◌*◌, ◌<◌, ◌≤◌, sym, ap, subst, ⊎_elim, inl, inr, arith, emits_of, list_of, Gate, ListLength, EmitCount}
+use Rattle.task_attempts.proofs.Names.{◌≡◌, ℕ, ◌<◌, ◌≤◌, sym, subst, ⊎_elim, inl, inr, arith, emits_of, list_of, Gate, ListLength, EmitCount}
 use Rattle.task_attempts.proofs.Names.{word_place, some_path_writes, end_of, IsTaskStore, at_variable, at_copy, at_element, at_version, in_list, at_list_length}
-use Rattle.task_attempts.proofs.Names.{at_emit_count, in_buffer, at_answer, StoresBelow, IsEventWord, element_address, copy_address, version_address, Spot}
+use Rattle.task_attempts.proofs.Names.{at_emit_count, in_buffer, at_answer, StoresBelow, IsEventWord, element_address, version_address, Spot}
 use Rattle.task_attempts.proofs.Names.{IsSpot, spot_address, scalar, copy, Element, IsElement, IsCopied, Some}
 use Rattle.memory_map.specs.Spots.{element, version}
 use Rattle.task_attempts.proofs.Entries as transition
 use Rattle.task_attempts.proofs.Entries.{IsTransitionStore, at_next_task, at_sent_base, at_sent_tail, in_entries}
-use Rattle.task_attempts.proofs.Given.{IsVersionWord}
 use Rattle.task_attempts.proofs.Words.{element_word}
 use Rattle.task_attempts.proofs.Tasks.{body_is}
 use Rattle.task_attempts.proofs.Started.{Attempting, scene}

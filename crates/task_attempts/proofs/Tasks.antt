@@ -1,8 +1,8 @@
 -- A task of a source by its number, and where its program stores.
 use Rattle.task_attempts.proofs.Names.{◌≡◌, ℕ, ◌+◌, ◌*◌, ◌<◌, List, [], ◌∷◌, false, length, map, Some, sym, ap, ◌∙◌, subst, ⊎_elim, arith, Contains, slice_get}
 use Rattle.task_attempts.proofs.Names.{option_map, slice_get-map, get_or_from_slice_get, CheckedBlock, CheckedTask, CheckedProgram, body_of, task_body}
-use Rattle.task_attempts.proofs.Names.{CopyPair, program_at, privates_in, entry_of, task_entries, IsAmong, IsCopyWord, ArePrivate, Room, lowered_block}
-use Rattle.task_attempts.proofs.Names.{program_places, task_program, task_room, task_places, word_pair, scalars_among, PrivateScalar, MemoryMap, TaskPlace}
+use Rattle.task_attempts.proofs.Names.{CopyPair, program_at, privates_in, entry_of, task_entries, IsAmong, IsCopyWord, ArePrivate, lowered_block}
+use Rattle.task_attempts.proofs.Names.{program_places, task_program, task_places, word_pair, scalars_among, PrivateScalar, MemoryMap, TaskPlace}
 use Rattle.task_attempts.proofs.Names.{scalar_words, places_of, map_seen}
 use Rattle.lower.specs.Seen.{task_seen}
 use Rattle.war_analysis.proofs.Interface.{element}

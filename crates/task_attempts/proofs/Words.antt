@@ -1,7 +1,8 @@
 -- The words of the variables as a task has them.
 use Rattle.task_attempts.proofs.Names.{◌≡◌, ℕ, ◌+◌, ◌*◌, ◌==◌, ◌<◌, length, Option, Some, None, Bool, true, false, refl, sym, ap, ◌∙◌, subst, ⊎_elim, eq-eqb}
 use Rattle.task_attempts.proofs.Names.{ne_eqb, if◌then◌else◌, cases_eq, cases_Bool, Contains, slice_get, CheckedBlock, some_path_writes, map_seen, scalar_seen}
-use Rattle.task_attempts.proofs.Names.{array_seen, array_read, is_private_in, word_of_seen, own_word, own_by, IsRedo, IsUndo, Logging, Redo, Undo, Version, ScalarWidth}
+use Rattle.task_attempts.proofs.Names.{array_seen, array_read, is_private_in, word_of_seen, own_word, own_by, IsRedo, IsUndo, Logging, Redo, Undo, Version}
+use Rattle.task_attempts.proofs.Names.{ScalarWidth}
 use Rattle.task_attempts.proofs.Names.{VariablePlace, Scalar, Array, arith}
 use Rattle.task_attempts.proofs.Names.{PrivateScalar, MemoryMap, TaskPlace, word_place, scalar_words, home_region, Places, places_of, scalar_address, words_at}
 use Rattle.task_attempts.proofs.Names.{IsScalarWord, Element, IsElement, IsCopied, element_in, copy_in, version_in, element_address, copy_address}

@@ -7,6 +7,7 @@ use Rattle.source_values.specs.Runs.{CheckedProgram, State}
 use Rattle.source_values.specs.Running.{IsRunnable}
 use Rattle.war_analysis.specs.PlanValue.{TaskPlanValue}
 use Rattle.address_space.specs.Limits.{fram_first}
+use Rattle.memory_map.specs.declared.runtime.Logging.TheVariants.{Redo}
 use Rattle.memory_map.specs.declared.words.RuntimeWord.TheVariants.{ListLength, EmitCount}
 use Rattle.memory_map.specs.MemoryMap.{MemoryMap, word_place}
 use Rattle.array_versions.specs.Behaviour.{behaviour, started}
@@ -47,9 +48,9 @@ AttemptsStoreBelowCode = OfTexts (λ p l. AttemptsStore (compiled_model p l) (Is
 abbrev pub TasksLeaveForTheCommit : Type 0
 TasksLeaveForTheCommit = OfTexts TasksLeave
 
--- and where it leaves, the commit list is within what the task needs cycles for
+-- and where it leaves under redo, the commit list is within what the task needs cycles for
 abbrev pub TasksListFewWords : Type 0
-TasksListFewWords = OfTexts TasksListFew
+TasksListFewWords = OfTexts (λ p l. l.runtime.logging ≡ Redo → TasksListFew p l)
 
 -- where a source takes events, its attempts and commits take words of the ring in order
 abbrev pub SourcesTakeInOrder : Type 0

@@ -24,7 +24,7 @@ pub fn tasks_leave_for_the_commit()
     ensures { TasksLeaveForTheCommit }
 {}
 
-/// Where it leaves, its commit list has no more entries, and names no more words, than the task needs cycles for.
+/// Where it leaves under redo, its commit list has no more entries, and names no more words, than the task needs cycles for.
 pub fn tasks_list_few_words()
     ensures { TasksListFewWords }
 {}

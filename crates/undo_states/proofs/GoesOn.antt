@@ -212,7 +212,7 @@ module _ {St : Type 0} (l : ProgramPlaces) (apart : AreApart l.map) (room : Have
         marked = λ e m h k.
             ⊎_elim {C = IsLogged (logged l.map z.fram) e}
             (λ q. let one = pairs.one e element version (subst (λ o. Pair e o) q h) pair in
-                subst (λ o. IsLogged (logged l.map z.fram) o) (sym one) element_there)
+            subst (λ o. IsLogged (logged l.map z.fram) o) (sym one) element_there)
             (λ other. subst (λ es. IsLogged es e) (sym same) (logged_going.marked e m h (sym (put_other y.fram version top m other) ∙ k)))
             (cases_eq m version);
       }

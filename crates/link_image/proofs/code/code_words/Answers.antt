@@ -1,7 +1,9 @@
-use Rattle.link_image.proofs.Names.{◌≡◌, ◌∙◌, ◌+◌, ◌*◌, ◌++◌, ◌<◌, ap, sym, subst, length, map, arith, length-map, reset_vector, end_of, instructions, program_of, apart_of}
-use Rattle.link_image.proofs.Names.{chained, PartsInOrder, task_parts, Bool, List, ℕ, TaskPlace}
+use Rattle.link_image.proofs.Names.{◌≡◌, ◌∙◌, ◌+◌, ◌*◌, ◌++◌, ◌<◌, ◌≤◌, ap, sym, subst, length, map, arith, length-map, reset_vector, end_of, instructions, program_of}
+use Rattle.link_image.proofs.Names.{apart_of, chained, PartsInOrder, task_parts, Bool, List, ℕ, TaskPlace}
 use Rattle.link_image.proofs.code.code_words.Goals as goal
-use Rattle.linked_code.specs.Linked.{boot_code, commit_code, bytes_of_boot, StartsFit}
+use Rattle.linked_code.specs.Linked.{boot_code, commit_code, bytes_of_boot, bytes_of_commit, StartsFit}
+use Rattle.memory_map.specs.declared.runtime.Logging.{Logging}
+use Rattle.memory_map.specs.declared.runtime.Logging.TheVariants.{Redo, Undo}
 use Rattle.link_image.proofs.Written.{words_in, after_boot, commit_behind, after_commit, tasks_behind, same_count, each_short}
 
 pub boot_of-requires-clause-room : goal.boot_of-requires-clause-room
@@ -18,6 +20,23 @@ boot_of-requires-clause-room c =
 pub boot_of-requires-clause-starts : goal.boot_of-requires-clause-starts
 boot_of-requires-clause-starts c =
     subst (λ g. StartsFit g c.args.layout.now) (sym (ap (λ r. r.logging) c.runtime-logging.ensures)) c.requires.fits.starts
+
+-- a commit has 52 bytes at least
+commit_long : (logging : Logging) (events : Bool) → 52 ≤ bytes_of_commit logging events
+commit_long Redo events = omega arith
+commit_long Undo events = omega arith
+
+pub commit_of-requires : goal.commit_of-requires
+commit_of-requires c =
+    let l = c.args.layout.now in
+    let fits = c.requires.fits in
+    let long = commit_long l.runtime.logging l.runtime.events in
+    let room = fits.commit in
+    let apart = apart_of l fits.rules in
+    let commit = apart.commit in
+    let code = apart.code in
+    let high = apart.high in
+    omega (arith, long, room, commit, code, high)
 
 pub push_part-requires-2 : goal.push_part-requires-2
 push_part-requires-2 c =
