@@ -2,3 +2,4 @@ mod Costs
 mod Few
 mod Priced
 mod Levels
+pub mod Interface

@@ -1,3 +1,4 @@
 mod Stretches
 mod Tables
 mod Rows
+mod Conditions

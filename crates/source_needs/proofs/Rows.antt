@@ -25,12 +25,15 @@ use Rattle.memory_map.specs.Spots.{places_of, private_words}
 use Rattle.array_versions.specs.Form.{IsWhole}
 use Rattle.array_versions.specs.Cost.{words_of}
 use Rattle.lower.specs.Seen.{map_seen, task_seen}
-use Rattle.lower.specs.Lowered.{lowered_tasks}
+use Rattle.lower.specs.Lowered.{lowered_block, lowered_tasks}
 use Rattle.lower.proofs.Interface.{seen_words, blocks_keep_to_words, program_at}
 use Rattle.whole_programs.specs.Laws.{IsLaidOutText, TasksAreWhole, PrivatesAreFew}
 use Rattle.compiled_model.specs.Parts.{task_program}
+use Rattle.dearest_ways.proofs.Interface.{program_few}
+use Rattle.condition_lines.specs.Conditions.{block_conditions, block_ifs}
 use Rattle.need_lines.specs.Rows.{NeedRow}
-use Rattle.source_needs.specs.Needs.{AreNeedsOf, need_row, need_rows, rows_from}
+use Rattle.source_needs.specs.Needs.{AreNeedsOf, need_row, need_rows, rows_from, ways_gone}
+use Rattle.source_needs.proofs.Conditions.{block_few}
 use Rattle.source_needs.proofs.Tables.{at_most_greatest, at_most_total}
 
 -- what holds of a task of a source with its layout
@@ -47,6 +50,7 @@ pub record TaskHolds (text : List ℕ) (p : CheckedProgram) (allow : Allow) (l :
   pub whole : IsWhole (task_program p l k)
   pub room : words_of (task_program p l k) ≤ 0x7FFF
   pub privates : private_words place.privates ≤ scalars_of p.shared task.body
+  pub conditions : block_conditions task.body < 2 ^ 32
 
 pub task_holds : TasksAreWhole → (text : List ℕ) (p : CheckedProgram) (allow : Allow) (plans : List TaskPlanValue) (l : MemoryMap)
     → PrivatesAreFew → IsLaidOutText text p allow plans l
@@ -64,6 +68,9 @@ task_holds whole text p allow plans l few laid k inside =
     let no_more = seen_words l.runtime.logging place.0 in
     let code = blocks_keep_to_words (places_of (map_seen t.0.body l) own) (scalars_of p.shared t.0.body) t.0.body (omega (arith, privates, no_more)) in
     let small : task_words p.shared t.0.body ≤ 22000 = omega (arith, words, allowed.within_size) in
+    let places = places_of (map_seen t.0.body l) place.0 in
+    let conditions = block_few places t.0.body in
+    let choices = program_few (lowered_block places t.0.body) in
     record {
       task = t.0;
       place = place.0;
@@ -77,6 +84,7 @@ task_holds whole text p allow plans l few laid k inside =
       whole = subst IsWhole (sym program) (whole text p allow plans l laid k t.0 place.0 t.1 place.1).0.whole;
       room = omega (arith, ap words_of program, code, small);
       privates = privates;
+      conditions = omega (arith, conditions, choices, code, small);
     }
 
 -- ways that are cut at 2^64 - 1 are cut by a bound of 32 bits
@@ -84,15 +92,17 @@ pub path_cut : (most m bound beside : ℕ) → bound < 2 ^ 32 → most ≡ cappe
 path_cut most m bound beside small e = omega (arith, small, e)
 
 -- the row of one task more
-pub row_more : (text : List ℕ) (p : CheckedProgram) (l : MemoryMap) (i : ℕ) (task : CheckedTask) (rows next : List NeedRow) (row : NeedRow)
-    → slice_get p.tasks i ≡ Some task → row ≡ need_row text p l i task → next ≡ rows ++ row ∷ []
-    → next ++ rows_from text p l (i + 1) (drop (i + 1) p.tasks) ≡ rows ++ rows_from text p l i (drop i p.tasks)
-row_more text p l i task rows next row there is e =
-    let rest : List NeedRow = rows_from text p l (i + 1) (drop (i + 1) p.tasks) in
-    ap (λ x. x ++ rest) e ∙ append_assoc rows (row ∷ []) rest
-    ∙ ap (λ r. rows ++ r ∷ rest) is
-    ∙ ap (λ j. rows ++ need_row text p l i task ∷ rows_from text p l j (drop j p.tasks)) (add-one i)
-    ∙ ap (λ ts. rows ++ rows_from text p l i ts) (sym (drop_there p.tasks i task there))
+pub row_more : (text : List ℕ) (p : CheckedProgram) (l : MemoryMap) (lines left : List ℕ) (i : ℕ) (task : CheckedTask) (rows next : List NeedRow)
+    → slice_get p.tasks i ≡ Some task → left ≡ drop (length (block_ifs 0 task.body)) lines
+    → next ≡ rows ++ need_row text p l i (ways_gone lines p l i task) task ∷ []
+    → next ++ rows_from text p l left (i + 1) (drop (i + 1) p.tasks) ≡ rows ++ rows_from text p l lines i (drop i p.tasks)
+row_more text p l lines left i task rows next there behind e =
+    let row = need_row text p l i (ways_gone lines p l i task) task in
+    ap (λ x. x ++ rows_from text p l left (i + 1) (drop (i + 1) p.tasks)) e
+    ∙ append_assoc rows (row ∷ []) (rows_from text p l left (i + 1) (drop (i + 1) p.tasks))
+    ∙ ap (λ j. rows ++ row ∷ rows_from text p l left j (drop j p.tasks)) (add-one i)
+    ∙ ap (λ ls. rows ++ row ∷ rows_from text p l ls (suc i) (drop (suc i) p.tasks)) behind
+    ∙ ap (λ ts. rows ++ rows_from text p l lines i ts) (sym (drop_there p.tasks i task there))
   where
     drop_there : (ts : List CheckedTask) (k : ℕ) (t : CheckedTask) → slice_get ts k ≡ Some t → drop k ts ≡ t ∷ drop (suc k) ts
     drop_there [] k t e = cc
@@ -100,9 +110,9 @@ row_more text p l i task rows next row there is e =
     drop_there (u ∷ ts) (suc k) t e = drop_there ts k t e
 
 -- and behind the last one
-pub rows_end : (text : List ℕ) (p : CheckedProgram) (l : MemoryMap) (i : ℕ) (rows : List NeedRow) → length p.tasks ≤ i
-    → rows ++ rows_from text p l i (drop i p.tasks) ≡ rows
-rows_end text p l i rows h = ap (λ ts. rows ++ rows_from text p l i ts) (drop_all i p.tasks h) ∙ append-nil rows
+pub rows_end : (text : List ℕ) (p : CheckedProgram) (l : MemoryMap) (lines : List ℕ) (i : ℕ) (rows : List NeedRow) → length p.tasks ≤ i
+    → rows ++ rows_from text p l lines i (drop i p.tasks) ≡ rows
+rows_end text p l lines i rows h = ap (λ ts. rows ++ rows_from text p l lines i ts) (drop_all i p.tasks h) ∙ append-nil rows
 
 -- as many programs as tasks
 pub as_many : (l : MemoryMap) (tasks : List CheckedTask) (ts : List TaskPlace) → length ts ≡ length tasks → length (lowered_tasks l tasks ts) ≡ length tasks

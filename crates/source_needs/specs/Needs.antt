@@ -1,5 +1,5 @@
 -- What each task of a source needs of a charge, as its lines tell it.
-use Rattle.std.specs.Prelude.{◌≡◌, ℕ, suc, ◌+◌, ◌-◌, min, Bool, true, List, [], ◌∷◌, length}
+use Rattle.std.specs.Prelude.{◌≡◌, ℕ, suc, ◌+◌, ◌-◌, min, Bool, true, false, List, [], ◌∷◌, length, drop}
 use Rattle.cost_bound.specs.declared.allowance.Allow.{Allow}
 use Rattle.cost_bound.specs.Allowance.{CheckedTask, task_words}
 use Rattle.source_values.specs.Runs.{CheckedProgram}
@@ -13,14 +13,28 @@ use Rattle.lower.specs.Runs.{runs_of}
 use Rattle.boot_runtime.specs.Listing.{start_cycles}
 use Rattle.commit_runtime.specs.Listing.{commit_cycles}
 use Rattle.privatise.specs.Layouts.{IsLayout}
-use Rattle.compiled_model.specs.Parts.{program_parts}
+use Rattle.compiled_model.specs.Parts.{program_parts, task_program}
 use Rattle.task_needs.specs.Needs.{need_parts}
+use Rattle.code_ways.specs.Choices.{counts_from}
+use Rattle.dearest_ways.specs.Ways.{dearest_way, program_choices}
+use Rattle.condition_lines.specs.Lines.{if_lines}
+use Rattle.condition_lines.specs.Conditions.{block_ifs}
+use Rattle.condition_lines.specs.Ways.{task_ways}
+use Rattle.need_lines.specs.declared.needs.IfWay.{IfWay}
 use Rattle.need_lines.specs.Rows.{NeedRow}
 use Rattle.source_needs.specs.declared.needs.Table.{Table}
 
--- a task by its number: its need with its parts, the cycles and the words that the table of allowances has for it
-abbrev pub need_row : List ℕ → CheckedProgram → MemoryMap → ℕ → CheckedTask → NeedRow
-need_row text p l k task = let n = need_parts p l k in record {
+-- which ways the dearest one through a task goes at its `if`s, by the lines of these
+abbrev pub ways_gone : List ℕ → CheckedProgram → MemoryMap → ℕ → CheckedTask → List IfWay
+ways_gone lines p l k task =
+    let program = task_program p l k in
+    let choices = program_choices program in
+    let taken = (dearest_way l.runtime.events program).taken in
+    task_ways (counts_from true 0 choices taken) (counts_from false 0 choices taken) lines (block_ifs 0 task.body)
+
+-- a task by its number: its need with its parts, the cycles and the words that the table of allowances has for it, and the ways that the dearest one through it goes
+abbrev pub need_row : List ℕ → CheckedProgram → MemoryMap → ℕ → List IfWay → CheckedTask → NeedRow
+need_row text p l k ways task = let n = need_parts p l k in record {
   name = spelled text task.name;
   boot = n.boot;
   start = n.start;
@@ -28,16 +42,18 @@ need_row text p l k task = let n = need_parts p l k in record {
   commit = n.commit;
   table = (program_parts p l).cost k;
   words = task_words p.shared task.body;
+  ways = ways;
 }
 
--- tasks from a number on
-abbrev pub rows_from : List ℕ → CheckedProgram → MemoryMap → ℕ → List CheckedTask → List NeedRow
-rows_from text p l k [] = []
-rows_from text p l k (task ∷ tasks) = need_row text p l k task ∷ rows_from text p l (suc k) tasks
+-- tasks from a number on, with the lines of their `if`s
+abbrev pub rows_from : List ℕ → CheckedProgram → MemoryMap → List ℕ → ℕ → List CheckedTask → List NeedRow
+rows_from text p l lines k [] = []
+rows_from text p l lines k (task ∷ tasks) =
+    need_row text p l k (ways_gone lines p l k task) task ∷ rows_from text p l (drop (length (block_ifs 0 task.body)) lines) (suc k) tasks
 
 -- all tasks
 abbrev pub need_rows : List ℕ → CheckedProgram → MemoryMap → List NeedRow
-need_rows text p l = rows_from text p l 0 p.tasks
+need_rows text p l = rows_from text p l (if_lines text) 0 p.tasks
 
 -- these are the needs of the tasks of a source, by its layout, of which there is one
 pub record AreNeedsOf (text : List ℕ) (p : CheckedProgram) (allow : Allow) (rows : List NeedRow) : Type 0 where

@@ -1,6 +1,6 @@
 //! What each task of a source needs.
 
-ghost use Rattle.std.specs.Prelude.{◌≡◌, ◌+◌, ◌*◌, ◌^◌, ◌<◌, ◌≤◌, IfOk, Some, length, map, slice_get, ℕ};
+ghost use Rattle.std.specs.Prelude.{◌≡◌, ◌+◌, ◌*◌, ◌^◌, ◌<◌, ◌≤◌, IfOk, Some, drop, length, map, slice_get, ℕ};
 ghost use Rattle.task_ast.specs.View.{block_view, program_of};
 ghost use Rattle.task_ast.specs.Paths.{CheckedTask};
 ghost use Rattle.cost_bound.specs.Counts.{emits_of};
@@ -10,18 +10,22 @@ ghost use Rattle.whole_programs.specs.Laws.{IsLaidOutText};
 ghost use Rattle.array_versions.specs.View as word_program;
 ghost use Rattle.compiled_model.specs.Parts.{task_program};
 ghost use Rattle.lower.specs.Lowered.{lowered};
+ghost use Rattle.code_costs.specs.Dearest.{most_spent};
+ghost use Rattle.code_paths.specs.Paths.{capped};
+ghost use Rattle.condition_lines.specs.Conditions.{block_ifs, lists_of};
 ghost use Rattle.need_lines.specs.Rows.{row_of};
 ghost use Rattle.task_needs.specs.Needs.{elements_of};
-ghost use Rattle.source_needs.specs.Needs.{AreNeedsOf, boot_part, commit_part, need_row, need_rows, path_part, start_part};
+ghost use Rattle.source_needs.specs.Needs.{AreNeedsOf, boot_part, commit_part, need_row, path_part, rows_from, start_part, ways_gone};
 
 use crate::parts::{boot_need, commit_need, path_need, start_need};
 use crate::runs::{run_count, word_count};
 use array_versions::WordProgram;
 use cost_bound::{assigned_scalars, task_needs};
-use dearest_ways::most_spent;
+use condition_lines::{if_lines, task_ifs, task_ways};
+use dearest_ways::dearest_way;
 use lower::lower;
 use memory_map::{Layout, PrivateScalar};
-use need_lines::TaskNeed;
+use need_lines::{IfWay, TaskNeed};
 use privatise::{layout, one_layout};
 use source_meaning::Accepted;
 use source_report::spelled;
@@ -105,20 +109,20 @@ fn parts_of(
     }
 }
 
-// What the task of a number needs, whose program this is.
+// What the task of a number needs, whose dearest way takes so many cycles and goes these ways.
 fn task_need<'a>(
-    alloc: Global,
     accepted: &'a Accepted,
     plan: &Plan,
     layout: &Layout,
-    program: &WordProgram,
+    most: u64,
+    ways: Vec<IfWay>,
     number: usize,
-) -> Result<TaskNeed<'a>, AllocError>
+) -> TaskNeed<'a>
     requires laid_out { IsLaidOutText accepted.now.text.items (program_of accepted.now.checked.source) accepted.now.allow plan.now layout.now }
     requires task { number < length (program_of accepted.now.checked.source).tasks }
-    requires program { word_program.program_of program.now ≡ task_program (program_of accepted.now.checked.source) layout.now number }
-    ensures { IfOk result (λ n. (task : CheckedTask) → slice_get (program_of accepted.now.checked.source).tasks number ≡ Some task
-        → row_of n ≡ need_row accepted.now.text.items (program_of accepted.now.checked.source) layout.now number task) }
+    requires most { most ≡ capped (most_spent layout.now.runtime.events (task_program (program_of accepted.now.checked.source) layout.now number)) }
+    ensures { (task : CheckedTask) → slice_get (program_of accepted.now.checked.source).tasks number ≡ Some task
+        → row_of result ≡ need_row accepted.now.text.items (program_of accepted.now.checked.source) layout.now number ways.items task }
 {
     let _ = plan;
     tasks_are_whole();
@@ -128,7 +132,6 @@ fn task_need<'a>(
     let events = layout.runtime().events;
     let versions = accepted.allow().versions as u64;
     let table = table_of(&source.shared, events, versions, &task.body);
-    let most = most_spent(alloc, events, program)?;
     let parts = parts_of(
         events,
         versions,
@@ -136,7 +139,7 @@ fn task_need<'a>(
         table,
         most,
     );
-    Ok(TaskNeed {
+    TaskNeed {
         name: spelled(accepted.source(), task.name),
         boot: parts.boot as u32,
         start: parts.start as u32,
@@ -144,25 +147,98 @@ fn task_need<'a>(
         commit: parts.commit as u32,
         table: table.bound as u32,
         words: table.words as u32,
-    })
+        ways,
+    }
 }
 
-// What each of the tasks needs, whose programs these are.
+// The numbers of the conditions of each `if` of the task of a number.
+fn ifs_of(
+    alloc: Global,
+    accepted: &Accepted,
+    plan: &Plan,
+    layout: &Layout,
+    number: usize,
+) -> Result<Vec<Vec<u32>>, AllocError>
+    requires laid_out { IsLaidOutText accepted.now.text.items (program_of accepted.now.checked.source) accepted.now.allow plan.now layout.now }
+    requires task { number < length (program_of accepted.now.checked.source).tasks }
+    ensures { IfOk result (λ ifs. (task : CheckedTask) → slice_get (program_of accepted.now.checked.source).tasks number ≡ Some task
+        → lists_of ifs.items ≡ block_ifs 0 task.body) }
+{
+    let _ = plan;
+    let _ = layout;
+    tasks_are_whole();
+    privates_are_few();
+    let source = accepted.checked().source();
+    task_ifs(alloc, &source.tasks[number].body)
+}
+
+// What the task of a number needs, whose program this is, by the lines of its `if`s and the numbers of their conditions.
+fn need_by_lines<'a>(
+    alloc: Global,
+    accepted: &'a Accepted,
+    plan: &Plan,
+    layout: &Layout,
+    program: &WordProgram,
+    number: usize,
+    lines: &[u32],
+    ifs: &[Vec<u32>],
+) -> Result<TaskNeed<'a>, AllocError>
+    requires laid_out { IsLaidOutText accepted.now.text.items (program_of accepted.now.checked.source) accepted.now.allow plan.now layout.now }
+    requires task { number < length (program_of accepted.now.checked.source).tasks }
+    requires program { word_program.program_of program.now ≡ task_program (program_of accepted.now.checked.source) layout.now number }
+    requires ifs { (task : CheckedTask) → slice_get (program_of accepted.now.checked.source).tasks number ≡ Some task
+        → lists_of ifs.now ≡ block_ifs 0 task.body }
+    ensures { IfOk result (λ n. (task : CheckedTask) → slice_get (program_of accepted.now.checked.source).tasks number ≡ Some task
+        → row_of n ≡ need_row accepted.now.text.items (program_of accepted.now.checked.source) layout.now number
+          (ways_gone lines.now (program_of accepted.now.checked.source) layout.now number task) task) }
+{
+    tasks_are_whole();
+    privates_are_few();
+    let way = dearest_way(alloc, layout.runtime().events, program)?;
+    let ways = task_ways(alloc, lines, ifs, &way.held, &way.failed)?;
+    Ok(task_need(accepted, plan, layout, way.cycles, ways, number))
+}
+
+// The lines behind so many.
+fn lines_behind(lines: &[u32], count: usize) -> &[u32]
+    ensures { result.now ≡ drop count lines.now }
+{
+    if count <= lines.len() {
+        &lines[count..]
+    } else {
+        &[]
+    }
+}
+
+// What each of the tasks needs, whose programs these are, by the lines of all `if`s.
 fn tasks_need<'a>(
     alloc: Global,
     accepted: &'a Accepted,
     plan: &Plan,
     layout: &Layout,
     programs: &[WordProgram],
+    lines: &[u32],
 ) -> Result<Vec<TaskNeed<'a>>, AllocError>
     requires laid_out { IsLaidOutText accepted.now.text.items (program_of accepted.now.checked.source) accepted.now.allow plan.now layout.now }
     requires programs { map word_program.program_of programs.now ≡ lowered layout.now (program_of accepted.now.checked.source) }
     ensures { IfOk result (λ needs. map row_of needs.items
-        ≡ need_rows accepted.now.text.items (program_of accepted.now.checked.source) layout.now) }
+        ≡ rows_from accepted.now.text.items (program_of accepted.now.checked.source) layout.now lines.now 0 (program_of accepted.now.checked.source).tasks) }
 {
     let mut needs = Vec::new(alloc);
+    let mut left = lines;
     for i in 0..programs.len() {
-        needs.push(task_need(alloc, accepted, plan, layout, &programs[i], i)?)?;
+        let ifs = ifs_of(alloc, accepted, plan, layout, i)?;
+        needs.push(need_by_lines(
+            alloc,
+            accepted,
+            plan,
+            layout,
+            &programs[i],
+            i,
+            left,
+            &ifs,
+        )?)?;
+        left = lines_behind(left, ifs.len());
     }
     Ok(needs)
 }
@@ -179,5 +255,6 @@ pub fn needs_of<'a>(alloc: Global, accepted: &'a Accepted) -> Result<Vec<TaskNee
     let plan = analyse(alloc, checked)?;
     let layout = layout(alloc, checked, accepted.allow(), &plan)?;
     let programs = lower(alloc, checked, &layout)?;
-    tasks_need(alloc, accepted, &plan, &layout, programs.as_slice())
+    let lines = if_lines(alloc, accepted.source())?;
+    tasks_need(alloc, accepted, &plan, &layout, programs.as_slice(), &lines)
 }

@@ -47,26 +47,6 @@ table_of-table-requires-clause-short c =
     let small : task_words p.shared h.task.body < 2 ^ 32 = omega (arith, h.words) in
     rw (shared, body) small
 
-pub most_spent-requires-clause-room : goal.most_spent-requires-clause-room
-most_spent-requires-clause-room c =
-    let text = c.args.accepted.now.text.items in
-    let p = program_of c.args.accepted.now.checked.source in
-    let l = c.args.layout.now in
-    let k = c.args.number in
-    let h = task_holds c.tasks_are_whole.ensures text p c.args.accepted.now.allow c.args.plan.now l c.privates_are_few.ensures c.requires.laid_out k
-    c.requires.task in
-    rw c.requires.program h.room
-
-pub most_spent-requires-clause-whole : goal.most_spent-requires-clause-whole
-most_spent-requires-clause-whole c =
-    let text = c.args.accepted.now.text.items in
-    let p = program_of c.args.accepted.now.checked.source in
-    let l = c.args.layout.now in
-    let k = c.args.number in
-    let h = task_holds c.tasks_are_whole.ensures text p c.args.accepted.now.allow c.args.plan.now l c.privates_are_few.ensures c.requires.laid_out k
-    c.requires.task in
-    rw c.requires.program h.whole
-
 pub parts_of-parts-requires-clause-few : goal.parts_of-parts-requires-clause-few
 parts_of-parts-requires-clause-few c =
     let text = c.args.accepted.now.text.items in
@@ -169,13 +149,12 @@ returns c = λ task there.
     let bound : table.bound ≡ (program_parts p l).cost k =
     (rw (events, versions, shared, body) at c.table_of-table.ensures.bound) ∙ ap (λ b. task_bound (uses_events p) (versions_of p) p.shared b) block in
     let small : table.bound < 2 ^ 32 = omega (arith, rw (events, versions, shared, body) at c.table_of-table.ensures.bound, h.bound) in
-    let most = rw (at_runtime, c.requires.program) at c.in_ok-most.ensures in
-    let name : c.spelled.result.now ≡ spelled text h.task.name =
+        let name : c.spelled.result.now ≡ spelled text h.task.name =
     c.spelled.ensures ∙ ap (λ t. spelled t c.index-task.result.now.name) c.source.ensures ∙ ap (spelled text) at.0 in
     let boot : c.parts_of-parts.result.boot ≡ n.boot = rw at_runtime at c.parts_of-parts.ensures.boot in
     let start : c.parts_of-parts.result.start ≡ n.start = rw (at_runtime, cleared, privates) at c.parts_of-parts.ensures.start in
     let commit : c.parts_of-parts.result.commit ≡ n.commit = rw (at_runtime, privates, elements, emits) at c.parts_of-parts.ensures.commit in
-    let cut = path_cut c.in_ok-most.most (most_spent l.runtime.events (task_program p l k)) table.bound (beside_path p l k) small most in
+    let cut = path_cut c.args.most (most_spent l.runtime.events (task_program p l k)) table.bound (beside_path p l k) small c.requires.most in
     let path : c.parts_of-parts.result.path ≡ n.path =
     (rw (at_runtime, cleared, privates, elements, emits) at c.parts_of-parts.ensures.path) ∙ cut
     ∙ ap (λ b. min (most_spent l.runtime.events (task_program p l k)) (b - beside_path p l k)) bound in
@@ -189,7 +168,8 @@ returns c = λ task there.
       commit = c.parts_of-parts.result.commit;
       table = table.bound;
       words = table.words;
-    }) ≡ need_row text p l k t in
+      ways = c.args.ways;
+    }) ≡ need_row text p l k c.args.ways.items t in
     subst P same (λ i. record {
       name = name i;
       boot = boot i;
@@ -198,4 +178,5 @@ returns c = λ task there.
       commit = commit i;
       table = bound i;
       words = words i;
+      ways = c.args.ways.items;
     })
