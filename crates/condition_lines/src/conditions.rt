@@ -89,7 +89,10 @@ fn push_block(
 ///
 /// # Errors
 /// `AllocError` where memory was refused.
-pub fn task_ifs(alloc: Global, body: &[Stmt<VariableName, TaskName>]) -> Result<Vec<Vec<u32>>, AllocError>
+pub fn task_ifs(
+    alloc: Global,
+    body: &[Stmt<VariableName, TaskName>],
+) -> Result<Vec<Vec<u32>>, AllocError>
     requires { block_conditions (block_view body.now) < 2 ^ 32 }
     ensures { IfOk result (λ ifs. lists_of ifs.items ≡ block_ifs 0 (block_view body.now)) }
 {

@@ -12,7 +12,11 @@ fn count(counts: &[u64], number: u32) -> u64
     ensures { result ≡ slice_index counts.now number }
 {
     let number = number as usize;
-    if number < counts.len() { counts[number] } else { 0 }
+    if number < counts.len() {
+        counts[number]
+    } else {
+        0
+    }
 }
 
 // A way that is gone so often, if it ever is.
