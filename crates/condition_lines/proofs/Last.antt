@@ -1,5 +1,5 @@
 -- The way where no condition of an `if` holds, by the last of them.
-use Rattle.std.proofs.Common.{◌≡◌, ℕ, zero, suc, ◌+◌, ◌-◌, ◌<◌, ◌≤◌, List, [], ◌∷◌, length, get_or, slice_index, refl, ap, ◌∙◌, arith}
+use Rattle.std.proofs.Common.{◌≡◌, ℕ, suc, ◌-◌, ◌<◌, ◌≤◌, List, [], ◌∷◌, length, get_or, slice_index, refl, ap, ◌∙◌, arith}
 use Rattle.condition_lines.specs.Ways.{failed_way, task_ways, way_if}
 
 pub none_fails : (line : ℕ) (failed numbers : List ℕ) → length numbers ≤ 0 → failed_way line failed numbers ≡ []

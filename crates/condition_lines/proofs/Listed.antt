@@ -1,7 +1,7 @@
 -- The `if`s of a statement, as they are listed.
-use Rattle.std.proofs.Common.{◌≡◌, ◌∙◌, ℕ, suc, ◌+◌, ◌≤◌, ◌++◌, ◌∷◌, [], append_assoc, List, Option, None, Some, length, slice_set, refl, sym}
+use Rattle.std.proofs.Common.{◌≡◌, ◌∙◌, ℕ, suc, ◌+◌, ◌≤◌, ◌++◌, ◌∷◌, [], append_assoc, List, None, Some, length, slice_set, refl, sym}
 use Rattle.std.proofs.Common.{ap, arith}
-use Rattle.std.specs.Global.{Global, Vec}
+use Rattle.std.specs.Global.{Vec}
 use Rattle.std.proofs.lemmas.List.{length-map, map-append, map-set}
 use Rattle.std.proofs.Math.Seq.{set-append_seam}
 use Rattle.task_ast.specs.Tree.{Block, Statement, Tested, choice_of, choose}

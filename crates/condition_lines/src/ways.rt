@@ -80,7 +80,6 @@ fn push_if(
 ///
 /// # Errors
 /// `AllocError` where memory was refused.
-#[tactic(auto, using(crate::proofs::Last::no_ifs))]
 pub fn task_ways(
     alloc: Global,
     lines: &[u32],

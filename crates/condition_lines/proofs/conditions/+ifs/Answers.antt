@@ -1,4 +1,4 @@
-use Rattle.std.proofs.Common.{◌∙◌, ◌+◌, ◌++◌, ◌∷◌, [], None, ap, map, rules, arith}
+use Rattle.std.proofs.Common.{◌∙◌, ◌++◌, None, ap, map, rules, arith}
 use Rattle.task_ast.specs.declared.Stmt.{the_lemmas}
 use Rattle.task_ast.specs.View.{block_view, choice_view, statement_of, tested_of}
 use Rattle.condition_lines.specs.Conditions.{block_ifs, choice_ifs, lists_of}
