@@ -68,7 +68,7 @@ task_holds whole text p allow plans l few laid k inside =
     let no_more = seen_words l.runtime.logging place.0 in
     let code = blocks_keep_to_words (places_of (map_seen t.0.body l) own) (scalars_of p.shared t.0.body) t.0.body (omega (arith, privates, no_more)) in
     let small : task_words p.shared t.0.body ≤ 22000 = omega (arith, words, allowed.within_size) in
-    let places = places_of (map_seen t.0.body l) place.0 in
+    let places = places_of (map_seen t.0.body l) own in
     let conditions = block_few places t.0.body in
     let choices = program_few (lowered_block places t.0.body) in
     record {

@@ -169,7 +169,8 @@ fn ifs_of(
     tasks_are_whole();
     privates_are_few();
     let source = accepted.checked().source();
-    task_ifs(alloc, &source.tasks[number].body)
+    let task = &source.tasks[number];
+    task_ifs(alloc, &task.body)
 }
 
 // What the task of a number needs, whose program this is, by the lines of its `if`s and the numbers of their conditions.
@@ -194,7 +195,8 @@ fn need_by_lines<'a>(
 {
     tasks_are_whole();
     privates_are_few();
-    let way = dearest_way(alloc, layout.runtime().events, program)?;
+    let events = layout.runtime().events;
+    let way = dearest_way(alloc, events, program)?;
     let ways = task_ways(alloc, lines, ifs, &way.held, &way.failed)?;
     Ok(task_need(accepted, plan, layout, way.cycles, ways, number))
 }

@@ -17,8 +17,8 @@ task_ifs-requires c =
     let h = task_holds c.tasks_are_whole.ensures text p c.args.accepted.now.allow c.args.plan.now l c.privates_are_few.ensures c.requires.laid_out k
     c.requires.task in
     let source = c.source-source.ensures ∙ ap (λ x. x.source) c.checked.ensures in
-    let at = task_at c.args.accepted.now.checked.source.tasks.items k c.index-tasks-number.result h.task h.there
-    (c.index-tasks-number.is ∙ ap (λ s. get_or s.tasks.items k c.index-tasks-number.result) source) in
+    let at = task_at c.args.accepted.now.checked.source.tasks.items k c.index-task.result.now h.task h.there
+    (c.index-task.ensures ∙ ap (λ s. get_or s.tasks.items k c.index-task.result.now) source) in
     let body : block_view c.deref.result.now ≡ h.task.body = ap block_view c.deref.ensures.value ∙ at.1 in
     subst (λ b. block_conditions b < 2 ^ 32) (sym body) h.conditions
 
@@ -31,8 +31,8 @@ returns c =
     let h = task_holds c.tasks_are_whole.ensures text p c.args.accepted.now.allow c.args.plan.now l c.privates_are_few.ensures c.requires.laid_out k
     c.requires.task in
     let source = c.source-source.ensures ∙ ap (λ x. x.source) c.checked.ensures in
-    let at = task_at c.args.accepted.now.checked.source.tasks.items k c.index-tasks-number.result h.task h.there
-    (c.index-tasks-number.is ∙ ap (λ s. get_or s.tasks.items k c.index-tasks-number.result) source) in
+    let at = task_at c.args.accepted.now.checked.source.tasks.items k c.index-task.result.now h.task h.there
+    (c.index-task.ensures ∙ ap (λ s. get_or s.tasks.items k c.index-task.result.now) source) in
     let body : block_view c.deref.result.now ≡ h.task.body = ap block_view c.deref.ensures.value ∙ at.1 in
     IfOk-weaker c.task_ifs.result (λ ifs. lists_of ifs.items ≡ block_ifs 0 (block_view c.deref.result.now))
     (λ ifs. (task : CheckedTask) → slice_get p.tasks k ≡ Some task → lists_of ifs.items ≡ block_ifs 0 task.body)

@@ -1,10 +1,11 @@
-use Rattle.std.proofs.Common.{◌≡◌, map}
+use Rattle.std.proofs.Common.{◌≡◌, ◌∙◌, map, ap}
 use Rattle.std.proofs.lemmas.Result.{IfOk-weaker}
 use Rattle.task_ast.specs.View.{program_of}
 use Rattle.war_analysis.specs.Plans.{IsPlan}
 use Rattle.privatise.specs.Layouts.{IsLayout}
+use Rattle.condition_lines.specs.Lines.{if_lines}
 use Rattle.need_lines.specs.Rows.{row_of}
-use Rattle.source_needs.specs.Needs.{AreNeedsOf, need_rows}
+use Rattle.source_needs.specs.Needs.{AreNeedsOf, rows_from}
 use Rattle.source_needs.proofs.Rows.{needs_are}
 use Rattle.source_needs.proofs.needs.needs_of.Goals as goal
 
@@ -17,7 +18,9 @@ returns c =
     let l = c.in_ok-layout.layout in
     let planned : IsPlan p plans = rw c.checked-checked.ensures at c.in_ok-plan.ensures in
     let laid : IsLayout p allow plans l = rw (c.checked-checked.ensures, c.allow.ensures) at c.in_ok-layout.ensures in
-    IfOk-weaker c.tasks_need.result (λ needs. map row_of needs.items ≡ need_rows text p l) (λ needs. AreNeedsOf text p allow (map row_of needs.items))
+    let lines : c.deref.result.now ≡ if_lines text = c.deref.ensures.value ∙ c.in_ok-lines.ensures ∙ ap if_lines c.source.ensures in
+    IfOk-weaker c.tasks_need.result (λ needs. map row_of needs.items ≡ rows_from text p l c.deref.result.now 0 p.tasks)
+    (λ needs. AreNeedsOf text p allow (map row_of needs.items))
     (λ needs is. needs_are text p allow plans l (map row_of needs.items) (c.one_plan.ensures p) (c.one_layout.ensures p allow c.requires.allowed) planned
-    laid is)
+    laid (is ∙ ap (λ ls. rows_from text p l ls 0 p.tasks) lines))
     c.tasks_need.ensures

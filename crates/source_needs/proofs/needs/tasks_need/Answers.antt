@@ -43,8 +43,8 @@ loop-i-preserved c =
     let ifs = ap length (c.in_ok-ifs.ensures t.0 t.1) in
     let items = length-map c.in_ok-ifs.ifs.items (λ numbers. numbers.items) in
     let many : c.len.result ≡ length (block_ifs 0 t.0.body) = omega (arith, c.len.ensures, c.in_ok-ifs.ifs.ok.0, items, ifs) in
-    let behind = c.lines_behind-left.ensures ∙ ap (λ n. drop n c.loop-i.left) many in
-    row_more text p l c.loop-i.left c.lines_behind-left.result.now c.loop-i.i t.0 (map row_of c.loop-i.needs.items) (map row_of c.push.new.self.items) t.1
+    let behind = c.lines_behind-left.ensures ∙ ap (λ n. drop n c.loop-i.left.now) many in
+    row_more text p l c.loop-i.left.now c.lines_behind-left.result.now c.loop-i.i t.0 (map row_of c.loop-i.needs.items) (map row_of c.push.new.self.items) t.1
     behind more
     ∙ c.loop-i.invariant
 
@@ -56,4 +56,4 @@ returns c =
     let made = as_many l p.tasks l.tasks c.requires.laid_out.layout.tasks.count in
     let count = length-map c.args.programs.now word_program.program_of in
     let all : length p.tasks ≤ c.loop-i.i = omega (arith, c.loop-i-test.false, made, count, ap length c.requires.programs) in
-    sym (rows_end text p l c.loop-i.left c.loop-i.i (map row_of c.loop-i.needs.items) all) ∙ c.loop-i.invariant
+    sym (rows_end text p l c.loop-i.left.now c.loop-i.i (map row_of c.loop-i.needs.items) all) ∙ c.loop-i.invariant
