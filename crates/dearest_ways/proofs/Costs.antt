@@ -1,5 +1,5 @@
 -- The ways of a program cost what its code costs at most.
-use Rattle.std.proofs.Common.{◌≡◌, ℕ, suc, ◌+◌, ◌-◌, ◌++◌, ◌∷◌, [], List, Bool, true, false, not, nat_lt, if◌then◌else◌, max, Option, None, Some, refl, sym, ap, ◌∙◌, arith}
+use Rattle.std.proofs.Common.{◌≡◌, ℕ, suc, ◌+◌, ◌-◌, ◌++◌, ◌∷◌, [], List, Bool, true, false, not, nat_lt, if◌then◌else◌, Option, None, Some, refl, sym, ◌∙◌, arith}
 use Rattle.word_code.specs.declared.bounds.Bound.{Bound}
 use Rattle.word_code.specs.declared.waiting.Waiting.{Waiting}
 use Rattle.word_code.specs.array_versions.Program.{Step, Test, Program, number, load, keep, update, local, set_local, update_local, unary, binary, shift, long}
@@ -11,8 +11,8 @@ use Rattle.word_code.specs.Code.{owed, holds_code, compares_code, number_code, t
 use Rattle.word_code.specs.Code.{test_code, block_code}
 use Rattle.code_paths.specs.Paths.{capped, forward_most}
 use Rattle.code_costs.specs.Dearest.{flush_most, leaf_most, turn_most, turns_most, step_most, test_most, steps_most, block_most, most_spent}
-use Rattle.code_ways.specs.Ways.{WaysValue, ForksValue, AreWaysOf, AreForksOf, straight_ways, choice_ways, leaving_ways, ways_behind, forked_ways, chosen_ways}
-use Rattle.code_ways.specs.Ways.{WayValue, all_turns, both_ways, dearer_of, some_way, way_behind}
+use Rattle.code_ways.specs.Ways.{WaysValue, AreWaysOf, AreForksOf, straight_ways, choice_ways, ways_behind}
+use Rattle.code_ways.specs.Ways.{WayValue, both_ways, dearer_of, some_way, way_behind}
 use Rattle.code_ways.proofs.Interface.{behind_are, straight_are, choice_are, leaving_are, forked_are, both_are, turned_are, one_are, chosen_are, turns_are}
 use Rattle.code_ways.proofs.Interface.{most_is}
 use Rattle.dearest_ways.specs.Ways.{straight_cost, step_choices, test_choices, program_choices, step_ways, test_forks, ways_further, steps_ways, block_ways}

@@ -1,5 +1,5 @@
 -- A program has no more choices than words.
-use Rattle.std.proofs.Common.{ℕ, suc, ◌+◌, ◌≤◌, arith}
+use Rattle.std.proofs.Common.{◌≤◌, arith}
 use Rattle.word_code.specs.array_versions.Program.{Step, Test, Program, number, load, keep, update, local, set_local, update_local, unary, binary, shift, long}
 use Rattle.word_code.specs.array_versions.Program.{element, emit_word, list_entry, versioned_read, versioned_write, versioned_update, sense, next_event}
 use Rattle.word_code.specs.array_versions.Program.{freeze_events, truth, choose, repeat, store_number, move_word, jump, holds, compares, both, either, fails}

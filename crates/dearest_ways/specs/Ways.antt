@@ -3,7 +3,6 @@
 use Rattle.std.specs.Prelude.{◌≡◌, ℕ, suc, ◌+◌, ◌-◌, Bool, true, false, not, if◌then◌else◌, List, [], ◌∷◌, ◌++◌}
 use Rattle.word_code.specs.declared.bounds.Bound.{Bound}
 use Rattle.word_code.specs.declared.waiting.Waiting.{Waiting}
-use Rattle.word_code.specs.code_forms.Forms.{Form}
 use Rattle.word_code.specs.array_versions.Program.{Step, Test, Program, truth, choose, repeat, jump, holds, compares, both, either, fails, nothing, step}
 use Rattle.word_code.specs.array_versions.Form.{locals_of}
 use Rattle.word_code.specs.Code.{owed, holds_code, compares_code, number_code, turn_end, pass_over, size, bound_of, stack_set, waiting_behind}

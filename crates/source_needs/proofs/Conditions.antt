@@ -1,11 +1,11 @@
 -- The program of a task has at least the choices of the task's conditions.
-use Rattle.std.proofs.Common.{◌≡◌, ℕ, suc, ◌+◌, ◌≤◌, refl, arith}
+use Rattle.std.proofs.Common.{◌≡◌, ◌+◌, ◌≤◌, arith}
 use Rattle.task_ast.specs.Tree as t
 use Rattle.task_ast.specs.Paths.{CheckedStatement, CheckedChoice, CheckedBlock}
 use Rattle.array_versions.specs.Program.{Program, nothing, step, joined}
 use Rattle.memory_map.specs.Spots.{Places}
 use Rattle.lower.specs.Lowered.{lowered_statement, lowered_choice, lowered_block}
-use Rattle.dearest_ways.specs.Ways.{step_choices, program_choices}
+use Rattle.dearest_ways.specs.Ways.{program_choices}
 use Rattle.condition_lines.specs.Conditions.{statement_conditions, choice_conditions, block_conditions}
 
 choices_joined : (p q : Program) → program_choices (joined p q) ≡ program_choices p + program_choices q

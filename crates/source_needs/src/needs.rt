@@ -20,8 +20,8 @@ ghost use Rattle.source_needs.specs.Needs.{AreNeedsOf, boot_part, commit_part, n
 use crate::parts::{boot_need, commit_need, path_need, start_need};
 use crate::runs::{run_count, word_count};
 use array_versions::WordProgram;
-use cost_bound::{assigned_scalars, task_needs};
 use condition_lines::{if_lines, task_ifs, task_ways};
+use cost_bound::{assigned_scalars, task_needs};
 use dearest_ways::dearest_way;
 use lower::lower;
 use memory_map::{Layout, PrivateScalar};
@@ -191,7 +191,7 @@ fn need_by_lines<'a>(
         → lists_of ifs.now ≡ block_ifs 0 task.body }
     ensures { IfOk result (λ n. (task : CheckedTask) → slice_get (program_of accepted.now.checked.source).tasks number ≡ Some task
         → row_of n ≡ need_row accepted.now.text.items (program_of accepted.now.checked.source) layout.now number
-          (ways_gone lines.now (program_of accepted.now.checked.source) layout.now number task) task) }
+        (ways_gone lines.now (program_of accepted.now.checked.source) layout.now number task) task) }
 {
     tasks_are_whole();
     privates_are_few();
@@ -230,16 +230,7 @@ fn tasks_need<'a>(
     let mut left = lines;
     for i in 0..programs.len() {
         let ifs = ifs_of(alloc, accepted, plan, layout, i)?;
-        needs.push(need_by_lines(
-            alloc,
-            accepted,
-            plan,
-            layout,
-            &programs[i],
-            i,
-            left,
-            &ifs,
-        )?)?;
+        needs.push(need_by_lines(alloc, accepted, plan, layout, &programs[i], i, left, &ifs)?)?;
         left = lines_behind(left, ifs.len());
     }
     Ok(needs)

@@ -1,4 +1,4 @@
-use Rattle.std.proofs.Common.{◌≡◌, ◌∙◌, ◌++◌, ap, length, arith}
+use Rattle.std.proofs.Common.{◌∙◌}
 use Rattle.code_ways.specs.Choices.{taken_of}
 use Rattle.code_ways.proofs.Grown.{begun_with_none, written_whole}
 use Rattle.code_ways.proofs.counts.counts_of.Goals as goal

@@ -1,4 +1,4 @@
-use Rattle.std.proofs.Common.{◌≡◌, ◌∙◌, ℕ, suc, ◌+◌, ◌-◌, ◌++◌, ◌∷◌, List, false, true, sym, ap, subst, rules, arith}
+use Rattle.std.proofs.Common.{◌≡◌, ◌∙◌, suc, ◌+◌, ◌-◌, ◌++◌, ◌∷◌, List, false, true, sym, ap, subst, rules, arith}
 use Rattle.std.proofs.lemmas.Result.{IfOk-weaker}
 use Rattle.word_code.specs.declared.bounds.Bound.{Bound}
 use Rattle.word_code.specs.array_versions.Program.{Program, repeat}
@@ -7,8 +7,6 @@ use Rattle.word_code.specs.array_versions.Form.{LocalsBelow, StepLocalsBelow}
 use Rattle.word_code.specs.array_versions.Cost.{step_words, words_of}
 use Rattle.word_code.specs.array_versions.declared.program.WordStep as word_step
 use Rattle.word_code.specs.Code.{size, pass_over, number_code, turn_end, block_code}
-use Rattle.word_code.proofs.code_forms.Interface.{forms_bytes-append}
-use Rattle.word_code.proofs.Interface.{inner_takes, pass_takes}
 use Rattle.code_paths.specs.Paths.{forward_most}
 use Rattle.code_costs.specs.Dearest.{flush_most, turn_most}
 use Rattle.code_ways.specs.Ways.{forks_of, ways_of, all_turns, choice_ways, chosen_ways, ways_behind}

@@ -1,6 +1,7 @@
-use Rattle.std.proofs.Common.{◌≡◌, ◌∙◌, sym, ap, false, true}
+use Rattle.std.proofs.Common.{◌∙◌, ap, false, true}
 use Rattle.task_ast.specs.View.{program_of}
 use Rattle.code_ways.specs.Choices.{counts_from}
+use Rattle.condition_lines.specs.Conditions.{lists_of}
 use Rattle.condition_lines.specs.Ways.{task_ways}
 use Rattle.compiled_model.specs.Parts.{task_program}
 use Rattle.dearest_ways.specs.Ways.{dearest_way, program_choices}
@@ -46,7 +47,7 @@ returns c = λ task there.
     let way = rw (at_runtime, c.requires.program) at c.in_ok-way.ensures.way in
     let held = c.deref.ensures.value ∙ way.held in
     let failed = c.deref-2.ensures.value ∙ way.failed in
-    let ways = c.in_ok-ways.ensures ∙ ap (λ h. task_ways h c.deref-2.result.now c.args.lines.now _) held
-    ∙ ap (λ f. task_ways (counts_from true 0 n taken) f c.args.lines.now _) failed
+    let ways = c.in_ok-ways.ensures ∙ ap (λ h. task_ways h c.deref-2.result.now c.args.lines.now (lists_of c.args.ifs.now)) held
+    ∙ ap (λ f. task_ways (counts_from true 0 n taken) f c.args.lines.now (lists_of c.args.ifs.now)) failed
     ∙ ap (task_ways (counts_from true 0 n taken) (counts_from false 0 n taken) c.args.lines.now) (c.requires.ifs task there) in
     c.task_need.ensures task there ∙ ap (λ ws. need_row text p l k ws task) ways

@@ -149,7 +149,7 @@ returns c = λ task there.
     let bound : table.bound ≡ (program_parts p l).cost k =
     (rw (events, versions, shared, body) at c.table_of-table.ensures.bound) ∙ ap (λ b. task_bound (uses_events p) (versions_of p) p.shared b) block in
     let small : table.bound < 2 ^ 32 = omega (arith, rw (events, versions, shared, body) at c.table_of-table.ensures.bound, h.bound) in
-        let name : c.spelled.result.now ≡ spelled text h.task.name =
+    let name : c.spelled.result.now ≡ spelled text h.task.name =
     c.spelled.ensures ∙ ap (λ t. spelled t c.index-task.result.now.name) c.source.ensures ∙ ap (spelled text) at.0 in
     let boot : c.parts_of-parts.result.boot ≡ n.boot = rw at_runtime at c.parts_of-parts.ensures.boot in
     let start : c.parts_of-parts.result.start ≡ n.start = rw (at_runtime, cleared, privates) at c.parts_of-parts.ensures.start in
