@@ -7,8 +7,9 @@ use Rattle.word_code.proofs.Names.{WordState, Behaviour, goes_on, behind_effects
 use Rattle.word_code.proofs.Names.{first_logged, own_logged, logged_stored}
 use Rattle.word_code.proofs.Names.{logged_updated, logged_write, logged_update, put_words, Bound, Waiting, top_of, below_top, flushed, kept, two_to_registers}
 use Rattle.word_code.proofs.Names.{check_code, size, is_inside, log_code, logged_first, logged_code, kept_in, made_in, step_code}
+use Rattle.word_code.proofs.Names.{known_first, known_logged, plain_instruction, Update}
 use Rattle.word_code.proofs.Memory.{HoldsWords, AreWords, place_is, address_small}
-use Rattle.word_code.proofs.Registers.{HasSides, HasTwo, store_line}
+use Rattle.word_code.proofs.Registers.{HasSides, Has, HasTwo, store_line, equal_flag}
 use Rattle.word_code.proofs.Stretches.{Setting, runs_on, dearer, so_runs}
 use Rattle.word_code.proofs.Follows.{StandsFor, Follows, more_cycles, then_end, ends_at, guarded}
 use Rattle.word_code.proofs.Jumps.{whole_size, near_distance, stands_low}
@@ -20,7 +21,7 @@ use Rattle.word_code.proofs.Results.{StepDoes, Does, alone_behind, gathered}
 use Rattle.word_code.proofs.LoopBounds.{Bounded, under_inside}
 use Rattle.word_code.proofs.Routes.{on, jump, route, store_route, starts}
 use Rattle.word_code.proofs.VersionParts.{marked}
-use Rattle.word_code.proofs.VersionUpdates.{made_part}
+use Rattle.word_code.proofs.VersionUpdates.{made_part, known_place, known_offset}
 
 -- four times a count, as the code has it
 abbrev fourfold : ℕ → ℕ
@@ -40,27 +41,103 @@ module _ (z : Setting) (place : LoggedPlace) (p : ℕ) where
       (w : WordState) (t : Core) → IsPlace e → HoldsWords w.fram → HasTwo z (p + 46) w (2 * i) v t
       → Runs z.code (Store e (word w) ∷ []) r t (StandsFor z end (stored e (word w) w))
 
+-- what the log of an element does, by the FRAM in front of it; the code's word for twice the index is that
+module _ (place : LoggedPlace) (list : ListPlace) (i offset : ℕ) (same : offset ≡ 2 * i) (w : WordState) (wl : HoldsWords w.fram)
+    (fe : IsPlace (2 * i + place.elements)) (f1 : IsPlace (list.list + 4 * w.fram list.cln)) (f2 : IsPlace (list.list + 4 * w.fram list.cln + 2)) where
+  abbrev e : ℕ
+  e = 2 * i + place.elements
+
+  abbrev m : ℕ
+  m = 2 * i + place.versions
+
+  abbrev a : ℕ
+  a = list.list + 4 * w.fram list.cln
+
+  abbrev addressed : WordState
+  addressed = stored a e w
+
+  abbrev entered : WordState
+  entered = stored (a + 2) (addressed.fram e) addressed
+
+  abbrev entries : ℕ
+  entries = (entered.fram list.cln + 1) % 65536
+
+  abbrev counted : WordState
+  counted = stored list.cln entries entered
+
+  abbrev logged : WordState
+  logged = stored m (counted.fram list.ver) counted
+
+  abbrev logging : List Effect
+  logging = Store a e ∷ Store (a + 2) (addressed.fram e) ∷ Store list.cln entries ∷ Store m (counted.fram list.ver) ∷ []
+
+  logged_words : HoldsWords logged.fram
+  logged_words =
+      let high = address_small fe in
+      let one = put_words w.fram a e wl high in
+      let two = put_words addressed.fram (a + 2) (addressed.fram e) one (one e) in
+      let three = put_words entered.fram list.cln entries two (omega arith) in
+      put_words counted.fram m (counted.fram list.ver) three (three list.ver)
+
+  -- the addresses and words, as the code has them
+  first : fourfold (w.fram list.cln) + list.list ≡ a
+  first = fourth (w.fram list.cln) list.list (address_small f1)
+
+  second : fourfold (w.fram list.cln) + word_sum list.list 2 ≡ a + 2
+  second = behind_fourth (w.fram list.cln) list.list (address_small f2)
+
+  read : offset + place.elements ≡ e
+  read = ap (λ q. q + place.elements) same
+
+  version : offset + place.versions ≡ m
+  version = ap (λ q. q + place.versions) same
+
+  address : (offset + place.elements + 0) % 0x10000 ≡ e
+  address = ap (λ q. (q + place.elements + 0) % 0x10000) same ∙ plus_small i place.elements (address_small fe)
+
+  abbrev first_fram : ℕ → ℕ
+  first_fram = put w.fram (fourfold (w.fram list.cln) + list.list) ((offset + place.elements + 0) % 0x10000)
+
+  abbrev second_fram : ℕ → ℕ
+  second_fram = put first_fram (fourfold (w.fram list.cln) + word_sum list.list 2) (first_fram (offset + place.elements))
+
+  abbrev third_fram : ℕ → ℕ
+  third_fram = put second_fram list.cln ((second_fram list.cln + 1 + 0) % 0x10000)
+
+  first_is : first_fram ≡ addressed.fram
+  first_is = λ k. put w.fram (first k) (address k)
+
+  second_is : second_fram ≡ entered.fram
+  second_is = λ k. put (first_is k) (second k) (first_is k (read k))
+
+  count_is : (second_fram list.cln + 1 + 0) % 0x10000 ≡ entries
+  count_is = ap (λ (f : ℕ → ℕ). (f list.cln + 1 + 0) % 0x10000) second_is ∙ plus_none (entered.fram list.cln) 1
+
+  third_is : third_fram ≡ counted.fram
+  third_is = λ k. put (second_is k) list.cln (count_is k)
+
+  -- its effects and FRAM behind it, as the code has them
+  effects_are : Store (fourfold (w.fram list.cln) + list.list) ((offset + place.elements + 0) % 0x10000)
+      ∷ Store (fourfold (w.fram list.cln) + word_sum list.list 2) (first_fram (offset + place.elements))
+      ∷ Store list.cln ((second_fram list.cln + 1 + 0) % 0x10000) ∷ Store (offset + place.versions) (third_fram list.ver) ∷ [] ≡ logging
+  effects_are = λ k. Store (first k) (address k) ∷ Store (second k) (first_is k (read k)) ∷ Store list.cln (count_is k)
+      ∷ Store (version k) (third_is k list.ver) ∷ []
+
+  fram_is : put third_fram (offset + place.versions) (third_fram list.ver) ≡ logged.fram
+  fram_is = λ k. put (third_is k) (version k) (third_is k list.ver)
+
 module _ (z : Setting) (place : LoggedPlace) (list : ListPlace) (p : ℕ) (h : Stands z.code p (logged_first place list)) where
   abbrev code : List Form
   code = logged_first place list
 
   module _ (i v : ℕ) (w : WordState) (t : Core) (wl : HoldsWords w.fram) (fe : IsPlace (2 * i + place.elements)) (fv : IsPlace list.ver)
       (fm : IsPlace (2 * i + place.versions)) (j : HasTwo z p w i v t) where
-    abbrev e : ℕ
-    e = 2 * i + place.elements
-
-    abbrev m : ℕ
-    m = 2 * i + place.versions
-
     -- twice the index, as the code has it
-    abbrev offset : ℕ
-    offset = (i + i + 0) % 0x10000
-
-    offset_is : offset ≡ 2 * i
+    offset_is : (i + i + 0) % 0x10000 ≡ 2 * i
     offset_is = twice i place.elements (address_small fe)
 
     -- the version word is the attempt's number
-    again : (w.fram list.ver == w.fram m) ≡ true → Runs z.code [] 9 t (HasTwo z (p + 46) w (2 * i) v)
+    again : (w.fram list.ver == w.fram (2 * i + place.versions)) ≡ true → Runs z.code [] 9 t (HasTwo z (p + 46) w (2 * i) v)
     again b =
         route z p code h 0 (starts z j.is) (j.held.four, j.held.five, refl, refl) (on 3 ∷ jump true ∷ []) 9 _ (
           _,
@@ -79,117 +156,31 @@ module _ (z : Setting) (place : LoggedPlace) (list : ListPlace) (p : ℕ) (h : S
         (λ s. record { is = s; held = record { four = offset_is; five = refl } })
 
     -- it isn't: the element is logged
-    module _ (fc : IsPlace list.cln) (f1 : IsPlace (list.list + 4 * w.fram list.cln)) (f2 : IsPlace (list.list + 4 * w.fram list.cln + 2)) where
-      abbrev a : ℕ
-      a = list.list + 4 * w.fram list.cln
-
-      abbrev addressed : WordState
-      addressed = stored a e w
-
-      abbrev entered : WordState
-      entered = stored (a + 2) (addressed.fram e) addressed
-
-      abbrev entries : ℕ
-      entries = (entered.fram list.cln + 1) % 65536
-
-      abbrev counted : WordState
-      counted = stored list.cln entries entered
-
-      abbrev logged : WordState
-      logged = stored m (counted.fram list.ver) counted
-
-      abbrev logging : List Effect
-      logging = Store a e ∷ Store (a + 2) (addressed.fram e) ∷ Store list.cln entries ∷ Store m (counted.fram list.ver) ∷ []
-
-      logged_words : HoldsWords logged.fram
-      logged_words =
-          let high = address_small fe in
-          let one = put_words w.fram a e wl high in
-          let two = put_words addressed.fram (a + 2) (addressed.fram e) one (one e) in
-          let three = put_words entered.fram list.cln entries two (omega arith) in
-          put_words counted.fram m (counted.fram list.ver) three (three list.ver)
-
-      -- the addresses and words, as the code has them
-      first : fourfold (w.fram list.cln) + list.list ≡ a
-      first = fourth (w.fram list.cln) list.list (address_small f1)
-
-      second : fourfold (w.fram list.cln) + word_sum list.list 2 ≡ a + 2
-      second = behind_fourth (w.fram list.cln) list.list (address_small f2)
-
-      read : offset + place.elements ≡ e
-      read = ap (λ q. q + place.elements) offset_is
-
-      version : offset + place.versions ≡ m
-      version = ap (λ q. q + place.versions) offset_is
-
-      address : (offset + place.elements + 0) % 0x10000 ≡ e
-      address = ap (λ q. (q + place.elements + 0) % 0x10000) offset_is ∙ plus_small i place.elements (address_small fe)
-
-      abbrev first_fram : ℕ → ℕ
-      first_fram = put w.fram (fourfold (w.fram list.cln) + list.list) ((offset + place.elements + 0) % 0x10000)
-
-      abbrev second_fram : ℕ → ℕ
-      second_fram = put first_fram (fourfold (w.fram list.cln) + word_sum list.list 2) (first_fram (offset + place.elements))
-
-      abbrev third_fram : ℕ → ℕ
-      third_fram = put second_fram list.cln ((second_fram list.cln + 1 + 0) % 0x10000)
-
-      first_is : first_fram ≡ addressed.fram
-      first_is = λ k. put w.fram (first k) (address k)
-
-      second_is : second_fram ≡ entered.fram
-      second_is = λ k. put (first_is k) (second k) (first_is k (read k))
-
-      count_is : (second_fram list.cln + 1 + 0) % 0x10000 ≡ entries
-      count_is = ap (λ (f : ℕ → ℕ). (f list.cln + 1 + 0) % 0x10000) second_is ∙ plus_none (entered.fram list.cln) 1
-
-      third_is : third_fram ≡ counted.fram
-      third_is = λ k. put (second_is k) list.cln (count_is k)
-
-      first_time : (w.fram list.ver == w.fram m) ≡ false → Runs z.code logging 37 t (HasTwo z (p + 46) logged (2 * i) v)
-      first_time b =
-          store_route z p code h 0 (starts z j.is) (j.held.four, j.held.five, refl, refl) (on 3 ∷ jump false ∷ on 9 ∷ []) logging logged.fram 37 _ (
-            _,
-            ((tt, tt), ((fv, tt), ((tt, doubled_fits i place.versions fm), tt))),
+    first_time : (w.fram list.ver == w.fram (2 * i + place.versions)) ≡ false → IsPlace list.cln → (f1 : IsPlace (list.list + 4 * w.fram list.cln))
+        → (f2 : IsPlace (list.list + 4 * w.fram list.cln + 2)) → (let x = (i + i + 0) % 0x10000 in
+        Runs z.code (logging place list i x offset_is w wl fe f1 f2) 37 t (HasTwo z (p + 46) (logged place list i x offset_is w wl fe f1 f2) (2 * i) v))
+    first_time b fc f1 f2 =
+        let x = (i + i + 0) % 0x10000 in
+        let y = logged place list i x offset_is w wl fe f1 f2 in
+        let at1 = subst IsPlace (sym (first place list i x offset_is w wl fe f1 f2)) f1 in
+        let at2 = subst IsPlace (sym (second place list i x offset_is w wl fe f1 f2)) f2 in
+        let here = subst IsPlace (sym (read place list i x offset_is w wl fe f1 f2)) fe in
+        let there = subst IsPlace (sym (version place list i x offset_is w wl fe f1 f2)) fm in
+        store_route z p code h 0 (starts z j.is) (j.held.four, j.held.five, refl, refl) (on 3 ∷ jump false ∷ on 9 ∷ [])
+        (logging place list i x offset_is w wl fe f1 f2) y.fram 37 _ (
+          _,
+          ((tt, tt), ((fv, tt), ((tt, doubled_fits i place.versions fm), tt))),
+          (
+            refl,
             (
               refl,
-              (
-                refl,
-                marked w.fram list.ver place.versions i wl (address_small fm) b,
-                refl,
-                (
-                  _,
-                  (
-                    (fc, tt),
-                    (
-                      (tt, tt),
-                      (
-                        (tt, tt),
-                        (
-                          (tt, tt),
-                          (
-                            (tt, tt),
-                            (
-                              (tt, subst IsPlace (sym first) f1),
-                              (
-                                (subst IsPlace (sym read) fe, subst IsPlace (sym second) f2),
-                                ((tt, refl, tt, fc), ((fv, subst IsPlace (sym version) fm), tt)),
-                              ),
-                            ),
-                          ),
-                        ),
-                      ),
-                    ),
-                  ),
-                  (refl, tt),
-                ),
-              ),
+              marked w.fram list.ver place.versions i wl (address_small fm) b,
+              refl,
+              (_, ((fc, tt), ((tt, tt), ((tt, tt), ((tt, tt), ((tt, tt), ((tt, at1), ((here, at2), ((tt, refl, tt, fc), ((fv, there), tt))))))))), (refl, tt)),
             ),
-          ) refl refl
-          (λ k. Store (first k) (address k) ∷ Store (second k) (first_is k (read k)) ∷ Store list.cln (count_is k)
-          ∷ Store (version k) (third_is k list.ver) ∷ [])
-          (λ k. put (third_is k) (version k) (third_is k list.ver))
-          (λ s. record { is = s; held = record { four = offset_is; five = refl } })
+          ),
+        ) refl refl (effects_are place list i x offset_is w wl fe f1 f2) (fram_is place list i x offset_is w wl fe f1 f2)
+        (λ s. record { is = s; held = record { four = offset_is; five = refl } })
 
   pub logged_part : (word : WordState → ℕ) (i v r end : ℕ) (w : WordState) (t : Core) → HoldsWords w.fram → HasTwo z p w i v t → Keeps z place p i v r end word
       → Follows z end (37 + r) t (own_logged place list i word w)
@@ -212,8 +203,69 @@ module _ (z : Setting) (place : LoggedPlace) (list : ListPlace) (p : ℕ) (h : S
           let fc = place_is list.cln g1 in
           let f1 = place_is a g2 in
           let f2 = place_is (a + 2) g3 in
-          runs_on z (first_time i v w t wl fe fv fm j fc f1 f2 q)
-          (λ u k. keeps (logged i v w t wl fe fv fm j fc f1 f2) u fe (logged_words i v w t wl fe fv fm j fc f1 f2) k))))
+          let x = (i + i + 0) % 0x10000 in
+          let same = offset_is i v w t wl fe fv fm j in
+          runs_on z (first_time i v w t wl fe fv fm j q fc f1 f2)
+          (λ u k. keeps (logged place list i x same w wl fe f1 f2) u fe (logged_words place list i x same w wl fe f1 f2) k))))
+
+-- ---- at a number that is known and below the length
+
+module _ (z : Setting) (o : PlainOperation) (place : LoggedPlace) (list : ListPlace) (k p : ℕ) (h : Stands z.code p (known_logged o place list k)) (v : ℕ)
+    (w : WordState) (t : Core) (wl : HoldsWords w.fram) (lv : v < 0x10000) (j : Has z R5 p w v t) where
+  abbrev front : List Form
+  front = known_first place list k
+
+  front_stands : Stands z.code p front
+  front_stands = stands_front z.code p front (Update (plain_instruction o) (Register R5) (word_sum place.elements (word_sum k k)) ∷ []) h
+
+  module _ (fe : IsPlace (2 * k + place.elements)) (fv : IsPlace list.ver) (fm : IsPlace (2 * k + place.versions)) where
+    there : word_sum place.versions (word_sum k k) ≡ 2 * k + place.versions
+    there = known_place k place.versions (address_small fm)
+
+    known_same : word_sum k k ≡ 2 * k
+    known_same = known_offset k place.versions (address_small fm)
+
+    known_marked : {b : Bool} → (w.fram list.ver == w.fram (2 * k + place.versions)) ≡ b
+        → ((w.fram list.ver + (0xFFFF - w.fram (word_sum place.versions (word_sum k k))) + 1) % 0x10000 == 0) ≡ b
+    known_marked e =
+        ap (λ q. (w.fram list.ver + (0xFFFF - w.fram q) + 1) % 0x10000 == 0) there
+        ∙ equal_flag (w.fram list.ver) (w.fram (2 * k + place.versions)) (wl list.ver) (wl (2 * k + place.versions)) ∙ e
+
+    known_again : (w.fram list.ver == w.fram (2 * k + place.versions)) ≡ true → Runs z.code [] 8 t (Has z R5 (p + 48) w v)
+    known_again b =
+        route z p front front_stands 0 (starts z j.is) (refl, j.held, refl, refl) (on 2 ∷ jump true ∷ []) 8 _
+        (_, ((fv, tt), ((tt, subst IsPlace (sym there) fm), tt)), (refl, (refl, known_marked b, refl, tt))) refl refl
+        (λ s. record { is = s; held = refl })
+
+    known_time : (w.fram list.ver == w.fram (2 * k + place.versions)) ≡ false → IsPlace list.cln → (f1 : IsPlace (list.list + 4 * w.fram list.cln))
+        → (f2 : IsPlace (list.list + 4 * w.fram list.cln + 2)) → (let x = word_sum k k in
+        Runs z.code (logging place list k x known_same w wl fe f1 f2) 38 t (Has z R5 (p + 48) (logged place list k x known_same w wl fe f1 f2) v))
+    known_time b fc f1 f2 =
+        let x = word_sum k k in
+        let y = logged place list k x known_same w wl fe f1 f2 in
+        let at1 = subst IsPlace (sym (first place list k x known_same w wl fe f1 f2)) f1 in
+        let at2 = subst IsPlace (sym (second place list k x known_same w wl fe f1 f2)) f2 in
+        let here = subst IsPlace (sym (read place list k x known_same w wl fe f1 f2)) fe in
+        let last = subst IsPlace (sym (version place list k x known_same w wl fe f1 f2)) fm in
+        store_route z p front front_stands 0 (starts z j.is) (refl, j.held, refl, refl) (on 2 ∷ jump false ∷ on 10 ∷ [])
+        (logging place list k x known_same w wl fe f1 f2) y.fram 38 _ (
+          _,
+          ((fv, tt), ((tt, subst IsPlace (sym there) fm), tt)),
+          (
+            refl,
+            (
+              refl,
+              known_marked b,
+              refl,
+              (
+                _,
+                ((tt, tt), ((fc, tt), ((tt, tt), ((tt, tt), ((tt, tt), ((tt, tt), ((tt, at1), ((here, at2), ((tt, refl, tt, fc), ((fv, last), tt)))))))))),
+                (refl, tt),
+              ),
+            ),
+          ),
+        ) refl refl (effects_are place list k x known_same w wl fe f1 f2) (fram_is place list k x known_same w wl fe f1 f2)
+        (λ s. record { is = s; held = refl })
 
 -- ---- behind the log
 
