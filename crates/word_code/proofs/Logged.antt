@@ -7,21 +7,22 @@ use Rattle.word_code.proofs.Names.{WordState, Behaviour, goes_on, behind_effects
 use Rattle.word_code.proofs.Names.{first_logged, own_logged, logged_stored}
 use Rattle.word_code.proofs.Names.{logged_updated, logged_write, logged_update, put_words, Bound, Waiting, top_of, below_top, flushed, kept, two_to_registers}
 use Rattle.word_code.proofs.Names.{check_code, size, is_inside, log_code, logged_first, logged_code, kept_in, made_in, step_code}
-use Rattle.word_code.proofs.Names.{known_first, known_logged, plain_instruction, Update}
+use Rattle.word_code.proofs.Names.{known_first, known_logged, plain_instruction, Update, right_to_five, logged_update_at, five_from, Some, None, Option}
 use Rattle.word_code.proofs.Memory.{HoldsWords, AreWords, place_is, address_small}
-use Rattle.word_code.proofs.Registers.{HasSides, Has, HasTwo, store_line, equal_flag}
-use Rattle.word_code.proofs.Stretches.{Setting, runs_on, dearer, so_runs}
+use Rattle.word_code.proofs.Registers.{HasSides, Has, HasTwo, HasWord, store_line, equal_flag}
+use Rattle.word_code.proofs.Stretches.{Setting, runs_on, dearer, so_runs, two_parts}
 use Rattle.word_code.proofs.Follows.{StandsFor, Follows, more_cycles, then_end, ends_at, guarded}
 use Rattle.word_code.proofs.Jumps.{whole_size, near_distance, stands_low}
 use Rattle.word_code.proofs.Access.{twice, doubled_fits, check_part}
 use Rattle.word_code.proofs.ListParts.{at_offset, plus_none, plus_small}
-use Rattle.word_code.proofs.Operands.{owed, owed_kept, load_owed, Describes}
+use Rattle.word_code.specs.declared.waiting.Waiting.TheVariants as waiting
+use Rattle.word_code.proofs.Operands.{owed, owed_kept, load_owed, load_cycles, Describes, Waits, bare, drop_part, flush_under, five_part}
 use Rattle.word_code.proofs.Sides.{Aiming, five_gives, two_to_registers_part}
 use Rattle.word_code.proofs.Results.{StepDoes, Does, alone_behind, gathered}
 use Rattle.word_code.proofs.LoopBounds.{Bounded, under_inside}
 use Rattle.word_code.proofs.Routes.{on, jump, route, store_route, starts}
 use Rattle.word_code.proofs.VersionParts.{marked}
-use Rattle.word_code.proofs.VersionUpdates.{made_part, known_place, known_offset}
+use Rattle.word_code.proofs.VersionUpdates.{made_part, place_part, known_place, known_offset}
 
 -- four times a count, as the code has it
 abbrev fourfold : ℕ → ℕ
@@ -212,11 +213,11 @@ module _ (z : Setting) (place : LoggedPlace) (list : ListPlace) (p : ℕ) (h : S
 
 module _ (z : Setting) (o : PlainOperation) (place : LoggedPlace) (list : ListPlace) (k p : ℕ) (h : Stands z.code p (known_logged o place list k)) (v : ℕ)
     (w : WordState) (t : Core) (wl : HoldsWords w.fram) (lv : v < 0x10000) (j : Has z R5 p w v t) where
-  abbrev front : List Form
-  front = known_first place list k
+  abbrev looked : List Form
+  looked = known_first place list k
 
-  front_stands : Stands z.code p front
-  front_stands = stands_front z.code p front (Update (plain_instruction o) (Register R5) (word_sum place.elements (word_sum k k)) ∷ []) h
+  looked_stands : Stands z.code p looked
+  looked_stands = stands_front z.code p looked (Update (plain_instruction o) (Register R5) (word_sum place.elements (word_sum k k)) ∷ []) h
 
   module _ (fe : IsPlace (2 * k + place.elements)) (fv : IsPlace list.ver) (fm : IsPlace (2 * k + place.versions)) where
     there : word_sum place.versions (word_sum k k) ≡ 2 * k + place.versions
@@ -233,7 +234,7 @@ module _ (z : Setting) (o : PlainOperation) (place : LoggedPlace) (list : ListPl
 
     known_again : (w.fram list.ver == w.fram (2 * k + place.versions)) ≡ true → Runs z.code [] 8 t (Has z R5 (p + 48) w v)
     known_again b =
-        route z p front front_stands 0 (starts z j.is) (refl, j.held, refl, refl) (on 2 ∷ jump true ∷ []) 8 _
+        route z p looked looked_stands 0 (starts z j.is) (refl, j.held, refl, refl) (on 2 ∷ jump true ∷ []) 8 _
         (_, ((fv, tt), ((tt, subst IsPlace (sym there) fm), tt)), (refl, (refl, known_marked b, refl, tt))) refl refl
         (λ s. record { is = s; held = refl })
 
@@ -247,7 +248,7 @@ module _ (z : Setting) (o : PlainOperation) (place : LoggedPlace) (list : ListPl
         let at2 = subst IsPlace (sym (second place list k x known_same w wl fe f1 f2)) f2 in
         let here = subst IsPlace (sym (read place list k x known_same w wl fe f1 f2)) fe in
         let last = subst IsPlace (sym (version place list k x known_same w wl fe f1 f2)) fm in
-        store_route z p front front_stands 0 (starts z j.is) (refl, j.held, refl, refl) (on 2 ∷ jump false ∷ on 10 ∷ [])
+        store_route z p looked looked_stands 0 (starts z j.is) (refl, j.held, refl, refl) (on 2 ∷ jump false ∷ on 10 ∷ [])
         (logging place list k x known_same w wl fe f1 f2) y.fram 38 _ (
           _,
           ((fv, tt), ((tt, subst IsPlace (sym there) fm), tt)),
@@ -266,6 +267,45 @@ module _ (z : Setting) (o : PlainOperation) (place : LoggedPlace) (list : ListPl
           ),
         ) refl refl (effects_are place list k x known_same w wl fe f1 f2) (fram_is place list k x known_same w wl fe f1 f2)
         (λ s. record { is = s; held = refl })
+
+  -- the element by one instruction
+  known_stored : (y : WordState) (u : Core) → HoldsWords y.fram → IsPlace (2 * k + place.elements) → Has z R5 (p + 48) y v u
+      → (let e = 2 * k + place.elements in let x = plain_word o (y.fram e) v in
+      Runs z.code (Store e x ∷ []) 6 u (StandsFor z (p + 52) (stored e x y)))
+  known_stored y u yl fe g =
+      let c = word_sum place.elements (word_sum k k) in
+      let at : c ≡ 2 * k + place.elements = known_place k place.elements (address_small fe) in
+      let both : ArrayPlace = record { elements = place.elements; copies = place.elements; versions = place.versions; length = place.length } in
+      let update = Update (plain_instruction o) (Register R5) c ∷ [] in
+      let end : p + 48 + 4 ≡ p + 52 = omega arith in
+      subst (λ n. let x = plain_word o (y.fram n) v in Runs z.code (Store n x ∷ []) 6 u (StandsFor z (p + 52) (stored n x y))) at
+      (subst (λ q. let x = plain_word o (y.fram c) v in Runs z.code (Store c x ∷ []) 6 u (StandsFor z q (stored c x y))) end
+      (place_part z o (Register R5) 1 (omega arith) both list c (p + 48) v y u (omega arith) (yl c) lv (subst IsPlace (sym at) fe)
+      (stands_back z.code p looked update h).0 g.is (five_gives false v y.fram u.work g.held)))
+
+  pub known_part : Follows z (p + 52) 44 t (own_logged place list k (λ s. plain_word o (s.fram (2 * k + place.elements)) v) w)
+  known_part =
+      let e = 2 * k + place.elements in
+      let m = 2 * k + place.versions in
+      guarded z (is_place e) (p + 52) 44 t _ (λ g1. guarded z (is_place list.ver) (p + 52) 44 t _ (λ g2. guarded z (is_place m) (p + 52) 44 t _ (λ g3.
+      by (place_is e g1) (place_is list.ver g2) (place_is m g3) (w.fram list.ver == w.fram m) refl)))
+    where
+      by : IsPlace (2 * k + place.elements) → IsPlace list.ver → IsPlace (2 * k + place.versions) → (b : Bool)
+          → (w.fram list.ver == w.fram (2 * k + place.versions)) ≡ b
+          → (let e = 2 * k + place.elements in let word : WordState → ℕ = λ s. plain_word o (s.fram e) v in
+          let next : WordState → Behaviour = λ s. goes_on (Store e (word s) ∷ []) (stored e (word s) s) in
+          Follows z (p + 52) 44 t (if b then next w else first_logged list e (2 * k + place.versions) w next))
+      by fe fv fm true q = dearer z (omega arith) (runs_on z (known_again fe fv fm q) (λ u g. known_stored w u wl fe g))
+      by fe fv fm false q =
+          let a = list.list + 4 * w.fram list.cln in
+          guarded z (is_place list.cln) (p + 52) 44 t _ (λ g1. guarded z (is_place a) (p + 52) 44 t _ (λ g2.
+          guarded z (is_place (a + 2)) (p + 52) 44 t _ (λ g3.
+          let f1 = place_is a g2 in
+          let f2 = place_is (a + 2) g3 in
+          let x = word_sum k k in
+          let same = known_same fe fv fm in
+          runs_on z (known_time fe fv fm q (place_is list.cln g1) f1 f2)
+          (λ u g. known_stored (logged place list k x same w wl fe f1 f2) u (logged_words place list k x same w wl fe f1 f2) fe g))))
 
 -- ---- behind the log
 
@@ -384,12 +424,58 @@ module _ (z : Setting) (bs : List Bound) (place : LoggedPlace) (list : ListPlace
       code_part z place list small (kept_in place.elements) 4 refl (omega arith) (λ s. v) 4 sure (pc + forms_bytes front) i v (with_stack rest w) t is
       e.1.1.0 wl (λ p s. word_kept z place p i v s) q k)
 
-  pub logged_update_reaches : (o : PlainOperation) (vs : List ℕ) → (w.stack ≡ vs) × AreWords vs
-      → StepDoes z bs os (logged_update o place list) 53 pc w u (with_two vs (λ i v us. logged_updated o place list i v (with_stack us w)))
-  logged_update_reaches o [] e h d = tt
-  logged_update_reaches o (v ∷ []) e h d = tt
-  logged_update_reaches o (v ∷ (i ∷ rest)) e h d =
-      let is = under_inside z bs pc u place.length os w i v rest lb e.0 d in
-      sides_brought (made_in o place.elements) 8 v i rest (logged_updated o place list i v (with_stack rest w)) e.0 h d (λ t q k.
+  -- an update at an index that isn't a known number
+  update_by : (o : PlainOperation) (v i : ℕ) (rest : List ℕ) → w.stack ≡ v ∷ (i ∷ rest) → AreWords (v ∷ (i ∷ rest))
+      → (let ms = logged_update_at None sure os o place list in Stands z.code pc ms → Describes z os pc w u
+      → Does z [] (pc + forms_bytes ms) (53 + owed os) u (logged_updated o place list i v (with_stack rest w)))
+  update_by o v i rest e l h d =
+      let is = under_inside z bs pc u place.length os w i v rest lb e d in
+      sides_brought (made_in o place.elements) 8 v i rest (logged_updated o place list i v (with_stack rest w)) e h d (λ t q k.
       code_part z place list small (made_in o place.elements) 10 (omega arith) (omega arith) (λ s. plain_word o (s.fram (2 * i + place.elements)) v) 8 sure
-      (pc + forms_bytes front) i v (with_stack rest w) t is e.1.1.0 wl (λ p s. word_made z place p o list i v e.1.0 s) q k)
+      (pc + forms_bytes front) i v (with_stack rest w) t is l.1.0 wl (λ p s. word_made z place p o list i v l.0 s) q k)
+
+module _ (z : Setting) (bs : List Bound) (place : LoggedPlace) (list : ListPlace) (small : place.length < 0x10000) (pc : ℕ) (w : WordState) (u : Core)
+    (wl : HoldsWords w.fram) (lb : Bounded bs w.locals) (o : PlainOperation) (v i : ℕ) (rest : List ℕ) (e : w.stack ≡ v ∷ (i ∷ rest))
+    (l : AreWords (v ∷ (i ∷ rest))) where
+  -- the right side to R5, all below it and the index being pushed
+  right_five : (q : Waiting) (k : ℕ) (os : List Waiting) → (let ws = q ∷ (waiting.Number k ∷ os) in Stands z.code pc (right_to_five ws)
+      → Describes z ws pc w u → Runs z.code [] (owed os + load_cycles (Some q)) u
+      (Waits z (waiting.Number k ∷ []) (pc + forms_bytes (right_to_five ws)) (with_stack (i ∷ rest) w) (HasWord R5 v)))
+  right_five q k os h d =
+      let mid = pc + forms_bytes (flushed os) in
+      two_parts z (flushed os) (five_from (Some q)) pc (λ n. Waits z (waiting.Number k ∷ []) n (with_stack (i ∷ rest) w) (HasWord R5 v)) h
+      (flush_under z (q ∷ (waiting.Number k ∷ [])) os pc w u d) (λ t s y.
+      so_runs (five_part z (q ∷ (waiting.Number k ∷ [])) mid w v (i ∷ rest) t e s y.is) (λ r j. record { is = j.is; held = j.held.value }))
+
+  -- the index a number that waits, by whether it is below the length
+  number_by : (b : Bool) (k : ℕ) (q : Waiting) (os : List Waiting) → nat_lt k place.length ≡ b
+      → (let ws = q ∷ (waiting.Number k ∷ os) in let ms = logged_update_at (if b then Some k else None) (nat_lt k place.length) ws o place list in
+      Stands z.code pc ms → Describes z ws pc w u
+      → Does z [] (pc + forms_bytes ms) (53 + owed ws) u (logged_updated o place list i v (with_stack rest w)))
+  number_by false k q os lt h d = update_by z bs place list small (q ∷ (waiting.Number k ∷ os)) pc w u wl lb o v i rest e l h d
+  number_by true k q os lt h d =
+      let ws = q ∷ (waiting.Number k ∷ os) in
+      let left = with_stack rest w in
+      let above = with_stack (i ∷ rest) w in
+      let mid = pc + forms_bytes (right_to_five ws) in
+      let code = known_logged o place list k in
+      let word : ℕ → WordState → ℕ = λ n s. plain_word o (s.fram (2 * n + place.elements)) v in
+      let there : mid + 52 ≡ mid + forms_bytes code = omega arith in
+      alone_behind z (right_to_five ws) code 44 (53 + owed ws) pc u (logged_updated o place list i v left) (omega (arith, load_owed (q ∷ []))) h
+      (λ s. right_five q k os s d) (λ t s j.
+      let y = drop_part z (waiting.Number k) [] mid above i rest t refl j.is in
+      subst (λ n. Follows z (mid + forms_bytes code) 44 t (logged_updated o place list n v left)) y.1
+      (subst (λ x. Follows z (mid + forms_bytes code) 44 t (if x then own_logged place list k (word k) left else goes_on [] left)) (sym lt)
+      (ends_at z (mid + 52) (mid + forms_bytes code) 44 t (own_logged place list k (word k) left) there
+      (known_part z o place list k mid s v left t wl l.0 (record { is = bare z mid left t y.0; held = j.held })))))
+
+  update_on : (os : List Waiting) → StepDoes z bs os (logged_update o place list) 53 pc w u (logged_updated o place list i v (with_stack rest w))
+  update_on (q ∷ (waiting.Number k ∷ os)) h d = number_by (nat_lt k place.length) k q os refl h d
+  update_on os h d = update_by z bs place list small os pc w u wl lb o v i rest e l h d
+
+pub logged_update_reaches : (z : Setting) (bs : List Bound) (place : LoggedPlace) (list : ListPlace) → place.length < 0x10000 → (os : List Waiting) (pc : ℕ)
+    (w : WordState) (u : Core) → HoldsWords w.fram → Bounded bs w.locals → (o : PlainOperation) (vs : List ℕ) → (w.stack ≡ vs) × AreWords vs
+    → StepDoes z bs os (logged_update o place list) 53 pc w u (with_two vs (λ i v us. logged_updated o place list i v (with_stack us w)))
+logged_update_reaches z bs place list small os pc w u wl lb o [] e h d = tt
+logged_update_reaches z bs place list small os pc w u wl lb o (v ∷ []) e h d = tt
+logged_update_reaches z bs place list small os pc w u wl lb o (v ∷ (i ∷ rest)) e h d = update_on z bs place list small pc w u wl lb o v i rest e.0 e.1 os h d
