@@ -1,13 +1,14 @@
 //! The code of elements that are logged and stored in their place.
 
-ghost use Rattle.std.specs.Prelude.{◌≡◌, [], ◌++◌, OnOk};
+ghost use Rattle.std.specs.Prelude.{◌≡◌, [], ◌++◌, None, OnOk};
 ghost use Rattle.word_code.specs.array_versions.Form.{LoggedOfWords, ListOfWords};
 ghost use Rattle.word_code.specs.array_versions.Program as value;
 ghost use Rattle.word_code.specs.Code.{logged_first, logged_code, kept_in, made_in, step_code};
+ghost use Rattle.word_code.specs.Code.{known_index, known_first, known_logged, right_to_five, logged_update_at};
 
 use crate::bounds::{emit_check, is_inside};
 use crate::operations::plain_instruction;
-use crate::waiting::{emit_all, emit_two_to_registers, under_top};
+use crate::waiting::{emit_all, emit_to_five, emit_two_to_registers, take, under_top};
 use array_versions::{ListPlace, LoggedPlace, PlainOperation};
 use std::alloc::AllocError;
 use word_code::forms::Form::{Calculate, Move, Update};
@@ -120,8 +121,100 @@ pub fn emit_logged_write(
     emit_write(inside, place, list, code)
 }
 
-/// Appends the code of an update of an element that is logged.
+// The number under the top, where it waits and is below a length.
+fn known_index(length: u16, waiting: &[Waiting]) -> Option<u16>
+    ensures { result ≡ known_index waiting.now length }
+{
+    match under_top(waiting) {
+        Some(Waiting::Number(number)) => { if number < length { Some(number) } else { None } }
+        _ => None,
+    }
+}
+
+// At an index that is known and below the length: where the element's version word isn't the attempt's number, it is logged.
+fn emit_known_first(
+    place: LoggedPlace,
+    list: ListPlace,
+    index: u16,
+    code: &mut Vec<Form>,
+) -> Result<(), AllocError>
+    ensures { OnOk result (code.new.items ≡ code.old.items ++ known_first place list index) }
+{
+    let offset = index.wrapping_add(index);
+    let version = place.versions.wrapping_add(offset);
+    let words = list.list.wrapping_add(2);
+    code.extend_from_slice(&[
+        Move(Fram(list.ver), ToRegister(R6)),
+        Calculate(TwoOp::Cmp, Fram(version), R6),
+        jump(Condition::Equal, 19),
+        Move(Number(offset), ToRegister(R4)),
+        Move(Fram(list.cln), ToRegister(R7)),
+        Calculate(TwoOp::Add, Register(R7), R7),
+        Calculate(TwoOp::Add, Register(R7), R7),
+        Move(Register(R4), ToRegister(R6)),
+        Calculate(TwoOp::Add, Number(place.elements), R6),
+        Move(Register(R6), ToIndexed(R7, list.list)),
+        Move(Indexed(R4, place.elements), ToIndexed(R7, words)),
+        Update(TwoOp::Add, Constant(Konst::One), list.cln),
+        Move(Fram(list.ver), ToIndexed(R4, place.versions)),
+    ])
+}
+
+// And one instruction updates it with the word in R5.
+fn emit_known(
+    operation: PlainOperation,
+    place: LoggedPlace,
+    list: ListPlace,
+    index: u16,
+    code: &mut Vec<Form>,
+) -> Result<(), AllocError>
+    ensures { OnOk result (code.new.items ≡ code.old.items ++ known_logged operation place list index) }
+{
+    emit_known_first(place, list, index, code)?;
+    let element = place.elements.wrapping_add(index.wrapping_add(index));
+    code.extend_from_slice(&[Update(plain_instruction(operation), Register(R5), element)])
+}
+
+// The same, behind what brings the right side to R5.
 #[tactic(auto, using(std::proofs::Common::append_assoc))]
+fn emit_known_update(
+    operation: PlainOperation,
+    place: LoggedPlace,
+    list: ListPlace,
+    index: u16,
+    waiting: &mut Vec<Waiting>,
+    code: &mut Vec<Form>,
+) -> Result<(), AllocError>
+    ensures code { OnOk result (code.new.items
+        ≡ code.old.items ++ (right_to_five waiting.old.items ++ known_logged operation place list index)) }
+    ensures waiting { OnOk result (waiting.new.items ≡ []) }
+{
+    let right = take(waiting);
+    take(waiting);
+    emit_all(waiting, code)?;
+    emit_to_five(right, code)?;
+    emit_known(operation, place, list, index, code)
+}
+
+// At any other index, behind what brings it and the right side to R4 and R5.
+#[tactic(auto, using(std::proofs::Common::append_assoc))]
+fn emit_other_update(
+    inside: bool,
+    operation: PlainOperation,
+    place: LoggedPlace,
+    list: ListPlace,
+    waiting: &mut Vec<Waiting>,
+    code: &mut Vec<Form>,
+) -> Result<(), AllocError>
+    ensures code { OnOk result (code.new.items ≡ code.old.items ++ logged_update_at None inside waiting.old.items operation place list) }
+    ensures waiting { OnOk result (waiting.new.items ≡ []) }
+{
+    emit_two_to_registers(waiting, code)?;
+    emit_all(waiting, code)?;
+    emit_update(inside, operation, place, list, code)
+}
+
+/// Appends the code of an update of an element that is logged.
 pub fn emit_logged_update(
     bounds: &[Bound],
     operation: PlainOperation,
@@ -135,7 +228,8 @@ pub fn emit_logged_update(
     ensures of_words { OnOk result (LoggedOfWords place × ListOfWords list) }
 {
     let inside = is_inside(bounds, under_top(waiting), place.length);
-    emit_two_to_registers(waiting, code)?;
-    emit_all(waiting, code)?;
-    emit_update(inside, operation, place, list, code)
+    match known_index(place.length, waiting) {
+        Some(index) => emit_known_update(operation, place, list, index, waiting, code),
+        None => emit_other_update(inside, operation, place, list, waiting, code),
+    }
 }

@@ -154,7 +154,7 @@ pub fn emit_to_four(top: Option<Waiting>, code: &mut Vec<Form>) -> Result<(), Al
 }
 
 // The top, which is taken, to R5.
-fn emit_to_five(top: Option<Waiting>, code: &mut Vec<Form>) -> Result<(), AllocError>
+pub fn emit_to_five(top: Option<Waiting>, code: &mut Vec<Form>) -> Result<(), AllocError>
     ensures { OnOk result (code.new.items ≡ code.old.items ++ five_from top) }
 {
     code.extend_from_slice(&[Move(source_from(top), ToRegister(R5))])

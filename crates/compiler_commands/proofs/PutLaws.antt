@@ -34,8 +34,8 @@ builds law source text file p allow image kept accepted built told output bound 
       lawful = law _ text p allow image own built.compiled;
     } in subst (λ x. Builds x file output) kept made
 
-pub tries : {logging : Logging} (source trace text file : List ℕ) (p : CheckedProgram) (allow : Allow) (image : ImageValue) (charges : TraceValue) → text ≡ source
-    → IsAcceptedText source p allow → trace_of trace ≡ Ok charges → (built : IsBuiltFor logging text p allow image file)
+pub tries : {logging : Logging} (source trace text file : List ℕ) (p : CheckedProgram) (allow : Allow) (image : ImageValue) (charges : TraceValue)
+    → text ≡ source → IsAcceptedText source p allow → trace_of trace ≡ Ok charges → (built : IsBuiltFor logging text p allow image file)
     → IsTold text p built.map image charges
     → (output : List ℕ) → IsRunReport image charges well output → Tries logging source trace file output
 tries {logging} source trace text file p allow image charges kept accepted said built told output report =

@@ -22,8 +22,8 @@ use Rattle.memory_map.specs.declared.runtime.Logging.TheVariants.{Redo, Undo}
 use Rattle.compiler_commands.specs.Built.{IsBuiltFor}
 
 -- The texts are a source and a trace. These bytes are the image text of the source's image for a runtime that logs so, and this is the report of the
--- run of that image on the trace, which ends well. And it is what the source tells of that run, in which the answers of the transitions, joined, are the first of the
--- events that were accepted, in order and each once.
+-- run of that image on the trace, which ends well. And it is what the source tells of that run, in which the answers of the transitions, joined, are
+-- the first of the events that were accepted, in order and each once.
 pub record Tries (logging : Logging) (source trace file output : List ℕ) : Type 0 where
   pub program : CheckedProgram
   pub allow : Allow

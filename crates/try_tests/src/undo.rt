@@ -33,7 +33,7 @@ fn sources_cut_once(rt: HostRuntime) -> Result<(), Fail> {
 fn sources_cut_while_words_are_put_back(rt: HostRuntime) -> Result<(), Fail> {
     let alloc = rt.alloc();
     for source in &CUT_TWICE {
-        for first in (0..=300).step_by(7) {
+        for first in (0..=300).step_by(21) {
             for second in 0..=32 {
                 let charges = format!(in alloc; "s {first} 0\ns {second} 65535\nc 30000 0\n")?;
                 keeps(&rt, alloc, source, &charges)?;
@@ -47,7 +47,7 @@ fn sources_cut_while_words_are_put_back(rt: HostRuntime) -> Result<(), Fail> {
 #[test]
 fn sources_cut_twice(rt: HostRuntime) -> Result<(), Fail> {
     let alloc = rt.alloc();
-    let steps: Vec<u32> = (0..=350).step_by(13).collect(alloc)?;
+    let steps: Vec<u32> = (0..=350).step_by(29).collect(alloc)?;
     for source in &SOURCES {
         for first in &steps {
             for second in &steps {

@@ -8,7 +8,7 @@ use Rattle.word_code.proofs.Names.{Multiply, Divide, Remainder, Plain, PlainOper
 use Rattle.word_code.proofs.Names.{Step, Test, Program, number, load, keep, update, local, set_local, update_local, unary, binary, shift, long, element}
 use Rattle.word_code.proofs.Names.{emit_word, list_entry, versioned_read, versioned_write, versioned_update, sense, truth, choose, repeat, store_number}
 use Rattle.word_code.proofs.Names.{next_event, freeze_events, event_code, freeze_code, logged_write, logged_update, LoggedPlace, logged_first, logged_code}
-use Rattle.word_code.proofs.Names.{kept_in, made_in}
+use Rattle.word_code.proofs.Names.{kept_in, made_in, known_logged, logged_update_at}
 use Rattle.word_code.proofs.Names.{move_word, jump, holds, compares, both, either, fails, nothing, step, unary_words, binary_words, right_words, step_words}
 use Rattle.word_code.proofs.Names.{test_words, words_of, Bound, Waiting, local_register, local_address, flushed, top_of, source_from, below_top, kept, stays}
 use Rattle.word_code.proofs.Names.{right_source, top_power, two_code, power_code, power_result, two_to_registers, unary_middle, binary_middle, binary_result}
@@ -28,7 +28,7 @@ use Rattle.array_versions.proofs.Interface.{right_low}
 use Rattle.word_code.proofs.UpdateBytes.{reads_bytes, near_size}
 use Rattle.word_code.proofs.CodeTakes.{IsRead, Takes, behind, so_takes, joined, either_takes, nothing_takes, made_of, number_bytes, number_is, source_is}
 use Rattle.word_code.proofs.CodeTakes.{side_is, side_takes, kept_bytes_of, kept_bytes, source_short, shift_takes, shift_most, flushed_takes, cleared_by}
-use Rattle.word_code.proofs.CodeTakes.{cleared_takes, four_takes, top_to_four_takes, top_to_five_takes, two_takes, set_bytes, set_small, set_most}
+use Rattle.word_code.proofs.CodeTakes.{cleared_takes, four_takes, five_takes, top_to_four_takes, top_to_five_takes, two_takes, set_bytes, set_small, set_most}
 use Rattle.word_code.proofs.Locals.{program_below, test_below}
 use Rattle.word_code.proofs.LongLengths.{long_takes}
 
@@ -309,6 +309,15 @@ module _ {k : ℕ} where
       joined (behind (two_takes os) (flushed_takes (kept (below_top under)))) (logged_takes (is_inside bs (top_of under) place.length) place list last l x)
       (omega arith)
 
+  logged_update_takes : (n : Option ℕ) (bs : List Bound) (o : PlainOperation) (place : LoggedPlace) (list : ListPlace) (os : List Waiting)
+      → Takes k (logged_update_at n (is_inside bs (top_of (below_top os)) place.length) os o place list) 0 (66 + kept_bytes os)
+  logged_update_takes None bs o place list os =
+      logged_step_takes bs place list os (made_in o place.elements) (omega arith) (made_of (made_in o place.elements) 10 (search arith) (omega arith))
+  logged_update_takes (Some n) bs o place list os =
+      let under = below_top os in
+      joined (behind (flushed_takes (below_top under)) (five_takes os)) (made_of (known_logged o place list n) 52 (search arith) (omega arith))
+      (omega (arith, source_short under))
+
   -- steps leave the bytes with which the place of the stack is set, where they name a local that stands in RAM
   mutual
     step_takes : (bs : List Bound) (s : Step) (os : List Waiting) → StepLocalsBelow k s
@@ -346,8 +355,7 @@ module _ {k : ℕ} where
         let last = made_of (kept_in place.elements) 4 (search arith) (omega arith) in
         logged_step_takes bs place list os (kept_in place.elements) (omega arith) last
     step_takes bs (logged_update o place list) os l =
-        let last = made_of (made_in o place.elements) 10 (search arith) (omega arith) in
-        logged_step_takes bs place list os (made_in o place.elements) (omega arith) last
+        logged_update_takes (known_index os place.length) bs o place list os
     step_takes bs sense os l = joined (cleared_takes os) (made_of (forms.Sense R4 ∷ []) 4 (tt, tt) (omega arith)) (omega arith)
     step_takes bs next_event os l = so_takes (behind_flushed os (made_of event_code 38 (search arith) (omega arith))) (omega arith)
     step_takes bs freeze_events os l = behind_flushed os (made_of freeze_code 12 (search arith) (omega arith))

@@ -85,7 +85,7 @@ pub use Rattle.word_code.specs.Code.{binary_middle, plain_instruction, update_co
 pub use Rattle.word_code.specs.Code.{own_code, read_code, stored_code, write_code, pass_over, jump_back, holds_code, compares_code, truth_code, number_code}
 pub use Rattle.word_code.specs.Code.{turn_end, turns_code, waiting_after, bound_of, is_inside, test_code, block_code, code_of, rests, rest_source, to_rest}
 pub use Rattle.word_code.specs.Code.{right_to_rest, update_sides, made_code, first_update, by_version, inside_update, checked_update, indexed_update}
-pub use Rattle.word_code.specs.Code.{log_code, logged_first, logged_code, kept_in, made_in}
+pub use Rattle.word_code.specs.Code.{log_code, logged_first, logged_code, kept_in, made_in, known_first, known_logged, right_to_five, logged_update_at}
 pub use Rattle.word_code.specs.Code.{known_update, known_index, update_at, local_register, power, power_result, binary_result, ram_update, mark_code, next_code}
 pub use Rattle.word_code.specs.Code.{word_code, first_code, is_bounded, ram_turn_end, multiply_turn, divide_middle, divide_turn, known_element, attempt_form}
 pub use Rattle.word_code.specs.Laws.{HasJumped, CodeIsInstructions, CodeHasItsBytes, CodeHasItsWords, IsWithin, RunsStayWithin, StarvingStaysWithin, ComesTo}

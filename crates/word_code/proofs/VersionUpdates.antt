@@ -35,10 +35,10 @@ lands pc ms l low = ap (λ d. sum16 (pc + 2) d) (near_distance (size ms) l) ∙ 
 -- ---- addresses
 
 -- where the word of an element at a number that is known stands
-known_place : (k base : ℕ) → 2 * k + base < 0x10000 → word_sum base (word_sum k k) ≡ 2 * k + base
+pub known_place : (k base : ℕ) → 2 * k + base < 0x10000 → word_sum base (word_sum k k) ≡ 2 * k + base
 known_place k base h = omega arith
 
-known_offset : (k base : ℕ) → 2 * k + base < 0x10000 → word_sum k k ≡ 2 * k
+pub known_offset : (k base : ℕ) → 2 * k + base < 0x10000 → word_sum k k ≡ 2 * k
 known_offset k base h = omega arith
 
 -- what an update works on is words
@@ -309,7 +309,7 @@ module _ (z : Setting) (o : PlainOperation) (x : Source) (r : ℕ) (reads : sour
   -- ---- at a number that is known
 
   -- a word of FRAM becomes what the operation gives of it and of the source
-  place_part : (c pc v : ℕ) (w : WordState) (t : Core) → source_cycles to_memory (source_operand x) ≤ 6 → w.fram c < 0x10000 → v < 0x10000 → IsPlace c
+  pub place_part : (c pc v : ℕ) (w : WordState) (t : Core) → source_cycles to_memory (source_operand x) ≤ 6 → w.fram c < 0x10000 → v < 0x10000 → IsPlace c
       → (let m = Update (plain_instruction o) x c in let y = plain_word o (w.fram c) v in z.code.at pc ≡ Some (instruction_of m) → StandsFor z pc w t
       → GivesOn false x v w.fram t.work → Runs z.code (Store c y ∷ []) 6 t (StandsFor z (pc + form_bytes m) (stored c y w)))
   place_part c pc v w t writes l lv fc h i g =

@@ -718,6 +718,28 @@ kept_in elements = Move (Register R5) (ToIndexed R4 elements) ∷ []
 abbrev pub made_in : PlainOperation → ℕ → List Form
 made_in o elements = made_code o (Register R5) elements elements
 
+-- the index is a number that is known and below the length: R4 becomes the offset only where the element is logged
+abbrev pub known_first : LoggedPlace → ListPlace → ℕ → List Form
+known_first place list k =
+    let offset = word_sum k k in
+    let log = Move (Number offset) (ToRegister R4) ∷ log_code place list in
+    attempt_form list ∷ Calculate op.Cmp (Fram (word_sum place.versions offset)) R6 ∷ over condition.Equal log ∷ log
+
+-- and one instruction updates it with the word in R5
+abbrev pub known_logged : PlainOperation → LoggedPlace → ListPlace → ℕ → List Form
+known_logged o place list k =
+    known_first place list k ++ Update (plain_instruction o) (Register R5) (word_sum place.elements (word_sum k k)) ∷ []
+
+-- all words below the right side and the index are pushed, and the right side comes to R5
+abbrev pub right_to_five : List Waiting → List Form
+right_to_five os = flushed (below_top (below_top os)) ++ five_from (top_of os)
+
+-- an update, whose index is such a number or is not known, but may be surely below the length
+abbrev pub logged_update_at : Option ℕ → Bool → List Waiting → PlainOperation → LoggedPlace → ListPlace → List Form
+logged_update_at (Some k) sure os o place list = right_to_five os ++ known_logged o place list k
+logged_update_at None sure os o place list =
+    (two_to_registers os ++ flushed (kept (below_top (below_top os)))) ++ logged_code sure place list (made_in o place.elements)
+
 -- ---- longs: the high word of a long is above its low one
 
 -- a long result waits: its high word in R6, its low one in R4
@@ -1026,8 +1048,7 @@ abbrev mutual
       (two_to_registers os ++ flushed (kept (below_top (below_top os))))
       ++ logged_code (is_inside bs (top_of (below_top os)) place.length) place list (kept_in place.elements)
   step_code bs os (logged_update o place list) =
-      (two_to_registers os ++ flushed (kept (below_top (below_top os))))
-      ++ logged_code (is_inside bs (top_of (below_top os)) place.length) place list (made_in o place.elements)
+      logged_update_at (known_index os place.length) (is_inside bs (top_of (below_top os)) place.length) os o place list
   step_code bs os sense = cleared os ++ forms.Sense R4 ∷ []
   step_code bs os next_event = flushed os ++ event_code
   step_code bs os freeze_events = flushed os ++ freeze_code
