@@ -32,8 +32,9 @@ fn sources_cut_once(rt: HostRuntime) -> Result<(), Fail> {
 #[test]
 fn sources_cut_while_words_are_put_back(rt: HostRuntime) -> Result<(), Fail> {
     let alloc = rt.alloc();
+    let firsts: Vec<u32> = (0..=300).step_by(21).collect(alloc)?;
     for source in &CUT_TWICE {
-        for first in (0..=300).step_by(21) {
+        for first in &firsts {
             for second in 0..=32 {
                 let charges = format!(in alloc; "s {first} 0\ns {second} 65535\nc 30000 0\n")?;
                 keeps(&rt, alloc, source, &charges)?;
