@@ -11,9 +11,7 @@ use path_sums::{is_private, is_written};
 use source_report::spelled;
 use std::alloc::{AllocError, Global};
 use std::collections::BTreeMap;
-use task_ast::{
-    Extent, SharedDeclaration, Stmt, TaskDeclaration, TaskName, Variable, VariableName, WordType,
-};
+use task_ast::{Extent, FunctionName, SharedDeclaration, Stmt, TaskDeclaration, TaskName, Variable, VariableName, WordType};
 
 /// The numbers of shared variables, by their names.
 pub type Numbers<'a> = BTreeMap<&'a [u8], usize>;
@@ -95,7 +93,7 @@ pub fn kept_from<'a>(
 }
 
 // Whether a task has a name.
-fn is_named(text: &[u8], declaration: &TaskDeclaration<VariableName, TaskName>, name: &[u8]) -> bool
+fn is_named(text: &[u8], declaration: &TaskDeclaration<VariableName, TaskName, FunctionName>, name: &[u8]) -> bool
     ensures { result ≡ bytes_eq (spelled text.now declaration.now.name) name.now }
 {
     spelled(text, declaration.name) == name
@@ -104,7 +102,7 @@ fn is_named(text: &[u8], declaration: &TaskDeclaration<VariableName, TaskName>, 
 /// The number of the task of this name; of those with one name the first.
 pub fn task_named(
     text: &[u8],
-    tasks: &[TaskDeclaration<VariableName, TaskName>],
+    tasks: &[TaskDeclaration<VariableName, TaskName, FunctionName>],
     name: &[u8],
 ) -> Option<usize>
     ensures value { result ≡ number_of (map (λ t. spelled text.now t.name) (map task_of tasks.now)) name.now }
@@ -119,7 +117,7 @@ pub fn task_named(
 }
 
 /// Whether a task with this body writes the shared scalar of this number in place.
-pub fn is_in_place(number: usize, body: &[Stmt<VariableName, TaskName>]) -> bool
+pub fn is_in_place(number: usize, body: &[Stmt<VariableName, TaskName, FunctionName>]) -> bool
     requires { number < 2 ^ 32 }
     ensures { IsTrue result ↔ IsInPlace (block_view body.now) number }
 {
