@@ -4,6 +4,7 @@ use Rattle.task_ast.specs.Paths.{CheckedBlock}
 use Rattle.task_ast.specs.declared.names.Variable.TheVariants.{Shared}
 use Rattle.path_sums.specs.Sums.{block_sum}
 use Rattle.path_sums.specs.Access.{summary, private_of}
+use Rattle.cost_bound.specs.Summaries.{summaries}
 use Rattle.cost_bound.specs.Allowance.{list_of}
 use Rattle.cost_bound.specs.Counts.{emits_of}
 use Rattle.source_values.specs.Runs.{CheckedProgram, task_body}
@@ -39,7 +40,7 @@ abbrev pub program_places : CheckedProgram → MemoryMap → ProgramPlaces
 program_places p l = record {
   map = l;
   tasks = length p.tasks;
-  list_capacity = λ t. list_of p.shared (task_body p t);
-  emit_capacity = λ t. emits_of (task_body p t);
+  list_capacity = λ t. list_of (summaries p) p.shared (task_body p t);
+  emit_capacity = λ t. emits_of (summaries p) (task_body p t);
   written_in_place = λ t a. some_scalar_at (stays_in_place (task_body p t)) 0 l.variables a;
 }

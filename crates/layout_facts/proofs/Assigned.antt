@@ -9,10 +9,11 @@ use Rattle.layout_facts.proofs.Names.{HasItsPlace, copy_among, home_of, home_in,
 use Rattle.layout_facts.proofs.Lists.{place_of, contains_at}
 use Rattle.layout_facts.proofs.Privates.{Privates, privates_of, ascending_numbers}
 use Rattle.layout_facts.proofs.Planned.{array_declared, array_extent, array_has_place, places_match}
+use Rattle.cost_bound.specs.Summaries.{summaries}
 
 -- what a task assigns is written by some task
 written_by : (ts : List CheckedTask) (t : ℕ) (task : CheckedTask) (v : ℕ) → slice_get ts t ≡ Some task → block_assigns v task.body ≡ true
-    → is_written ts v ≡ true
+    → is_written (summaries p) ts v ≡ true
 written_by [] t task v e a = let no : None ≡ Some task = e in cc
 written_by (x ∷ ts) zero task v e a =
     let same : x ≡ task = cc in

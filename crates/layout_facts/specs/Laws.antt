@@ -3,6 +3,7 @@ use Rattle.std.specs.Prelude.{◌≡◌, ◌↔◌, ℕ, ◌+◌, ◌*◌, ◌<�
 use Rattle.std.specs.Prelude.{slice_index, slice_index_or}
 use Rattle.task_ast.specs.declared.Extent.TheVariants as extent
 use Rattle.task_ast.specs.declared.SharedDeclaration.{SharedDeclaration}
+use Rattle.cost_bound.specs.Summaries.{summaries}
 use Rattle.cost_bound.specs.declared.allowance.Allow.{Allow}
 use Rattle.cost_bound.specs.Counts.{stores_of, block_assigns}
 use Rattle.cost_bound.specs.Allowance.{CheckedProgram, CheckedTask, is_written, list_of, scalars_of}
@@ -80,11 +81,11 @@ TaskPlacesAreEven = OfTasks (λ p l task layout. spots.AreEven (task_places l ta
 -- different elements, of each array no more than there are stores to it, are no more than a task's list has beside the scalars that it assigns
 abbrev pub ElementsAreStores : Type 0
 ElementsAreStores = OfTasks (λ p l task layout. (xs : List Element) → spots.AreListed (task_places l task layout) xs
-    → ((v : ℕ) → spots.listed_of v xs ≤ stores_of v task.body) → length xs + scalars_of p.shared task.body ≤ list_of p.shared task.body)
+    → ((v : ℕ) → spots.listed_of v xs ≤ stores_of (summaries p) v task.body) → length xs + scalars_of (summaries p) p.shared task.body ≤ list_of (summaries p) p.shared task.body)
 
 -- the list has room for the private scalars and for as many different elements of each array as there are stores to it
 abbrev pub ListsHaveRoom : Type 0
-ListsHaveRoom = OfTasks (λ p l task layout. HasRoom (task_places l task layout) (λ v. stores_of v task.body) (task_room p task))
+ListsHaveRoom = OfTasks (λ p l task layout. HasRoom (task_places l task layout) (λ v. stores_of (summaries p) v task.body) (task_room p task))
 
 -- ---- addresses and variables
 
@@ -156,9 +157,9 @@ pub record PlacesMatch (p : CheckedProgram) (l : MemoryMap) : Type 0 where
       → slice_get p.shared v ≡ Some d → scalar_words width ≡ home_part d.extent
   pub array : (v n : ℕ) (d : SharedDeclaration) → slice_get p.shared v ≡ Some d → d.extent ≡ extent.Array n
       → (elements : ℕ) × (copies : Option ArrayCopies)
-      × (slice_get l.variables v ≡ Some (Array elements n copies)) × (is_some copies ≡ is_written p.tasks v)
+      × (slice_get l.variables v ≡ Some (Array elements n copies)) × (is_some copies ≡ is_written (summaries p) p.tasks v)
   pub is_array : (v elements n : ℕ) (copies : Option ArrayCopies) → slice_get l.variables v ≡ Some (Array elements n copies)
-      → (d : SharedDeclaration) × (slice_get p.shared v ≡ Some d) × (d.extent ≡ extent.Array n) × (is_some copies ≡ is_written p.tasks v)
+      → (d : SharedDeclaration) × (slice_get p.shared v ≡ Some d) × (d.extent ≡ extent.Array n) × (is_some copies ≡ is_written (summaries p) p.tasks v)
 
 -- so with each source and its layout
 abbrev pub PlacesAreDeclared : Type 0
@@ -170,7 +171,7 @@ pub record TaskMatches (p : CheckedProgram) (l : MemoryMap) (task : CheckedTask)
   pub ascending : AllPairs ◌<◌ (map (λ s. s.number) layout.privates)
   pub only : (s : PrivateScalar) → Contains layout.privates s → IsPrivateIn p.shared task.body s.number × HasItsPlace l.variables s
   pub each : (v : ℕ) → IsPrivateIn p.shared task.body v → (s : PrivateScalar) × Contains layout.privates s × (s.number ≡ v)
-  pub count : private_words layout.privates ≤ scalars_of p.shared task.body
+  pub count : private_words layout.privates ≤ scalars_of (summaries p) p.shared task.body
   pub stored : (v : ℕ) → plan.IsArrayAt p.shared v → block_assigns v task.body ≡ true
       → (elements n : ℕ) × (copies : ArrayCopies) × (slice_get l.variables v ≡ Some (Array elements n (Some copies)))
 

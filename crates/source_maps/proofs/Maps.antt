@@ -8,6 +8,7 @@ use Rattle.std.proofs.lemmas.List.Elements.{All-nil, All-cons, All-weaker}
 use Rattle.task_ast.specs.declared.SharedDeclaration.{SharedDeclaration}
 use Rattle.image_map.specs.MapValue.{IsFramWord, AreFramWords, IsPlace, IsRing, are_different, are_scalars, task_names}
 use Rattle.image_map.specs.Kept.{IsMap}
+use Rattle.cost_bound.specs.Summaries.{summaries}
 use Rattle.cost_bound.specs.Allowance.{CheckedTask, is_written}
 use Rattle.privatise.specs.war_analysis.PlanValue.{TaskPlanValue}
 use Rattle.privatise.specs.war_analysis.Plans.{IsScalarAt, IsPrivateIn, IsTaskPlan}
@@ -172,7 +173,7 @@ pub maps_are_of_sources : MapsAreOfSources
 maps_are_of_sources text p allow plans l h =
     let rules = h.layout.rules in
     let placed = are_placed l rules in
-    let places = places_by_number (is_written p.tasks) p.shared l.variables h.layout.variables.count h.layout.variables.each in
+    let places = places_by_number (is_written (summaries p) p.tasks) p.shared l.variables h.layout.variables.count h.layout.variables.each in
     let count = h.layout.tasks.count in
     let m = map_of text p l allow in
     let names = names_of_variables text p.shared l.variables places in

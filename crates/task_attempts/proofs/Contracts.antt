@@ -42,6 +42,7 @@ use Rattle.task_attempts.proofs.Tame.{Tame, task_tame, emits_fit}
 use Rattle.task_attempts.proofs.Starts.{held_attempt, held_runs, readings_and}
 use Rattle.task_attempts.proofs.Started.{Attempting, scene}
 use Rattle.task_attempts.proofs.Leaving.{StoresOf, setting, bounds, Transition, before, effects_are, tame_before, next, few, z, z_behind}
+use Rattle.cost_bound.specs.Summaries.{summaries}
 
 -- what a runtime's model asks beside, of a started attempt: the state stands for the source's attempt; what statements do keeps the world undecided
 -- throughout, also up to a transition; and behind its last store the world is decided
@@ -226,7 +227,7 @@ module _ (logging : Logging) (role : Role) (run : Attempting) (keeps_to : Keeps 
   abbrev attempt : Attempt
   attempt = fresh_attempt s.shared (readings_and run told)
 
-  few_emits : block_emits code ≤ emits_of code
+  few_emits : block_emits code ≤ emits_of (summaries p) code
   few_emits = let e = emits_same code in omega (arith, e)
 
   ends_well : EndsWell (length p.tasks) (run_block code attempt)
@@ -336,7 +337,7 @@ module _ (logging : Logging) (role : Role) (run : Attempting) (keeps_to : Keeps 
       together (y ∷ es) e f g = ap (λ fs. y ∷ fs) (together es e f g)
 
   -- each of them is none to a word that counts events
-  ordinary : (task count base : ℕ) → count + length (runs_of own.privates) ≤ list_of p.shared code
+  ordinary : (task count base : ℕ) → count + length (runs_of own.privates) ≤ list_of (summaries p) p.shared code
       → EachStore (IsOffRing gate) (ordinary_part task count base)
   ordinary task count base few =
       let apart = facts.apart in
@@ -346,7 +347,7 @@ module _ (logging : Logging) (role : Role) (run : Attempting) (keeps_to : Keeps 
             ((omega (arith, apart), λ e. omega (arith, e)), tt),
       )
     where
-      entries_off : (rs : List Run) (k : ℕ) → k + length rs ≤ list_of p.shared code
+      entries_off : (rs : List Run) (k : ℕ) → k + length rs ≤ list_of (summaries p) p.shared code
           → EachStore (IsOffRing gate) (entry_effects (word_place l ListLength) l.list.address k rs)
       entries_off [] k few = tt
       entries_off (r ∷ rs) k few =

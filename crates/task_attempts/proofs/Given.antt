@@ -11,6 +11,7 @@ use Rattle.task_attempts.proofs.Names.{AreListed, listed_of, list_of, scalars_of
 use Rattle.task_attempts.proofs.Names.{lists_have_room, privates_are_theirs, elements_stand, task_places_are_apart, task_places_are_even, view_has_their_words}
 use Rattle.task_attempts.proofs.Names.{rows_fit_places, WellFormedBlock, AdmitsBlock, ap, tasks_are_admitted}
 use Rattle.memory_map.specs.Laws as memory
+use Rattle.cost_bound.specs.Summaries.{summaries}
 use Rattle.cost_bound.specs.declared.allowance.Allow.{Allow}
 use Rattle.war_analysis.specs.PlanValue.{TaskPlanValue}
 use Rattle.source_values.specs.Running.{IsRunnable}
@@ -88,15 +89,15 @@ pub record IsTaskSeen (p : CheckedProgram) (l : MemoryMap) (task : CheckedTask) 
 pub record IsTaskGiven (p : CheckedProgram) (l : MemoryMap) (task : CheckedTask) (t : TaskPlace) : Type 0 where
   pub seen : IsTaskSeen p l task t
   pub redo : l.runtime.logging ≡ Redo
-  pub has_room : HasRoom (task_places l task t) (λ v. stores_of v task.body) (task_room p task)
-  pub elements : (xs : List Element) → AreListed (task_places l task t) xs → ((v : ℕ) → listed_of v xs ≤ stores_of v task.body)
-      → length xs + scalars_of p.shared task.body ≤ list_of p.shared task.body
+  pub has_room : HasRoom (task_places l task t) (λ v. stores_of (summaries p) v task.body) (task_room p task)
+  pub elements : (xs : List Element) → AreListed (task_places l task t) xs → ((v : ℕ) → listed_of v xs ≤ stores_of (summaries p) v task.body)
+      → length xs + scalars_of (summaries p) p.shared task.body ≤ list_of (summaries p) p.shared task.body
   pub privates : ArePrivates l task.body t
 
 -- under undo: there is room behind the words that the start lists, and each scalar stands where it is
 pub record IsTaskLogged (p : CheckedProgram) (l : MemoryMap) (k : ℕ) (task : CheckedTask) (t : TaskPlace) : Type 0 where
   pub seen : IsTaskSeen p l task (task_seen Undo t)
-  pub has_room : HasRoomBehind (length (private_homes l k)) (task_places l task (task_seen Undo t)) (λ v. stores_of v task.body) (task_room p task)
+  pub has_room : HasRoomBehind (length (private_homes l k)) (task_places l task (task_seen Undo t)) (λ v. stores_of (summaries p) v task.body) (task_room p task)
   pub home : (v home copy : ℕ) (width : ScalarWidth) → slice_get l.variables v ≡ Some (Scalar home copy width)
       → address_of (task_places l task (task_seen Undo t)) v ≡ home
 
@@ -157,11 +158,11 @@ module _ (text : List ℕ) (p : CheckedProgram) (allow : Allow) (plans : List Ta
         }
 
     -- the buffer of emitted words ends in front of the version words
-    emits_end : l.emits.address + 2 * emits_of task.body ≤ l.versions.address
+    emits_end : l.emits.address + 2 * emits_of (summaries p) task.body ≤ l.versions.address
     emits_end =
         let room = (tasks_have_room p allow plans l has).emits k (slice_get_within p.tasks k task is_task) in
         let apart = places_are_apart p allow plans l has in
-        let same = ap (λ o. emits_of (body_of o)) is_task in
+        let same = ap (λ o. emits_of (summaries p) (body_of o)) is_task in
         omega (arith, room, apart, same)
 
     -- by the place that is the task's own
