@@ -1,11 +1,9 @@
 -- A run that goes on behind a block makes a path that does.
 use Rattle.std.proofs.Common.{ℕ, zero, suc, ◌+◌, ◌-◌, Bool, true, false, List, [], ◌∷◌, ◌++◌, Some, None, if◌then◌else◌}
-use Rattle.task_ast.specs.Tree.{Expression, Statement, Choice, Block}
 use Rattle.task_ast.specs.Tree as t
-use Rattle.task_ast.specs.Paths.{Access, write, End, ExpressionPath, StatementPath, ChoicePath, TurnsPath, BlockPath}
+use Rattle.task_ast.specs.Paths.{CheckedBlock, CheckedChoice, CheckedExpression, CheckedStatement, Access, write, End, ExpressionPath, StatementPath, ChoicePath, TurnsPath, BlockPath}
 use Rattle.task_ast.specs.Paths as path
 use Rattle.task_ast.specs.declared.names.VariableName.{VariableName}
-use Rattle.task_ast.specs.declared.names.TaskName.{TaskName}
 use Rattle.source_values.specs.Values.{holds}
 use Rattle.source_values.specs.Statements.{Attempt, Outcome, goes_on, to_task, short, and_then, with_value, assigned, turns, run_statement, run_choice}
 use Rattle.source_values.specs.Statements.{run_block}
@@ -28,7 +26,7 @@ on_then p q r f g (goes_on s) next h more = on_map q r (f h.0) (λ ys y. g h.0 y
 on_then p q r f g (to_task k s) next h more = tt
 on_then p q r f g short next h more = tt
 
-on_value : (p : List Access → Type 0) (e : Expression VariableName) (s : Attempt) (next : ℕ → Attempt → Outcome)
+on_value : (p : List Access → Type 0) (e : CheckedExpression) (s : Attempt) (next : ℕ → Attempt → Outcome)
     → ((w : ℕ) (s : Attempt) → OnPath p (next w s)) → OnPath p (with_value e s next)
 on_value p e s next more = for_value (OnPath p) e s next tt (λ w u is. more w u)
 
@@ -37,7 +35,7 @@ on_if p true first second x y = x
 on_if p false first second x y = y
 
 -- some path of an expression
-expression_path : (e : Expression VariableName) → (xs : List Access) × ExpressionPath e xs
+expression_path : (e : CheckedExpression) → (xs : List Access) × ExpressionPath e xs
 expression_path (t.number n) = ([], path.number n)
 expression_path (t.long_number n) = ([], path.long_number n)
 expression_path (t.name x) = (path.read x ∷ [], path.name x)
@@ -49,7 +47,7 @@ expression_path (t.binary op a b) = let p = expression_path a in let q = express
 expression_path (t.shift op e count) = let p = expression_path e in (p.0, path.shift op e count p.0 p.1)
 expression_path (t.short_circuit op a b) = let p = expression_path a in (p.0, path.left_alone op a b p.0 p.1)
 
-turns_path : (n from : ℕ) (x : VariableName) (body : Block VariableName TaskName) (s : Attempt)
+turns_path : (n from : ℕ) (x : VariableName) (body : CheckedBlock) (s : Attempt)
     → ((s : Attempt) → OnPath (λ xs. BlockPath body xs path.goes_on) (run_block body s))
     → OnPath (λ xs. TurnsPath x n body xs path.goes_on) (turns n from x.variable (run_block body) s)
 turns_path zero from x body s h = ([], path.over x body)
@@ -60,7 +58,7 @@ turns_path (suc n) from x body s h =
     (λ s. turns_path n (from + 1) x body s h)
 
 mutual
-  statement_path : (s : Statement VariableName TaskName) (a : Attempt) → OnPath (λ xs. StatementPath s xs path.goes_on) (run_statement s a)
+  statement_path : (s : CheckedStatement) (a : Attempt) → OnPath (λ xs. StatementPath s xs path.goes_on) (run_statement s a)
   statement_path (t.declare of x None) a = (path.unset x ∷ [], path.declare_unset of x)
   statement_path (t.declare of x (Some e)) a = let p = expression_path e in
       on_value (λ xs. StatementPath (t.declare of x (Some e)) xs path.goes_on) e a _
@@ -82,7 +80,7 @@ mutual
       on_value (λ xs. StatementPath (t.emit e) xs path.goes_on) e a _ (λ w s. (p.0, path.emit e p.0 p.1))
   statement_path (t.transition n) a = tt
 
-  choice_path : (c : Choice VariableName TaskName) (a : Attempt) → OnPath (λ xs. ChoicePath c xs path.goes_on) (run_choice c a)
+  choice_path : (c : CheckedChoice) (a : Attempt) → OnPath (λ xs. ChoicePath c xs path.goes_on) (run_choice c a)
   choice_path t.nothing a = ([], path.nothing)
   choice_path (t.otherwise b) a = on_map (λ xs. BlockPath b xs path.goes_on) (λ xs. ChoicePath (t.otherwise b) xs path.goes_on) (λ xs. xs)
       (λ xs p. path.otherwise b xs path.goes_on p) (run_block b a) (block_path b a)
@@ -95,7 +93,7 @@ mutual
       (on_map (λ xs. ChoicePath more xs path.goes_on) (λ xs. ChoicePath (t.test e b more) xs path.goes_on) (λ ys. p.0 ++ ys)
       (λ ys q. path.passed e b more p.0 ys path.goes_on p.1 q) (run_choice more s) (choice_path more s)))
 
-  pub block_path : (b : Block VariableName TaskName) (a : Attempt) → OnPath (λ xs. BlockPath b xs path.goes_on) (run_block b a)
+  pub block_path : (b : CheckedBlock) (a : Attempt) → OnPath (λ xs. BlockPath b xs path.goes_on) (run_block b a)
   block_path t.end a = ([], path.finished)
   block_path (t.step s more) a =
       on_then (λ xs. StatementPath s xs path.goes_on) (λ xs. BlockPath more xs path.goes_on) (λ xs. BlockPath (t.step s more) xs path.goes_on)
