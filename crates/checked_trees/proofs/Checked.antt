@@ -2,9 +2,7 @@
 use Rattle.std.proofs.Common.{◌≡◌, ℕ, zero, suc, List, [], ◌∷◌, Some, refl, sym, subst, inl, inr, slice_get}
 use Rattle.std.specs.Prelude.{All}
 use Rattle.std.proofs.lemmas.List.Elements.{All-nil, All-cons, All-head, All-tail}
-use Rattle.task_ast.specs.Tree.{Program, Task}
-use Rattle.task_ast.specs.declared.names.VariableName.{VariableName}
-use Rattle.task_ast.specs.declared.names.TaskName.{TaskName}
+use Rattle.task_ast.specs.Paths.{CheckedProgram}
 use Rattle.path_checks.specs.Firsts.{CheckedTask, SomeTask}
 use Rattle.path_checks.specs.Unassigned.{ReadsUnassigned}
 use Rattle.path_checks.specs.Transitions.{OpenAt}
@@ -25,7 +23,7 @@ some_at P (x ∷ tasks) zero task e p = let same : x ≡ task = cc in inl (subst
 some_at P (x ∷ tasks) (suc k) task e p = inr (some_at P tasks k task e p)
 
 -- each task of a checked source is well-formed
-pub task_checked : (text : List ℕ) (program : Program VariableName TaskName) → Checks text program → (k : ℕ) (task : Task VariableName TaskName)
+pub task_checked : (text : List ℕ) (program : CheckedProgram) → Checks text program → (k : ℕ) (task : CheckedTask)
     → slice_get program.tasks k ≡ Some task
     → IsWellFormed program.shared task.body
 task_checked text program checks k task e =

@@ -174,7 +174,7 @@ append_none : (xs : List Occurrence) → xs ++ [] ≡ xs
 append_none [] = refl
 append_none (x ∷ xs) = ap (λ l. x ∷ l) (append_none xs)
 
-pub program_declared : (source : List ℕ) (p : Program Span Span) → All HasItsExtent p.shared → All (λ task. BlockFits task.body) p.tasks
+pub program_declared : (source : List ℕ) (p : Program Span Span Span) → All HasItsExtent p.shared → All (λ task. BlockFits task.body) p.tasks
     → Declared p.shared (program_names source p)
 unfolding program_names
 program_declared source p typed f =

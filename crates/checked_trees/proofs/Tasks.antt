@@ -7,10 +7,9 @@ use Rattle.task_ast.specs.declared.SharedDeclaration.{SharedDeclaration}
 use Rattle.task_ast.specs.declared.names.Variable.{Variable}
 use Rattle.task_ast.specs.declared.names.Variable.TheVariants.{Shared, Local}
 use Rattle.task_ast.specs.declared.names.VariableName.{VariableName}
-use Rattle.task_ast.specs.declared.names.TaskName.{TaskName}
 use Rattle.task_ast.specs.Tree as t
-use Rattle.task_ast.specs.Tree.{Expression, Task, Program}
-use Rattle.task_ast.specs.Paths.{CheckedExpression, CheckedStatement, CheckedChoice, CheckedBlock}
+use Rattle.task_ast.specs.Tree.{Expression}
+use Rattle.task_ast.specs.Paths.{CheckedProgram, CheckedTask, CheckedExpression, CheckedStatement, CheckedChoice, CheckedBlock}
 use Rattle.path_checks.specs.Firsts.{SomeTask}
 use Rattle.path_checks.specs.Loops.{is_same_local, is_good_loop, block_assigns, BadLoopInStatement, BadLoopInChoice, BadLoopIn}
 use Rattle.task_check.specs.declared.occurrence.Role.{Role}
@@ -195,7 +194,7 @@ module _ (shared : List SharedDeclaration) (types : Span → WordType) where
         let b = block_split end more behind vs f.1 (λ s i. none s (inr i)) a.1 in
         ((a.0, b.0), b.1)
 
-  tasks_split : (ks : List (Task VariableName TaskName)) (behind : List Occurrence) (vs : List TypedVariable)
+  tasks_split : (ks : List CheckedTask) (behind : List Occurrence) (vs : List TypedVariable)
       → All (λ task. BlockFits task.body) (map task_back ks) → ((s : Span) → SomeTask ks (λ task. BadLoopIn task.body s) → ⊥)
       → AreUsed shared types (uses_in (task_names types (map task_back ks) behind)) (task_variables ks vs)
       → All (λ task. WellFormedBlock shared task.body) ks
@@ -213,7 +212,7 @@ shared_uses [] behind = refl
 shared_uses (d ∷ more) behind = front_uses (shared_names more behind) d.name (role.Shared d.word_type d.extent) ∙ shared_uses more behind
 
 -- the statements of each task of a source that no check refuses are well-formed
-pub statements_are_well_formed : (text : List ℕ) (program : Program VariableName TaskName) → Checks text program
+pub statements_are_well_formed : (text : List ℕ) (program : CheckedProgram) → Checks text program
     → All (λ task. WellFormedBlock program.shared task.body) program.tasks
 unfolding program_names
 statements_are_well_formed text p checks =

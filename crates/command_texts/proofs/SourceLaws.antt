@@ -1,7 +1,9 @@
 -- No text is a source and refused as one.
 use Rattle.std.proofs.Common.{◌≡◌, ◌∙◌, Some, None, sym, ap, ℕ, List}
-use Rattle.source_meaning.specs.Laws.{OneAnswer}
-use Rattle.command_texts.specs.Sources.{source_refusal, IsSourceText, RefusesSource}
+use Rattle.source_meaning.specs.Laws.{OneAnswer, OneProgram}
+use Rattle.source_meaning.specs.Plain.{IsPlain}
+use Rattle.source_meaning.proofs.Interface.{refused_by_pass}
+use Rattle.command_texts.specs.Sources.{source_refusal, IsSourceText, RefusesSource, RefusesBuild}
 use Rattle.command_answers.specs.source_values.Runs.{CheckedProgram}
 use Rattle.command_answers.specs.Refusals.{Refusal}
 
@@ -14,3 +16,10 @@ sources_exclude law text p r said refused =
     let memory = law text p said.allow refused.cause said.accepted refused.refused in
     let none : Some r ≡ None = sym refused.told ∙ ap (source_refusal text) memory in
     cc
+
+-- and none is a source without functions and kept from being compiled
+pub builds_exclude : OneProgram → SourcesExclude → (text : List ℕ) (p : CheckedProgram) (r : Refusal) → IsSourceText text p → IsPlain p
+    → RefusesBuild text r → ⊥
+builds_exclude one law text p r said plain fails =
+    law text p r said
+    (record { cause = fails.cause; refused = refused_by_pass one text p said.allow fails.cause said.accepted plain fails.refused; told = fails.told })

@@ -7,4 +7,5 @@ mod Refusals
 mod Unique
 mod OneAnswer
 mod FirstEvent
+mod Plain
 pub mod Interface

@@ -7,11 +7,8 @@ use Rattle.task_ast.specs.View.{program_of, task_of}
 use Rattle.task_check.specs.declared.checked.Checked.{Checked}
 use Rattle.std.proofs.lemmas.List.Elements.{All-nil, All-cons, All-head, All-tail}
 use Rattle.source_values.specs.alp_text.declared.lines.Span.{Span}
-use Rattle.task_ast.specs.Tree.{Task, Program}
-use Rattle.task_ast.specs.Paths.{Access, BlockPath}
+use Rattle.task_ast.specs.Paths.{CheckedProgram, CheckedTask, Access, BlockPath}
 use Rattle.task_ast.specs.Paths as path
-use Rattle.task_ast.specs.declared.names.VariableName.{VariableName}
-use Rattle.task_ast.specs.declared.names.TaskName.{TaskName}
 use Rattle.cost_bound.specs.path_checks.Firsts.{IsFirst, SomeTask}
 use Rattle.cost_bound.specs.path_checks.Transitions.{OpenAt, NoTransitionAt}
 use Rattle.task_check.specs.Limits.{is_numbered}
@@ -32,11 +29,11 @@ ends_well k paths none (to_task t s) p h = h
 ends_well k paths none short p h = tt
 
 -- the tasks, and what stands behind them
-record Comes (k : ℕ) (tasks : List (Task VariableName TaskName)) (more : List ℕ) : Type 0 where
+record Comes (k : ℕ) (tasks : List CheckedTask) (more : List ℕ) : Type 0 where
   comes : All (TransitionComes k) tasks
   rest : below k more ≡ true
 
-tasks_come : (k : ℕ) (tasks : List (Task VariableName TaskName)) (more : List ℕ) → ((s : Span) → SomeTask tasks (λ task. OpenAt task s) → ⊥)
+tasks_come : (k : ℕ) (tasks : List CheckedTask) (more : List ℕ) → ((s : Span) → SomeTask tasks (λ task. OpenAt task s) → ⊥)
     → below k (task_targets tasks more) ≡ true → Comes k tasks more
 tasks_come k [] more none h = record { comes = All-nil (TransitionComes k); rest = h }
 tasks_come k (task ∷ others) more none h =
@@ -49,12 +46,12 @@ tasks_come k (task ∷ others) more none h =
       rest = behind.rest;
     }
 
-emits_fit : (tasks : List (Task VariableName TaskName)) → All FewEmits tasks → All EmitsFit tasks
+emits_fit : (tasks : List CheckedTask) → All FewEmits tasks → All EmitsFit tasks
 emits_fit [] h = All-nil EmitsFit
 emits_fit (task ∷ others) h =
     All-cons EmitsFit task others (few_emits task.body (All-head FewEmits task others h)) (emits_fit others (All-tail FewEmits task others h))
 
-pub runnable : (program : Program VariableName TaskName) → length program.shared ≤ 256 → length program.tasks ≤ 64
+pub runnable : (program : CheckedProgram) → length program.shared ≤ 256 → length program.tasks ≤ 64
     → below (length program.tasks) (task_targets program.tasks (program.entry.task ∷ [])) ≡ true → IsFirst None (NoTransitionAt program)
     → All FewEmits program.tasks → IsRunnable program
 runnable program shared tasks targets none emits =

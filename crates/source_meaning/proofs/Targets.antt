@@ -2,11 +2,10 @@
 use Rattle.std.proofs.Common.{◌≡◌, ◌<◌, ℕ, zero, suc, ◌+◌, ◌-◌, Bool, true, false, List, Some, None, if◌then◌else◌, nat_lt, ltb-true}
 use Rattle.std.specs.List.{list_all}
 use Rattle.std.proofs.lemmas.Bool.{and_parts}
-use Rattle.task_ast.specs.Tree.{Expression, Statement, declare, assign, store, choose, loop, emit, transition, Choice, nothing, otherwise, test, Block, end}
+use Rattle.task_ast.specs.Paths.{CheckedBlock, CheckedChoice, CheckedExpression, CheckedStatement}
+use Rattle.task_ast.specs.Tree.{declare, assign, store, choose, loop, emit, transition, nothing, otherwise, test, end}
 use Rattle.task_ast.specs.Tree.{step}
 use Rattle.task_ast.specs.declared.names.Variable.{Variable}
-use Rattle.task_ast.specs.declared.names.VariableName.{VariableName}
-use Rattle.task_ast.specs.declared.names.TaskName.{TaskName}
 use Rattle.source_values.specs.Values.{holds}
 use Rattle.source_values.specs.Statements.{Attempt, Outcome, goes_on, to_task, short, and_then, with_value, assigned, assigned_value, word_of, turns}
 use Rattle.source_values.specs.Statements.{run_statement, run_choice, run_block}
@@ -32,7 +31,7 @@ goes_then k (goes_on s) next h more = more s
 goes_then k (to_task t s) next h more = h
 goes_then k short next h more = tt
 
-goes_value : (k : ℕ) (e : Expression VariableName) (s : Attempt) (next : ℕ → Attempt → Outcome) → ((w : ℕ) (s : Attempt) → GoesBelow k (next w s))
+goes_value : (k : ℕ) (e : CheckedExpression) (s : Attempt) (next : ℕ → Attempt → Outcome) → ((w : ℕ) (s : Attempt) → GoesBelow k (next w s))
     → GoesBelow k (with_value e s next)
 goes_value k e s next more = for_value (GoesBelow k) e s next tt (λ w u is. more w u)
 
@@ -47,7 +46,7 @@ goes_turns k (suc n) from x body s h =
     goes_then k (body (assigned s x 0 from)) (turns n (from + 1) x body) (h (assigned s x 0 from)) (λ s. goes_turns k n (from + 1) x body s h)
 
 mutual
-  statement_stays : (k : ℕ) (s : Statement VariableName TaskName) (more : List ℕ) → below k (statement_targets s more) ≡ true → Stays k (run_statement s) more
+  statement_stays : (k : ℕ) (s : CheckedStatement) (more : List ℕ) → below k (statement_targets s more) ≡ true → Stays k (run_statement s) more
   statement_stays k (declare t x None) more h = record { runs = λ s. tt; rest = h }
   statement_stays k (declare t x (Some e)) more h =
       record { runs = λ s. goes_value k e s (λ w s. goes_on (assigned_value s x e w)) (λ w s. tt); rest = h }
@@ -67,7 +66,7 @@ mutual
       let p = and_parts (nat_lt t.task k) (below k more) h in
       record { runs = λ s. ltb-true t.task k p.0; rest = p.1 }
 
-  choice_stays : (k : ℕ) (c : Choice VariableName TaskName) (more : List ℕ) → below k (choice_targets c more) ≡ true → Stays k (run_choice c) more
+  choice_stays : (k : ℕ) (c : CheckedChoice) (more : List ℕ) → below k (choice_targets c more) ≡ true → Stays k (run_choice c) more
   choice_stays k nothing more h = record { runs = λ s. tt; rest = h }
   choice_stays k (otherwise block) more h = let b = block_stays k block more h in record { runs = b.runs; rest = b.rest }
   choice_stays k (test e block others) more h =
@@ -79,7 +78,7 @@ mutual
         rest = c.rest;
       }
 
-  pub block_stays : (k : ℕ) (b : Block VariableName TaskName) (more : List ℕ) → below k (block_targets b more) ≡ true → Stays k (run_block b) more
+  pub block_stays : (k : ℕ) (b : CheckedBlock) (more : List ℕ) → below k (block_targets b more) ≡ true → Stays k (run_block b) more
   block_stays k end more h = record { runs = λ s. tt; rest = h }
   block_stays k (step s others) more h =
       let one = statement_stays k s (block_targets others more) h in
