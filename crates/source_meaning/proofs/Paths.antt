@@ -1,8 +1,8 @@
 -- A run that goes on behind a block makes a path that does, where the functions that are called are taken as ones that return at once.
-use Rattle.std.proofs.Common.{◌≡◌, ◌∙◌, ◌<◌, ℕ, zero, suc, ◌+◌, ◌-◌, Bool, true, false, List, [], ◌∷◌, ◌++◌, length, map, take, get_or, Some, None}
-use Rattle.std.proofs.Common.{ap, slice_get, if◌then◌else◌}
+use Rattle.std.proofs.Common.{◌≡◌, ◌∙◌, ◌<◌, ℕ, zero, suc, ◌+◌, ◌-◌, Bool, true, false, List, [], ◌∷◌, ◌++◌, length, map, take, Some, None}
+use Rattle.std.proofs.Common.{ap, arith, refl, slice_get, if◌then◌else◌}
 use Rattle.std.specs.Option.{option_map}
-use Rattle.std.proofs.lemmas.Option.{slice_get-get_or, slice_get-map}
+use Rattle.std.proofs.lemmas.Option.{slice_get-map}
 use Rattle.task_ast.specs.Tree as t
 use Rattle.task_ast.specs.Worked.{nowhere}
 use Rattle.task_ast.specs.Paths.{CheckedFunction, CheckedExpression, CheckedValues, CheckedStatement, CheckedChoice, CheckedBlock, Access, write, End}
@@ -41,6 +41,12 @@ on_if : (p : List Access → Type 0) (b : Bool) (first second : Outcome) → OnP
 on_if p true first second x y = x
 on_if p false first second x y = y
 
+-- the function of a number
+found : (functions : List CheckedFunction) (k : ℕ) → k < length functions → (f : CheckedFunction) × (slice_get functions k ≡ Some f)
+found [] k low = absurd (omega (arith, low))
+found (f ∷ more) zero low = (f, refl)
+found (f ∷ more) (suc k) low = found more k (omega (arith, low))
+
 module _ (functions : List CheckedFunction) where
   -- the functions as ones that return at once
   abbrev fs : List CheckedFunction
@@ -50,11 +56,13 @@ module _ (functions : List CheckedFunction) where
   called : (f : FunctionName) → f.function < length functions
       → (function : CheckedFunction) × (slice_get fs f.function ≡ Some function) × BlockPath (take f.function fs) function.body [] path.returns
   called f low =
-      let known = slice_get functions f.function in
-      by known (slice_get-map at_once functions f.function) (slice_get-get_or functions f.function)
-    where
-      by : (o : _) → _
-      by = ?
+      let g = found functions f.function low in
+      let front = take f.function fs in
+      let gives = path.give front nowhere (t.number 0) [] (path.number front 0) in (
+        at_once g.0,
+        slice_get-map at_once functions f.function ∙ ap (option_map at_once) g.1,
+        path.stopped front (t.give nowhere (t.number 0)) t.end [] path.returns tt gives,
+      )
 
   mutual
     -- some path of an expression
