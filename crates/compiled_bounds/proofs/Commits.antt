@@ -2,9 +2,8 @@
 -- for each word of the most that are emitted.
 use Rattle.std.proofs.Common.{◌≡◌, ℕ, zero, suc, ◌+◌, ◌-◌, ◌*◌, ◌<◌, ◌≤◌, ⊎_elim, arith, Bool, List, [], ◌∷◌, length, Some, None}
 use Rattle.std.proofs.lemmas.Bool.{cases_lt}
-use Rattle.task_ast.specs.Tree.{Statement, declare, assign, store, choose, loop, emit, transition, Choice, nothing, otherwise, test, Block, end, step}
-use Rattle.task_ast.specs.declared.names.VariableName.{VariableName}
-use Rattle.task_ast.specs.declared.names.TaskName.{TaskName}
+use Rattle.task_ast.specs.Paths.{CheckedChoice, CheckedStatement}
+use Rattle.task_ast.specs.Tree.{declare, assign, store, choose, loop, emit, transition, nothing, otherwise, test, end, step}
 use Rattle.cost_bound.specs.Table.{cycles_column, statement_price, blocks_price, block_price}
 use Rattle.cost_bound.specs.Counts.{CheckedBlock, is_emit, statement_count, choice_count, block_count, emits_of}
 use Rattle.cost_bound.specs.Allowance.{CheckedProgram, CheckedTask, bound_of, list_of, task_bound, uses_events, versions_of, greatest}
@@ -19,7 +18,7 @@ turns_pay (suc n) count price h = let rest = turns_pay n count price h in omega 
 
 -- 60 cycles for each emit of a block
 mutual
-  statement_pays : (s : Statement VariableName TaskName) → 60 * statement_count is_emit s ≤ statement_price cycles_column s
+  statement_pays : (s : CheckedStatement) → 60 * statement_count is_emit s ≤ statement_price cycles_column s
   statement_pays (declare _ _ None) = omega arith
   statement_pays (declare _ _ (Some e)) = omega arith
   statement_pays (assign _ e) = omega arith
@@ -30,16 +29,16 @@ mutual
   statement_pays (loop _ from _ below _ body) =
       let a = turns_pay (below - from) (block_count is_emit body) (block_price cycles_column body) (block_pays body) in omega (arith, a)
 
-  blocks_pay : (c : Choice VariableName TaskName) → 60 * choice_count is_emit c ≤ blocks_price cycles_column c
+  blocks_pay : (c : CheckedChoice) → 60 * choice_count is_emit c ≤ blocks_price cycles_column c
   blocks_pay nothing = omega arith
   blocks_pay (otherwise b) = block_pays b
   blocks_pay (test _ b more) = let x = block_pays b in let y = blocks_pay more in omega (arith, x, y)
 
-  block_pays : (b : Block VariableName TaskName) → 60 * block_count is_emit b ≤ block_price cycles_column b
+  block_pays : (b : CheckedBlock) → 60 * block_count is_emit b ≤ block_price cycles_column b
   block_pays end = omega arith
   block_pays (step s more) = let a = statement_pays s in let b = block_pays more in omega (arith, a, b)
 
-emits_pay : (b : Block VariableName TaskName) → 60 * emits_of b ≤ block_price cycles_column b
+emits_pay : (b : CheckedBlock) → 60 * emits_of b ≤ block_price cycles_column b
 unfolding emits_of
 emits_pay b = block_pays b
 

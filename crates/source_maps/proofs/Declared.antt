@@ -40,13 +40,13 @@ module _ (source : List ℕ) where
       ap (λ l. l ++ declared_by o.role (text_of source o.span)) (in_front more s r)
       ∙ append_assoc (declared_by r (text_of source s)) (declared more) (declared_by o.role (text_of source o.span))
 
-  element_silent : (types : Span → WordType) (s : Span) (index : Expression Span) (behind : List Occurrence)
+  element_silent : (types : Span → WordType) (s : Span) (index : Expression Span Span) (behind : List Occurrence)
       → declared (element_front types s index behind) ≡ declared behind
   element_silent types s index behind =
       let here = role.Operand (is_long (expression_type types index)) (kept.Name s) in
       in_front (and_front behind s here) s role.Element ∙ in_front behind s here
 
-  expression_silent : (types : Span → WordType) (e : Expression Span) (behind : List Occurrence) → declared (expression_names types e behind) ≡ declared behind
+  expression_silent : (types : Span → WordType) (e : Expression Span Span) (behind : List Occurrence) → declared (expression_names types e behind) ≡ declared behind
   expression_silent types (t.number n) behind = refl
   expression_silent types (t.long_number n) behind = refl
   expression_silent types (t.name s) behind = in_front behind s role.Scalar
@@ -63,12 +63,12 @@ module _ (source : List ℕ) where
       expression_silent types a (and_front behind count.span here) ∙ in_front behind count.span here
   expression_silent types (t.short_circuit op a b) behind = expression_silent types a (expression_names types b behind) ∙ expression_silent types b behind
 
-  value_silent : (types : Span → WordType) (e : Option (Expression Span)) (behind : List Occurrence) → declared (value_names types e behind) ≡ declared behind
+  value_silent : (types : Span → WordType) (e : Option (Expression Span Span)) (behind : List Occurrence) → declared (value_names types e behind) ≡ declared behind
   value_silent types None behind = refl
   value_silent types (Some e) behind = expression_silent types e behind
 
   mutual
-    statement_silent : (types : Span → WordType) (end : ℕ) (x : Statement Span Span) (behind : List Occurrence)
+    statement_silent : (types : Span → WordType) (end : ℕ) (x : Statement Span Span Span) (behind : List Occurrence)
         → declared (statement_names types end x behind) ≡ declared behind
     statement_silent types end (t.declare of s value) behind = in_front (value_names types value behind) s (role.Local of (length behind) end)
         ∙ value_silent types value behind
@@ -85,19 +85,19 @@ module _ (source : List ℕ) where
     statement_silent types end (t.emit e) behind = expression_silent types e behind
     statement_silent types end (t.transition s) behind = in_front behind s role.Target
 
-    choice_silent : (types : Span → WordType) (c : Choice Span Span) (behind : List Occurrence) → declared (choice_names types c behind) ≡ declared behind
+    choice_silent : (types : Span → WordType) (c : Choice Span Span Span) (behind : List Occurrence) → declared (choice_names types c behind) ≡ declared behind
     choice_silent types t.nothing behind = refl
     choice_silent types (t.otherwise b) behind = block_silent types (length behind) b behind
     choice_silent types (t.test e b more) behind =
         let rest = choice_names types more behind in
         expression_silent types e (names_up_to types (length rest) b rest) ∙ block_silent types (length rest) b rest ∙ choice_silent types more behind
 
-    block_silent : (types : Span → WordType) (end : ℕ) (b : Block Span Span) (behind : List Occurrence)
+    block_silent : (types : Span → WordType) (end : ℕ) (b : Block Span Span Span) (behind : List Occurrence)
         → declared (names_up_to types end b behind) ≡ declared behind
     block_silent types end t.end behind = refl
     block_silent types end (t.step s more) behind = statement_silent types end s (names_up_to types end more behind) ∙ block_silent types end more behind
 
-  tasks_declared : (types : Span → WordType) (ts : List (Task Span Span)) (behind : List Occurrence)
+  tasks_declared : (types : Span → WordType) (ts : List (Task Span Span Span)) (behind : List Occurrence)
       → declared (task_names types ts behind) ≡ map (λ t. text_of source t.name) ts ++ declared behind
   tasks_declared types [] behind = refl
   tasks_declared types (k ∷ more) behind =
@@ -111,7 +111,7 @@ module _ (source : List ℕ) where
   shared_declared (d ∷ more) behind =
       in_front (shared_names more behind) d.name (role.Shared d.word_type d.extent) ∙ ap (λ l. text_of source d.name ∷ l) (shared_declared more behind)
 
-  pub program_declared : (p : Program Span Span)
+  pub program_declared : (p : Program Span Span Span)
       → declared (program_names source p) ≡ map (λ d. text_of source d.name) p.shared ++ map (λ t. text_of source t.name) p.tasks
   unfolding program_names
   program_declared p =

@@ -234,6 +234,6 @@ module _ (source : List ℕ) where
       let r = front_words (shared_names more behind) (record { span = d.name; role = role.Shared d.word_type d.extent }) h in
       All-cons (λ d. HasWords d.extent) d more r.1 (shared_words more behind r.0)
 
-  pub program_words : (p : Program Span Span) → HaveWords (program_names source p) → All (λ d. HasWords d.extent) p.shared
+  pub program_words : (p : Program Span Span Span) → HaveWords (program_names source p) → All (λ d. HasWords d.extent) p.shared
   unfolding program_names
   program_words p h = shared_words p.shared (task_names (shared_type source p.shared) p.tasks (and_front [] p.entry role.Target)) h

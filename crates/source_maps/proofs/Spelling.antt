@@ -251,7 +251,7 @@ module _ (source : List ℕ) where
   shared_named _ _ (shared h t n z of ts found a b is c e) all = all.1.1.0 is
   shared_named _ _ (long h t l n z ts found a b c is e f) all = all.1.1.1.0 is
 
-  task_named : (ts : List Token) (k : Task Span Span) → IsTask ts k → AllNamed ts → HasName k.name
+  task_named : (ts : List Token) (k : Task Span Span Span) → IsTask ts k → AllNamed ts → HasName k.name
   task_named _ _ (task h n ts body a is b) all = all.1.0 is
 
   row_named : {A : Type 0} (R : List Token → A → Type 0) (P : A → Type 0) → ((ts : List Token) (x : A) → R ts x → AllNamed ts → P x)
@@ -261,11 +261,11 @@ module _ (source : List ℕ) where
       let both = subst AllNamed is all in
       All-cons P x xs (one front x first (front_named front back both)) (row_named R P one back xs more (back_named front back both))
 
-  pub record ProgramNamed (p : Program Span Span) : Type 0 where
+  pub record ProgramNamed (p : Program Span Span Span) : Type 0 where
     pub shared_variables : All (λ d. HasName d.name) p.shared
     pub all_tasks : All (λ k. HasName k.name) p.tasks
 
-  pub program_named : (ts : List Token) (p : Program Span Span) → IsProgram ts p → AllNamed ts → ProgramNamed p
+  pub program_named : (ts : List Token) (p : Program Span Span Span) → IsProgram ts p → AllNamed ts → ProgramNamed p
   program_named _ _ (program xs ys zs h n z shareds first others rows one more a b c) all =
       let rest = back_named xs (ys ++ (zs ++ (h ∷ n ∷ z ∷ []))) all in
       let later = back_named ys (zs ++ (h ∷ n ∷ z ∷ [])) rest in

@@ -8,6 +8,7 @@ use Rattle.std.specs.Prelude.{slice_get}
 use Rattle.std.proofs.lemmas.Option.{get_or_from_slice_get}
 use Rattle.task_ast.specs.declared.TaskDeclaration.{TaskDeclaration}
 use Rattle.task_ast.specs.declared.names.VariableName.{VariableName}
+use Rattle.task_ast.specs.declared.names.FunctionName.{FunctionName}
 use Rattle.task_ast.specs.declared.names.TaskName.{TaskName}
 use Rattle.task_ast.specs.View.{block_view, task_of}
 use Rattle.cost_bound.specs.Summaries.{summaries}
@@ -122,7 +123,7 @@ as_many l (task ∷ tasks) [] e = absurd (omega (arith, e))
 as_many l (task ∷ tasks) (t ∷ ts) e = ap suc (as_many l tasks ts (omega (arith, e)))
 
 -- a task as it is declared, where it stands
-pub task_at : (ts : List (TaskDeclaration VariableName TaskName)) (k : ℕ) (t : TaskDeclaration VariableName TaskName) (task : CheckedTask)
+pub task_at : (ts : List (TaskDeclaration VariableName TaskName FunctionName)) (k : ℕ) (t : TaskDeclaration VariableName TaskName FunctionName) (task : CheckedTask)
     → slice_get (map task_of ts) k ≡ Some task
     → t ≡ get_or ts k t → (t.name ≡ task.name) × (block_view t.body.items ≡ task.body)
 task_at ts k t task there is =
