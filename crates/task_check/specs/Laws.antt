@@ -17,8 +17,8 @@ IsAlike e d = e ≡ d
 
 -- A text and its tree have one source with the names looked up; none that is accepted is refused; and all refusals are alike.
 pub record OneAnswer : Type 0 where
-  pub one_source : (source : List ℕ) (tree : Program Span Span) (c d : Program VariableName TaskName) → IsLookedUp source tree c → IsLookedUp source tree d
+  pub one_source : (source : List ℕ) (tree : Program Span Span Span) (c d : CheckedProgram) → IsLookedUp source tree c → IsLookedUp source tree d
       → c ≡ d
-  pub no_refusal : (source : List ℕ) (tree : Program Span Span) (c : Program VariableName TaskName) (e : CheckFault) → IsAccepted source tree c
+  pub no_refusal : (source : List ℕ) (tree : Program Span Span Span) (c : CheckedProgram) (e : CheckFault) → IsAccepted source tree c
       → IsRefused source tree e → ⊥
-  pub one_refusal : (source : List ℕ) (tree : Program Span Span) (e d : CheckFault) → IsRefused source tree e → IsRefused source tree d → IsAlike e d
+  pub one_refusal : (source : List ℕ) (tree : Program Span Span Span) (e d : CheckFault) → IsRefused source tree e → IsRefused source tree d → IsAlike e d

@@ -14,6 +14,6 @@ is_numbered shared (variable.Shared n) = nat_lt n shared
 is_numbered shared (variable.Local n) = nat_lt n 256
 
 -- whether each variable's number and each task's number is in range
-abbrev pub are_numbered : Program VariableName TaskName → Bool
+abbrev pub are_numbered : CheckedProgram → Bool
 are_numbered p = list_all (λ v. is_numbered (length p.shared) v.variable) (task_variables p.tasks [])
     && list_all (λ n. nat_lt n (length p.tasks)) (task_targets p.tasks (p.entry.task ∷ []))

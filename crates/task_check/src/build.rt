@@ -43,9 +43,9 @@ fn variable<'a>(
 
 fn expression<'a>(
     alloc: Global,
-    e: &Expr<Span>,
+    e: &Expr<Span, Span>,
     names: &'a [TypedVariable],
-) -> Result<(Expr<VariableName>, &'a [TypedVariable]), AllocError>
+) -> Result<(Expr<VariableName, FunctionName>, &'a [TypedVariable]), AllocError>
     ensures place { IfOk result (λ x. spec.expression_back (expression_of x.0) ≡ expression_of e.now) }
     ensures names { IfOk result (λ x. names.now ≡ spec.expression_variables (expression_of x.0) x.1.now) }
 {
@@ -88,9 +88,9 @@ fn expression<'a>(
 
 fn value<'a>(
     alloc: Global,
-    e: &Option<Expr<Span>>,
+    e: &Option<Expr<Span, Span>>,
     names: &'a [TypedVariable],
-) -> Result<(Option<Expr<VariableName>>, &'a [TypedVariable]), AllocError>
+) -> Result<(Option<Expr<VariableName, FunctionName>>, &'a [TypedVariable]), AllocError>
     ensures place { IfOk result (λ x. option_map spec.expression_back (option_map expression_of x.0) ≡ option_map expression_of e.now) }
     ensures names { IfOk result (λ x. names.now ≡ spec.value_variables (option_map expression_of x.0) x.1.now) }
 {
@@ -124,9 +124,9 @@ fn declared<'a>(
     alloc: Global,
     word_type: WordType,
     name: Span,
-    e: &Option<Expr<Span>>,
+    e: &Option<Expr<Span, Span>>,
     names: Names<'a>,
-) -> Result<(Stmt<VariableName, TaskName>, Names<'a>), AllocError>
+) -> Result<(Stmt<VariableName, TaskName, FunctionName>, Names<'a>), AllocError>
     ensures place { IfOk result (λ x. spec.statement_back (statement_of x.0) ≡ node.declare word_type name (option_map expression_of e.now)) }
     ensures variables { IfOk result (λ x. names.entry.variables.now ≡ spec.statement_variables (statement_of x.0) x.1.variables.now) }
     ensures targets { IfOk result (λ x. names.entry.targets.now ≡ spec.statement_targets (statement_of x.0) x.1.targets.now) }
@@ -143,9 +143,9 @@ fn declared<'a>(
 fn assigned<'a>(
     alloc: Global,
     name: Span,
-    e: &Expr<Span>,
+    e: &Expr<Span, Span>,
     names: Names<'a>,
-) -> Result<(Stmt<VariableName, TaskName>, Names<'a>), AllocError>
+) -> Result<(Stmt<VariableName, TaskName, FunctionName>, Names<'a>), AllocError>
     ensures place { IfOk result (λ x. spec.statement_back (statement_of x.0) ≡ node.assign name (expression_of e.now)) }
     ensures variables { IfOk result (λ x. names.entry.variables.now ≡ spec.statement_variables (statement_of x.0) x.1.variables.now) }
     ensures targets { IfOk result (λ x. names.entry.targets.now ≡ spec.statement_targets (statement_of x.0) x.1.targets.now) }
@@ -159,10 +159,10 @@ fn assigned<'a>(
 fn stored<'a>(
     alloc: Global,
     name: Span,
-    index: &Expr<Span>,
-    e: &Expr<Span>,
+    index: &Expr<Span, Span>,
+    e: &Expr<Span, Span>,
     names: Names<'a>,
-) -> Result<(Stmt<VariableName, TaskName>, Names<'a>), AllocError>
+) -> Result<(Stmt<VariableName, TaskName, FunctionName>, Names<'a>), AllocError>
     ensures place { IfOk result (λ x. spec.statement_back (statement_of x.0) ≡ node.store name (expression_of index.now) (expression_of e.now)) }
     ensures variables { IfOk result (λ x. names.entry.variables.now ≡ spec.statement_variables (statement_of x.0) x.1.variables.now) }
     ensures targets { IfOk result (λ x. names.entry.targets.now ≡ spec.statement_targets (statement_of x.0) x.1.targets.now) }
@@ -176,9 +176,9 @@ fn stored<'a>(
 
 fn emitted<'a>(
     alloc: Global,
-    e: &Expr<Span>,
+    e: &Expr<Span, Span>,
     names: Names<'a>,
-) -> Result<(Stmt<VariableName, TaskName>, Names<'a>), AllocError>
+) -> Result<(Stmt<VariableName, TaskName, FunctionName>, Names<'a>), AllocError>
     ensures place { IfOk result (λ x. spec.statement_back (statement_of x.0) ≡ node.emit (expression_of e.now)) }
     ensures variables { IfOk result (λ x. names.entry.variables.now ≡ spec.statement_variables (statement_of x.0) x.1.variables.now) }
     ensures targets { IfOk result (λ x. names.entry.targets.now ≡ spec.statement_targets (statement_of x.0) x.1.targets.now) }
@@ -189,7 +189,7 @@ fn emitted<'a>(
 }
 
 // An `if` without a last block.
-fn tests_only(tests: Vec<Arm<VariableName, TaskName>>) -> Stmt<VariableName, TaskName>
+fn tests_only(tests: Vec<Arm<VariableName, TaskName, FunctionName>>) -> Stmt<VariableName, TaskName, FunctionName>
     ensures { statement_of result ≡ node.choose (node.choice_of (map tested_of tests.items) None) }
 {
     Stmt::If(tests, None)
@@ -197,28 +197,28 @@ fn tests_only(tests: Vec<Arm<VariableName, TaskName>>) -> Stmt<VariableName, Tas
 
 // An `if` with a last block.
 fn tests_else(
-    tests: Vec<Arm<VariableName, TaskName>>,
-    last: Vec<Stmt<VariableName, TaskName>>,
-) -> Stmt<VariableName, TaskName>
+    tests: Vec<Arm<VariableName, TaskName, FunctionName>>,
+    last: Vec<Stmt<VariableName, TaskName, FunctionName>>,
+) -> Stmt<VariableName, TaskName, FunctionName>
     ensures { statement_of result ≡ node.choose (node.choice_of (map tested_of tests.items) (Some (block_view last.items))) }
 {
     Stmt::If(tests, Some(last))
 }
 
-fn if_only(tests: Vec<Arm<VariableName, TaskName>>) -> Stmt<VariableName, TaskName>
+fn if_only(tests: Vec<Arm<VariableName, TaskName, FunctionName>>) -> Stmt<VariableName, TaskName, FunctionName>
     ensures tree { statement_of result ≡ node.choose (node.choice_of (map tested_of tests.items) None) }
-    ensures place { (arms : List (node.Tested Span Span)) → map parts.tested_back (map tested_of tests.items) ≡ arms
+    ensures place { (arms : List (node.Tested Span Span Span)) → map parts.tested_back (map tested_of tests.items) ≡ arms
         → spec.statement_back (statement_of result) ≡ node.choose (node.choice_of arms None) }
 {
     tests_only(tests)
 }
 
 fn if_else(
-    tests: Vec<Arm<VariableName, TaskName>>,
-    last: Vec<Stmt<VariableName, TaskName>>,
-) -> Stmt<VariableName, TaskName>
+    tests: Vec<Arm<VariableName, TaskName, FunctionName>>,
+    last: Vec<Stmt<VariableName, TaskName, FunctionName>>,
+) -> Stmt<VariableName, TaskName, FunctionName>
     ensures tree { statement_of result ≡ node.choose (node.choice_of (map tested_of tests.items) (Some (block_view last.items))) }
-    ensures place { (arms : List (node.Tested Span Span)) (block : node.Block Span Span) → map parts.tested_back (map tested_of tests.items) ≡ arms
+    ensures place { (arms : List (node.Tested Span Span Span)) (block : node.Block Span Span Span) → map parts.tested_back (map tested_of tests.items) ≡ arms
         → spec.block_back (block_view last.items) ≡ block
         → spec.statement_back (statement_of result) ≡ node.choose (node.choice_of arms (Some block)) }
 {
@@ -229,9 +229,9 @@ fn if_else(
 #[tactic(auto, using(crate::proofs::Parts::choice_uses))]
 fn statement<'a>(
     alloc: Global,
-    s: Stmt<Span, Span>,
+    s: Stmt<Span, Span, Span>,
     names: Names<'a>,
-) -> Result<(Stmt<VariableName, TaskName>, Names<'a>), AllocError>
+) -> Result<(Stmt<VariableName, TaskName, FunctionName>, Names<'a>), AllocError>
     ensures place { IfOk result (λ x. spec.statement_back (statement_of x.0) ≡ statement_of s) }
     ensures variables { IfOk result (λ x. names.entry.variables.now ≡ spec.statement_variables (statement_of x.0) x.1.variables.now) }
     ensures targets { IfOk result (λ x. names.entry.targets.now ≡ spec.statement_targets (statement_of x.0) x.1.targets.now) }
@@ -286,9 +286,9 @@ fn statement<'a>(
 #[cycle(build)]
 fn arm<'a>(
     alloc: Global,
-    test: Arm<Span, Span>,
+    test: Arm<Span, Span, Span>,
     names: Names<'a>,
-) -> Result<(Arm<VariableName, TaskName>, Names<'a>), AllocError>
+) -> Result<(Arm<VariableName, TaskName, FunctionName>, Names<'a>), AllocError>
     ensures place { IfOk result (λ x. parts.tested_back (tested_of x.0) ≡ tested_of test) }
     ensures variables { IfOk result (λ x. names.entry.variables.now ≡ spec.expression_variables (tested_of x.0).condition
         (spec.block_variables (tested_of x.0).block x.1.variables.now)) }
@@ -307,9 +307,9 @@ fn arm<'a>(
 #[cycle(build)]
 fn arms<'a>(
     alloc: Global,
-    tests: Vec<Arm<Span, Span>>,
+    tests: Vec<Arm<Span, Span, Span>>,
     names: Names<'a>,
-) -> Result<(Vec<Arm<VariableName, TaskName>>, Names<'a>), AllocError>
+) -> Result<(Vec<Arm<VariableName, TaskName, FunctionName>>, Names<'a>), AllocError>
     ensures place { IfOk result (λ x. map parts.tested_back (map tested_of x.0.items) ≡ map tested_of tests.items) }
     ensures variables { IfOk result (λ x. names.entry.variables.now ≡ parts.arms_variables (map tested_of x.0.items) x.1.variables.now) }
     ensures targets { IfOk result (λ x. names.entry.targets.now ≡ parts.arms_targets (map tested_of x.0.items) x.1.targets.now) }
@@ -327,9 +327,9 @@ fn arms<'a>(
 #[cycle(build)]
 fn block<'a>(
     alloc: Global,
-    body: Vec<Stmt<Span, Span>>,
+    body: Vec<Stmt<Span, Span, Span>>,
     names: Names<'a>,
-) -> Result<(Vec<Stmt<VariableName, TaskName>>, Names<'a>), AllocError>
+) -> Result<(Vec<Stmt<VariableName, TaskName, FunctionName>>, Names<'a>), AllocError>
     ensures place { IfOk result (λ x. spec.block_back (block_view x.0.items) ≡ block_view body.items) }
     ensures variables { IfOk result (λ x. names.entry.variables.now ≡ spec.block_variables (block_view x.0.items) x.1.variables.now) }
     ensures targets { IfOk result (λ x. names.entry.targets.now ≡ spec.block_targets (block_view x.0.items) x.1.targets.now) }
@@ -346,9 +346,9 @@ fn block<'a>(
 
 fn task<'a>(
     alloc: Global,
-    of: TaskDeclaration<Span, Span>,
+    of: TaskDeclaration<Span, Span, Span>,
     names: Names<'a>,
-) -> Result<(TaskDeclaration<VariableName, TaskName>, Names<'a>), AllocError>
+) -> Result<(TaskDeclaration<VariableName, TaskName, FunctionName>, Names<'a>), AllocError>
     ensures place { IfOk result (λ x. spec.task_back (task_of x.0) ≡ task_of of) }
     ensures variables { IfOk result (λ x. names.entry.variables.now ≡ spec.block_variables (task_of x.0).body x.1.variables.now) }
     ensures targets { IfOk result (λ x. names.entry.targets.now ≡ spec.block_targets (task_of x.0).body x.1.targets.now) }
@@ -360,9 +360,9 @@ fn task<'a>(
 
 fn tasks<'a>(
     alloc: Global,
-    all: Vec<TaskDeclaration<Span, Span>>,
+    all: Vec<TaskDeclaration<Span, Span, Span>>,
     names: Names<'a>,
-) -> Result<(Vec<TaskDeclaration<VariableName, TaskName>>, Names<'a>), AllocError>
+) -> Result<(Vec<TaskDeclaration<VariableName, TaskName, FunctionName>>, Names<'a>), AllocError>
     ensures place { IfOk result (λ x. map spec.task_back (map task_of x.0.items) ≡ map task_of all.items) }
     ensures variables { IfOk result (λ x. names.entry.variables.now ≡ spec.task_variables (map task_of x.0.items) x.1.variables.now) }
     ensures targets { IfOk result (λ x. names.entry.targets.now ≡ spec.task_targets (map task_of x.0.items) x.1.targets.now) }

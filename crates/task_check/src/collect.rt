@@ -101,7 +101,7 @@ fn put_role(names: &mut Vec<Occurrence>, at: usize, span: Span, role: Role)
 // walked, so its role is put last.
 fn expression_names(
     types: &SharedTypes<'_>,
-    e: &Expr<Span>,
+    e: &Expr<Span, Span>,
     names: &mut Vec<Occurrence>,
 ) -> Result<WordType, AllocError>
     requires { HasSharedTypes types.now }
@@ -153,7 +153,7 @@ fn expression_names(
 // The names of an expression whose type nothing asks for.
 fn whole_names(
     types: &SharedTypes<'_>,
-    e: &Expr<Span>,
+    e: &Expr<Span, Span>,
     names: &mut Vec<Occurrence>,
 ) -> Result<(), AllocError>
     requires { HasSharedTypes types.now }
@@ -167,7 +167,7 @@ fn whole_names(
 fn element_names(
     types: &SharedTypes<'_>,
     name: Span,
-    index: &Expr<Span>,
+    index: &Expr<Span, Span>,
     names: &mut Vec<Occurrence>,
 ) -> Result<(), AllocError>
     requires { HasSharedTypes types.now }
@@ -180,7 +180,7 @@ fn element_names(
 
 fn value_names(
     types: &SharedTypes<'_>,
-    value: &Option<Expr<Span>>,
+    value: &Option<Expr<Span, Span>>,
     names: &mut Vec<Occurrence>,
 ) -> Result<(), AllocError>
     requires { HasSharedTypes types.now }
@@ -197,7 +197,7 @@ fn value_names(
 fn statement_names(
     types: &SharedTypes<'_>,
     end: usize,
-    s: &Stmt<Span, Span>,
+    s: &Stmt<Span, Span, Span>,
     names: &mut Vec<Occurrence>,
 ) -> Result<(), AllocError>
     requires { HasSharedTypes types.now }
@@ -253,11 +253,11 @@ fn statement_names(
 #[cycle(names)]
 fn arms_names(
     types: &SharedTypes<'_>,
-    arms: &[Arm<Span, Span>],
+    arms: &[Arm<Span, Span, Span>],
     names: &mut Vec<Occurrence>,
 ) -> Result<(), AllocError>
     requires { HasSharedTypes types.now }
-    ensures { IfOk result (λ _. (last : Option (Block Span Span)) (behind : List Occurrence)
+    ensures { IfOk result (λ _. (last : Option (Block Span Span Span)) (behind : List Occurrence)
         → names.old.items ≡ spec.choice_names (types_of types.now) (choice_of [] last) behind
         → names.new.items ≡ spec.choice_names (types_of types.now) (choice_of (map tested_of arms.now) last) behind) }
 {
@@ -271,7 +271,7 @@ fn arms_names(
 #[cycle(names)]
 fn block_names(
     types: &SharedTypes<'_>,
-    body: &[Stmt<Span, Span>],
+    body: &[Stmt<Span, Span, Span>],
     names: &mut Vec<Occurrence>,
 ) -> Result<(), AllocError>
     requires { HasSharedTypes types.now }
@@ -286,7 +286,7 @@ fn block_names(
 
 fn task_names(
     types: &SharedTypes<'_>,
-    tasks: &[TaskDeclaration<Span, Span>],
+    tasks: &[TaskDeclaration<Span, Span, Span>],
     names: &mut Vec<Occurrence>,
 ) -> Result<(), AllocError>
     requires { HasSharedTypes types.now }

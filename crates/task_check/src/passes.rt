@@ -56,7 +56,7 @@ fn paths_fault(
 fn lines_of(
     alloc: Global,
     source: &[u8],
-    tasks: &[TaskDeclaration<VariableName, TaskName>],
+    tasks: &[TaskDeclaration<VariableName, TaskName, FunctionName>],
 ) -> Result<Vec<u32>, AllocError>
     requires { length source.now < 2 ^ 32 - 1 }
     ensures { IfOk result (λ lines. lines.items ≡ map (λ t. line_of source.now t.name.from) tasks.now) }
