@@ -1,18 +1,18 @@
 -- The answers of the checks.
 use Rattle.std.specs.Prelude.{◌≡◌, ℕ, ◌⊎◌, List, [], ◌∷◌, Option, Some, None}
 use Rattle.alp_text.specs.declared.lines.Span.{Span}
-use Rattle.task_ast.specs.declared.names.VariableName.{VariableName}
-use Rattle.task_ast.specs.declared.names.TaskName.{TaskName}
 use Rattle.task_ast.specs.Tree.{Program}
+use Rattle.task_ast.specs.Paths.{CheckedProgram}
 use Rattle.task_lex.specs.Faults.{line_of}
 use Rattle.path_checks.specs.Firsts.{IsFirst}
 use Rattle.path_checks.specs.Loops.{BadLoopAt}
 use Rattle.path_checks.specs.Unassigned.{UnassignedAt}
-use Rattle.path_checks.specs.Transitions.{NoTransitionAt}
+use Rattle.path_checks.specs.Ends.{NoReturnAt, NoTransitionAt}
 use Rattle.task_check.specs.declared.fault.CheckFault.{CheckFault}
 use Rattle.task_check.specs.declared.fault.CheckFault.TheVariants as fault
 use Rattle.task_check.specs.Occurrences.{program_names}
-use Rattle.task_check.specs.LookedUp.{program_back, task_variables, task_targets, variables_in, targets_in}
+use Rattle.task_check.specs.LookedUp.{program_back, program_variables, program_calls, program_targets, variables_in, calls_in, targets_in}
+use Rattle.task_check.specs.Placed.{IsPlaced}
 use Rattle.task_check.specs.Faults.{first_fault, name_fault, use_fault, limit_fault}
 
 -- the first repeated or unknown name
@@ -46,19 +46,19 @@ pub record IsNamed (source : List ℕ) (tree : Program Span Span Span) (checked 
 pub record IsCleanOnPaths (checked : CheckedProgram) : Type 0 where
   pub loops : IsFirst None (BadLoopAt checked)
   pub assigned : IsFirst None (UnassignedAt checked)
-  pub ends : IsFirst None (OpenAt checked)
+  pub returns : IsFirst None (NoReturnAt checked)
+  pub transitions : IsFirst None (NoTransitionAt checked)
 
--- The fault is the first of the first of these checks that finds one: bad loops, then unassigned locals, then functions and tasks of which
--- some path reaches the end.
+-- The fault is the first of the first of these checks that finds one: bad loops, then unassigned locals, then ends that are
+-- reached, of functions and then of tasks, which stand behind them.
 abbrev pub IsRefusedOnPaths : List ℕ → CheckedProgram → CheckFault → Type 0
 IsRefusedOnPaths source checked (fault.BadLoop line name) = IsFirst (Some name) (BadLoopAt checked) × (line ≡ line_of source name.from)
 IsRefusedOnPaths source checked (fault.Unassigned line name) =
     IsFirst None (BadLoopAt checked) × IsFirst (Some name) (UnassignedAt checked) × (line ≡ line_of source name.from)
 IsRefusedOnPaths source checked (fault.NoReturn line name) =
-    IsFirst None (BadLoopAt checked) × IsFirst None (UnassignedAt checked) × IsFirst (Some name) (OpenAt checked) × NoReturnAt checked name
-    × (line ≡ line_of source name.from)
+    IsFirst None (BadLoopAt checked) × IsFirst None (UnassignedAt checked) × IsFirst (Some name) (NoReturnAt checked) × (line ≡ line_of source name.from)
 IsRefusedOnPaths source checked (fault.NoTransition line name) =
-    IsFirst None (BadLoopAt checked) × IsFirst None (UnassignedAt checked) × IsFirst (Some name) (OpenAt checked) × NoTransitionAt checked name
+    IsFirst None (BadLoopAt checked) × IsFirst None (UnassignedAt checked) × IsFirst None (NoReturnAt checked) × IsFirst (Some name) (NoTransitionAt checked)
     × (line ≡ line_of source name.from)
 IsRefusedOnPaths source checked _ = ⊥
 

@@ -1,9 +1,8 @@
 -- The answers of the checks exclude one another.
 use Rattle.std.specs.Prelude.{◌≡◌, ℕ, List}
 use Rattle.alp_text.specs.declared.lines.Span.{Span}
-use Rattle.task_ast.specs.declared.names.VariableName.{VariableName}
-use Rattle.task_ast.specs.declared.names.TaskName.{TaskName}
 use Rattle.task_ast.specs.Tree.{Program}
+use Rattle.task_ast.specs.Paths.{CheckedProgram}
 use Rattle.task_check.specs.declared.fault.CheckFault.{CheckFault}
 use Rattle.task_check.specs.declared.fault.CheckFault.TheVariants as fault
 use Rattle.task_check.specs.Answers.{IsLookedUp, IsAccepted, IsRefused}
@@ -12,6 +11,7 @@ use Rattle.task_check.specs.Answers.{IsLookedUp, IsAccepted, IsRefused}
 abbrev pub IsAlike : CheckFault → CheckFault → Type 0
 IsAlike (fault.BadLoop l n) (fault.BadLoop m k) = (l ≡ m) × (n.from ≡ k.from)
 IsAlike (fault.Unassigned l n) (fault.Unassigned m k) = (l ≡ m) × (n.from ≡ k.from)
+IsAlike (fault.NoReturn l n) (fault.NoReturn m k) = (l ≡ m) × (n.from ≡ k.from)
 IsAlike (fault.NoTransition l n) (fault.NoTransition m k) = (l ≡ m) × (n.from ≡ k.from)
 IsAlike e d = e ≡ d
 
