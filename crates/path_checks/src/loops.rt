@@ -22,7 +22,7 @@ fn same_local(a: Variable, b: Variable) -> bool
 }
 
 #[cycle(assigns)]
-fn statement_assigns(variable: Variable, statement: &Stmt<VariableName, TaskName>) -> bool
+fn statement_assigns(variable: Variable, statement: &Stmt<VariableName, TaskName, FunctionName>) -> bool
     ensures { result ≡ statement_assigns variable (statement_of statement.now) }
 {
     match statement {
@@ -51,7 +51,7 @@ fn statement_assigns(variable: Variable, statement: &Stmt<VariableName, TaskName
 }
 
 #[cycle(assigns)]
-fn arms_assign(variable: Variable, arms: &[Arm<VariableName, TaskName>], in_last: bool) -> bool
+fn arms_assign(variable: Variable, arms: &[Arm<VariableName, TaskName, FunctionName>], in_last: bool) -> bool
     ensures { (last : Option CheckedBlock) → in_last ≡ choice_assigns variable (choice_of [] last) →
         result ≡ choice_assigns variable (choice_of (map tested_of arms.now) last) }
 {
@@ -64,7 +64,7 @@ fn arms_assign(variable: Variable, arms: &[Arm<VariableName, TaskName>], in_last
 }
 
 #[cycle(assigns)]
-fn block_assigns(variable: Variable, body: &[Stmt<VariableName, TaskName>]) -> bool
+fn block_assigns(variable: Variable, body: &[Stmt<VariableName, TaskName, FunctionName>]) -> bool
     ensures { result ≡ block_assigns variable (block_view body.now) }
 {
     let mut found = false;
@@ -79,7 +79,7 @@ fn is_good_loop(
     a: &VariableName,
     b: &VariableName,
     c: &VariableName,
-    body: &[Stmt<VariableName, TaskName>],
+    body: &[Stmt<VariableName, TaskName, FunctionName>],
 ) -> bool
     ensures { result ≡ is_good_loop a.now b.now c.now (block_view body.now) }
 {
@@ -91,7 +91,7 @@ fn bad_head(
     a: &VariableName,
     b: &VariableName,
     c: &VariableName,
-    body: &[Stmt<VariableName, TaskName>],
+    body: &[Stmt<VariableName, TaskName, FunctionName>],
 ) -> Option<Span>
     ensures { result ≡ bad_head a.now b.now c.now (block_view body.now) }
 {
@@ -103,7 +103,7 @@ fn bad_head(
 }
 
 #[cycle(loops)]
-fn bad_in_statement(statement: &Stmt<VariableName, TaskName>) -> Option<Span>
+fn bad_in_statement(statement: &Stmt<VariableName, TaskName, FunctionName>) -> Option<Span>
     ensures { result ≡ bad_in_statement (statement_of statement.now) }
 {
     match statement {
@@ -133,7 +133,7 @@ fn bad_in_statement(statement: &Stmt<VariableName, TaskName>) -> Option<Span>
 }
 
 #[cycle(loops)]
-fn bad_in_arms(arms: &[Arm<VariableName, TaskName>], in_last: Option<Span>) -> Option<Span>
+fn bad_in_arms(arms: &[Arm<VariableName, TaskName, FunctionName>], in_last: Option<Span>) -> Option<Span>
     ensures { (last : Option CheckedBlock) → in_last ≡ bad_in_choice (choice_of [] last) →
         result ≡ bad_in_choice (choice_of (map tested_of arms.now) last) }
 {
@@ -145,7 +145,7 @@ fn bad_in_arms(arms: &[Arm<VariableName, TaskName>], in_last: Option<Span>) -> O
 }
 
 #[cycle(loops)]
-fn bad_in_block(body: &[Stmt<VariableName, TaskName>]) -> Option<Span>
+fn bad_in_block(body: &[Stmt<VariableName, TaskName, FunctionName>]) -> Option<Span>
     ensures { result ≡ bad_in_block (block_view body.now) }
 {
     let mut first = None;

@@ -9,7 +9,7 @@ use alp_text::Span;
 use path_sums::reaches_end;
 use task_ast::{CheckedSource, TaskDeclaration, TaskName, VariableName};
 
-fn open_name(task: &TaskDeclaration<VariableName, TaskName>) -> Option<Span>
+fn open_name(task: &TaskDeclaration<VariableName, TaskName, FunctionName>) -> Option<Span>
     ensures { IsFirst result (OpenAt (task_of task.now)) }
 {
     if reaches_end(&task.body) {

@@ -21,7 +21,7 @@ use task_ast::{Arm, CheckedSource, Stmt, TaskName, VariableName};
 #[cycle(walk)]
 fn walk_statement(
     walk: &mut Walk,
-    statement: &Stmt<VariableName, TaskName>,
+    statement: &Stmt<VariableName, TaskName, FunctionName>,
 ) -> Result<(), AllocError>
     ensures { IfOk result (λ _. Does walk.old walk.new (λ x p. statement_sum (assignment x p) (statement_of statement.now))) }
 {
@@ -72,7 +72,7 @@ fn walk_turns(
     walk: &mut Walk,
     name: &VariableName,
     turns: u16,
-    body: &[Stmt<VariableName, TaskName>],
+    body: &[Stmt<VariableName, TaskName, FunctionName>],
 ) -> Result<(), AllocError>
     ensures { IfOk result (λ _. Does walk.old walk.new (λ x p. turns_sum (assignment x p) turns
         (assignment_seq (block_sum (assignment x p) (block_view body.now)) (assignment_one x p (write name.now))))) }
@@ -92,7 +92,7 @@ fn walk_turns(
 fn walk_turn(
     walk: &mut Walk,
     name: &VariableName,
-    body: &[Stmt<VariableName, TaskName>],
+    body: &[Stmt<VariableName, TaskName, FunctionName>],
 ) -> Result<(), AllocError>
     ensures { IfOk result (λ _. Does walk.old walk.new
         (λ x p. assignment_seq (block_sum (assignment x p) (block_view body.now)) (assignment_one x p (write name.now)))) }
@@ -105,7 +105,7 @@ fn walk_turn(
 #[cycle(walk)]
 fn walk_arms(
     walk: &mut Walk,
-    arms: &[Arm<VariableName, TaskName>],
+    arms: &[Arm<VariableName, TaskName, FunctionName>],
 ) -> Result<Option<Vec<Ended>>, AllocError>
     ensures { IfOk result (λ ends. (last : Option CheckedBlock) → SoFar walk.old walk.new ends
         (λ x p. choice_sum (assignment x p) (choice_of (map tested_of arms.now) last)) (λ x p. choice_sum (assignment x p) (choice_of [] last))) }
@@ -121,7 +121,7 @@ fn walk_arms(
 }
 
 #[cycle(walk)]
-fn walk_block(walk: &mut Walk, body: &[Stmt<VariableName, TaskName>]) -> Result<(), AllocError>
+fn walk_block(walk: &mut Walk, body: &[Stmt<VariableName, TaskName, FunctionName>]) -> Result<(), AllocError>
     ensures { IfOk result (λ _. Does walk.old walk.new (λ x p. block_sum (assignment x p) (block_view body.now))) }
 {
     for statement in body {
@@ -133,7 +133,7 @@ fn walk_block(walk: &mut Walk, body: &[Stmt<VariableName, TaskName>]) -> Result<
 /// The first read of an unassigned local in a body.
 fn first_in_body(
     alloc: Global,
-    body: &[Stmt<VariableName, TaskName>],
+    body: &[Stmt<VariableName, TaskName, FunctionName>],
 ) -> Result<Option<Span>, AllocError>
     ensures { IfOk result (λ first. IsFirst first (ReadsUnassigned (block_view body.now))) }
 {

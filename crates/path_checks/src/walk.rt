@@ -167,7 +167,7 @@ fn first_read(walk: &Walk, name: &VariableName) -> Option<Span>
     }
 }
 
-fn first_in(walk: &Walk, e: &Expr<VariableName>) -> Option<Span>
+fn first_in(walk: &Walk, e: &Expr<VariableName, FunctionName>) -> Option<Span>
     ensures { IsFirst result (SomeLocal (λ x p. not (is_assigned walk.now x) && (expression_sum (assignment x p) (expression_of e.now)).exposed)) }
 {
     match e {
@@ -182,7 +182,7 @@ fn first_in(walk: &Walk, e: &Expr<VariableName>) -> Option<Span>
 }
 
 /// The reads of an expression.
-pub fn read(walk: &mut Walk, e: &Expr<VariableName>)
+pub fn read(walk: &mut Walk, e: &Expr<VariableName, FunctionName>)
     ensures does { Does walk.old walk.new (λ x p. expression_sum (assignment x p) (expression_of e.now)) }
     ensures falls_through { walk.new.falls_through ≡ walk.old.falls_through }
     ensures assigned { walk.new.assigned ≡ walk.old.assigned }
@@ -198,7 +198,7 @@ pub fn read(walk: &mut Walk, e: &Expr<VariableName>)
 pub fn assign(
     walk: &mut Walk,
     name: &VariableName,
-    value: &Expr<VariableName>,
+    value: &Expr<VariableName, FunctionName>,
 ) -> Result<(), AllocError>
     ensures { IfOk result (λ _. Does walk.old walk.new
         (λ x p. assignment_seq (expression_sum (assignment x p) (expression_of value.now)) (assignment_one x p (write name.now)))) }
@@ -211,7 +211,7 @@ pub fn assign(
 pub fn declare(
     walk: &mut Walk,
     name: &VariableName,
-    value: &Option<Expr<VariableName>>,
+    value: &Option<Expr<VariableName, FunctionName>>,
 ) -> Result<(), AllocError>
     ensures { IfOk result (λ _. (of : WordType) → Does walk.old walk.new
         (λ x p. statement_sum (assignment x p) (tree.declare of name.now (option_map expression_of value.now)))) }
