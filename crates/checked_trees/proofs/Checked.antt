@@ -7,6 +7,7 @@ use Rattle.path_checks.specs.Firsts.{CheckedTask, SomeTask}
 use Rattle.path_checks.specs.Unassigned.{ReadsUnassigned}
 use Rattle.path_checks.specs.Transitions.{OpenAt}
 use Rattle.source_meaning.specs.Acceptance.{Checks}
+use Rattle.source_meaning.specs.Plain.{IsPlain}
 use Rattle.checked_trees.specs.WellFormed.{WellFormedBlock, IsWellFormed}
 use Rattle.checked_trees.specs.Laws.{SourcesAreWellFormed}
 use Rattle.checked_trees.proofs.Tasks.{statements_are_well_formed}
@@ -22,14 +23,14 @@ some_at P [] k task e p = absurd (cc)
 some_at P (x ∷ tasks) zero task e p = let same : x ≡ task = cc in inl (subst P (sym same) p)
 some_at P (x ∷ tasks) (suc k) task e p = inr (some_at P tasks k task e p)
 
--- each task of a checked source is well-formed
-pub task_checked : (text : List ℕ) (program : CheckedProgram) → Checks text program → (k : ℕ) (task : CheckedTask)
-    → slice_get program.tasks k ≡ Some task
+-- each task of a checked source without functions is well-formed
+pub task_checked : (text : List ℕ) (program : CheckedProgram) → Checks text program → IsPlain program → (k : ℕ)
+    (task : CheckedTask) → slice_get program.tasks k ≡ Some task
     → IsWellFormed program.shared task.body
-task_checked text program checks k task e =
+task_checked text program checks plain k task e =
     let paths = checks.checks.paths in
     record {
-      statements = all_at (λ task. WellFormedBlock program.shared task.body) program.tasks k task (statements_are_well_formed text program checks) e;
+      statements = all_at (λ task. WellFormedBlock program.shared task.body) program.tasks k task (statements_are_well_formed text program checks plain) e;
       assigned = λ s bad. paths.assigned s (some_at (λ task. ReadsUnassigned task.body s) program.tasks k task e bad);
       ends = λ xs q. paths.transitions task.name (some_at (λ t. OpenAt t task.name) program.tasks k task e (refl, (xs, q)));
     }
@@ -40,4 +41,5 @@ all_of P [] h = All-nil P
 all_of P (x ∷ xs) h = All-cons P x xs (h 0 x refl) (all_of P xs (λ k y e. h (suc k) y e))
 
 pub sources_are_well_formed : SourcesAreWellFormed
-sources_are_well_formed text program checks = all_of (λ task. IsWellFormed program.shared task.body) program.tasks (task_checked text program checks)
+sources_are_well_formed text program checks plain =
+    all_of (λ task. IsWellFormed program.shared task.body) program.tasks (task_checked text program checks plain)
