@@ -99,7 +99,7 @@ module _ (logging : Logging) (p : CheckedProgram) (allow : Allow) (plans : List 
       let w : WordState = started fram inputs in
       let q : Program = lowered_task l own task.body in
       let seen = task_seen l.runtime.logging own in
-      let a = blocks_keep_to_cycles (places_of (map_seen task.body l) seen) task.body w in
+      let a = blocks_keep_to_cycles (summaries p) (places_of (map_seen task.body l) seen) task.body w in
       let b = entries_cost (map_seen task.body l) seen (behaviour q w).end in
       let no_more = seen_count l.runtime.logging own in
       let c : spent (task_program p l t) w ≡ spent q w = ap (λ y. spent y w) program_is in
@@ -152,5 +152,5 @@ tasks_keep_to_the_bound p allow plans l allowed few layout = record {
       let own = element l.tasks t (omega (arith, below, count)) in
       within Redo p allow plans l allowed few layout t fram inputs task.0 own.0 task.1 own.1;
   commits = λ t below. subst (λ n. boot_cycles l + commit_cycles l.runtime.events l.entries l.entries l.emits.words ≤ n) (sym (bound_is_the_sources p l))
-      (commit_within_bound p l.runtime.events l.entries l.emits.words (omega (arith, below)) (layout.list ∙ allowed.list) (layout.emits ∙ allowed.emits));
+      (commit_within_bound p l.runtime.events l.entries l.emits.words layout.plain (omega (arith, below)) (layout.list ∙ allowed.list) (layout.emits ∙ allowed.emits));
 }

@@ -18,7 +18,7 @@ use Rattle.stands_for.specs.Layout.{ProgramPlaces}
 
 -- whether a shared variable is private in a task with these statements, and whether the task writes it and it isn't private
 abbrev pub is_private_in : CheckedBlock → ℕ → Bool
-is_private_in body v = private_of (block_sum (summary (Shared v)) body)
+is_private_in body v = private_of (block_sum [] (summary (Shared v)) body)
 
 abbrev pub stays_in_place : CheckedBlock → ℕ → Bool
 stays_in_place body v = some_path_writes body v && not (is_private_in body v)

@@ -169,8 +169,8 @@ PlacesAreDeclared = OfLayouts PlacesMatch
 -- allowance counts; the layout has copies of the arrays that stand on the left of an assignment in it
 pub record TaskMatches (p : CheckedProgram) (l : MemoryMap) (task : CheckedTask) (layout : TaskPlace) : Type 0 where
   pub ascending : AllPairs ◌<◌ (map (λ s. s.number) layout.privates)
-  pub only : (s : PrivateScalar) → Contains layout.privates s → IsPrivateIn p.shared task.body s.number × HasItsPlace l.variables s
-  pub each : (v : ℕ) → IsPrivateIn p.shared task.body v → (s : PrivateScalar) × Contains layout.privates s × (s.number ≡ v)
+  pub only : (s : PrivateScalar) → Contains layout.privates s → IsPrivateIn [] p.shared task.body s.number × HasItsPlace l.variables s
+  pub each : (v : ℕ) → IsPrivateIn [] p.shared task.body v → (s : PrivateScalar) × Contains layout.privates s × (s.number ≡ v)
   pub count : private_words layout.privates ≤ scalars_of (summaries p) p.shared task.body
   pub stored : (v : ℕ) → plan.IsArrayAt p.shared v → block_assigns v task.body ≡ true
       → (elements n : ℕ) × (copies : ArrayCopies) × (slice_get l.variables v ≡ Some (Array elements n (Some copies)))
@@ -201,9 +201,9 @@ abbrev pub WrittenArraysHaveCopies : Type 0
 WrittenArraysHaveCopies = OfTasks (λ p l task layout.
     WellFormedBlock p.shared task.body → HasCopies p.shared (task_places l task layout) (some_path_writes task.body))
 
--- a task writes the words of a scalar in place exactly where some path of it writes it, and it isn't private there
+-- a task, which calls no function, writes the words of a scalar in place exactly where some path of it writes it, and it isn't private there
 abbrev pub InPlaceByPaths : Type 0
 InPlaceByPaths = OfLayouts (λ p l. (t v home copy : ℕ) (width : ScalarWidth) (i : ℕ) → slice_get l.variables v ≡ Some (Scalar home copy width)
     → i < scalar_words width
     → ((program_places p l).written_in_place t (2 * i + home) ≡ true)
-    ↔ (SomePath (task_body p t) (writes (Shared v)) × (IsPrivate (task_body p t) (Shared v) → ⊥)))
+    ↔ (SomePath [] (task_body p t) (writes (Shared v)) × (IsPrivate [] (task_body p t) (Shared v) → ⊥)))

@@ -53,7 +53,7 @@ module _ (run : Attempting) where
     p = here;
     written = some_path_writes code;
     room = space;
-    stores = λ v. stores_of (summaries p) v code;
+    stores = λ v. stores_of [] v code;
     first = run.first;
     ver = x.fram (word_place here.map Version);
     apart = facts.apart;
@@ -65,7 +65,7 @@ module _ (run : Attempting) where
 
   -- the bounds of the task's statements
   abbrev pub bounds : Bounds
-  bounds = agreement.bounds setting x.fram (λ v. listed_of v [] + stores_of (summaries p) v code)
+  bounds = agreement.bounds setting x.fram (λ v. listed_of v [] + stores_of [] v code)
 
   -- statements that came to a transition: their effects, where they jump and with which state, the task that they name, and the attempt behind them
   pub record Transition : Type 0 where
