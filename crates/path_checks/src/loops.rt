@@ -1,16 +1,19 @@
 //! Bad loops.
 
 ghost use Rattle.std.specs.Prelude.{◌≡◌, Option, [], map};
-ghost use Rattle.task_ast.specs.View.{statement_of, tested_of, block_view, program_of};
+ghost use Rattle.task_ast.specs.View.{statement_of, tested_of, block_view, function_of, task_of, program_of};
 ghost use Rattle.task_ast.specs.Tree.{choice_of};
 ghost use Rattle.task_ast.specs.Paths.{CheckedBlock};
-ghost use Rattle.path_checks.specs.Firsts.{IsFirst};
-ghost use Rattle.path_checks.specs.Loops.{is_same_local, is_good_loop, statement_assigns, choice_assigns, block_assigns, BadLoopAt};
+ghost use Rattle.path_checks.specs.Firsts.{IsFirst, SomeFunction, SomeTask};
+ghost use Rattle.path_checks.specs.Loops.{is_same_local, is_good_loop, statement_assigns, choice_assigns, block_assigns, BadLoopIn, BadLoopAt};
 ghost use Rattle.path_checks.specs.FirstLoops.{bad_head, bad_in_statement, bad_in_choice, bad_in_block};
 
 use crate::firsts::first_of;
 use alp_text::Span;
-use task_ast::{Arm, CheckedSource, Stmt, TaskName, Variable, VariableName};
+use task_ast::{
+    Arm, CheckedSource, FunctionDeclaration, FunctionName, Stmt, TaskDeclaration, TaskName, Variable,
+    VariableName,
+};
 
 fn same_local(a: Variable, b: Variable) -> bool
     ensures { result ≡ is_same_local a b }
@@ -46,7 +49,7 @@ fn statement_assigns(variable: Variable, statement: &Stmt<VariableName, TaskName
                 || (same_local(b.variable, variable) || same_local(c.variable, variable)))
                 || inside
         }
-        Stmt::Emit(_) | Stmt::TransitionTo(_) => false,
+        Stmt::Emit(_) | Stmt::Return(_, _) | Stmt::TransitionTo(_, _) => false,
     }
 }
 
@@ -128,7 +131,8 @@ fn bad_in_statement(statement: &Stmt<VariableName, TaskName, FunctionName>) -> O
         | Stmt::Assign(_, _)
         | Stmt::Store(_, _, _)
         | Stmt::Emit(_)
-        | Stmt::TransitionTo(_) => None,
+        | Stmt::Return(_, _)
+        | Stmt::TransitionTo(_, _) => None,
     }
 }
 
@@ -155,14 +159,37 @@ fn bad_in_block(body: &[Stmt<VariableName, TaskName, FunctionName>]) -> Option<S
     first
 }
 
+// The first bad loop of functions.
+fn bad_in_functions(
+    functions: &[FunctionDeclaration<VariableName, TaskName, FunctionName>],
+) -> Option<Span>
+    ensures { IsFirst result (λ s. SomeFunction (map function_of functions.now) (λ f. BadLoopIn f.body s)) }
+{
+    let mut first = None;
+    for i in (0..functions.len()).rev() {
+        first = first_of(bad_in_block(&functions[i].body), first);
+    }
+    first
+}
+
+// The first bad loop of tasks.
+fn bad_in_tasks(tasks: &[TaskDeclaration<VariableName, TaskName, FunctionName>]) -> Option<Span>
+    ensures { IsFirst result (λ s. SomeTask (map task_of tasks.now) (λ task. BadLoopIn task.body s)) }
+{
+    let mut first = None;
+    for i in (0..tasks.len()).rev() {
+        first = first_of(bad_in_block(&tasks[i].body), first);
+    }
+    first
+}
+
 /// The first bad loop of a source, by the first of its three names: the names of a `for` have to be one local, which
 /// its body neither gives a value nor uses as a loop variable.
 pub fn first_bad_loop(source: &CheckedSource) -> Option<Span>
     ensures { IsFirst result (BadLoopAt (program_of source.now)) }
 {
-    let mut first = None;
-    for i in (0..source.tasks.len()).rev() {
-        first = first_of(bad_in_block(&source.tasks[i].body), first);
-    }
-    first
+    first_of(
+        bad_in_functions(&source.functions),
+        bad_in_tasks(&source.tasks),
+    )
 }
