@@ -5,6 +5,7 @@ use Rattle.task_ast.specs.Tree.{end}
 pub use Rattle.task_ast.specs.Paths.{CheckedBlock, CheckedFunction, CheckedTask, CheckedProgram}
 use Rattle.task_ast.specs.declared.Extent.{Extent}
 use Rattle.task_ast.specs.declared.Extent.TheVariants.{Scalar, Long, Array}
+pub use Rattle.source_values.specs.Values.{new_locals}
 use Rattle.source_values.specs.Values.{◌>>?◌}
 use Rattle.source_values.specs.Statements.{Attempt, Outcome, goes_on, to_task, returns, short, run_block, meanings, block_emits, emit_counts}
 
@@ -23,10 +24,6 @@ initial_words (Array n) = replicate n 0
 -- of each shared variable the words that it starts with
 abbrev pub initial_rows : CheckedProgram → List (List ℕ)
 initial_rows program = map (λ d. initial_words d.extent) program.shared
-
--- the locals at the start of an attempt. A task has at most 256, and reads none before it has assigned it
-abbrev pub new_locals : List ℕ
-new_locals = replicate 256 0
 
 -- what a task does; nothing where no task has this number
 abbrev pub body_of : Option CheckedTask → CheckedBlock

@@ -1,15 +1,16 @@
 -- What statements do: the new words of the variables, the words emitted, the readings and answers left, and whether the task or function
 -- goes on; and what functions do.
 use Rattle.std.specs.Prelude.{ℕ, zero, suc, ◌+◌, ◌-◌, ◌*◌, ◌/◌, ◌%◌, max, List, [], ◌∷◌, ◌++◌, take, Option, Some, None, if◌then◌else◌}
-use Rattle.std.specs.Prelude.{replicate, slice_index}
+use Rattle.std.specs.Prelude.{slice_index}
 use Rattle.task_ast.specs.Tree.{declare, assign, store, choose, loop, emit, give, transition, nothing, otherwise, test, end, step}
-use Rattle.task_ast.specs.Tree.{number, long_number, name, element, sense, next_event, call, unary, binary, shift, short_circuit, no_value, value}
+use Rattle.task_ast.specs.Tree.{number, long_number, name, element, sense, next_event, call, unary, binary, shift, short_circuit}
+use Rattle.task_ast.specs.Tree as t
 use Rattle.task_ast.specs.Answers.{answers}
 use Rattle.task_ast.specs.Paths.{CheckedStatement, CheckedChoice, CheckedBlock, CheckedFunction, CheckedProgram}
 use Rattle.task_ast.specs.declared.names.Variable.{Variable}
 use Rattle.task_ast.specs.declared.names.VariableName.{VariableName}
 pub use Rattle.source_values.specs.Values.{Attempt, word_of}
-use Rattle.source_values.specs.Values.{CheckedExpression, CheckedValues, Evaluated, Meaning, with_word, by_width, type_of, converted, gives, value_of, holds}
+use Rattle.source_values.specs.Values.{CheckedExpression, CheckedValues, Evaluated, Meaning, new_locals, with_word, by_width, type_of, converted, gives, value_of, holds}
 
 -- how statements end: behind the last one, at a transition to a task, at a `return` with a word, or where the readings run out
 pub data Outcome : Type 0 where
@@ -84,7 +85,7 @@ abbrev mutual
 
 -- an attempt in a function: it has locals of its own, and the words that it is called with are the first of them
 abbrev pub entered : List ℕ → Attempt → Attempt
-entered words s = record s { variables = record s.variables { locals = take 256 (words ++ replicate 256 0) } }
+entered words s = record s { variables = record s.variables { locals = take 256 (words ++ new_locals) } }
 
 -- what a function gives whose body ends so: behind it the caller has its own locals again. None where the readings ran out: no accepted
 -- function ends without a `return` else
@@ -120,8 +121,8 @@ abbrev mutual
   expression_emits counts (short_circuit op a b) = expression_emits counts a + expression_emits counts b
 
   pub values_emits : List ℕ → CheckedValues → ℕ
-  values_emits counts no_value = 0
-  values_emits counts (value e more) = expression_emits counts e + values_emits counts more
+  values_emits counts t.no_value = 0
+  values_emits counts (t.value e more) = expression_emits counts e + values_emits counts more
 
 -- the same of all conditions of an `if`
 abbrev pub conditions_emit : List ℕ → CheckedChoice → ℕ

@@ -2,13 +2,14 @@
 -- where C leaves one open.
 use Rattle.std.specs.Prelude.{◌≡◌, ℕ, ◌^◌, ◌+◌, ◌-◌, ◌*◌, ◌/◌, ◌%◌, List, [], ◌∷◌, Bool, not, ◌==◌, nat_le, nat_lt, bit_and, bit_or, bit_xor, if◌then◌else◌}
 use Rattle.std.specs.Prelude.{Option, Some, None}
-use Rattle.std.specs.Prelude.{slice_get, slice_index, slice_index_or, slice_set, drop}
+use Rattle.std.specs.Prelude.{slice_get, slice_index, slice_index_or, slice_set, drop, replicate}
 pub use Rattle.task_ast.specs.alp_text.Sequence.{◌>>?◌}
 use Rattle.alp_words.specs.Words.{word_sum, word_difference, word_product, quotient, remainder, arithmetic_shift, biased, bit}
 pub use Rattle.alp_words.specs.Words.{two_words, sign_word}
 pub use Rattle.task_ast.specs.Types.{by_width, is_long, joined_type, binary_type, unary_type, literal_type, type_of}
 pub use Rattle.task_ast.specs.Paths.{CheckedExpression, CheckedValues}
-use Rattle.task_ast.specs.Tree.{number, long_number, name, element, sense, next_event, call, unary, binary, shift, short_circuit, no_value, value}
+use Rattle.task_ast.specs.Tree.{number, long_number, name, element, sense, next_event, call, unary, binary, shift, short_circuit}
+use Rattle.task_ast.specs.Tree as t
 use Rattle.task_ast.specs.declared.WordType.{WordType}
 use Rattle.task_ast.specs.declared.WordType.TheVariants.{Unsigned, Int, Long}
 use Rattle.task_ast.specs.declared.UnaryOperator.{UnaryOperator}
@@ -29,6 +30,10 @@ use Rattle.task_ast.specs.declared.names.VariableName.{VariableName}
 pub record Variables : Type 0 where
   pub shared : List (List ℕ)
   pub locals : List ℕ
+
+-- the locals at the start of a task. A task or a function has at most 256, and reads none before it has assigned it
+abbrev pub new_locals : List ℕ
+new_locals = replicate 256 0
 
 -- word i of a variable; 0 where the variable has no such word. A local has one word, whatever the index
 abbrev pub word_at : Variables → Variable → ℕ → ℕ
@@ -253,6 +258,6 @@ abbrev mutual
 
   -- the values of a call, from left to right, each as one word
   pub words_of : List Meaning → CheckedValues → Attempt → Option EvaluatedWords
-  words_of known no_value s = Some (record { words = []; behind = s })
-  words_of known (value e more) s = value_of known e s
+  words_of known t.no_value s = Some (record { words = []; behind = s })
+  words_of known (t.value e more) s = value_of known e s
       >>? λ x. words_of known more x.behind >>? λ ws. Some (word_before (word_of e x.value) ws)
