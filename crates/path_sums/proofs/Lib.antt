@@ -1,6 +1,7 @@
 mod Taut
 mod Tests
 mod Joins
+mod Calls
 mod Bits
 mod FlowMeaning
 mod Every
