@@ -38,7 +38,7 @@ mutual
   block_is t.end = λ s h. h
   block_is (t.step statement more) = first_either _ _ _ _ (statement_is statement) (block_is more)
 
-pub found_is : (r : Option Span) (xs ys : List (Stmt VariableName TaskName)) → r ≡ bad_in_block (block_view xs) → xs ≡ ys
+pub found_is : (r : Option Span) (xs ys : List (Stmt VariableName TaskName FunctionName)) → r ≡ bad_in_block (block_view xs) → xs ≡ ys
     → IsFirst r (BadLoopIn (block_view ys))
 found_is r xs ys e d = subst (λ zs. IsFirst r (BadLoopIn (block_view zs))) d
     (subst (λ o. IsFirst o (BadLoopIn (block_view xs))) (sym e) (block_is (block_view xs)))

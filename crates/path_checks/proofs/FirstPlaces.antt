@@ -35,7 +35,7 @@ first_either (Some p) (Some q) P Q h k = choose (nat_le p.from q.from) refl
         (inr k.0, λ s x. elim x [ inl y ↦ (let m : p.from ≤ s.from = h.1 s y in omega arith) | inr y ↦ k.1 s y ])
 
 -- one more task at the front
-pub first_task : (P : CheckedTask → Span → Type 0) (ts : List (TaskDeclaration VariableName TaskName)) (i : ℕ) (a : TaskDeclaration VariableName TaskName)
+pub first_task : (P : CheckedTask → Span → Type 0) (ts : List (TaskDeclaration VariableName TaskName FunctionName)) (i : ℕ) (a : TaskDeclaration VariableName TaskName FunctionName)
     (one all r : Option Span) → 0 < i → i ≤ length ts
     → a ≡ get_or ts (i - 1) a → r ≡ first_of one all → IsFirst one (P (task_of a)) → IsFirst all (λ s. SomeTask (map task_of (drop i ts)) (λ t. P t s))
     → IsFirst r (λ s. SomeTask (map task_of (drop (i - 1) ts)) (λ t. P t s))
@@ -45,6 +45,6 @@ first_task P ts i a one all r pos h at e x y =
     (subst (λ o. IsFirst o (λ s. P (task_of a) s ⊎ SomeTask (map task_of (drop i ts)) (λ t. P t s))) (sym e) (first_either one all _ _ x y))
 
 -- all the tasks
-pub first_whole : (P : CheckedTask → Span → Type 0) (ts : List (TaskDeclaration VariableName TaskName)) (i : ℕ) (r : Option Span) → i ≡ 0
+pub first_whole : (P : CheckedTask → Span → Type 0) (ts : List (TaskDeclaration VariableName TaskName FunctionName)) (i : ℕ) (r : Option Span) → i ≡ 0
     → IsFirst r (λ s. SomeTask (map task_of (drop i ts)) (λ t. P t s)) → IsFirst r (λ s. SomeTask (map task_of ts) (λ t. P t s))
 first_whole P ts i r z h = subst (λ j. IsFirst r (λ s. SomeTask (map task_of (drop j ts)) (λ t. P t s))) z h

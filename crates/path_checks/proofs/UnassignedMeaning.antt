@@ -123,13 +123,13 @@ read_local b p r = (
 state_join : (s t : Assignment) → from_state true (assignment_join s t) ≡ (from_state true s || from_state true t)
 state_join s t = agree 4 (λ a b c d. (a || b) || (c || d)) (λ a b c d. (a || c) || (b || d)) refl s.fault t.fault s.exposed t.exposed
 
-sum_reads : (b : CheckedBlock) (x : ℕ) (p : Span) → from_state true (block_sum (assignment x p) b) ≡ true → ReadsLocal b x p
+sum_reads : (b : CheckedBlock) (x : ℕ) (p : Span) → from_state true (block_sum [] (assignment x p) b) ≡ true → ReadsLocal b x p
 unfolding ReadsLocal
 sum_reads b x p h =
     let f = found (assignment x p) (from_state true) state_join (BlockPath b) _ (joins_block (assignment x p) (assignment_law x p) b) h in
     (f.0, f.1, f.2, reads_is x p f.0 f.1 true ∙ f.3)
 
-reads_sum : (b : CheckedBlock) (x : ℕ) (p : Span) → ReadsLocal b x p → from_state true (block_sum (assignment x p) b) ≡ true
+reads_sum : (b : CheckedBlock) (x : ℕ) (p : Span) → ReadsLocal b x p → from_state true (block_sum [] (assignment x p) b) ≡ true
 unfolding ReadsLocal
 reads_sum b x p h =
     holds (assignment x p) (from_state true) state_join (BlockPath b) _ (joins_block (assignment x p) (assignment_law x p) b) h.0 h.1 h.2
@@ -138,6 +138,6 @@ reads_sum b x p h =
 -- ---- the walk
 
 -- what a walk of the whole body has found
-pub walk_reads : (b : CheckedBlock) (w : Walk) → Tells w (λ x p. assignment_seq begun (block_sum (assignment x p) b)) → IsFirst w.fault (ReadsUnassigned b)
-walk_reads b w told = first_same w.fault (SomeLocal (λ x p. (assignment_seq begun (block_sum (assignment x p) b)).fault)) (ReadsUnassigned b)
+pub walk_reads : (b : CheckedBlock) (w : Walk) → Tells w (λ x p. assignment_seq begun (block_sum [] (assignment x p) b)) → IsFirst w.fault (ReadsUnassigned b)
+walk_reads b w told = first_same w.fault (SomeLocal (λ x p. (assignment_seq begun (block_sum [] (assignment x p) b)).fault)) (ReadsUnassigned b)
     (λ p y. local_read b y.0 p (sum_reads b y.0 p y.1)) (λ p r. (r.x, reads_sum b r.x p (read_local b p r))) told.fault

@@ -53,13 +53,13 @@ module _ (f : Role → ℕ) (v w k d : ℕ → ℕ)
   count_operand : (names : List Occurrence) (s : Span) (refused : Bool) (kept : Kept) → count f (and_front names s (role.Operand refused kept)) ≡ count f names
   count_operand names s refused kept = omega (arith, count_front f names s (role.Operand refused kept), operand refused kept)
 
-  count_element : (s : Span) (index : Expression Span) (names : List Occurrence) → count f (element_front types s index names) ≡ v 1 + count f names
+  count_element : (s : Span) (index : Expression Span Span) (names : List Occurrence) → count f (element_front types s index names) ≡ v 1 + count f names
   count_element s index names =
       let refused = is_long (expression_type types index) in
       let behind = and_front names s (role.Operand refused (keeps.Name s)) in
       omega (arith, count_front f behind s role.Element, array, count_operand names s refused (keeps.Name s))
 
-  count_expression : (e : Expression Span) (names : List Occurrence) → count f (expression_names types e names) ≡ v (expression_count e) + count f names
+  count_expression : (e : Expression Span Span) (names : List Occurrence) → count f (expression_names types e names) ≡ v (expression_count e) + count f names
   count_expression (t.number n) names = omega (arith, v_none)
   count_expression (t.long_number n) names = omega (arith, v_none)
   count_expression (t.name s) names = omega (arith, count_front f names s role.Scalar, scalar)
@@ -91,12 +91,12 @@ module _ (f : Role → ℕ) (v w k d : ℕ → ℕ)
   count_expression (t.short_circuit op a b) names =
       omega (arith, count_expression a (expression_names types b names), count_expression b names, v_more (expression_count a) (expression_count b))
 
-  count_value : (e : Option (Expression Span)) (names : List Occurrence) → count f (value_names types e names) ≡ v (value_count e) + count f names
+  count_value : (e : Option (Expression Span Span)) (names : List Occurrence) → count f (value_names types e names) ≡ v (value_count e) + count f names
   count_value None names = omega (arith, v_none)
   count_value (Some e) names = count_expression e names
 
   mutual
-    count_statement : (end : ℕ) (s : Statement Span Span) (names : List Occurrence) → count f (statement_names types end s names)
+    count_statement : (end : ℕ) (s : Statement Span Span Span) (names : List Occurrence) → count f (statement_names types end s names)
         ≡ v (statement_count s) + w (statement_transitions s) + count f names
     count_statement end (t.declare of s e) names =
         omega (
@@ -144,7 +144,7 @@ module _ (f : Role → ℕ) (v w k d : ℕ → ℕ)
     count_statement end (t.emit e) names = omega (arith, count_expression e names, w_none)
     count_statement end (t.transition s) names = omega (arith, count_front f names s role.Target, target, v_none)
 
-    count_choice : (c : Choice Span Span) (names : List Occurrence) → count f (choice_names types c names)
+    count_choice : (c : Choice Span Span Span) (names : List Occurrence) → count f (choice_names types c names)
         ≡ v (choice_count c) + w (choice_transitions c) + count f names
     count_choice t.nothing names = omega (arith, v_none, w_none)
     count_choice (t.otherwise b) names = count_block (length names) b names
@@ -160,7 +160,7 @@ module _ (f : Role → ℕ) (v w k d : ℕ → ℕ)
           w_more (block_transitions b) (choice_transitions more),
         )
 
-    count_block : (end : ℕ) (b : Block Span Span) (names : List Occurrence) → count f (names_up_to types end b names)
+    count_block : (end : ℕ) (b : Block Span Span Span) (names : List Occurrence) → count f (names_up_to types end b names)
         ≡ v (block_count b) + w (block_transitions b) + count f names
     count_block end t.end names = omega (arith, v_none, w_none)
     count_block end (t.step s more) names =
@@ -172,7 +172,7 @@ module _ (f : Role → ℕ) (v w k d : ℕ → ℕ)
           w_more (statement_transitions s) (block_transitions more),
         )
 
-  count_tasks : (ts : List (Task Span Span)) (names : List Occurrence) → count f (task_names types ts names)
+  count_tasks : (ts : List (Task Span Span Span)) (names : List Occurrence) → count f (task_names types ts names)
       ≡ k (length ts) + v (tasks_count ts) + w (tasks_transitions ts) + count f names
   count_tasks [] names = omega (arith, k_none, v_none, w_none)
   count_tasks (x ∷ ts) names =
@@ -199,7 +199,7 @@ module _ (f : Role → ℕ) (v w k d : ℕ → ℕ)
         d_more (length ds),
       )
 
-  count_program : (p : Program Span Span) → count f (shared_names p.shared (task_names types p.tasks (and_front [] p.entry role.Target)))
+  count_program : (p : Program Span Span Span) → count f (shared_names p.shared (task_names types p.tasks (and_front [] p.entry role.Target)))
       ≡ d (length p.shared) + k (length p.tasks) + v (tasks_count p.tasks) + w (tasks_transitions p.tasks + 1)
   count_program p =
       let last = and_front [] p.entry role.Target in
@@ -223,7 +223,7 @@ tasks_is_count [] = refl
 tasks_is_count (o ∷ names) = omega (arith, tasks_is_count names)
 
 -- as many shared variables are declared as the tree has
-pub shared_of_program : (source : List ℕ) (p : Program Span Span) → shared_in (program_names source p) ≡ length p.shared
+pub shared_of_program : (source : List ℕ) (p : Program Span Span Span) → shared_in (program_names source p) ≡ length p.shared
 unfolding program_names
 shared_of_program source p = omega (
   arith,
@@ -233,7 +233,7 @@ shared_of_program source p = omega (
 )
 
 -- and as many tasks
-pub tasks_of_program : (source : List ℕ) (p : Program Span Span) → tasks_in (program_names source p) ≡ length p.tasks
+pub tasks_of_program : (source : List ℕ) (p : Program Span Span Span) → tasks_in (program_names source p) ≡ length p.tasks
 unfolding program_names
 tasks_of_program source p = omega (
   arith,
@@ -243,7 +243,7 @@ tasks_of_program source p = omega (
 )
 
 -- and as many names of variables
-pub variables_of_program : (source : List ℕ) (p : Program Span Span) → count one_variable (program_names source p) ≡ tasks_count p.tasks
+pub variables_of_program : (source : List ℕ) (p : Program Span Span Span) → count one_variable (program_names source p) ≡ tasks_count p.tasks
 unfolding program_names
 variables_of_program source p = omega (
   arith,
@@ -252,7 +252,7 @@ variables_of_program source p = omega (
 )
 
 -- and as many transitions, with the entry
-pub targets_of_program : (source : List ℕ) (p : Program Span Span) → count one_target (program_names source p) ≡ tasks_transitions p.tasks + 1
+pub targets_of_program : (source : List ℕ) (p : Program Span Span Span) → count one_target (program_names source p) ≡ tasks_transitions p.tasks + 1
 unfolding program_names
 targets_of_program source p = omega (
   arith,

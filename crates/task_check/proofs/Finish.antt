@@ -18,9 +18,9 @@ use Rattle.task_check.specs.Faults.{first_fault, name_fault, use_fault, limit_fa
 use Rattle.task_check.specs.Walks.{IsWalked}
 use Rattle.task_check.specs.Answers.{IsLookedUp, IsNamed, IsAccepted, IsCleanOnPaths, IsRefusedOnPaths, on_paths, at_limits, IsRefusedOrMemory, limits_fault}
 
-module _ (source : List ℕ) (tree : Program Span Span) (names : List Occurrence) (w : Walk) (same : names ≡ program_names source tree)
+module _ (source : List ℕ) (tree : Program Span Span Span) (names : List Occurrence) (w : Walk) (same : names ≡ program_names source tree)
     (walked : IsWalked source names names w) where
-  named_is : (checked : Program VariableName TaskName) → w.wrong_use ≡ None → program_back checked ≡ tree
+  named_is : (checked : CheckedProgram) → w.wrong_use ≡ None → program_back checked ≡ tree
       → task_variables checked.tasks [] ≡ w.variables.items → task_targets checked.tasks (checked.entry.task ∷ []) ≡ w.targets.items
       → IsNamed source tree checked
   named_is checked fine back vs ts = record {
@@ -36,16 +36,16 @@ module _ (source : List ℕ) (tree : Program Span Span) (names : List Occurrence
   limits_are : (r : Option CheckFault) → w.too_many ≡ r → limits_fault source tree ≡ r
   limits_are r e = subst (λ xs. first_fault (limit_fault source) xs ≡ r) same (sym walked.too_many ∙ e)
 
-  pub looked_up_is : (checked : Program VariableName TaskName) → w.wrong_use ≡ None → program_back checked ≡ tree
+  pub looked_up_is : (checked : CheckedProgram) → w.wrong_use ≡ None → program_back checked ≡ tree
       → task_variables checked.tasks [] ≡ w.variables.items → task_targets checked.tasks (checked.entry.task ∷ []) ≡ w.targets.items
       → IsLookedUp source (program_back checked) checked
   looked_up_is checked fine back vs ts = subst (λ t. IsLookedUp source t checked) (sym back) (named_is checked fine back vs ts).looked_up
 
-  pub limits_back : (checked : Program VariableName TaskName) → program_back checked ≡ tree → w.too_many ≡ limits_fault source (program_back checked)
+  pub limits_back : (checked : CheckedProgram) → program_back checked ≡ tree → w.too_many ≡ limits_fault source (program_back checked)
   limits_back checked back = subst (λ t. w.too_many ≡ limits_fault source t) (sym back) (sym (limits_are w.too_many refl))
 
   -- what the checks of paths and limits answer
-  pub finished : (r : Result Checked CheckFault) (checked : Source VariableName TaskName)
+  pub finished : (r : Result Checked CheckFault) (checked : Source VariableName TaskName FunctionName)
       → w.wrong_use ≡ None → program_back (program_of checked) ≡ tree → task_variables (program_of checked).tasks [] ≡ w.variables.items
       → task_targets (program_of checked).tasks ((program_of checked).entry.task ∷ []) ≡ w.targets.items
       → IfOk r (λ c. c.source ≡ checked) → IfOk r (λ c. w.too_many ≡ None)

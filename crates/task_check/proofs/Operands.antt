@@ -22,7 +22,7 @@ push_between xs ys zs a = ap (λ r. r ++ zs) (append_assoc xs ys (a ∷ [])) ∙
 
 module _ (types : Span → WordType) where
   -- the names of an expression are the same, whatever stands behind it
-  names_front : (e : Expression Span) (xs : List Occurrence) → expression_names types e xs ≡ xs ++ expression_names types e []
+  names_front : (e : Expression Span Span) (xs : List Occurrence) → expression_names types e xs ≡ xs ++ expression_names types e []
   names_front (t.number n) xs = sym (append-nil xs)
   names_front (t.long_number n) xs = sym (append-nil xs)
   names_front (t.name s) xs = refl
@@ -48,14 +48,14 @@ module _ (types : Span → WordType) where
       ∙ ap (λ r. xs ++ r) (sym (names_front a (expression_names types b [])))
 
   -- what stands behind an expression, and one of them put in its place
-  pub put_back : (e : Expression Span) (xs : List Occurrence) (x y : Occurrence)
+  pub put_back : (e : Expression Span Span) (xs : List Occurrence) (x y : Occurrence)
       → set (expression_names types e (xs ++ x ∷ [])) (length xs) y ≡ expression_names types e (xs ++ y ∷ [])
   put_back e xs x y =
       let own = expression_names types e [] in
       ap (λ r. set r (length xs) y) (names_front e (xs ++ x ∷ []) ∙ append_assoc xs (x ∷ []) own) ∙ set_behind xs x own y
       ∙ sym (names_front e (xs ++ y ∷ []) ∙ append_assoc xs (y ∷ []) own)
 
-  pub stands_within : (e : Expression Span) (xs : List Occurrence) (x : Occurrence) → length xs < length (expression_names types e (xs ++ x ∷ []))
+  pub stands_within : (e : Expression Span Span) (xs : List Occurrence) (x : Occurrence) → length xs < length (expression_names types e (xs ++ x ∷ []))
   stands_within e xs x =
       let sizes : length (expression_names types e (xs ++ x ∷ [])) ≡ length xs + 1 + length (expression_names types e []) =
       ap length (names_front e (xs ++ x ∷ [])) ∙ length-append (xs ++ x ∷ []) (expression_names types e [])

@@ -15,43 +15,43 @@ use Rattle.task_check.specs.LookedUp.{expression_back, statement_back, block_bac
 use Rattle.task_check.specs.LookedUp.{choice_variables, statement_targets, block_targets, choice_targets, task_variables, task_targets}
 use Rattle.task_check.specs.Parts.{tested_back, list_variables, list_targets, arms_variables, arms_targets}
 
-pub block_back_list : (xs : List (Statement VariableName TaskName)) → block_back (block_of xs) ≡ block_of (map statement_back xs)
+pub block_back_list : (xs : List CheckedStatement) → block_back (block_of xs) ≡ block_of (map statement_back xs)
 block_back_list [] = refl
 block_back_list (x ∷ xs) = ap (t.step (statement_back x)) (block_back_list xs)
 
-pub block_variables_list : (xs : List (Statement VariableName TaskName)) (more : List TypedVariable)
+pub block_variables_list : (xs : List CheckedStatement) (more : List TypedVariable)
     → block_variables (block_of xs) more ≡ list_variables xs more
 block_variables_list [] more = refl
 block_variables_list (x ∷ xs) more = ap (statement_variables x) (block_variables_list xs more)
 
-pub block_targets_list : (xs : List (Statement VariableName TaskName)) (more : List ℕ) → block_targets (block_of xs) more ≡ list_targets xs more
+pub block_targets_list : (xs : List CheckedStatement) (more : List ℕ) → block_targets (block_of xs) more ≡ list_targets xs more
 block_targets_list [] more = refl
 block_targets_list (x ∷ xs) more = ap (statement_targets x) (block_targets_list xs more)
 
-pub choice_back_none : (xs : List (Tested VariableName TaskName)) → choice_back (choice_of xs None) ≡ choice_of (map tested_back xs) None
+pub choice_back_none : (xs : List (Tested VariableName TaskName FunctionName)) → choice_back (choice_of xs None) ≡ choice_of (map tested_back xs) None
 choice_back_none [] = refl
 choice_back_none (x ∷ xs) = ap (t.test (expression_back x.condition) (block_back x.block)) (choice_back_none xs)
 
-pub choice_back_some : (xs : List (Tested VariableName TaskName)) (b : Block VariableName TaskName)
+pub choice_back_some : (xs : List (Tested VariableName TaskName FunctionName)) (b : CheckedBlock)
     → choice_back (choice_of xs (Some b)) ≡ choice_of (map tested_back xs) (Some (block_back b))
 choice_back_some [] b = refl
 choice_back_some (x ∷ xs) b = ap (t.test (expression_back x.condition) (block_back x.block)) (choice_back_some xs b)
 
-pub choice_variables_none : (xs : List (Tested VariableName TaskName)) (more : List TypedVariable)
+pub choice_variables_none : (xs : List (Tested VariableName TaskName FunctionName)) (more : List TypedVariable)
     → choice_variables (choice_of xs None) more ≡ arms_variables xs more
 choice_variables_none [] more = refl
 choice_variables_none (x ∷ xs) more = ap (λ r. expression_variables x.condition (block_variables x.block r)) (choice_variables_none xs more)
 
-pub choice_variables_some : (xs : List (Tested VariableName TaskName)) (b : Block VariableName TaskName) (more : List TypedVariable)
+pub choice_variables_some : (xs : List (Tested VariableName TaskName FunctionName)) (b : CheckedBlock) (more : List TypedVariable)
     → choice_variables (choice_of xs (Some b)) more ≡ arms_variables xs (block_variables b more)
 choice_variables_some [] b more = refl
 choice_variables_some (x ∷ xs) b more = ap (λ r. expression_variables x.condition (block_variables x.block r)) (choice_variables_some xs b more)
 
-pub choice_targets_none : (xs : List (Tested VariableName TaskName)) (more : List ℕ) → choice_targets (choice_of xs None) more ≡ arms_targets xs more
+pub choice_targets_none : (xs : List (Tested VariableName TaskName FunctionName)) (more : List ℕ) → choice_targets (choice_of xs None) more ≡ arms_targets xs more
 choice_targets_none [] more = refl
 choice_targets_none (x ∷ xs) more = ap (block_targets x.block) (choice_targets_none xs more)
 
-pub choice_targets_some : (xs : List (Tested VariableName TaskName)) (b : Block VariableName TaskName) (more : List ℕ)
+pub choice_targets_some : (xs : List (Tested VariableName TaskName FunctionName)) (b : CheckedBlock) (more : List ℕ)
     → choice_targets (choice_of xs (Some b)) more ≡ arms_targets xs (block_targets b more)
 choice_targets_some [] b more = refl
 choice_targets_some (x ∷ xs) b more = ap (block_targets x.block) (choice_targets_some xs b more)
@@ -59,43 +59,43 @@ choice_targets_some (x ∷ xs) b more = ap (block_targets x.block) (choice_targe
 -- what a choice uses
 pub ruleset choice_uses = (choice_variables_none, choice_variables_some, choice_targets_none, choice_targets_some)
 
-pub list_variables_push : (xs : List (Statement VariableName TaskName)) (x : Statement VariableName TaskName) (more : List TypedVariable)
+pub list_variables_push : (xs : List CheckedStatement) (x : CheckedStatement) (more : List TypedVariable)
     → list_variables (xs ++ x ∷ []) more ≡ list_variables xs (statement_variables x more)
 list_variables_push [] x more = refl
 list_variables_push (y ∷ xs) x more = ap (statement_variables y) (list_variables_push xs x more)
 
-pub list_targets_push : (xs : List (Statement VariableName TaskName)) (x : Statement VariableName TaskName) (more : List ℕ)
+pub list_targets_push : (xs : List CheckedStatement) (x : CheckedStatement) (more : List ℕ)
     → list_targets (xs ++ x ∷ []) more ≡ list_targets xs (statement_targets x more)
 list_targets_push [] x more = refl
 list_targets_push (y ∷ xs) x more = ap (statement_targets y) (list_targets_push xs x more)
 
-pub arms_variables_push : (xs : List (Tested VariableName TaskName)) (x : Tested VariableName TaskName) (more : List TypedVariable)
+pub arms_variables_push : (xs : List (Tested VariableName TaskName FunctionName)) (x : Tested VariableName TaskName FunctionName) (more : List TypedVariable)
     → arms_variables (xs ++ x ∷ []) more ≡ arms_variables xs (expression_variables x.condition (block_variables x.block more))
 arms_variables_push [] x more = refl
 arms_variables_push (y ∷ xs) x more = ap (λ r. expression_variables y.condition (block_variables y.block r)) (arms_variables_push xs x more)
 
-pub arms_targets_push : (xs : List (Tested VariableName TaskName)) (x : Tested VariableName TaskName) (more : List ℕ)
+pub arms_targets_push : (xs : List (Tested VariableName TaskName FunctionName)) (x : Tested VariableName TaskName FunctionName) (more : List ℕ)
     → arms_targets (xs ++ x ∷ []) more ≡ arms_targets xs (block_targets x.block more)
 arms_targets_push [] x more = refl
 arms_targets_push (y ∷ xs) x more = ap (block_targets y.block) (arms_targets_push xs x more)
 
 -- one more at the end
-pub statements_push : (xs : List (Stmt VariableName TaskName)) (x : Stmt VariableName TaskName)
+pub statements_push : (xs : List (Stmt VariableName TaskName FunctionName)) (x : Stmt VariableName TaskName FunctionName)
     → map statement_of (xs ++ x ∷ []) ≡ map statement_of xs ++ statement_of x ∷ []
 statements_push xs x = map-append statement_of xs (x ∷ [])
 
-pub tests_push : (xs : List (Arm VariableName TaskName)) (x : Arm VariableName TaskName) → map tested_of (xs ++ x ∷ []) ≡ map tested_of xs ++ tested_of x ∷ []
+pub tests_push : (xs : List (Arm VariableName TaskName FunctionName)) (x : Arm VariableName TaskName FunctionName) → map tested_of (xs ++ x ∷ []) ≡ map tested_of xs ++ tested_of x ∷ []
 tests_push xs x = map-append tested_of xs (x ∷ [])
 
 -- ---- an `if` and its parts
 
-pub if_back_none : (s : Statement VariableName TaskName) (ts : List (Tested VariableName TaskName)) (us : List (Tested Span Span))
+pub if_back_none : (s : CheckedStatement) (ts : List (Tested VariableName TaskName FunctionName)) (us : List (Tested Span Span Span))
     → s ≡ t.choose (choice_of ts None) → map tested_back ts ≡ us
     → statement_back s ≡ t.choose (choice_of us None)
 if_back_none s ts us e h = ap statement_back e ∙ ap t.choose (choice_back_none ts ∙ ap (λ v. choice_of v None) h)
 
-pub if_back_some : (s : Statement VariableName TaskName) (ts : List (Tested VariableName TaskName)) (b : Block VariableName TaskName)
-    (us : List (Tested Span Span)) (d : Block Span Span)
+pub if_back_some : (s : CheckedStatement) (ts : List (Tested VariableName TaskName FunctionName)) (b : CheckedBlock)
+    (us : List (Tested Span Span Span)) (d : Block Span Span Span)
     → s ≡ t.choose (choice_of ts (Some b)) → map tested_back ts ≡ us → block_back b ≡ d
     → statement_back s ≡ t.choose (choice_of us (Some d))
 if_back_some s ts b us d e h k =
@@ -111,27 +111,27 @@ read_on f h g xs new x ys y is e k =
     ∙ (ap (λ v. v ++ h (f x) ∷ []) e ∙ (ap (λ v. map g ys ++ v ∷ []) k ∙ sym (map-append g ys (y ∷ []))))))
 
 -- what is left to take after one more
-pub push_variables : (xs new : List (Stmt VariableName TaskName)) (x : Stmt VariableName TaskName) (all rest left : List TypedVariable) → new ≡ xs ++ x ∷ []
+pub push_variables : (xs new : List (Stmt VariableName TaskName FunctionName)) (x : Stmt VariableName TaskName FunctionName) (all rest left : List TypedVariable) → new ≡ xs ++ x ∷ []
     → all ≡ list_variables (map statement_of xs) rest → rest ≡ statement_variables (statement_of x) left → all ≡ list_variables (map statement_of new) left
 push_variables xs new x all rest left is h k =
     h ∙ (ap (list_variables (map statement_of xs)) k
     ∙ (sym (list_variables_push (map statement_of xs) (statement_of x) left) ∙ ap (λ v. list_variables v left)
     (sym (statements_push xs x) ∙ ap (map statement_of) (sym is))))
 
-pub push_targets : (xs new : List (Stmt VariableName TaskName)) (x : Stmt VariableName TaskName) (all rest left : List ℕ) → new ≡ xs ++ x ∷ []
+pub push_targets : (xs new : List (Stmt VariableName TaskName FunctionName)) (x : Stmt VariableName TaskName FunctionName) (all rest left : List ℕ) → new ≡ xs ++ x ∷ []
     → all ≡ list_targets (map statement_of xs) rest → rest ≡ statement_targets (statement_of x) left → all ≡ list_targets (map statement_of new) left
 push_targets xs new x all rest left is h k =
     h ∙ (ap (list_targets (map statement_of xs)) k ∙ (sym (list_targets_push (map statement_of xs) (statement_of x) left)
     ∙ ap (λ v. list_targets v left) (sym (statements_push xs x) ∙ ap (map statement_of) (sym is))))
 
-pub push_arm_variables : (xs new : List (Arm VariableName TaskName)) (x : Arm VariableName TaskName) (all rest left : List TypedVariable) → new ≡ xs ++ x ∷ []
+pub push_arm_variables : (xs new : List (Arm VariableName TaskName FunctionName)) (x : Arm VariableName TaskName FunctionName) (all rest left : List TypedVariable) → new ≡ xs ++ x ∷ []
     → all ≡ arms_variables (map tested_of xs) rest → rest ≡ expression_variables (tested_of x).condition (block_variables (tested_of x).block left)
     → all ≡ arms_variables (map tested_of new) left
 push_arm_variables xs new x all rest left is h k =
     h ∙ (ap (arms_variables (map tested_of xs)) k ∙ (sym (arms_variables_push (map tested_of xs) (tested_of x) left)
     ∙ ap (λ v. arms_variables v left) (sym (tests_push xs x) ∙ ap (map tested_of) (sym is))))
 
-pub push_arm_targets : (xs new : List (Arm VariableName TaskName)) (x : Arm VariableName TaskName) (all rest left : List ℕ) → new ≡ xs ++ x ∷ []
+pub push_arm_targets : (xs new : List (Arm VariableName TaskName FunctionName)) (x : Arm VariableName TaskName FunctionName) (all rest left : List ℕ) → new ≡ xs ++ x ∷ []
     → all ≡ arms_targets (map tested_of xs) rest → rest ≡ block_targets (tested_of x).block left → all ≡ arms_targets (map tested_of new) left
 push_arm_targets xs new x all rest left is h k =
     h ∙ (ap (arms_targets (map tested_of xs)) k ∙ (sym (arms_targets_push (map tested_of xs) (tested_of x) left)
@@ -143,24 +143,24 @@ all_read g zs xs ys all h = h ∙ ap (map g) (sym (map-id xs) ∙ all)
 
 -- ---- tasks
 
-task_variables_push : (xs : List (Task VariableName TaskName)) (x : Task VariableName TaskName) (more : List TypedVariable)
+task_variables_push : (xs : List CheckedTask) (x : CheckedTask) (more : List TypedVariable)
     → task_variables (xs ++ x ∷ []) more ≡ task_variables xs (block_variables x.body more)
 task_variables_push [] x more = refl
 task_variables_push (y ∷ xs) x more = ap (block_variables y.body) (task_variables_push xs x more)
 
-task_targets_push : (xs : List (Task VariableName TaskName)) (x : Task VariableName TaskName) (more : List ℕ)
+task_targets_push : (xs : List CheckedTask) (x : CheckedTask) (more : List ℕ)
     → task_targets (xs ++ x ∷ []) more ≡ task_targets xs (block_targets x.body more)
 task_targets_push [] x more = refl
 task_targets_push (y ∷ xs) x more = ap (block_targets y.body) (task_targets_push xs x more)
 
-pub push_task_variables : (xs new : List (TaskDeclaration VariableName TaskName)) (x : TaskDeclaration VariableName TaskName)
+pub push_task_variables : (xs new : List (TaskDeclaration VariableName TaskName FunctionName)) (x : TaskDeclaration VariableName TaskName FunctionName)
     (all rest left : List TypedVariable) → new ≡ xs ++ x ∷ []
     → all ≡ task_variables (map task_of xs) rest → rest ≡ block_variables (task_of x).body left → all ≡ task_variables (map task_of new) left
 push_task_variables xs new x all rest left is h k =
     h ∙ (ap (task_variables (map task_of xs)) k ∙ (sym (task_variables_push (map task_of xs) (task_of x) left)
     ∙ ap (λ v. task_variables v left) (sym (map-append task_of xs (x ∷ [])) ∙ ap (map task_of) (sym is))))
 
-pub push_task_targets : (xs new : List (TaskDeclaration VariableName TaskName)) (x : TaskDeclaration VariableName TaskName) (all rest left : List ℕ)
+pub push_task_targets : (xs new : List (TaskDeclaration VariableName TaskName FunctionName)) (x : TaskDeclaration VariableName TaskName FunctionName) (all rest left : List ℕ)
     → new ≡ xs ++ x ∷ []
     → all ≡ task_targets (map task_of xs) rest → rest ≡ block_targets (task_of x).body left → all ≡ task_targets (map task_of new) left
 push_task_targets xs new x all rest left is h k =

@@ -280,7 +280,7 @@ module _ (source : List ℕ) where
 
 -- ---- a source with its names looked up, of which none is too many
 
-module _ (source : List ℕ) (tree : Program Span Span) (checked : Program VariableName TaskName) (is : IsLookedUp source tree checked)
+module _ (source : List ℕ) (tree : Program Span Span Span) (checked : CheckedProgram) (is : IsLookedUp source tree checked)
     (fine : limits_fault source tree ≡ None) where
   shared_is : shared_in (program_names source tree) ≡ length checked.shared
   shared_is = shared_of_program source tree ∙ ap (λ p. length p.shared) (sym is.places)
@@ -312,7 +312,7 @@ module _ (source : List ℕ) (tree : Program Span Span) (checked : Program Varia
       ∙ targets_numbered
 
 -- the same of the code's tree, where the walk found none too many
-module _ (source : List ℕ) (s : Source VariableName TaskName) (is : IsLookedUp source (program_back (program_of s)) (program_of s))
+module _ (source : List ℕ) (s : Source VariableName TaskName FunctionName) (is : IsLookedUp source (program_back (program_of s)) (program_of s))
     (too_many : Option CheckFault)
     (limits : too_many ≡ limits_fault source (program_back (program_of s))) (fine : too_many ≡ None) where
   no_limit : limits_fault source (program_back (program_of s)) ≡ None
@@ -410,7 +410,7 @@ module _ (source : List ℕ) (all : List Occurrence) where
       let f = target_here o front a.1 b.1 in
       omega (arith, length-append (targets_in source all front) (target_by o.role (symbol_at source all o front)))
 
-module _ (source : List ℕ) (tree : Program Span Span) (names : List Occurrence) (w : Walk) (same : names ≡ program_names source tree)
+module _ (source : List ℕ) (tree : Program Span Span Span) (names : List Occurrence) (w : Walk) (same : names ≡ program_names source tree)
     (walked : IsWalked source names names w) (fine : w.wrong_use ≡ None) where
   no_use : first_fault (use_fault source names) names ≡ None
   no_use = sym walked.wrong_use ∙ fine

@@ -26,7 +26,7 @@ walk_arms-loop-arm-preserved t c =
       falls = c.read.ensures.falls_through;
       assigned = c.read.ensures.assigned;
       turned = c.read.ensures.turned;
-      block = subst (λ xs. Does c.read.new.walk c.walk_block.new.walk (λ x p. block_sum (assignment x p) (block_view xs))) c.deref.ensures.value
+      block = subst (λ xs. Does c.read.new.walk c.walk_block.new.walk (λ x p. block_sum [] (assignment x p) (block_view xs))) c.deref.ensures.value
           c.in_ok-walk_block.ensures;
       end = c.in_ok-ends.ensures;
     }) c.loop-arm.invariant
@@ -82,9 +82,9 @@ walk_statement-returns-in_ok-set-in-For t c =
     let f = c.in-For in
     let body = block_view c.deref-in-For.result.now in
     let turns : IfOk c.walk_turns.result (λ _. Does c.set.new.walk c.walk_turns.new.walk (λ x p. turns_sum (assignment x p) (f.below - f.from)
-    (assignment_seq (block_sum (assignment x p) body) (assignment_one x p (write f.variable))))) =
+    (assignment_seq (block_sum [] (assignment x p) body) (assignment_one x p (write f.variable))))) =
     subst (λ n. IfOk c.walk_turns.result (λ _. Does c.set.new.walk c.walk_turns.new.walk (λ x p. turns_sum (assignment x p) n
-    (assignment_seq (block_sum (assignment x p) body) (assignment_one x p (write f.variable)))))) c.saturating_sub.ensures c.walk_turns.ensures in
+    (assignment_seq (block_sum [] (assignment x p) body) (assignment_one x p (write f.variable)))))) c.saturating_sub.ensures c.walk_turns.ensures in
     statement_ok c.walk_turns.result c.args.walk.now c.walk_turns.new.walk (statement_of c.args.statement.now)
     (tree.loop f.variable f.from f.tested f.below f.stepped body) (search (rules, the_lemmas))
     (then_ok c.walk_turns.result c.args.walk.now c.set.new.walk c.walk_turns.new.walk _ _ c.in_ok-set-in-For.ensures turns)

@@ -8,7 +8,7 @@ use Rattle.task_check.specs.Occurrences.{choice_names, names_up_to}
 use Rattle.task_check.proofs.collect.+names.Given as goal
 
 abbrev pub invariant-arms_names-loop-i : goal.invariant-arms_names-loop-i
-invariant-arms_names-loop-i l = (last : Option (Block Span Span)) (behind : List Occurrence)
+invariant-arms_names-loop-i l = (last : Option (Block Span Span Span)) (behind : List Occurrence)
     → l.initial.names.items ≡ choice_names (types_of l.types) (choice_of [] last) behind
     → l.names.items ≡ choice_names (types_of l.types) (choice_of (map tested_of (drop l.i l.arms)) last) behind
 
