@@ -3,9 +3,10 @@ use Rattle.std.proofs.Common.{◌≡◌, ℕ, zero, suc, List, [], ◌∷◌, So
 use Rattle.std.specs.Prelude.{All}
 use Rattle.std.proofs.lemmas.List.Elements.{All-nil, All-cons, All-head, All-tail}
 use Rattle.task_ast.specs.Paths.{CheckedProgram}
+use Rattle.path_sums.specs.Reaches.{ReachesEnd}
 use Rattle.path_checks.specs.Firsts.{CheckedTask, SomeTask}
 use Rattle.path_checks.specs.Unassigned.{ReadsUnassigned}
-use Rattle.path_checks.specs.Transitions.{OpenAt}
+use Rattle.path_checks.specs.Ends.{OpenAt}
 use Rattle.source_meaning.specs.Acceptance.{Checks}
 use Rattle.source_meaning.specs.Plain.{IsPlain}
 use Rattle.checked_trees.specs.WellFormed.{WellFormedBlock, IsWellFormed}
@@ -24,15 +25,18 @@ some_at P (x ∷ tasks) zero task e p = let same : x ≡ task = cc in inl (subst
 some_at P (x ∷ tasks) (suc k) task e p = inr (some_at P tasks k task e p)
 
 -- each task of a checked source without functions is well-formed
-pub task_checked : (text : List ℕ) (program : CheckedProgram) → Checks text program → IsPlain program → (k : ℕ)
-    (task : CheckedTask) → slice_get program.tasks k ≡ Some task
+pub task_checked : (text : List ℕ) (program : CheckedProgram) → Checks text program → IsPlain program → (k : ℕ) (task : CheckedTask)
+    → slice_get program.tasks k ≡ Some task
     → IsWellFormed program.shared task.body
 task_checked text program checks plain k task e =
     let paths = checks.checks.paths in
+    let functions = program.functions in
     record {
       statements = all_at (λ task. WellFormedBlock program.shared task.body) program.tasks k task (statements_are_well_formed text program checks plain) e;
-      assigned = λ s bad. paths.assigned s (some_at (λ task. ReadsUnassigned task.body s) program.tasks k task e bad);
-      ends = λ xs q. paths.transitions task.name (some_at (λ t. OpenAt t task.name) program.tasks k task e (refl, (xs, q)));
+      assigned = λ s bad. paths.assigned s (inr (some_at (λ task. ReadsUnassigned functions 0 task.body s) program.tasks k task e
+          (subst (λ fs. ReadsUnassigned fs 0 task.body s) (sym plain) bad)));
+      ends = λ xs q. paths.transitions task.name (some_at (λ t. OpenAt functions t.name t.body task.name) program.tasks k task e
+          (refl, subst (λ fs. ReachesEnd fs task.body) (sym plain) (xs, q)));
     }
 
 -- what holds of each by its number holds of all

@@ -1,5 +1,6 @@
 mod Emits
 mod Paths
+mod Ends
 mod Targets
 mod Runnable
 mod Lines

@@ -1,5 +1,5 @@
 -- A run that goes on behind a block makes a path that does, where the functions that are called are taken as ones that return at once.
-use Rattle.std.proofs.Common.{◌≡◌, ◌∙◌, ◌<◌, ℕ, zero, suc, ◌+◌, ◌-◌, Bool, true, false, List, [], ◌∷◌, ◌++◌, length, map, take, Some, None}
+use Rattle.std.proofs.Common.{◌≡◌, ◌∙◌, ◌<◌, ◌≤◌, ℕ, zero, suc, ◌+◌, ◌-◌, Bool, true, false, List, [], ◌∷◌, ◌++◌, length, map, take, Some, None}
 use Rattle.std.proofs.Common.{ap, arith, refl, slice_get, if◌then◌else◌}
 use Rattle.std.specs.Option.{option_map}
 use Rattle.std.proofs.lemmas.Option.{slice_get-map}
@@ -11,7 +11,7 @@ use Rattle.task_ast.specs.Paths as path
 use Rattle.task_ast.specs.Calls.{CallsAreBelow, ValuesCallBelow, StatementCallsBelow, ChoiceCallsBelow, BlockCallsBelow}
 use Rattle.task_ast.specs.declared.names.VariableName.{VariableName}
 use Rattle.task_ast.specs.declared.names.FunctionName.{FunctionName}
-use Rattle.cost_bound.specs.path_checks.Ends.{at_once}
+use Rattle.cost_bound.specs.path_sums.Reaches.{at_once}
 use Rattle.source_values.specs.Values.{Meaning, holds}
 use Rattle.source_values.specs.Statements.{Attempt, Outcome, goes_on, to_task, returns, short, and_then, with_value, assigned, turns}
 use Rattle.source_values.specs.Statements.{run_statement, run_choice, run_block}
@@ -47,16 +47,17 @@ found [] k low = absurd (omega (arith, low))
 found (f ∷ more) zero low = (f, refl)
 found (f ∷ more) (suc k) low = found more k (omega (arith, low))
 
-module _ (functions : List CheckedFunction) where
+-- of functions, and calls of the first n of them alone
+module _ (functions : List CheckedFunction) (n : ℕ) (few : n ≤ length functions) where
   -- the functions as ones that return at once
   abbrev fs : List CheckedFunction
   fs = map at_once functions
 
   -- one of them has a path that returns
-  called : (f : FunctionName) → f.function < length functions
+  called : (f : FunctionName) → f.function < n
       → (function : CheckedFunction) × (slice_get fs f.function ≡ Some function) × BlockPath (take f.function fs) function.body [] path.returns
   called f low =
-      let g = found functions f.function low in
+      let g = found functions f.function (omega (arith, low, few)) in
       let front = take f.function fs in
       let gives = path.give front nowhere (t.number 0) [] (path.number front 0) in (
         at_once g.0,
@@ -66,9 +67,9 @@ module _ (functions : List CheckedFunction) where
 
   mutual
     -- some path of an expression
-    expression_path : (e : CheckedExpression) → CallsAreBelow (length functions) e → (xs : List Access) × ExpressionPath fs e xs
-    expression_path (t.number n) calls = ([], path.number fs n)
-    expression_path (t.long_number n) calls = ([], path.long_number fs n)
+    expression_path : (e : CheckedExpression) → CallsAreBelow n e → (xs : List Access) × ExpressionPath fs e xs
+    expression_path (t.number w) calls = ([], path.number fs w)
+    expression_path (t.long_number w) calls = ([], path.long_number fs w)
     expression_path (t.name x) calls = (path.read x ∷ [], path.name fs x)
     expression_path (t.element x index) calls =
         let i = expression_path index calls in (i.0 ++ path.read x ∷ [], path.element fs x index i.0 i.1)
@@ -86,7 +87,7 @@ module _ (functions : List CheckedFunction) where
     expression_path (t.shift op e count) calls = let p = expression_path e calls in (p.0, path.shift fs op e count p.0 p.1)
     expression_path (t.short_circuit op a b) calls = let p = expression_path a calls.0 in (p.0, path.left_alone fs op a b p.0 p.1)
 
-    values_path : (values : CheckedValues) → ValuesCallBelow (length functions) values → (xs : List Access) × ValuesPath fs values xs
+    values_path : (values : CheckedValues) → ValuesCallBelow n values → (xs : List Access) × ValuesPath fs values xs
     values_path t.no_value calls = ([], path.no_value fs)
     values_path (t.value e more) calls =
         let p = expression_path e calls.0 in
@@ -109,20 +110,20 @@ module _ (functions : List CheckedFunction) where
     ThroughChoice c xs = ChoicePath fs c xs path.goes_on
 
     abbrev ThroughTurns : VariableName → ℕ → CheckedBlock → List Access → Type 0
-    ThroughTurns x n body xs = TurnsPath fs x n body xs path.goes_on
+    ThroughTurns x left body xs = TurnsPath fs x left body xs path.goes_on
 
-    turns_path : (n from : ℕ) (x : VariableName) (body : CheckedBlock) (s : Attempt)
+    turns_path : (left from : ℕ) (x : VariableName) (body : CheckedBlock) (s : Attempt)
         → ((s : Attempt) → OnPath (Through body) (run_block known body s))
-        → OnPath (ThroughTurns x n body) (turns n from x.variable (run_block known body) s)
+        → OnPath (ThroughTurns x left body) (turns left from x.variable (run_block known body) s)
     turns_path zero from x body s h = ([], path.over fs x body)
-    turns_path (suc n) from x body s h =
-        on_then (Through body) (ThroughTurns x n body) (ThroughTurns x (suc n) body)
-        (λ xs ys. xs ++ write x ∷ ys) (λ xs ys p q. path.turn fs x n body xs ys path.goes_on p q)
-        (run_block known body (assigned s x.variable 0 from)) (turns n (from + 1) x.variable (run_block known body))
-        (h (assigned s x.variable 0 from)) (λ s. turns_path n (from + 1) x body s h)
+    turns_path (suc left) from x body s h =
+        on_then (Through body) (ThroughTurns x left body) (ThroughTurns x (suc left) body)
+        (λ xs ys. xs ++ write x ∷ ys) (λ xs ys p q. path.turn fs x left body xs ys path.goes_on p q)
+        (run_block known body (assigned s x.variable 0 from)) (turns left (from + 1) x.variable (run_block known body))
+        (h (assigned s x.variable 0 from)) (λ s. turns_path left (from + 1) x body s h)
 
     mutual
-      statement_path : (s : CheckedStatement) → StatementCallsBelow (length functions) s → (a : Attempt)
+      statement_path : (s : CheckedStatement) → StatementCallsBelow n s → (a : Attempt)
           → OnPath (ThroughStatement s) (run_statement known s a)
       statement_path (t.declare of x None) calls a = (path.unset x ∷ [], path.declare_unset fs of x)
       statement_path (t.declare of x (Some e)) calls a =
@@ -148,9 +149,9 @@ module _ (functions : List CheckedFunction) where
       statement_path (t.emit e) calls a =
           let p = expression_path e calls in on_value (ThroughStatement (t.emit e)) e a _ (λ w s. (p.0, path.emit fs e p.0 p.1))
       statement_path (t.give at e) calls a = on_value (ThroughStatement (t.give at e)) e a _ (λ w s. tt)
-      statement_path (t.transition at n) calls a = tt
+      statement_path (t.transition at task) calls a = tt
 
-      choice_path : (c : CheckedChoice) → ChoiceCallsBelow (length functions) c → (a : Attempt) → OnPath (ThroughChoice c) (run_choice known c a)
+      choice_path : (c : CheckedChoice) → ChoiceCallsBelow n c → (a : Attempt) → OnPath (ThroughChoice c) (run_choice known c a)
       choice_path t.nothing calls a = ([], path.nothing fs)
       choice_path (t.otherwise b) calls a =
           on_map (Through b) (ThroughChoice (t.otherwise b)) (λ xs. xs) (λ xs p. path.otherwise fs b xs path.goes_on p)
@@ -164,7 +165,7 @@ module _ (functions : List CheckedFunction) where
           (on_map (ThroughChoice more) (ThroughChoice (t.test e b more)) (λ ys. p.0 ++ ys)
           (λ ys q. path.passed fs e b more p.0 ys path.goes_on p.1 q) (run_choice known more s) (choice_path more calls.2 s)))
 
-      pub block_path : (b : CheckedBlock) → BlockCallsBelow (length functions) b → (a : Attempt) → OnPath (Through b) (run_block known b a)
+      pub block_path : (b : CheckedBlock) → BlockCallsBelow n b → (a : Attempt) → OnPath (Through b) (run_block known b a)
       block_path t.end calls a = ([], path.finished fs)
       block_path (t.step s more) calls a =
           on_then (ThroughStatement s) (Through more) (Through (t.step s more)) (λ xs ys. xs ++ ys)
