@@ -266,11 +266,12 @@ module _ (source : List ℕ) where
     pub all_tasks : All (λ k. HasName k.name) p.tasks
 
   pub program_named : (ts : List Token) (p : Program Span Span Span) → IsProgram ts p → AllNamed ts → ProgramNamed p
-  program_named _ _ (program xs ys zs h n z shareds first others rows one more a b c) all =
-      let rest = back_named xs (ys ++ (zs ++ (h ∷ n ∷ z ∷ []))) all in
+  program_named _ _ (program xs fs ys zs h n z shareds functions first others rows calls one more a b c) all =
+      let behind = back_named xs (fs ++ (ys ++ (zs ++ (h ∷ n ∷ z ∷ [])))) all in
+      let rest = back_named fs (ys ++ (zs ++ (h ∷ n ∷ z ∷ []))) behind in
       let later = back_named ys (zs ++ (h ∷ n ∷ z ∷ [])) rest in
       record {
-        shared_variables = row_named IsShared (λ d. HasName d.name) shared_named xs shareds rows (front_named xs (ys ++ (zs ++ (h ∷ n ∷ z ∷ []))) all);
+        shared_variables = row_named IsShared (λ d. HasName d.name) shared_named xs shareds rows (front_named xs (fs ++ (ys ++ (zs ++ (h ∷ n ∷ z ∷ [])))) all);
         all_tasks = All-cons (λ k. HasName k.name) first others (task_named ys first one (front_named ys (zs ++ (h ∷ n ∷ z ∷ [])) rest))
             (row_named IsTask (λ k. HasName k.name) task_named zs others more (front_named zs (h ∷ n ∷ z ∷ []) later));
       }
