@@ -1,6 +1,7 @@
 -- Parts that are walked one after another.
 use Rattle.std.proofs.Common.{◌≡◌, ◌==◌, ◌+◌, ◌-◌, ◌<◌, ◌≤◌, ℕ, Bool, List, ◌∷◌, length, drop, drop-cons, get_or, ap, sym, ◌∙◌, if◌then◌else◌, arith, add-one}
 use Rattle.std.proofs.lemmas.List.{drop_all, get_or_default}
+use Rattle.task_ast.specs.declared.names.FunctionName.{FunctionName}
 use Rattle.task_ast.specs.declared.names.VariableName.{VariableName}
 use Rattle.task_ast.specs.declared.names.TaskName.{TaskName}
 use Rattle.task_ast.specs.declared.Stmt.{Stmt}

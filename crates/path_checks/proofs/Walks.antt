@@ -1,21 +1,22 @@
 -- Steps of a walk.
 use Rattle.std.proofs.Common.{◌≡◌, ◌==◌, ℕ, Bool, true, false, ◌&&◌, ◌||◌, not, List, [], ◌∷◌, ◌++◌, take, drop, length, refl, ap, ap₂, sym, ◌∙◌, subst}
-use Rattle.std.proofs.Common.{if◌then◌else◌, Option, None, Some, Result, Ok, Err, IfOk, append-nil, append_assoc, ◌⊎◌, inl, inr, get_or}
+use Rattle.std.proofs.Common.{if◌then◌else◌, Option, None, Some, Result, Ok, Err, IfOk, append-nil, append_assoc, ◌⊎◌, inl, inr, get_or, zero, suc, nat_lt, replicate}
 use Rattle.std.proofs.lemmas.Bool.{and_parts, and_from, or_cases, or_left, or_right}
 use Rattle.std.specs.declared.alloc.AllocError.{AllocError}
 use Rattle.alp_text.specs.declared.lines.Span.{Span}
 use Rattle.task_ast.specs.declared.names.Variable.{Variable}
 use Rattle.task_ast.specs.declared.names.Variable.TheVariants.{Local}
 use Rattle.task_ast.specs.declared.names.VariableName.{VariableName}
+use Rattle.task_ast.specs.declared.names.FunctionName.{FunctionName}
 use Rattle.task_ast.specs.declared.WordType.{WordType}
 use Rattle.task_ast.specs.Tree as t
-use Rattle.task_ast.specs.Paths.{CheckedExpression, CheckedStatement, read, write, unset}
-use Rattle.path_sums.specs.Sums.{expression_sum, statement_sum}
+use Rattle.task_ast.specs.Paths.{CheckedExpression, CheckedValues, CheckedStatement, read, write, unset}
+use Rattle.path_sums.specs.Sums.{expression_sum, values_sum, statement_sum}
 use Rattle.path_sums.proofs.Interface.{agree}
 use Rattle.path_checks.specs.Firsts.{IsFirst, first_of}
 use Rattle.path_checks.specs.Loops.{is_local}
 use Rattle.path_checks.specs.Assignments.{Assignment, assignment, assignment_unit, assignment_gone, assignment_one}
-use Rattle.path_checks.specs.Assignments.{assignment_seq, assignment_join}
+use Rattle.path_checks.specs.Assignments.{assignment_seq, assignment_join, begun}
 use Rattle.path_checks.specs.declared.walk.Walk.{Walk}
 use Rattle.path_checks.specs.Walks.{Family, is_assigned, SomeLocal, Tells, turned_back, at_mark, IsBehind, Does}
 use Rattle.path_checks.proofs.FirstPlaces.{first_same, first_either}
@@ -240,17 +241,23 @@ read_either s t h k = record {
   fault = ap₂ (λ a b. a || b) h.fault k.fault;
 }
 
-pub is_read : (x : ℕ) (p : Span) (e : CheckedExpression) → IsRead (expression_sum [] (assignment x p) e)
-is_read x p (t.number _) = read_unit
-is_read x p (t.long_number _) = read_unit
-is_read x p (t.name n) = read_one x p n
-is_read x p (t.element n index) = read_both _ _ (is_read x p index) (read_one x p n)
-is_read x p t.sense = read_unit
-is_read x p t.next_event = read_unit
-is_read x p (t.unary _ a) = is_read x p a
-is_read x p (t.binary _ a b) = read_both _ _ (is_read x p a) (is_read x p b)
-is_read x p (t.shift _ a _) = is_read x p a
-is_read x p (t.short_circuit _ a b) = read_either _ _ (is_read x p a) (read_both _ _ (is_read x p a) (is_read x p b))
+mutual
+  pub is_read : (x : ℕ) (p : Span) (e : CheckedExpression) → IsRead (expression_sum [] (assignment x p) e)
+  is_read x p (t.number _) = read_unit
+  is_read x p (t.long_number _) = read_unit
+  is_read x p (t.name n) = read_one x p n
+  is_read x p (t.element n index) = read_both _ _ (is_read x p index) (read_one x p n)
+  is_read x p t.sense = read_unit
+  is_read x p t.next_event = read_unit
+  is_read x p (t.call _ values) = read_both _ _ (are_read x p values) read_unit
+  is_read x p (t.unary _ a) = is_read x p a
+  is_read x p (t.binary _ a b) = read_both _ _ (is_read x p a) (is_read x p b)
+  is_read x p (t.shift _ a _) = is_read x p a
+  is_read x p (t.short_circuit _ a b) = read_either _ _ (is_read x p a) (read_both _ _ (is_read x p a) (is_read x p b))
+
+  are_read : (x : ℕ) (p : Span) (values : CheckedValues) → IsRead (values_sum [] (assignment x p) values)
+  are_read x p t.no_value = read_unit
+  are_read x p (t.value e more) = read_both _ _ (is_read x p e) (are_read x p more)
 
 -- nothing is read
 pub first_none : (a : ℕ → Bool) → IsFirst None (SomeLocal (λ x p. not (a x) && false))
@@ -301,6 +308,30 @@ first_short w a b q r = first_two (is_assigned w) (λ x p. (expression_sum [] (a
     (exposed_both (expression_sum [] (assignment x p) a) (expression_sum [] (assignment x p) b) (is_read x p a))
     ∙ agree 2 (λ c d. c || (c || d)) (λ c d. c || d) refl (expression_sum [] (assignment x p) a).exposed (expression_sum [] (assignment x p) b).exposed)
 
+-- the values of a call
+pub first_call : (w : Walk) (o : Option Span) (e : CheckedExpression) (f : FunctionName) (values : CheckedValues) → e ≡ t.call f values
+    → IsFirst o (SomeLocal (λ x p. not (is_assigned w x) && (values_sum [] (assignment x p) values).exposed))
+    → IsFirst o (SomeLocal (λ x p. not (is_assigned w x) && (expression_sum [] (assignment x p) e).exposed))
+first_call w o e f values same h =
+    subst (λ e. IsFirst o (SomeLocal (λ x p. not (is_assigned w x) && (expression_sum [] (assignment x p) e).exposed))) (sym same)
+    (fault_same o _ _ (λ x p. ap (λ b. not (is_assigned w x) && b) (alone (values_sum [] (assignment x p) values))) h)
+  where
+    alone : (s : Assignment) → s.exposed ≡ (assignment_seq s assignment_unit).exposed
+    alone s = agree 2 (λ e u. e) (λ e u. e || (u && false)) refl s.exposed s.untouched
+
+-- one value in front of others
+pub first_value : (w : Walk) (o q r : Option Span) (all : CheckedValues) (e : CheckedExpression) (more : CheckedValues) → o ≡ first_of q r
+    → all ≡ t.value e more
+    → IsFirst q (SomeLocal (λ x p. not (is_assigned w x) && (expression_sum [] (assignment x p) e).exposed))
+    → IsFirst r (SomeLocal (λ x p. not (is_assigned w x) && (values_sum [] (assignment x p) more).exposed))
+    → IsFirst o (SomeLocal (λ x p. not (is_assigned w x) && (values_sum [] (assignment x p) all).exposed))
+first_value w o q r all e more first same h k =
+    subst (λ all. IsFirst o (SomeLocal (λ x p. not (is_assigned w x) && (values_sum [] (assignment x p) all).exposed))) (sym same)
+    (subst (λ o. IsFirst o (SomeLocal (λ x p. not (is_assigned w x) && (values_sum [] (assignment x p) (t.value e more)).exposed))) (sym first)
+    (first_two (is_assigned w) (λ x p. (expression_sum [] (assignment x p) e).exposed) (λ x p. (values_sum [] (assignment x p) more).exposed)
+    (λ x p. (values_sum [] (assignment x p) (t.value e more)).exposed) q r
+    (λ x p. exposed_both (expression_sum [] (assignment x p) e) (values_sum [] (assignment x p) more) (is_read x p e)) h k))
+
 -- the same expression
 pub first_as : (w : Walk) (o o' : Option Span) (e e' : CheckedExpression) → o ≡ o' → e ≡ e'
     → IsFirst o' (SomeLocal (λ x p. not (is_assigned w x) && (expression_sum [] (assignment x p) e').exposed))
@@ -346,3 +377,19 @@ does_read w v e o on first falls assigned turned fault = record {
             (λ p z. elim z [ inl y ↦ (y.0, or_left _ _ y.1) | inr y ↦ (y.0, or_right (f y.0 p).fault _ y.1) ])
             (λ p z. elim (or_cases (f z.0 p).fault _ z.1) [ inl y ↦ inl (z.0, y) | inr y ↦ inr (z.0, y) ])
             (first_either w.fault o _ _ h.fault first)
+
+-- ---- before any access
+
+-- the first locals have values
+given_first : (n x : ℕ) → get_or (replicate n true) x false ≡ nat_lt x n
+given_first zero x = refl
+given_first (suc n) zero = refl
+given_first (suc n) (suc x) = given_first n x
+
+pub tells_begun : (w : Walk) (given : ℕ) → w.falls_through ≡ true → w.assigned.items ≡ replicate given true → w.fault ≡ None
+    → Tells w (λ x p. begun given x)
+tells_begun w given on values none = record {
+  falls_through = λ x p. on;
+  unassigned = λ x p. ap₂ (λ o a. o && not a) on (ap (λ xs. get_or xs x false) values ∙ given_first given x);
+  fault = subst (λ o. IsFirst o (SomeLocal (λ x p. false))) (sym none) (λ p y. let no : false ≡ true = y.1 in cc);
+}

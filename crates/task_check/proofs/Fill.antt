@@ -2,6 +2,7 @@
 use Rattle.std.proofs.Common.{◌≡◌, ℕ, List, [], ◌∷◌, map, Option, Some, None, refl, sym, ap, ◌∙◌}
 use Rattle.std.specs.Option.{option_map}
 use Rattle.alp_text.specs.declared.lines.Span.{Span}
+use Rattle.task_ast.specs.Paths.{CheckedExpression, CheckedStatement, CheckedChoice, CheckedBlock, CheckedTask, CheckedProgram}
 use Rattle.task_ast.specs.declared.WordType.TheVariants as word_type
 use Rattle.task_ast.specs.declared.names.Variable.TheVariants as variable
 use Rattle.task_ast.specs.declared.names.VariableName.{VariableName}

@@ -1,8 +1,7 @@
 -- The answers of the checks exclude one another.
 use Rattle.std.proofs.Common.{◌≡◌, ◌≤◌, ℕ, List, Option, Some, None, refl, sym, subst, ap, ◌∙◌, arith}
 use Rattle.alp_text.specs.declared.lines.Span.{Span}
-use Rattle.task_ast.specs.declared.names.VariableName.{VariableName}
-use Rattle.task_ast.specs.declared.names.TaskName.{TaskName}
+use Rattle.task_ast.specs.Paths.{CheckedProgram}
 use Rattle.task_ast.specs.Tree.{Program}
 use Rattle.task_lex.specs.Faults.{line_of}
 use Rattle.path_checks.specs.Firsts.{IsFirst}

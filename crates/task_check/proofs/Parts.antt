@@ -6,9 +6,11 @@ use Rattle.task_ast.specs.declared.Arm.{Arm}
 use Rattle.task_ast.specs.declared.TaskDeclaration.{TaskDeclaration}
 use Rattle.task_ast.specs.View.{statement_of, tested_of, task_of}
 use Rattle.alp_text.specs.declared.lines.Span.{Span}
+use Rattle.task_ast.specs.declared.names.FunctionName.{FunctionName}
+use Rattle.task_ast.specs.Paths.{CheckedStatement, CheckedBlock, CheckedTask}
 use Rattle.task_ast.specs.declared.names.VariableName.{VariableName}
 use Rattle.task_ast.specs.declared.names.TaskName.{TaskName}
-use Rattle.task_ast.specs.Tree.{Statement, Block, block_of, Tested, choice_of, Task}
+use Rattle.task_ast.specs.Tree.{Block, block_of, Tested, choice_of}
 use Rattle.task_ast.specs.Tree as t
 use Rattle.task_check.specs.declared.symbol.TypedVariable.{TypedVariable}
 use Rattle.task_check.specs.LookedUp.{expression_back, statement_back, block_back, choice_back, expression_variables, statement_variables, block_variables}

@@ -1,13 +1,18 @@
-use Rattle.std.proofs.Common.{arith}
-use Rattle.path_checks.specs.Transitions.{OpenAt}
-use Rattle.path_checks.proofs.FirstPlaces.{first_task, first_whole}
-use Rattle.path_checks.proofs.transitions.first_open_task.Goals as goal
+use Rattle.std.proofs.Common.{arith, length, map}
+use Rattle.task_ast.specs.View.{block_view, function_of, task_of, program_of}
+use Rattle.task_ast.specs.Calls.{BlockCallsBelow}
+use Rattle.path_checks.specs.Ends.{OpenAt}
+use Rattle.path_checks.proofs.FirstPlaces.{first_back, first_whole, one_of_all}
+use Rattle.path_checks.proofs.ends.first_open_task.Goals as goal
 
 pub loop-i-preserved : goal.loop-i-preserved
 loop-i-preserved c =
-    first_task OpenAt c.args.source.now.tasks.items c.loop-i.i c.index.result.now _ _ _ c.loop-i-test.true (omega arith) c.index.ensures
-    c.first_of-first.ensures
-    c.open_name.ensures c.loop-i.invariant
+    let all = map function_of c.args.source.now.functions.items in
+    let known = one_of_all task_of (λ task. BlockCallsBelow (length all) task.body) c.args.source.now.tasks.items c.loop-i.i c.index-task.result.now
+    c.loop-i-test.true (omega arith) c.index-task.ensures c.requires.tasks in
+    first_back task_of (λ task. OpenAt all task.name task.body) c.args.source.now.tasks.items c.loop-i.i c.index-task.result.now _ _ _ c.loop-i-test.true
+    (omega arith) c.index-task.ensures c.first_of-first.ensures (c.open_name.ensures all known) c.loop-i.invariant
 
 pub returns : goal.returns
-returns c = first_whole OpenAt c.args.source.now.tasks.items c.loop-i.i _ (omega arith) c.loop-i.invariant
+returns c = first_whole task_of (λ task. OpenAt (map function_of c.args.source.now.functions.items) task.name task.body) c.args.source.now.tasks.items c.loop-i.i _ (omega arith)
+    c.loop-i.invariant

@@ -8,7 +8,7 @@ use Rattle.task_ast.specs.declared.Stmt.{the_lemmas}
 use Rattle.path_sums.specs.Sums.{turns_sum, block_sum}
 use Rattle.path_checks.specs.Assignments.{assignment, assignment_one, assignment_seq}
 use Rattle.path_checks.specs.Walks.{Does}
-use Rattle.path_checks.proofs.Walks.{does_nothing, does_gone, then_ok, declared_ok, statement_ok, statement_as}
+use Rattle.path_checks.proofs.Walks.{does_nothing, does_both, does_gone, then_ok, declared_ok, statement_ok, statement_as}
 use Rattle.path_checks.proofs.Turns.{no_turn, one_turn, two_turns, settled_turn}
 use Rattle.path_checks.proofs.Choices.{choice_ok, one_way, all_ways}
 use Rattle.path_checks.proofs.Parts.{block_step, block_done}
@@ -96,8 +96,13 @@ walk_statement-returns-in-Emit t c =
 
 pub walk_statement-returns-in-TransitionTo : goal.walk_statement-returns-in-TransitionTo
 walk_statement-returns-in-TransitionTo t c =
-    statement_as c.args.walk.now _ (statement_of c.args.statement.now) (tree.transition c.in-TransitionTo.field-0) (search (rules, the_lemmas))
+    statement_as c.args.walk.now _ (statement_of c.args.statement.now) (tree.transition c.in-TransitionTo.field-0 c.in-TransitionTo.field-1) (search (rules, the_lemmas))
     (does_gone c.args.walk.now _ refl refl refl refl)
+
+pub walk_statement-returns-in-Return : goal.walk_statement-returns-in-Return
+walk_statement-returns-in-Return t c =
+    statement_as c.args.walk.now _ (statement_of c.args.statement.now) (tree.give c.in-Return.field-0 (expression_of c.in-Return.value))
+    (search (rules, the_lemmas)) (does_both c.read-in-Return.ensures.does (does_gone c.read-in-Return.new.walk _ refl refl refl refl))
 
 pub walk_statement-returns-in-Assign : goal.walk_statement-returns-in-Assign
 walk_statement-returns-in-Assign t c =
