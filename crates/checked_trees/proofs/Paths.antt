@@ -43,66 +43,66 @@ module _ (fs : List CheckedFunction) where
   a_turn : (x : VariableName) (n : ℕ) (body : CheckedBlock) (xs : List Access) (end : End) → BlockPath fs body xs end → HasPath (TurnsPath fs x n body)
       → HasPath (TurnsPath fs x (suc n) body)
   a_turn x n body xs goes_on p more =
-      some (TurnsPath fs x (suc n) body) (xs ++ write x ∷ more.accesses) more.end (path.turn fs x n body xs more.accesses more.end p more.is)
-  a_turn x n body xs (goes_to k) p more = some (TurnsPath fs x (suc n) body) xs (goes_to k) (path.cut fs x n body xs (goes_to k) tt p)
-  a_turn x n body xs returns p more = some (TurnsPath fs x (suc n) body) xs returns (path.cut fs x n body xs returns tt p)
+      some (TurnsPath fs x (suc n) body) (xs ++ write x ∷ more.accesses) more.end (path.turn x n body xs more.accesses more.end p more.is)
+  a_turn x n body xs (goes_to k) p more = some (TurnsPath fs x (suc n) body) xs (goes_to k) (path.cut x n body xs (goes_to k) tt p)
+  a_turn x n body xs returns p more = some (TurnsPath fs x (suc n) body) xs returns (path.cut x n body xs returns tt p)
 
   pub some_turns : (x : VariableName) (n : ℕ) (body : CheckedBlock) → HasPath (BlockPath fs body) → HasPath (TurnsPath fs x n body)
-  some_turns x zero body b = some (TurnsPath fs x zero body) [] goes_on (path.over fs x body)
+  some_turns x zero body b = some (TurnsPath fs x zero body) [] goes_on (path.over x body)
   some_turns x (suc n) body b = a_turn x n body b.accesses b.end b.is (some_turns x n body b)
 
   a_step : (s : CheckedStatement) (more : CheckedBlock) (xs : List Access) (end : End) → StatementPath fs s xs end → HasPath (BlockPath fs more)
       → HasPath (BlockPath fs (t.step s more))
-  a_step s more xs goes_on p q = some (BlockPath fs (t.step s more)) (xs ++ q.accesses) q.end (path.step fs s more xs q.accesses q.end p q.is)
-  a_step s more xs (goes_to k) p q = some (BlockPath fs (t.step s more)) xs (goes_to k) (path.stopped fs s more xs (goes_to k) tt p)
-  a_step s more xs returns p q = some (BlockPath fs (t.step s more)) xs returns (path.stopped fs s more xs returns tt p)
+  a_step s more xs goes_on p q = some (BlockPath fs (t.step s more)) (xs ++ q.accesses) q.end (path.step s more xs q.accesses q.end p q.is)
+  a_step s more xs (goes_to k) p q = some (BlockPath fs (t.step s more)) xs (goes_to k) (path.stopped s more xs (goes_to k) tt p)
+  a_step s more xs returns p q = some (BlockPath fs (t.step s more)) xs returns (path.stopped s more xs returns tt p)
 
   module _ (shared : List SharedDeclaration) where
     pub is_path : (e : CheckedExpression) → WellFormedExpression shared e → ExpressionPath fs e (names_read e)
-    is_path (t.number w) is = path.number fs w
-    is_path (t.long_number w) is = path.long_number fs w
-    is_path (t.name x) is = path.name fs x
-    is_path (t.element x index) is = path.element fs x index (names_read index) (is_path index is.1)
-    is_path t.sense is = path.sense fs
-    is_path t.next_event is = path.next_event fs
+    is_path (t.number w) is = path.number w
+    is_path (t.long_number w) is = path.long_number w
+    is_path (t.name x) is = path.name x
+    is_path (t.element x index) is = path.element x index (names_read index) (is_path index is.1)
+    is_path t.sense is = path.sense
+    is_path t.next_event is = path.next_event
     is_path (t.call f values) is = absurd is
-    is_path (t.unary op e) is = path.unary fs op e (names_read e) (is_path e is)
-    is_path (t.binary op a b) is = path.binary fs op a b (names_read a) (names_read b) (is_path a is.0) (is_path b is.1)
-    is_path (t.shift op e count) is = path.shift fs op e count (names_read e) (is_path e is.0)
-    is_path (t.short_circuit op a b) is = path.both_sides fs op a b (names_read a) (names_read b) (is_path a is.0) (is_path b is.1)
+    is_path (t.unary op e) is = path.unary op e (names_read e) (is_path e is)
+    is_path (t.binary op a b) is = path.binary op a b (names_read a) (names_read b) (is_path a is.0) (is_path b is.1)
+    is_path (t.shift op e count) is = path.shift op e count (names_read e) (is_path e is.0)
+    is_path (t.short_circuit op a b) is = path.both_sides op a b (names_read a) (names_read b) (is_path a is.0) (is_path b is.1)
 
     mutual
       some_statement : (s : CheckedStatement) → WellFormedStatement shared s → HasPath (StatementPath fs s)
-      some_statement (t.declare of x None) is = some (StatementPath fs (t.declare of x None)) (unset x ∷ []) goes_on (path.declare_unset fs of x)
+      some_statement (t.declare of x None) is = some (StatementPath fs (t.declare of x None)) (unset x ∷ []) goes_on (path.declare_unset of x)
       some_statement (t.declare of x (Some e)) is =
           some (StatementPath fs (t.declare of x (Some e))) (names_read e ++ write x ∷ []) goes_on
-          (path.declare_set fs of x e (names_read e) (is_path e is.1))
+          (path.declare_set of x e (names_read e) (is_path e is.1))
       some_statement (t.assign x e) is =
-          some (StatementPath fs (t.assign x e)) (names_read e ++ write x ∷ []) goes_on (path.assign fs x e (names_read e) (is_path e is.1))
+          some (StatementPath fs (t.assign x e)) (names_read e ++ write x ∷ []) goes_on (path.assign x e (names_read e) (is_path e is.1))
       some_statement (t.store x index e) is =
           some (StatementPath fs (t.store x index e)) (names_read index ++ (names_read e ++ write x ∷ [])) goes_on
-          (path.store fs x index e (names_read index) (names_read e) (is_path index is.1) (is_path e is.2))
+          (path.store x index e (names_read index) (names_read e) (is_path index is.1) (is_path e is.2))
       some_statement (t.choose c) is =
-          let p = some_choice c is in some (StatementPath fs (t.choose c)) p.accesses p.end (path.choose fs c p.accesses p.end p.is)
+          let p = some_choice c is in some (StatementPath fs (t.choose c)) p.accesses p.end (path.choose c p.accesses p.end p.is)
       some_statement (t.loop x from tested below stepped body) is =
           let p = some_turns x (below - from) body (some_block body is.1) in
           some (StatementPath fs (t.loop x from tested below stepped body)) (write x ∷ p.accesses) p.end
-          (path.loop fs x from tested below stepped body p.accesses p.end p.is)
-      some_statement (t.emit e) is = some (StatementPath fs (t.emit e)) (names_read e) goes_on (path.emit fs e (names_read e) (is_path e is.0))
+          (path.loop x from tested below stepped body p.accesses p.end p.is)
+      some_statement (t.emit e) is = some (StatementPath fs (t.emit e)) (names_read e) goes_on (path.emit e (names_read e) (is_path e is.0))
       some_statement (t.give at e) is = absurd is
-      some_statement (t.transition at k) is = some (StatementPath fs (t.transition at k)) [] (goes_to k) (path.transition fs at k)
+      some_statement (t.transition at k) is = some (StatementPath fs (t.transition at k)) [] (goes_to k) (path.transition at k)
 
       some_choice : (c : CheckedChoice) → WellFormedChoice shared c → HasPath (ChoicePath fs c)
-      some_choice t.nothing is = some (ChoicePath fs t.nothing) [] goes_on (path.nothing fs)
+      some_choice t.nothing is = some (ChoicePath fs t.nothing) [] goes_on path.nothing
       some_choice (t.otherwise b) is =
-          let p = some_block b is in some (ChoicePath fs (t.otherwise b)) p.accesses p.end (path.otherwise fs b p.accesses p.end p.is)
+          let p = some_block b is in some (ChoicePath fs (t.otherwise b)) p.accesses p.end (path.otherwise b p.accesses p.end p.is)
       some_choice (t.test e b more) is =
           let p = some_block b is.1 in
           some (ChoicePath fs (t.test e b more)) (names_read e ++ p.accesses) p.end
-          (path.taken fs e b more (names_read e) p.accesses p.end (is_path e is.0) p.is)
+          (path.taken e b more (names_read e) p.accesses p.end (is_path e is.0) p.is)
 
       pub some_block : (b : CheckedBlock) → WellFormedBlock shared b → HasPath (BlockPath fs b)
-      some_block t.end is = some (BlockPath fs t.end) [] goes_on (path.finished fs)
+      some_block t.end is = some (BlockPath fs t.end) [] goes_on path.finished
       some_block (t.step s more) is = let p = some_statement s is.0 in a_step s more p.accesses p.end p.is (some_block more is.1)
 
 -- ---- which locals are unassigned

@@ -59,40 +59,40 @@ module _ (functions : List CheckedFunction) (n : ℕ) (few : n ≤ length functi
   called f low =
       let g = found functions f.function (omega (arith, low, few)) in
       let front = take f.function fs in
-      let gives = path.give front nowhere (t.number 0) [] (path.number front 0) in (
+      let gives : StatementPath front (t.give nowhere (t.number 0)) [] path.returns = path.give nowhere (t.number 0) [] (path.number 0) in (
         at_once g.0,
         slice_get-map at_once functions f.function ∙ ap (option_map at_once) g.1,
-        path.stopped front (t.give nowhere (t.number 0)) t.end [] path.returns tt gives,
+        path.stopped (t.give nowhere (t.number 0)) t.end [] path.returns tt gives,
       )
 
   mutual
     -- some path of an expression
     expression_path : (e : CheckedExpression) → CallsAreBelow n e → (xs : List Access) × ExpressionPath fs e xs
-    expression_path (t.number w) calls = ([], path.number fs w)
-    expression_path (t.long_number w) calls = ([], path.long_number fs w)
-    expression_path (t.name x) calls = (path.read x ∷ [], path.name fs x)
+    expression_path (t.number w) calls = ([], path.number w)
+    expression_path (t.long_number w) calls = ([], path.long_number w)
+    expression_path (t.name x) calls = (path.read x ∷ [], path.name x)
     expression_path (t.element x index) calls =
-        let i = expression_path index calls in (i.0 ++ path.read x ∷ [], path.element fs x index i.0 i.1)
-    expression_path t.sense calls = ([], path.sense fs)
-    expression_path t.next_event calls = ([], path.next_event fs)
+        let i = expression_path index calls in (i.0 ++ path.read x ∷ [], path.element x index i.0 i.1)
+    expression_path t.sense calls = ([], path.sense)
+    expression_path t.next_event calls = ([], path.next_event)
     expression_path (t.call f values) calls =
         let v = values_path values calls.1 in
         let c = called f calls.0 in
-        (v.0 ++ [], path.call fs f c.0 values v.0 [] c.1 v.1 c.2)
-    expression_path (t.unary op e) calls = let p = expression_path e calls in (p.0, path.unary fs op e p.0 p.1)
+        (v.0 ++ [], path.call f c.0 values v.0 [] c.1 v.1 c.2)
+    expression_path (t.unary op e) calls = let p = expression_path e calls in (p.0, path.unary op e p.0 p.1)
     expression_path (t.binary op a b) calls =
         let p = expression_path a calls.0 in
         let q = expression_path b calls.1 in
-        (p.0 ++ q.0, path.binary fs op a b p.0 q.0 p.1 q.1)
-    expression_path (t.shift op e count) calls = let p = expression_path e calls in (p.0, path.shift fs op e count p.0 p.1)
-    expression_path (t.short_circuit op a b) calls = let p = expression_path a calls.0 in (p.0, path.left_alone fs op a b p.0 p.1)
+        (p.0 ++ q.0, path.binary op a b p.0 q.0 p.1 q.1)
+    expression_path (t.shift op e count) calls = let p = expression_path e calls in (p.0, path.shift op e count p.0 p.1)
+    expression_path (t.short_circuit op a b) calls = let p = expression_path a calls.0 in (p.0, path.left_alone op a b p.0 p.1)
 
     values_path : (values : CheckedValues) → ValuesCallBelow n values → (xs : List Access) × ValuesPath fs values xs
-    values_path t.no_value calls = ([], path.no_value fs)
+    values_path t.no_value calls = ([], path.no_value)
     values_path (t.value e more) calls =
         let p = expression_path e calls.0 in
         let q = values_path more calls.1 in
-        (p.0 ++ q.0, path.value fs e more p.0 q.0 p.1 q.1)
+        (p.0 ++ q.0, path.value e more p.0 q.0 p.1 q.1)
 
   module _ (known : List Meaning) where
     on_value : (p : List Access → Type 0) (e : CheckedExpression) (s : Attempt) (next : ℕ → Attempt → Outcome)
@@ -115,59 +115,59 @@ module _ (functions : List CheckedFunction) (n : ℕ) (few : n ≤ length functi
     turns_path : (left from : ℕ) (x : VariableName) (body : CheckedBlock) (s : Attempt)
         → ((s : Attempt) → OnPath (Through body) (run_block known body s))
         → OnPath (ThroughTurns x left body) (turns left from x.variable (run_block known body) s)
-    turns_path zero from x body s h = ([], path.over fs x body)
+    turns_path zero from x body s h = ([], path.over x body)
     turns_path (suc left) from x body s h =
         on_then (Through body) (ThroughTurns x left body) (ThroughTurns x (suc left) body)
-        (λ xs ys. xs ++ write x ∷ ys) (λ xs ys p q. path.turn fs x left body xs ys path.goes_on p q)
+        (λ xs ys. xs ++ write x ∷ ys) (λ xs ys p q. path.turn x left body xs ys path.goes_on p q)
         (run_block known body (assigned s x.variable 0 from)) (turns left (from + 1) x.variable (run_block known body))
         (h (assigned s x.variable 0 from)) (λ s. turns_path left (from + 1) x body s h)
 
     mutual
       statement_path : (s : CheckedStatement) → StatementCallsBelow n s → (a : Attempt)
           → OnPath (ThroughStatement s) (run_statement known s a)
-      statement_path (t.declare of x None) calls a = (path.unset x ∷ [], path.declare_unset fs of x)
+      statement_path (t.declare of x None) calls a = (path.unset x ∷ [], path.declare_unset of x)
       statement_path (t.declare of x (Some e)) calls a =
           let p = expression_path e calls in
-          on_value (ThroughStatement (t.declare of x (Some e))) e a _ (λ w s. (p.0 ++ write x ∷ [], path.declare_set fs of x e p.0 p.1))
+          on_value (ThroughStatement (t.declare of x (Some e))) e a _ (λ w s. (p.0 ++ write x ∷ [], path.declare_set of x e p.0 p.1))
       statement_path (t.assign x e) calls a =
           let p = expression_path e calls in
-          on_value (ThroughStatement (t.assign x e)) e a _ (λ w s. (p.0 ++ write x ∷ [], path.assign fs x e p.0 p.1))
+          on_value (ThroughStatement (t.assign x e)) e a _ (λ w s. (p.0 ++ write x ∷ [], path.assign x e p.0 p.1))
       statement_path (t.store x index e) calls a =
           let i = expression_path index calls.0 in
           let p = expression_path e calls.1 in
           on_value (ThroughStatement (t.store x index e)) index a _
           (λ k s. on_value (ThroughStatement (t.store x index e)) e s _
-          (λ w s. (i.0 ++ (p.0 ++ write x ∷ []), path.store fs x index e i.0 p.0 i.1 p.1)))
+          (λ w s. (i.0 ++ (p.0 ++ write x ∷ []), path.store x index e i.0 p.0 i.1 p.1)))
       statement_path (t.choose c) calls a =
-          on_map (ThroughChoice c) (ThroughStatement (t.choose c)) (λ xs. xs) (λ xs p. path.choose fs c xs path.goes_on p)
+          on_map (ThroughChoice c) (ThroughStatement (t.choose c)) (λ xs. xs) (λ xs p. path.choose c xs path.goes_on p)
           (run_choice known c a) (choice_path c calls a)
       statement_path (t.loop x from tested under stepped body) calls a =
           on_map (ThroughTurns x (under - from) body) (ThroughStatement (t.loop x from tested under stepped body)) (λ xs. write x ∷ xs)
-          (λ xs p. path.loop fs x from tested under stepped body xs path.goes_on p)
+          (λ xs p. path.loop x from tested under stepped body xs path.goes_on p)
           (turns (under - from) from x.variable (run_block known body) a)
           (turns_path (under - from) from x body a (block_path body calls))
       statement_path (t.emit e) calls a =
-          let p = expression_path e calls in on_value (ThroughStatement (t.emit e)) e a _ (λ w s. (p.0, path.emit fs e p.0 p.1))
+          let p = expression_path e calls in on_value (ThroughStatement (t.emit e)) e a _ (λ w s. (p.0, path.emit e p.0 p.1))
       statement_path (t.give at e) calls a = on_value (ThroughStatement (t.give at e)) e a _ (λ w s. tt)
       statement_path (t.transition at task) calls a = tt
 
       choice_path : (c : CheckedChoice) → ChoiceCallsBelow n c → (a : Attempt) → OnPath (ThroughChoice c) (run_choice known c a)
-      choice_path t.nothing calls a = ([], path.nothing fs)
+      choice_path t.nothing calls a = ([], path.nothing)
       choice_path (t.otherwise b) calls a =
-          on_map (Through b) (ThroughChoice (t.otherwise b)) (λ xs. xs) (λ xs p. path.otherwise fs b xs path.goes_on p)
+          on_map (Through b) (ThroughChoice (t.otherwise b)) (λ xs. xs) (λ xs p. path.otherwise b xs path.goes_on p)
           (run_block known b a) (block_path b calls a)
       choice_path (t.test e b more) calls a =
           let p = expression_path e calls.0 in
           on_value (ThroughChoice (t.test e b more)) e a (λ w s. if holds w then run_block known b s else run_choice known more s)
           (λ w s. on_if (ThroughChoice (t.test e b more)) (holds w) (run_block known b s) (run_choice known more s)
           (on_map (Through b) (ThroughChoice (t.test e b more)) (λ ys. p.0 ++ ys)
-          (λ ys q. path.taken fs e b more p.0 ys path.goes_on p.1 q) (run_block known b s) (block_path b calls.1 s))
+          (λ ys q. path.taken e b more p.0 ys path.goes_on p.1 q) (run_block known b s) (block_path b calls.1 s))
           (on_map (ThroughChoice more) (ThroughChoice (t.test e b more)) (λ ys. p.0 ++ ys)
-          (λ ys q. path.passed fs e b more p.0 ys path.goes_on p.1 q) (run_choice known more s) (choice_path more calls.2 s)))
+          (λ ys q. path.passed e b more p.0 ys path.goes_on p.1 q) (run_choice known more s) (choice_path more calls.2 s)))
 
       pub block_path : (b : CheckedBlock) → BlockCallsBelow n b → (a : Attempt) → OnPath (Through b) (run_block known b a)
-      block_path t.end calls a = ([], path.finished fs)
+      block_path t.end calls a = ([], path.finished)
       block_path (t.step s more) calls a =
           on_then (ThroughStatement s) (Through more) (Through (t.step s more)) (λ xs ys. xs ++ ys)
-          (λ xs ys p q. path.step fs s more xs ys path.goes_on p q) (run_statement known s a) (run_block known more)
+          (λ xs ys p q. path.step s more xs ys path.goes_on p q) (run_statement known s a) (run_block known more)
           (statement_path s calls.0 a) (block_path more calls.1)

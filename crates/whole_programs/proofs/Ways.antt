@@ -236,22 +236,22 @@ module _ (room : ℕ) (x : VariableName) (code : Program) (body : CheckedBlock) 
       by_end : (xs : List Access) (end : End) → BlockPath [] body xs end → Safe u xs
       by_end xs goes_on q =
           let more = some_turns [] x m body some in
-          let r = path.turn [] x m body xs more.accesses more.end q more.is in
+          let r = path.turn x m body xs more.accesses more.end q more.is in
           (safe_both u xs (write x ∷ more.accesses) (h.safe (xs ++ write x ∷ more.accesses) more.end r)).0
-      by_end xs (goes_to task) q = h.safe xs (goes_to task) (path.cut [] x m body xs (goes_to task) tt q)
-      by_end xs returns q = h.safe xs returns (path.cut [] x m body xs returns tt q)
+      by_end xs (goes_to task) q = h.safe xs (goes_to task) (path.cut x m body xs (goes_to task) tt q)
+      by_end xs returns q = h.safe xs returns (path.cut x m body xs returns tt q)
 
   -- what follows a turn
   turns_follow : (m : ℕ) (u : ℕ → Bool) (next : Place → Type 0) (xs : List Access) → Follows (TurnsPath [] x (suc m) body) u next → BlockPath [] body xs goes_on
       → Follows (TurnsPath [] x m body) (written (behind u xs) x) next
   turns_follow m u next xs h q = record {
-    safe = λ ys end r. (safe_both u xs (write x ∷ ys) (h.safe (xs ++ write x ∷ ys) end (path.turn [] x m body xs ys end q r))).1;
-    on = λ ys r a c. h.on (xs ++ write x ∷ ys) (path.turn [] x m body xs ys goes_on q r) a (subst (λ v. Covers v a) (sym (behind_both u xs (write x ∷ ys))) c);
+    safe = λ ys end r. (safe_both u xs (write x ∷ ys) (h.safe (xs ++ write x ∷ ys) end (path.turn x m body xs ys end q r))).1;
+    on = λ ys r a c. h.on (xs ++ write x ∷ ys) (path.turn x m body xs ys goes_on q r) a (subst (λ v. Covers v a) (sym (behind_both u xs (write x ∷ ys))) c);
   }
 
   turns_way : (m : ℕ) (u a : ℕ → Bool) (next : Place → Type 0) → Covers u a → Follows (TurnsPath [] x m body) (written u x) next
       → EachTurn m (loop_local x.variable) (EachWay room code) next (at 0 a)
-  turns_way zero u a next c h = h.on [] (path.over [] x body) _ (covers_written u a x c)
+  turns_way zero u a next c h = h.on [] (path.over x body) _ (covers_written u a x c)
   turns_way (suc m) u a next c h =
       way (written u x) _ _ (covers_written u a x c)
       (turn_follows m (written u x) next _ h (λ xs q b d. turns_way m (behind (written u x) xs) b next d (turns_follow m (written u x) next xs h q)))
@@ -430,65 +430,65 @@ module _ (p : Places) (words : PlacesOfWords p) (shared : List SharedDeclaration
     where
       by_end : (xs : List Access) (end : End) → StatementPath [] s xs end → Safe u xs
       by_end xs goes_on q =
-          let m = some_block [] shared more is in (safe_both u xs m.accesses (h.safe (xs ++ m.accesses) m.end (path.step [] s more xs m.accesses m.end q m.is))).0
-      by_end xs (goes_to task) q = h.safe xs (goes_to task) (path.stopped [] s more xs (goes_to task) tt q)
-      by_end xs returns q = h.safe xs returns (path.stopped [] s more xs returns tt q)
+          let m = some_block [] shared more is in (safe_both u xs m.accesses (h.safe (xs ++ m.accesses) m.end (path.step s more xs m.accesses m.end q m.is))).0
+      by_end xs (goes_to task) q = h.safe xs (goes_to task) (path.stopped s more xs (goes_to task) tt q)
+      by_end xs returns q = h.safe xs returns (path.stopped s more xs returns tt q)
 
   -- what follows those
   block_follows : (s : CheckedStatement) (more : CheckedBlock) (u : ℕ → Bool) (next : Place → Type 0) (xs : List Access)
       → Follows (BlockPath [] (t.step s more)) u next → StatementPath [] s xs goes_on
       → Follows (BlockPath [] more) (behind u xs) next
   block_follows s more u next xs h q = record {
-    safe = λ ys end r. (safe_both u xs ys (h.safe (xs ++ ys) end (path.step [] s more xs ys end q r))).1;
-    on = λ ys r a c. h.on (xs ++ ys) (path.step [] s more xs ys goes_on q r) a (subst (λ v. Covers v a) (sym (behind_both u xs ys)) c);
+    safe = λ ys end r. (safe_both u xs ys (h.safe (xs ++ ys) end (path.step s more xs ys end q r))).1;
+    on = λ ys r a c. h.on (xs ++ ys) (path.step s more xs ys goes_on q r) a (subst (λ v. Covers v a) (sym (behind_both u xs ys)) c);
   }
 
   -- what follows a block that an `if` takes, and what the conditions that come next
   taken_follows : (e : CheckedExpression) (b : CheckedBlock) (more : CheckedChoice) (u : ℕ → Bool) (next : Place → Type 0)
       → WellFormedExpression shared e → Follows (ChoicePath [] (t.test e b more)) u next → Follows (BlockPath [] b) u next
   taken_follows e b more u next is h = record {
-    safe = λ ys end r. (safe_expression u e ys (h.safe (names_read e ++ ys) end (path.taken [] e b more (names_read e) ys end (is_path [] shared e is) r))).1;
+    safe = λ ys end r. (safe_expression u e ys (h.safe (names_read e ++ ys) end (path.taken e b more (names_read e) ys end (is_path [] shared e is) r))).1;
     on =
-        λ ys r a c. h.on (names_read e ++ ys) (path.taken [] e b more (names_read e) ys goes_on (is_path [] shared e is) r) a
+        λ ys r a c. h.on (names_read e ++ ys) (path.taken e b more (names_read e) ys goes_on (is_path [] shared e is) r) a
         (subst (λ v. Covers v a) (sym (behind_expression u e ys)) c);
   }
 
   passed_follows : (e : CheckedExpression) (b : CheckedBlock) (more : CheckedChoice) (u : ℕ → Bool) (next : Place → Type 0)
       → WellFormedExpression shared e → Follows (ChoicePath [] (t.test e b more)) u next → Follows (ChoicePath [] more) u next
   passed_follows e b more u next is h = record {
-    safe = λ ys end r. (safe_expression u e ys (h.safe (names_read e ++ ys) end (path.passed [] e b more (names_read e) ys end (is_path [] shared e is) r))).1;
+    safe = λ ys end r. (safe_expression u e ys (h.safe (names_read e ++ ys) end (path.passed e b more (names_read e) ys end (is_path [] shared e is) r))).1;
     on =
-        λ ys r a c. h.on (names_read e ++ ys) (path.passed [] e b more (names_read e) ys goes_on (is_path [] shared e is) r) a
+        λ ys r a c. h.on (names_read e ++ ys) (path.passed e b more (names_read e) ys goes_on (is_path [] shared e is) r) a
         (subst (λ v. Covers v a) (sym (behind_expression u e ys)) c);
   }
 
   mutual
     statement_way : (s : CheckedStatement) (u a : ℕ → Bool) (next : Place → Type 0) → WellFormedStatement shared s → Covers u a
         → Follows (StatementPath [] s) u next → EachWay enough (lowered_statement p s) next (at 0 a)
-    statement_way (t.declare of x None) u a next is c h = h.on (unset x ∷ []) (path.declare_unset [] of x) a (covers_forgotten u a x c)
+    statement_way (t.declare of x None) u a next is c h = h.on (unset x ∷ []) (path.declare_unset of x) a (covers_forgotten u a x c)
     statement_way (t.declare of x (Some e)) u a next is c h =
-        let q = path.declare_set [] of x e (names_read e) (is_path [] shared e is.1) in
+        let q = path.declare_set of x e (names_read e) (is_path [] shared e is.1) in
         assigned_way u a Unsigned x e next (is.1, is.3) c (h.safe (names_read e ++ write x ∷ []) goes_on q) (h.on (names_read e ++ write x ∷ []) q)
     statement_way (t.assign x e) u a next is c h =
-        let q = path.assign [] x e (names_read e) (is_path [] shared e is.1) in
+        let q = path.assign x e (names_read e) (is_path [] shared e is.1) in
         assigned_way u a x.word_type x e next (is.1, is.3) c (h.safe (names_read e ++ write x ∷ []) goes_on q) (h.on (names_read e ++ write x ∷ []) q)
     statement_way (t.store x index e) u a next is c h =
-        let q = path.store [] x index e (names_read index) (names_read e) (is_path [] shared index is.1) (is_path [] shared e is.2) in
+        let q = path.store x index e (names_read index) (names_read e) (is_path [] shared index is.1) (is_path [] shared e is.2) in
         let xs = names_read index ++ (names_read e ++ write x ∷ []) in
         element_assigned_way u a x index e next (is.1, is.4) (is.2, is.5) is.0 c (h.safe xs goes_on q) (h.on xs q)
     statement_way (t.choose choice) u a next is c h =
         choice_way choice u a next is c (record {
-          safe = λ xs end q. h.safe xs end (path.choose [] choice xs end q);
-          on = λ xs q. h.on xs (path.choose [] choice xs goes_on q);
+          safe = λ xs end q. h.safe xs end (path.choose choice xs end q);
+          on = λ xs q. h.on xs (path.choose choice xs goes_on q);
         })
     statement_way (t.loop x from tested below stepped body) u a next is c h =
         turns_way enough x (lowered_block p body) body (λ v b rest d k. block_way body v b rest is.1 d k) (some_block [] shared body is.1)
         (below - from) u a next c (record {
-          safe = λ xs end q. h.safe (write x ∷ xs) end (path.loop [] x from tested below stepped body xs end q);
-          on = λ xs q. h.on (write x ∷ xs) (path.loop [] x from tested below stepped body xs goes_on q);
+          safe = λ xs end q. h.safe (write x ∷ xs) end (path.loop x from tested below stepped body xs end q);
+          on = λ xs q. h.on (write x ∷ xs) (path.loop x from tested below stepped body xs goes_on q);
         })
     statement_way (t.emit e) u a next is c h =
-        let q = path.emit [] e (names_read e) (is_path [] shared e is.0) in
+        let q = path.emit e (names_read e) (is_path [] shared e is.0) in
         joined_way enough (lowered_expression p e) (one (emit_word (word_place p.map EmitCount) p.map.emits.address)) next (at 0 a)
         (expression_way p words shared 0 a e _ (is, reads_assigned shared u a e c is.0 (h.safe (names_read e) goes_on q))
         (moves enough 1 0 1 0 a next (omega arith) (omega arith) (omega arith) (h.on (names_read e) q a (subst (λ v. Covers v a) (sym (behind_names u e)) c))))
@@ -497,13 +497,13 @@ module _ (p : Places) (words : PlacesOfWords p) (shared : List SharedDeclaration
 
     choice_way : (choice : CheckedChoice) (u a : ℕ → Bool) (next : Place → Type 0) → WellFormedChoice shared choice → Covers u a
         → Follows (ChoicePath [] choice) u next → EachWay enough (lowered_choice p choice) next (at 0 a)
-    choice_way t.nothing u a next is c h = h.on [] (path.nothing []) a c
+    choice_way t.nothing u a next is c h = h.on [] path.nothing a c
     choice_way (t.otherwise b) u a next is c h =
         block_way b u a next is c
-        (record { safe = λ xs end q. h.safe xs end (path.otherwise [] b xs end q); on = λ xs q. h.on xs (path.otherwise [] b xs goes_on q) })
+        (record { safe = λ xs end q. h.safe xs end (path.otherwise b xs end q); on = λ xs q. h.on xs (path.otherwise b xs goes_on q) })
     choice_way (t.test e b more) u a next is c h =
         let some = some_block [] shared b is.1 in
-        let s = h.safe (names_read e ++ some.accesses) some.end (path.taken [] e b more (names_read e) some.accesses some.end (is_path [] shared e is.0) some.is) in
+        let s = h.safe (names_read e ++ some.accesses) some.end (path.taken e b more (names_read e) some.accesses some.end (is_path [] shared e is.0) some.is) in
         let reads = reads_assigned shared u a e c is.0 (safe_expression u e some.accesses s).0 in
         (lowering_has (ways enough a) p words shared 0 e is.0 is.3 reads).test (EachWay enough (lowered_block p b) next)
         (EachWay enough (lowered_choice p more) next)
@@ -511,7 +511,7 @@ module _ (p : Places) (words : PlacesOfWords p) (shared : List SharedDeclaration
 
     block_way : (b : CheckedBlock) (u a : ℕ → Bool) (next : Place → Type 0) → WellFormedBlock shared b → Covers u a
         → Follows (BlockPath [] b) u next → EachWay enough (lowered_block p b) next (at 0 a)
-    block_way t.end u a next is c h = h.on [] (path.finished []) a c
+    block_way t.end u a next is c h = h.on [] path.finished a c
     block_way (t.step s more) u a next is c h =
         joined_way enough (lowered_statement p s) (lowered_block p more) next (at 0 a)
         (statement_way s u a (EachWay enough (lowered_block p more) next) is.0 c
