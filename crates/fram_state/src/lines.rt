@@ -158,7 +158,7 @@ fn are_planned(
 fn has_ring(source: &CheckedSource) -> bool
     ensures { result ≡ uses_events (program_of source.now) }
 {
-    uses_events(source.tasks.as_slice())
+    uses_events(source)
 }
 
 // Whether a map has the lines that a source with this plan gives.
