@@ -10,7 +10,7 @@ use Rattle.task_ast.specs.Answers.{answers}
 use Rattle.task_ast.specs.Calls.{BlockCallsBelow, FunctionsCallBelow}
 use Rattle.task_ast.specs.Paths.{CheckedFunction, Access, End, goes_on, returns, outside, BlockPath}
 use Rattle.task_ast.specs.Paths as p
-use Rattle.task_ast.proofs.Interface.{answers_at, take_take_front}
+use Rattle.task_ast.proofs.Interface.{answer_of}
 use Rattle.path_sums.specs.Sums.{Algebra, call_sum, block_sum, function_sum, call_sums}
 use Rattle.path_sums.specs.Known.{AreCallSums, EachReturns}
 use Rattle.path_sums.specs.Reaches.{at_once}
@@ -18,7 +18,8 @@ use Rattle.path_sums.proofs.Joins.{Lawful, path_sum, Joins, Made, one, Going, go
 
 calls_at : (n k : ℕ) (fs : List CheckedFunction) (f : CheckedFunction) → FunctionsCallBelow n fs → slice_get fs k ≡ Some f → BlockCallsBelow (n + k) f.body
 calls_at n k [] f calls at = let no : None ≡ Some f = at in cc
-calls_at n zero (g ∷ fs) f calls at = let same : g ≡ f = same_Some g f at in subst (λ h. BlockCallsBelow n h.body) same calls.0
+calls_at n zero (g ∷ fs) f calls at = let same : g ≡ f = same_Some g f at in
+    subst (λ m. BlockCallsBelow m f.body) (let e : n ≡ n + 0 = omega arith in e) (subst (λ h. BlockCallsBelow n h.body) same calls.0)
 calls_at n (suc k) (g ∷ fs) f calls at =
     subst (λ m. BlockCallsBelow m f.body) (let e : n + 1 + k ≡ n + suc k = omega arith in e) (calls_at (n + 1) k fs f calls.1 at)
 
@@ -45,39 +46,42 @@ element (f ∷ fs) zero l = (f, refl)
 element (f ∷ fs) (suc k) l = element fs k (omega arith)
 
 module _ {S : Type 0} (A : Algebra S) (law : Lawful A) where
+  module _ (fs : List CheckedFunction) (calls : FunctionsCallBelow 0 fs) (each : EachReturns fs) (k : ℕ) (l : k < length fs) where
+    count : length (take k fs) ≡ k
+    count = omega (arith, l, length-take k fs)
+
+    in_its_body : (f : CheckedFunction) → slice_get fs k ≡ Some f → BlockCallsBelow (length (take k fs)) f.body
+    in_its_body f at = subst (λ m. BlockCallsBelow m f.body) (let e : 0 + k ≡ length (take k fs) = omega (arith, count) in e) (calls_at 0 k fs f calls at)
+
+    Seen : CheckedFunction → List Access → Type 0
+    Seen f zs = (ys : List Access) × (zs ≡ outside ys) × BlockPath (take k fs) f.body ys returns
+
+    there : (f : CheckedFunction) → slice_get fs k ≡ Some f → (zs : List Access) (end : End) → Going (Seen f) zs end → Going (CallPath fs k) zs end
+    unfolding Seen
+    there f at _ _ (going zs (ys, e, h)) = going zs (f, ys, at, e, h)
+
+    back : (f : CheckedFunction) → slice_get fs k ≡ Some f → (zs : List Access) (end : End) → Going (CallPath fs k) zs end → Going (Seen f) zs end
+    unfolding Seen
+    back f at _ _ (going zs (g, ys, found, e, h)) =
+        going zs (ys, e, subst (λ g. BlockPath (take k fs) g.body ys returns) (same_Some g f (sym found ∙ at)) h)
+
+    -- the calls of a function, from those of the functions in front of it
+    call_known : Known A (take k fs) (call_sums A (take k fs)) → (f : CheckedFunction) → slice_get fs k ≡ Some f
+        → Joins A (Going (CallPath fs k)) (call_sum (call_sums A fs) A k)
+    unfolding Seen
+    call_known known f at =
+        let body = joins_block A law (take k fs) (call_sums A (take k fs)) known f.body (in_its_body f at) in
+        let called = joins_called A law (BlockPath (take k fs) f.body) (each k f at) _ body in
+        let is : call_sum (call_sums A fs) A k ≡ function_sum A (call_sums A (take k fs)) f =
+        get_or_from_slice_get (call_sums A fs) k (function_sum A (call_sums A (take k fs)) f) A.unit (answer_of (function_sum A) fs k f at) in
+        subst (Joins A (Going (CallPath fs k))) (sym is) (joins_same A law (Going (Seen f)) (Going (CallPath fs k)) _ (there f at) (back f at) called)
+
   known_below : (n : ℕ) (fs : List CheckedFunction) → length fs ≤ n → FunctionsCallBelow 0 fs → EachReturns fs → Known A fs (call_sums A fs)
   known_below zero fs few calls each = λ k l. absurd (omega arith)
-  known_below (suc n) fs few calls each = λ k l. by k l (element fs k l).0 (element fs k l).1
-    where
-      by : (k : ℕ) → k < length fs → (f : CheckedFunction) → slice_get fs k ≡ Some f → Joins A (Going (CallPath fs k)) (call_sum (call_sums A fs) A k)
-      by k l f at = subst (Joins A (Going (CallPath fs k))) (sym is) (joins_same A law _ _ _ there back body)
-        where
-          front : List CheckedFunction
-          front = take k fs
-
-          count : length front ≡ k
-          count = omega (arith, length-take k fs)
-
-          in_its_body : BlockCallsBelow (length front) f.body
-          in_its_body = subst (λ m. BlockCallsBelow m f.body) (let e : 0 + k ≡ length front = omega (arith, count) in e) (calls_at 0 k fs f calls at)
-
-          known : Known A front (call_sums A front)
-          known = known_below n front (omega (arith, count)) (calls_front 0 k fs calls) (returning_front k fs each)
-
-          body : Joins A (Going (λ zs. (ys : List Access) × (zs ≡ outside ys) × BlockPath front f.body ys returns)) (function_sum A (call_sums A front) f)
-          body = joins_called A law (BlockPath front f.body) (each k f at) _ (joins_block A law front (call_sums A front) known f.body in_its_body)
-
-          there : (zs : List Access) (end : End) → Going (λ zs. (ys : List Access) × (zs ≡ outside ys) × BlockPath front f.body ys returns) zs end
-              → Going (CallPath fs k) zs end
-          there _ _ (going zs (ys, e, h)) = going zs (f, ys, at, e, h)
-
-          back : (zs : List Access) (end : End) → Going (CallPath fs k) zs end
-              → Going (λ zs. (ys : List Access) × (zs ≡ outside ys) × BlockPath front f.body ys returns) zs end
-          back _ _ (going zs (g, ys, there, e, h)) =
-              going zs (ys, e, subst (λ g. BlockPath front g.body ys returns) (same_Some g f (sym there ∙ at)) h)
-
-          is : call_sum (call_sums A fs) A k ≡ function_sum A (call_sums A front) f
-          is = get_or_from_slice_get (call_sums A fs) k (function_sum A (call_sums A front) f) A.unit (answers_at (function_sum A) fs k f at)
+  known_below (suc n) fs few calls each = λ k l.
+      let front = known_below n (take k fs) (omega (arith, few, l, length-take k fs)) (calls_front 0 k fs calls) (returning_front k fs each) in
+      let here = element fs k l in
+      call_known fs calls each k l front here.0 here.1
 
   -- the sums of the calls join what their callers see
   pub known_sums : (fs : List CheckedFunction) (known : List S) → AreCallSums A fs known → Known A fs known

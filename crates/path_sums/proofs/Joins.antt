@@ -212,7 +212,7 @@ module _ {S : Type 0} (A : Algebra S) (law : Lawful A) where
   called_step x false s ys e h = law.called_unseen x s e ∙ h
 
   -- the caller's sum of a path that returns
-  called_path : (ys : List Access) → A.called (path_sum A ys returns) ≡ path_sum A (outside ys) goes_on
+  pub called_path : (ys : List Access) → A.called (path_sum A ys returns) ≡ path_sum A (outside ys) goes_on
   called_path [] = law.called_gone
   called_path (y ∷ ys) = called_step y (is_seen_outside y) (path_sum A ys returns) (outside ys) refl (called_path ys)
 
@@ -376,6 +376,7 @@ module _ {S : Type 0} (A : Algebra S) (law : Lawful A) where
     turns_there x zero body _ _ only = p.over x body
     turns_there x (suc n) body _ _ (both _ ys end (both xs _ _ h only) k) =
         subst (λ zs. TurnsPath fs x (suc n) body zs end) (sym (append_assoc xs (write x ∷ []) ys)) (p.turn x n body xs ys end h (turns_there x n body ys end k))
+    turns_there x (suc n) body _ _ (both _ _ _ (cut _ _ l _) _) = absurd l
     turns_there x (suc n) body _ _ (cut _ _ l (cut xs end m h)) = p.cut x n body xs end m h
     turns_there x (suc n) body _ _ (cut _ _ l (both _ _ _ _ only)) = absurd l
 

@@ -2,6 +2,7 @@ mod Taut
 mod Tests
 mod Joins
 mod Calls
+mod OneMore
 mod Bits
 mod FlowMeaning
 mod Every

@@ -299,8 +299,8 @@ pub fn call_summaries(
     ensures { IfOk result (λ sums. sums.items ≡ call_sums (summary v) (map function_of functions.now)) }
 {
     let mut known = Vec::new(alloc);
-    for function in functions {
-        let body = access_summary(&known, v, &function.body);
+    for i in 0..functions.len() {
+        let body = access_summary(&known, v, &functions[i].body);
         known.push(called(v, body))?;
     }
     Ok(known)
