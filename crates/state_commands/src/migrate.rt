@@ -140,6 +140,7 @@ fn check_suits<'t>(
     source: &Accepted,
     image: &Image,
 ) -> Result<(), Failure<'t>>
+    requires plain { IsPlain (program_of source.now.checked.source) }
     ensures suits { IfOk result (λ _. Suits source.now.text.items (program_of source.now.checked.source) image.now) }
     ensures refused { IfErr result (FailsRefused file.now (λ r. (r ≡ other_source)
         × (Suits source.now.text.items (program_of source.now.checked.source) image.now → ⊥))) }
