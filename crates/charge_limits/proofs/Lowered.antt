@@ -220,7 +220,8 @@ module _ (counts : List ℕ) where
       (behind_few n (word_program l) _ refl (word_few l n (expression_few p e))) (behind_few n (long_words l) _ refl (longs_few l n (expression_few p e)))
   expression_few p (t.short_circuit op a b) =
       sides_test_few op (expression_readings counts a) (expression_readings counts b) (value_test (lowering p a)) (value_test (lowering p b))
-      (test_few (lowering p a) (expression_readings counts a) (expression_few p a)) (test_few (lowering p b) (expression_readings counts b) (expression_few p b))
+      (test_few (lowering p a) (expression_readings counts a) (expression_few p a))
+      (test_few (lowering p b) (expression_readings counts b) (expression_few p b))
 
   value_few : (p : Places) (e : CheckedExpression) → senses (lowered_expression p e) ≤ expression_readings counts e
   value_few p e = word_few (lowering p e) (expression_readings counts e) (expression_few p e)
@@ -257,9 +258,11 @@ module _ (counts : List ℕ) where
   assignment_few p x (t.shift op e count) = setting_few p x (t.shift op e count)
   assignment_few p x (t.short_circuit op a b) = setting_few p x (t.short_circuit op a b)
 
-  sides_of_few : (p : Places) (index e : CheckedExpression) → senses (index_and_value p index e) ≤ expression_readings counts index + expression_readings counts e
+  sides_of_few : (p : Places) (index e : CheckedExpression)
+      → senses (index_and_value p index e) ≤ expression_readings counts index + expression_readings counts e
   sides_of_few p index e =
-      joined_few (expression_readings counts index) (expression_readings counts e) (lowered_expression p index) (lowered_expression p e) (value_few p index) (value_few p e)
+      joined_few (expression_readings counts index) (expression_readings counts e) (lowered_expression p index) (lowered_expression p e) (value_few p index)
+      (value_few p e)
 
   element_setting_few : (p : Places) (x : Variable) (index e : CheckedExpression)
       → senses (element_setting p x index e) ≤ expression_readings counts index + expression_readings counts e
@@ -271,7 +274,8 @@ module _ (counts : List ℕ) where
       → senses (element_sides_set p x index op a b o) ≤ expression_readings counts index + (expression_readings counts a + expression_readings counts b)
   element_sides_few p x index op a b None = element_setting_few p x index (t.binary op a b)
   element_sides_few p x index op a b (Some o) =
-      behind_few (expression_readings counts index + (expression_readings counts a + expression_readings counts b)) (index_and_value p index b) (update_element_step p o x)
+      behind_few (expression_readings counts index + (expression_readings counts a + expression_readings counts b)) (index_and_value p index b)
+      (update_element_step p o x)
       (own_update_none p.map.runtime.logging o (stored_array p x) (list_place p))
       (let sides = sides_of_few p index b in omega (arith, sides))
 
@@ -340,7 +344,8 @@ module _ (counts : List ℕ) where
     block_few : (p : Places) (b : CheckedBlock) → senses (lowered_block p b) ≤ block_readings counts b
     block_few p t.end = omega arith
     block_few p (t.step s more) =
-        joined_few (statement_readings counts s) (block_readings counts more) (lowered_statement p s) (lowered_block p more) (statement_few p s) (block_few p more)
+        joined_few (statement_readings counts s) (block_readings counts more) (lowered_statement p s) (lowered_block p more) (statement_few p s)
+        (block_few p more)
 
 -- ---- tasks
 

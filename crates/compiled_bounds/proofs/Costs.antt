@@ -103,14 +103,16 @@ module _ (logging : Logging) (p : CheckedProgram) (allow : Allow) (plans : List 
       let b = entries_cost (map_seen task.body l) seen (behaviour q w).end in
       let no_more = seen_count l.runtime.logging own in
       let c : spent (task_program p l t) w ≡ spent q w = ap (λ y. spent y w) program_is in
-      let d : block_price (summaries p) cycles_column (task_body p t) ≡ block_price (summaries p) cycles_column task.body = ap (block_price (summaries p) cycles_column) body_is in
+      let d : block_price (summaries p) cycles_column (task_body p t) ≡ block_price (summaries p) cycles_column task.body =
+      ap (block_price (summaries p) cycles_column) body_is in
       let e : length (privates_in (task_entries l) t) ≡ private_words own.privates = own_privates in
       let f = privates_few own.privates in
       omega (arith, a, b, no_more, c, d, e, f)
 
   within : whole_cycles p l t fram inputs ≤ task_bound (summaries p) (uses_events p) (versions_of p) p.shared (task_body p t)
   within =
-      let most = all_within l.runtime.events l.versions.words (versions_of p) (length (privates_in (task_entries l) t)) (scalars_of (summaries p) p.shared (task_body p t))
+      let most = all_within l.runtime.events l.versions.words (versions_of p) (length (privates_in (task_entries l) t))
+      (scalars_of (summaries p) p.shared (task_body p t))
       (spent (task_program p l t) (started fram inputs)) (block_price (summaries p) cycles_column (task_body p t))
       (list_of (summaries p) p.shared (task_body p t)) (emits_of (summaries p) (task_body p t)) (layout.versions ∙ allowed.versions) privates_are body_costs in
       omega (arith, most)
@@ -152,5 +154,6 @@ tasks_keep_to_the_bound p allow plans l allowed few layout = record {
       let own = element l.tasks t (omega (arith, below, count)) in
       within Redo p allow plans l allowed few layout t fram inputs task.0 own.0 task.1 own.1;
   commits = λ t below. subst (λ n. boot_cycles l + commit_cycles l.runtime.events l.entries l.entries l.emits.words ≤ n) (sym (bound_is_the_sources p l))
-      (commit_within_bound p l.runtime.events l.entries l.emits.words layout.plain (omega (arith, below)) (layout.list ∙ allowed.list) (layout.emits ∙ allowed.emits));
+      (commit_within_bound p l.runtime.events l.entries l.emits.words layout.plain (omega (arith, below)) (layout.list ∙ allowed.list)
+      (layout.emits ∙ allowed.emits));
 }

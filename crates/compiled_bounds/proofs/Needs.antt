@@ -70,8 +70,10 @@ module _ (p : CheckedProgram) (allow : Allow) (plans : List TaskPlanValue) (l : 
       let start : start_need l t ≡ start_cycles l.runtime.events true l.versions.words (length (privates_in (task_entries l) t)) =
       ap (λ n. start_cycles l.runtime.events true l.versions.words n) (sym (privates_count l t)) in
       let commit : commit_need p l t
-      ≤ commit_cycles l.runtime.events (list_of (summaries p) p.shared (task_body p t)) (list_of (summaries p) p.shared (task_body p t)) (emits_of (summaries p) (task_body p t)) =
-      commit_grows l.runtime.events (own_entries p l t) (list_of (summaries p) p.shared (task_body p t)) (own_words p l t) (list_of (summaries p) p.shared (task_body p t))
+      ≤ commit_cycles l.runtime.events (list_of (summaries p) p.shared (task_body p t)) (list_of (summaries p) p.shared (task_body p t))
+      (emits_of (summaries p) (task_body p t)) =
+      commit_grows l.runtime.events (own_entries p l t) (list_of (summaries p) p.shared (task_body p t)) (own_words p l t)
+      (list_of (summaries p) p.shared (task_body p t))
       (emits_of (summaries p) (task_body p t)) (emits_of (summaries p) (task_body p t)) entries_fit words_fit (omega arith) in
       omega (arith, whole, start, commit)
 

@@ -29,7 +29,8 @@ abbrev pub whole_cycles : CheckedProgram → MemoryMap → ℕ → (ℕ → ℕ)
 whole_cycles p l t fram inputs =
     boot_cycles l + start_cycles l.runtime.events true l.versions.words (length (privates_in (task_entries l) t))
     + code_spent (task_program p l t) (started fram inputs)
-    + commit_cycles l.runtime.events (list_of (summaries p) p.shared (task_body p t)) (list_of (summaries p) p.shared (task_body p t)) (emits_of (summaries p) (task_body p t))
+    + commit_cycles l.runtime.events (list_of (summaries p) p.shared (task_body p t)) (list_of (summaries p) p.shared (task_body p t))
+    (emits_of (summaries p) (task_body p t))
 
 -- the same under undo: a boot that puts back as much as the task may list, a start that lists the words of its private scalars, the body, the commit
 abbrev pub logged_cycles : CheckedProgram → MemoryMap → ℕ → (ℕ → ℕ) → Inputs → ℕ

@@ -113,7 +113,8 @@ decided_behind m s x inputs q (Lacks d) t = absurd (let e = d.is in cc (t, e))
 -- a decided world's list and words to send have the room that its task has
 pub fits_commit : (p : CheckedProgram) (l : MemoryMap) → CanRun p l → ModelLaws (redo_model p l) → (s next : State) (x : World)
     → (redo_model p l).Decided s next x
-    → FitsCommit l (list_of (summaries p) p.shared (task_body p s.task)) (list_of (summaries p) p.shared (task_body p s.task)) (emits_of (summaries p) (task_body p s.task)) x.fram
+    → FitsCommit l (list_of (summaries p) p.shared (task_body p s.task)) (list_of (summaries p) p.shared (task_body p s.task))
+    (emits_of (summaries p) (task_body p s.task)) x.fram
 fits_commit p l r laws s next x d =
     let e = d.decided.sends.emit_count in let k = d.decided.sends.within_emits in
     record {

@@ -12,7 +12,8 @@ use Rattle.linked_code.specs.Rooms.{ProgramsKeep}
 use Rattle.linked_code.proofs.Interface.{layouts_have_room}
 use Rattle.compiled_runs.specs.Laws.{SourcesHaveRoom}
 
-programs_keep : (known : List Summary) (l : MemoryMap) (shared : List SharedDeclaration) (tasks : List CheckedTask) (ts : List TaskPlace) → length ts ≡ length tasks
+programs_keep : (known : List Summary) (l : MemoryMap) (shared : List SharedDeclaration) (tasks : List CheckedTask) (ts : List TaskPlace)
+    → length ts ≡ length tasks
     → ((k : ℕ) (task : CheckedTask) (t : TaskPlace) → slice_get tasks k ≡ Some task → slice_get ts k ≡ Some t
     → private_words t.privates ≤ scalars_of known shared task.body) → ProgramsKeep known shared tasks (lowered_tasks l tasks ts)
 programs_keep known l shared [] ts n f = tt

@@ -164,7 +164,8 @@ module _ (source : Source) where
       let list = fits.list in let words = fits.named in let emits = fits.sent in
       let most = costs.commits s.task d.decided.sends.is_task in
       let n = x.fram (word_place l ListLength) in let ws = length (listed l x.fram) in let o = x.fram (word_place l EmitCount) in
-      let dearest = commit_grows l.runtime.events n (costs.entries s.task) ws (costs.words s.task) o (emits_of (summaries p) (task_body p s.task)) list words emits in
+      let dearest = commit_grows l.runtime.events n (costs.entries s.task) ws (costs.words s.task) o (emits_of (summaries p) (task_body p s.task)) list words
+      emits in
       commit_within next x b k e (laws.decided_committing s next x d) (cost s.task) (omega (arith, dearest, most))
 
   -- an undecided world, and a machine with its FRAM from which the start of an attempt is reached
@@ -263,7 +264,8 @@ module _ (source : Source) where
         let fits : FitsAt k f = fits_there ends in
         let list = fits.list in let words = fits.named in let emits = fits.sent in
         let most = paid.within in let start_most = at_most in
-        let dearest = commit_grows l.runtime.events listed_entries (costs.entries k) listed_words (costs.words k) to_send (emits_of (summaries p) (task_body p k))
+        let dearest = commit_grows l.runtime.events listed_entries (costs.entries k) listed_words (costs.words k) to_send
+        (emits_of (summaries p) (task_body p k))
         list words emits in
         omega (arith, few, most, start_most, dearest)
 

@@ -73,7 +73,8 @@ excluded b A iff failed a = true≢false (sym (iff.1 a) ∙ failed)
 
 -- ---- tasks by their numbers and names
 
-pub task_at : (ts : List (TaskDeclaration VariableName TaskName FunctionName)) (i : ℕ) (t : TaskDeclaration VariableName TaskName FunctionName) → slice_get ts i ≡ Some t
+pub task_at : (ts : List (TaskDeclaration VariableName TaskName FunctionName)) (i : ℕ) (t : TaskDeclaration VariableName TaskName FunctionName)
+    → slice_get ts i ≡ Some t
     → slice_get (map task_of ts) i ≡ Some (task_of t)
 task_at [] i t h = cc
 task_at (u ∷ ts) zero t h = let is : u ≡ t = cc in ap (λ z. Some (task_of z)) is

@@ -59,17 +59,20 @@ shared_end text ds i q h =
 abbrev pub names_of : List ℕ → List (TaskDeclaration VariableName TaskName FunctionName) → List (List ℕ)
 names_of text ts = map (λ t. spelled text t.name) (map task_of ts)
 
-task_step : (text : List ℕ) (ts : List (TaskDeclaration VariableName TaskName FunctionName)) (i : ℕ) (t : TaskDeclaration VariableName TaskName FunctionName) (q : List ℕ)
+task_step : (text : List ℕ) (ts : List (TaskDeclaration VariableName TaskName FunctionName)) (i : ℕ) (t : TaskDeclaration VariableName TaskName FunctionName)
+    (q : List ℕ)
     → i < length ts → t ≡ get_or ts i t → from (names_of text ts) i q ≡ cond (bytes_eq (spelled text t.name) q) (Some i) (from (names_of text ts) (i + 1) q)
 task_step text ts i t q h at =
     named_step (names_of text ts) i q (spelled text t.name) (under (λ t. spelled text t.name) (map task_of ts) i (under task_of ts i h))
     (mapped_at (λ t. spelled text t.name) (map task_of ts) i (task_of t) (under task_of ts i h) (mapped_at task_of ts i t h at))
 
-pub task_passed : (text : List ℕ) (ts : List (TaskDeclaration VariableName TaskName FunctionName)) (i : ℕ) (t : TaskDeclaration VariableName TaskName FunctionName) (q : List ℕ)
+pub task_passed : (text : List ℕ) (ts : List (TaskDeclaration VariableName TaskName FunctionName)) (i : ℕ)
+    (t : TaskDeclaration VariableName TaskName FunctionName) (q : List ℕ)
     → i < length ts → t ≡ get_or ts i t → bytes_eq (spelled text t.name) q ≡ false → from (names_of text ts) i q ≡ from (names_of text ts) (i + 1) q
 task_passed text ts i t q h at e = task_step text ts i t q h at ∙ ap (λ b. cond b (Some i) (from (names_of text ts) (i + 1) q)) e
 
-pub task_found : (text : List ℕ) (ts : List (TaskDeclaration VariableName TaskName FunctionName)) (i : ℕ) (t : TaskDeclaration VariableName TaskName FunctionName) (q : List ℕ)
+pub task_found : (text : List ℕ) (ts : List (TaskDeclaration VariableName TaskName FunctionName)) (i : ℕ)
+    (t : TaskDeclaration VariableName TaskName FunctionName) (q : List ℕ)
     → i < length ts → t ≡ get_or ts i t → bytes_eq (spelled text t.name) q ≡ true → from (names_of text ts) i q ≡ Some i
 task_found text ts i t q h at e = task_step text ts i t q h at ∙ ap (λ b. cond b (Some i) (from (names_of text ts) (i + 1) q)) e
 

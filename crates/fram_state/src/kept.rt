@@ -15,7 +15,10 @@ use path_sums::{is_private, is_written};
 use source_report::spelled;
 use std::alloc::{AllocError, Global};
 use std::collections::BTreeMap;
-use task_ast::{CheckedSource, Extent, FunctionName, SharedDeclaration, Stmt, TaskDeclaration, TaskName, Variable, VariableName, WordType};
+use task_ast::{
+    CheckedSource, Extent, FunctionName, SharedDeclaration, Stmt, TaskDeclaration, TaskName,
+    Variable, VariableName, WordType,
+};
 
 /// The numbers of shared variables, by their names.
 pub type Numbers<'a> = BTreeMap<&'a [u8], usize>;
@@ -97,7 +100,11 @@ pub fn kept_from<'a>(
 }
 
 // Whether a task has a name.
-fn is_named(text: &[u8], declaration: &TaskDeclaration<VariableName, TaskName, FunctionName>, name: &[u8]) -> bool
+fn is_named(
+    text: &[u8],
+    declaration: &TaskDeclaration<VariableName, TaskName, FunctionName>,
+    name: &[u8],
+) -> bool
     ensures { result ≡ bytes_eq (spelled text.now declaration.now.name) name.now }
 {
     spelled(text, declaration.name) == name

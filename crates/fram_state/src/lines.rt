@@ -15,7 +15,10 @@ use image_text::{Image, Map, Name, Task, Variable};
 use source_meaning::Accepted;
 use source_report::spelled;
 use std::alloc::Global;
-use task_ast::{CheckedSource, Extent, FunctionName, SharedDeclaration, TaskDeclaration, TaskName, VariableName, WordType};
+use task_ast::{
+    CheckedSource, Extent, FunctionName, SharedDeclaration, TaskDeclaration, TaskName,
+    VariableName, WordType,
+};
 use thiserror::Error;
 use war_analysis::{Plan, TaskPlan, analyse, one_plan};
 

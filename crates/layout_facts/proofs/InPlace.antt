@@ -158,7 +158,8 @@ in_place_by_paths p allow plans l h t v home copy width i e below = (to, from)
         let stays : stays_in_place (task_body p t) v ≡ true = sym (ap (stays_in_place (task_body p t)) number) ∙ at.is_so in (
           in_place_written (task_body p t) v calls stays,
           λ private.
-              let clash : true ≡ false = sym (is_private_of (Shared v) (task_body p t) calls private) ∙ in_place_not_private (task_body p t) v stays in absurd (cc),
+              let clash : true ≡ false = sym (is_private_of (Shared v) (task_body p t) calls private) ∙ in_place_not_private (task_body p t) v stays in
+              absurd (cc),
         )
 
     from : SomePath [] (task_body p t) (writes (Shared v)) × (IsPrivate [] (task_body p t) (Shared v) → ⊥) → (program_places p l).written_in_place t a ≡ true

@@ -133,7 +133,8 @@ module _ (p : CheckedProgram) (allow : Allow) (plans : List TaskPlanValue) (l : 
       (s.0, s.1, x.1 ∙ ap (λ y. Some y) s.2)
 
   pub array_has_place : (v n : ℕ) (d : SharedDeclaration) → slice_get p.shared v ≡ Some d → d.extent ≡ extent.Array n
-      → (elements : ℕ) × (copies : Option ArrayCopies) × (slice_get l.variables v ≡ Some (Array elements n copies)) × (is_some copies ≡ is_written (summaries p) p.tasks v)
+      → (elements : ℕ) × (copies : Option ArrayCopies) × (slice_get l.variables v ≡ Some (Array elements n copies))
+      × (is_some copies ≡ is_written (summaries p) p.tasks v)
   array_has_place v n d e k =
       let x = its_place v d e in
       let s = place_array (is_written (summaries p) p.tasks v) n d.extent x.0 k x.2 in

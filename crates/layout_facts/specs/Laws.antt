@@ -81,7 +81,8 @@ TaskPlacesAreEven = OfTasks (λ p l task layout. spots.AreEven (task_places l ta
 -- different elements, of each array no more than there are stores to it, are no more than a task's list has beside the scalars that it assigns
 abbrev pub ElementsAreStores : Type 0
 ElementsAreStores = OfTasks (λ p l task layout. (xs : List Element) → spots.AreListed (task_places l task layout) xs
-    → ((v : ℕ) → spots.listed_of v xs ≤ stores_of (summaries p) v task.body) → length xs + scalars_of (summaries p) p.shared task.body ≤ list_of (summaries p) p.shared task.body)
+    → ((v : ℕ) → spots.listed_of v xs ≤ stores_of (summaries p) v task.body)
+    → length xs + scalars_of (summaries p) p.shared task.body ≤ list_of (summaries p) p.shared task.body)
 
 -- the list has room for the private scalars and for as many different elements of each array as there are stores to it
 abbrev pub ListsHaveRoom : Type 0

@@ -69,7 +69,8 @@ logged_room known shared (task ∷ tasks) (t ∷ ts) h =
     omega (arith, e, d, k)
 
 -- the list has room for the words of each task's private scalars, which are among those that the task may list
-lists_fit : (known : List Summary) (l : MemoryMap) (shared : List SharedDeclaration) (tasks : List CheckedTask) (ts : List TaskPlace) → AreCounted known shared tasks ts
+lists_fit : (known : List Summary) (l : MemoryMap) (shared : List SharedDeclaration) (tasks : List CheckedTask) (ts : List TaskPlace)
+    → AreCounted known shared tasks ts
     → greatest (list_of known shared) tasks ≤ l.entries → All (FitsList l) ts
 lists_fit known l shared [] [] h most = All-nil (FitsList l)
 lists_fit known l shared [] (t ∷ ts) h most = absurd h
@@ -78,7 +79,8 @@ lists_fit known l shared (task ∷ tasks) (t ∷ ts) h most =
     let k = h.0.privates in
     All-cons (FitsList l) t ts (record { few = omega (arith, k, most) }) (lists_fit known l shared tasks ts h.1 (omega (arith, most)))
 
-programs_fit : (known : List Summary) (shared : List SharedDeclaration) (tasks : List CheckedTask) (ts : List TaskPlace) (qs : List Program) → AreCounted known shared tasks ts
+programs_fit : (known : List Summary) (shared : List SharedDeclaration) (tasks : List CheckedTask) (ts : List TaskPlace) (qs : List Program)
+    → AreCounted known shared tasks ts
     → ProgramsKeep known shared tasks qs → ProgramsFit ts qs
 programs_fit known shared [] [] [] h k = tt
 programs_fit known shared [] [] (q ∷ qs) h k = k
@@ -110,7 +112,8 @@ layouts_have_room logging p allow plans l programs allowed is count privates kee
       high = omega (arith, size, within);
     }
   where
-    boot_room : AreCounted (summaries p) p.shared p.tasks l.tasks → l.boot.words ≡ boot_words (summaries p) p.shared p.tasks → (logs : Logging) → bytes_of_boot logs l ≤ 2 * l.boot.words
+    boot_room : AreCounted (summaries p) p.shared p.tasks l.tasks → l.boot.words ≡ boot_words (summaries p) p.shared p.tasks → (logs : Logging)
+        → bytes_of_boot logs l ≤ 2 * l.boot.words
     boot_room are words Redo =
         let fits = boot_fits l (task_entries l) in let room = entries_room (summaries p) p.shared p.tasks l.tasks are in omega (arith, fits, room, words)
     boot_room are words Undo =
@@ -120,6 +123,7 @@ layouts_have_room logging p allow plans l programs allowed is count privates kee
     commit_room words Redo = let few = with_events_most l.runtime.events 6 in omega (arith, words, few)
     commit_room words Undo = let few = with_events_most l.runtime.events 6 in omega (arith, words, few)
 
-    starts_fit : AreCounted (summaries p) p.shared p.tasks l.tasks → l.entries ≡ greatest (list_of (summaries p) p.shared) p.tasks → (logs : Logging) → StartsFit logs l
+    starts_fit : AreCounted (summaries p) p.shared p.tasks l.tasks → l.entries ≡ greatest (list_of (summaries p) p.shared) p.tasks → (logs : Logging)
+        → StartsFit logs l
     starts_fit are entries Redo = tt
     starts_fit are entries Undo = lists_fit (summaries p) l p.shared p.tasks l.tasks are (omega (arith, entries))

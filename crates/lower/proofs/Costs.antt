@@ -1,7 +1,8 @@
 -- What tasks spend along the way that they take, against the allowance of a source: the entries of the private scalars are paid for once, at
 -- the transition.
 use Rattle.lower.proofs.Names.{◌≡◌, ℕ, zero, suc, ◌+◌, ◌-◌, ◌*◌, ◌%◌, ◌==◌, ◌≤◌, max, Bool, true, false, if◌then◌else◌, List, [], ◌∷◌, length, Some, None}
-use Rattle.lower.proofs.Names.{refl, sym, subst, arith, Summary, CheckedStatement, CheckedChoice, CheckedBlock, cycles_column, statement_price, conditions_price}
+use Rattle.lower.proofs.Names.{refl, sym, subst, arith, Summary, CheckedStatement, CheckedChoice, CheckedBlock, cycles_column, statement_price}
+use Rattle.lower.proofs.Names.{conditions_price}
 use Rattle.lower.proofs.Names.{blocks_price, block_price, word_place, NextTask, Gate, ListLength, Base, SentBase, Run, runs_of, is_true, compare_words, Step}
 use Rattle.lower.proofs.Names.{Test, Program, choose, repeat, store_number, move_word, jump, nothing, step, joined, WordState, End, GoesOn, Jumps, Short}
 use Rattle.lower.proofs.Names.{Strays, Broken, Behaviour, behaves, broken, on_end, then_on, is_place, strays, with_stack, with_top, way_by_top, way_by_two}
@@ -210,7 +211,8 @@ module _ (known : List Summary) where
 
     -- with a branch past what isn't taken
     choice_spends : (p : Places) (c : CheckedChoice) (w : WordState)
-        → Within p (conditions_price known cycles_column c + blocks_price known cycles_column c + 3) (behaviour (lowered_choice p c) w).end (spent (lowered_choice p c) w)
+        → Within p (conditions_price known cycles_column c + blocks_price known cycles_column c + 3) (behaviour (lowered_choice p c) w).end
+        (spent (lowered_choice p c) w)
     choice_spends p t.nothing w = omega arith
     choice_spends p (t.otherwise block) w = let a = block_spends p block w in omega (arith, a)
     choice_spends p (t.test e block more) w =

@@ -5,7 +5,8 @@ use Rattle.lower.proofs.Names.{◌≡◌, ℕ, ◌+◌, ◌*◌, ◌<◌, ◌≤
 use Rattle.lower.proofs.Names.{if◌then◌else◌, nat_tests, CheckedExpression, CheckedStatement, CheckedChoice, CheckedBlock, WordType, Unsigned, Int, Long}
 use Rattle.lower.proofs.Names.{is_long, binary_type, unary_type, literal_type, UnaryOperator, BinaryOperator, PlacedOperator, ShiftOperator}
 use Rattle.lower.proofs.Names.{ShortCircuitOperator, BothHold, OneHolds, Variable, Shared, Local, width_least, cycles_column, words_column, operator_price}
-use Rattle.lower.proofs.Names.{Summary, expression_price, statement_price, conditions_price, blocks_price, block_price, Negate, Complement, Plain, PlainOperation}
+use Rattle.lower.proofs.Names.{Summary, expression_price, statement_price, conditions_price, blocks_price, block_price, Negate, Complement, Plain}
+use Rattle.lower.proofs.Names.{PlainOperation}
 use Rattle.lower.proofs.Names.{Subtract, And, Xor, Or, Step, Test, Program, number, truth, unary, binary, shift, long, emit_word, store_number, move_word}
 use Rattle.lower.proofs.Names.{jump, step, joined, binary_cycles, step_cycles, test_cycles, cycles_of, entry_words, step_words, test_words, words_of}
 use Rattle.lower.proofs.Names.{joined_cycles, steps_keep_to_words, word_place, Gate, ListLength, EmitCount, Base, SentBase, VariablePlace, Scalar, Array}
@@ -518,7 +519,8 @@ module _ (known : List Summary) where
         let h = (lowering_has known p s e).test in
         omega (arith, a, b, h)
 
-    pub block_words : (p : Places) (s : ℕ) → private_words p.privates ≤ s → (b : CheckedBlock) → words_of (lowered_block p b) ≤ block_price known (words_column s) b
+    pub block_words : (p : Places) (s : ℕ) → private_words p.privates ≤ s → (b : CheckedBlock)
+        → words_of (lowered_block p b) ≤ block_price known (words_column s) b
     block_words p s few t.end = omega arith
     block_words p s few (t.step x more) =
         let a = statement_words p s few x in

@@ -15,7 +15,8 @@ BlocksKeepToWords = (known : List Summary) (p : Places) (scalars : ℕ) (block :
 
 -- the cycles of an expression, with 11 to spare: a test has them
 abbrev pub ExpressionsKeepToCycles : Type 0
-ExpressionsKeepToCycles = (known : List Summary) (p : Places) (e : CheckedExpression) → cycles_of (lowered_expression p e) + 11 ≤ expression_price known cycles_column e
+ExpressionsKeepToCycles = (known : List Summary) (p : Places) (e : CheckedExpression)
+    → cycles_of (lowered_expression p e) + 11 ≤ expression_price known cycles_column e
 
 -- what the entries of the private scalars take at most where a task leaves, 26 cycles for each
 abbrev pub entry_cycles : Places → End → ℕ

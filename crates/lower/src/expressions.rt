@@ -27,7 +27,10 @@ use array_versions::{
 use memory_map::{Logging, VariablePlace};
 use std::alloc::{AllocError, Global};
 use task_ast::types::{binary_type, joined_type, literal_type, unary_type};
-use task_ast::{BinaryOperator, Expr, FunctionName, ShiftOperator, ShortCircuitOperator, UnaryOperator, Variable, VariableName, WordType};
+use task_ast::{
+    BinaryOperator, Expr, FunctionName, ShiftOperator, ShortCircuitOperator, UnaryOperator,
+    Variable, VariableName, WordType,
+};
 use variable_places::{TaskPlaces, array_place, high_address, low_word};
 
 /// What an expression comes to.

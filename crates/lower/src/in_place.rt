@@ -72,7 +72,10 @@ fn is_number(n: u16, e: &Expr<VariableName, FunctionName>) -> bool
 }
 
 // Whether two expressions are one number or one variable alone.
-fn are_alike(first: &Expr<VariableName, FunctionName>, second: &Expr<VariableName, FunctionName>) -> bool
+fn are_alike(
+    first: &Expr<VariableName, FunctionName>,
+    second: &Expr<VariableName, FunctionName>,
+) -> bool
     ensures { result ≡ are_alike (expression_of first.now) (expression_of second.now) }
 {
     match first {
@@ -91,7 +94,11 @@ fn are_alike(first: &Expr<VariableName, FunctionName>, second: &Expr<VariableNam
 }
 
 // Whether an expression is the element of a variable at an index that is a number or a variable alone.
-fn is_element(variable: Variable, index: &Expr<VariableName, FunctionName>, e: &Expr<VariableName, FunctionName>) -> bool
+fn is_element(
+    variable: Variable,
+    index: &Expr<VariableName, FunctionName>,
+    e: &Expr<VariableName, FunctionName>,
+) -> bool
     ensures { result ≡ is_element variable (expression_of index.now) (expression_of e.now) }
 {
     match e {

@@ -88,7 +88,8 @@ sum_step part (x ∷ xs) i extent l at =
     ∙ ap (λ k. part i extent + shared_sum_from part (i + 1) (drop k (x ∷ xs))) (sym (add-one i))
 
 -- a task of those that are left, and those behind it
-pub total_step : (f : CheckedBlock → ℕ) (tasks : List (TaskDeclaration VariableName TaskName FunctionName)) (i : ℕ) (task : TaskDeclaration VariableName TaskName FunctionName)
+pub total_step : (f : CheckedBlock → ℕ) (tasks : List (TaskDeclaration VariableName TaskName FunctionName)) (i : ℕ)
+    (task : TaskDeclaration VariableName TaskName FunctionName)
     → i < length tasks → task ≡ get_or tasks i task
     → total f (map task_of (drop i tasks)) ≡ f (task_of task).body + total f (map task_of (drop (i + 1) tasks))
 total_step f tasks i task l at =
@@ -102,7 +103,8 @@ total_left f tasks zero = omega arith
 total_left f [] (suc i) = omega arith
 total_left f (t ∷ ts) (suc i) = let rest = total_left f ts i in omega (arith, rest)
 
-pub total_part : (f : CheckedBlock → ℕ) (tasks : List (TaskDeclaration VariableName TaskName FunctionName)) (i : ℕ) (task : TaskDeclaration VariableName TaskName FunctionName)
+pub total_part : (f : CheckedBlock → ℕ) (tasks : List (TaskDeclaration VariableName TaskName FunctionName)) (i : ℕ)
+    (task : TaskDeclaration VariableName TaskName FunctionName)
     → i < length tasks → task ≡ get_or tasks i task
     → f (task_of task).body ≤ total f (map task_of tasks)
 total_part f tasks i task l at = let a = total_step f tasks i task l at in let b = total_left f tasks i in omega (arith, a, b)

@@ -93,7 +93,8 @@ no_tasks shared places tasks plans address even = record {
   even = even;
 }
 
-module _ (shared : List SharedDeclaration) (places : List VariablePlace) (tasks : List (TaskDeclaration VariableName TaskName FunctionName)) (plans : List TaskPlanValue)
+module _ (shared : List SharedDeclaration) (places : List VariablePlace) (tasks : List (TaskDeclaration VariableName TaskName FunctionName))
+    (plans : List TaskPlanValue)
     (address : ℕ) (i at : ℕ)
     (task : TaskDeclaration VariableName TaskName FunctionName) (l : i < length tasks) (is : task ≡ get_or tasks i task) where
   pub small_task : total (body_words [] shared) (map task_of tasks) ≤ 22000 → body_words [] shared (task_of task).body ≤ 22000

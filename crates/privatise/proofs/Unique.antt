@@ -50,7 +50,8 @@ AreOfTasks known shared [] [] [] = Unit {0}
 AreOfTasks known shared (t ∷ ts) (p ∷ ps) (l ∷ ls) = IsTaskLayout known shared t.body p l × AreOfTasks known shared ts ps ls
 AreOfTasks known shared _ _ _ = ⊥
 
-of_tasks : (known : List Summary) (shared : List SharedDeclaration) (ts : List CheckedTask) (ps : List TaskPlanValue) (ls : List TaskPlace) → length ps ≡ length ts → length ls
+of_tasks : (known : List Summary) (shared : List SharedDeclaration) (ts : List CheckedTask) (ps : List TaskPlanValue) (ls : List TaskPlace)
+    → length ps ≡ length ts → length ls
     ≡ length ts
     → ((k : ℕ) (t : CheckedTask) (p : TaskPlanValue) (l : TaskPlace) → slice_get ts k ≡ Some t → slice_get ps k ≡ Some p → slice_get ls k ≡ Some l
     → IsTaskLayout known shared t.body p l) → AreOfTasks known shared ts ps ls
@@ -83,12 +84,15 @@ begins : (from a w n rest end : ℕ) → from ≤ a → w ≡ n → a + 2 * w + 
 begins from a w n rest end x y z t = omega (arith, x, y, z, t)
 
 -- layouts of the tasks, with the code of each between two addresses
-abbrev AreLaidOut : List Summary → List SharedDeclaration → List VariablePlace → List CheckedTask → List TaskPlanValue → (from end : ℕ) → List TaskPlace → Type 0
+abbrev AreLaidOut : List Summary → List SharedDeclaration → List VariablePlace → List CheckedTask → List TaskPlanValue → (from end : ℕ) → List TaskPlace
+    → Type 0
 AreLaidOut known shared places ts ps from end xs =
     AreOfTasks known shared ts ps xs × All (λ t. All (HasItsPlace places) t.privates) xs × AreInOrder from (map (λ t. t.code) xs) end
 
-same_tasks : (known : List Summary) (shared : List SharedDeclaration) (places : List VariablePlace) (ts : List CheckedTask) (ps : List TaskPlanValue) (xs ys : List TaskPlace)
-    (from end : ℕ) → end ≤ from + 2 * total (body_words known shared) ts → AreLaidOut known shared places ts ps from end xs → AreLaidOut known shared places ts ps from end ys
+same_tasks : (known : List Summary) (shared : List SharedDeclaration) (places : List VariablePlace) (ts : List CheckedTask) (ps : List TaskPlanValue)
+    (xs ys : List TaskPlace)
+    (from end : ℕ) → end ≤ from + 2 * total (body_words known shared) ts → AreLaidOut known shared places ts ps from end xs
+    → AreLaidOut known shared places ts ps from end ys
     → xs ≡ ys
 same_tasks known shared places [] [] [] [] from end t x y = refl
 same_tasks known shared places [] [] [] (_ ∷ _) from end t x y = absurd y.0
@@ -245,7 +249,8 @@ one_layout logging p allow h plans a b planned x y = λ j. record {
       where
         kind : (l : MemoryMap) → IsLayoutFor logging p allow plans l → (k : ℕ) (d : SharedDeclaration) (v : VariablePlace) → slice_get p.shared k ≡ Some d
             → slice_get l.variables k ≡ Some v → IsPlaceOf (is_written (summaries p) p.tasks (0 + k)) d.extent v
-        kind l z k d v e f = let same : k ≡ 0 + k = omega arith in subst (λ n. IsPlaceOf (is_written (summaries p) p.tasks n) d.extent v) same (z.variables.each k d v e f)
+        kind l z k d v e f = let same : k ≡ 0 + k = omega arith in
+            subst (λ n. IsPlaceOf (is_written (summaries p) p.tasks n) d.extent v) same (z.variables.each k d v e f)
 
     tasks : a.tasks ≡ b.tasks
     tasks = same_tasks (summaries p) p.shared a.variables p.tasks plans a.tasks b.tasks a.code.address (end_of a.code)

@@ -218,7 +218,8 @@ copies_are : (p : CheckedProgram) (written : List Bool) → length p.shared ≤ 
 copies_are p written few h = written_sum copy_part p.shared p.shared written (is_written (summaries p) p.tasks) (copy_sum written p.shared) few refl h refl
 
 versions_are : (p : CheckedProgram) (written : List Bool) → length p.shared ≤ 256 → AreWritten p written → version_sum written p.shared ≡ versions_of p
-versions_are p written few h = written_sum version_part p.shared p.shared written (is_written (summaries p) p.tasks) (version_sum written p.shared) few refl h refl
+versions_are p written few h = written_sum version_part p.shared p.shared written (is_written (summaries p) p.tasks) (version_sum written p.shared) few refl
+    h refl
 
 fits_in : (a w n m total : ℕ) → a ≡ row_end + 2 * n → w ≡ m → fram_first + 2 * total ≤ program_end → n + m + row_words ≤ total → a + 2 * w ≤ program_end
 fits_in a w n m total e f h k = omega (arith, e, f, h, k)
@@ -269,7 +270,8 @@ some_and : (o : Option VariablePlace) (place : VariablePlace) → o ≡ Some pla
     → IsSomeAnd o (λ place. is_scalar_place place ≡ true)
 some_and o place e h = subst (λ o. IsSomeAnd o (λ place. is_scalar_place place ≡ true)) (sym e) h
 
-private_place : (fs : List CheckedFunction) (shared : List SharedDeclaration) (code : CheckedBlock) (written : List Bool) (free : Free) (places : List VariablePlace)
+private_place : (fs : List CheckedFunction) (shared : List SharedDeclaration) (code : CheckedBlock) (written : List Bool) (free : Free)
+    (places : List VariablePlace)
     → ArePlaced shared written free places → (i : ℕ) → IsPrivateIn fs shared code i → IsScalarPlaceAt places i
 private_place fs shared code written free places k i h =
     let d = some_scalar (slice_get shared i) h.scalar in
@@ -286,7 +288,8 @@ scalars_placed p plans written free places h placed k plan e =
     let l = slice_get_within plans k plan e in
     let count = h.count in
     let task = element p.tasks k (omega (arith, l, count)) in
-    All-weaker (IsPrivateIn p.functions p.shared task.0.body) (IsScalarPlaceAt places) (private_place p.functions p.shared task.0.body written free places placed) plan.private_scalars
+    All-weaker (IsPrivateIn p.functions p.shared task.0.body) (IsScalarPlaceAt places)
+    (private_place p.functions p.shared task.0.body written free places placed) plan.private_scalars
     (h.each k task.0 plan task.1 e).private_scalars.only
 
 small : (t n rest w : ℕ) → t ≡ n → (rest + n) + 1 ≡ w → w ≤ 22000 → t ≤ 22000

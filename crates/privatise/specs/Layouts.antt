@@ -52,7 +52,8 @@ pub record AreTasks (p : CheckedProgram) (plans : List TaskPlanValue) (tasks : L
 abbrev pub runtime_for : Logging → CheckedProgram → Runtime
 runtime_for logging p = record lone_redo { logging = logging; events = uses_events p }
 
--- The layout of a source without functions, by how its runtime logs, for a board that is alone: it keeps the rules of layouts, its buffers have room for what the source's
+-- The layout of a source without functions, by how its runtime logs, for a board that is alone: it keeps the rules of layouts, its buffers have room for what
+-- the source's
 -- allowance says, its variables and tasks are those of the source, and the whole takes no more words than the source has without what events need, of which
 -- the last is the one at FFFE. The places are the same for each runtime.
 pub record IsLayoutFor (logging : Logging) (p : CheckedProgram) (allow : Allow) (plans : List TaskPlanValue) (l : MemoryMap) : Type 0 where

@@ -8,7 +8,9 @@ ghost use Rattle.privatise.specs.Placing.{AreSizes};
 
 use cost_bound::{SHARED, assigned_scalars, code_words};
 use memory_map::ROW_WORDS;
-use task_ast::{CheckedSource, Extent, FunctionName, SharedDeclaration, TaskDeclaration, TaskName, VariableName};
+use task_ast::{
+    CheckedSource, Extent, FunctionName, SharedDeclaration, TaskDeclaration, TaskName, VariableName,
+};
 
 /// The words of a variable.
 pub fn home_part(extent: Extent) -> u32

@@ -1,5 +1,6 @@
 -- The shared variables and tasks among the names of a source.
-use Rattle.std.proofs.Common.{◌≡◌, ◌∙◌, ℕ, suc, List, [], ◌∷◌, ◌++◌, map, length, refl, sym, ap, append_assoc, Option, Some, None, append-nil, Bool, true, false, not}
+use Rattle.std.proofs.Common.{◌≡◌, ◌∙◌, ℕ, suc, List, [], ◌∷◌, ◌++◌, map, length, refl, sym, ap, append_assoc, Option, Some, None, append-nil, Bool, true}
+use Rattle.std.proofs.Common.{false, not}
 use Rattle.std.specs.Prelude.{nat_le}
 use Rattle.alp_text.specs.declared.lines.Span.{Span}
 use Rattle.task_ast.specs.declared.SharedDeclaration.{SharedDeclaration}
@@ -50,11 +51,13 @@ module _ (source : List ℕ) where
       in_front (and_front behind s here) s role.Element ∙ in_front behind s here
 
   mutual
-    expression_silent : (types : Span → WordType) (e : Expression Span Span) (behind : List Occurrence) → declared (expression_names types e behind) ≡ declared behind
+    expression_silent : (types : Span → WordType) (e : Expression Span Span) (behind : List Occurrence)
+        → declared (expression_names types e behind) ≡ declared behind
     expression_silent types (t.number n) behind = refl
     expression_silent types (t.long_number n) behind = refl
     expression_silent types (t.name s) behind = in_front behind s role.Scalar
-    expression_silent types (t.element s index) behind = element_silent types s index (expression_names types index behind) ∙ expression_silent types index behind
+    expression_silent types (t.element s index) behind = element_silent types s index (expression_names types index behind)
+        ∙ expression_silent types index behind
     expression_silent types t.sense behind = refl
     expression_silent types t.next_event behind = refl
     expression_silent types (t.call s values) behind =
@@ -73,7 +76,8 @@ module _ (source : List ℕ) where
     values_silent types t.no_value behind = refl
     values_silent types (t.value e more) behind = expression_silent types e (values_names types more behind) ∙ values_silent types more behind
 
-  value_silent : (types : Span → WordType) (e : Option (Expression Span Span)) (behind : List Occurrence) → declared (value_names types e behind) ≡ declared behind
+  value_silent : (types : Span → WordType) (e : Option (Expression Span Span)) (behind : List Occurrence)
+      → declared (value_names types e behind) ≡ declared behind
   value_silent types None behind = refl
   value_silent types (Some e) behind = expression_silent types e behind
 

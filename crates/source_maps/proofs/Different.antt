@@ -121,7 +121,8 @@ module _ (source : List ℕ) where
           → (is_among name (declared source front) ≡ true → is_some (global_in source name front) ≡ true) → is_some (global_in source name (o ∷ front)) ≡ true
       go (inl h) later = some_first (global_in source name front) _ (later h)
       go (inr h) later =
-          some_second (global_in source name front) _ (own_found o.role (text_of source o.span) name (length front) (shared_in front) (functions_in front) (tasks_in front) h)
+          some_second (global_in source name front) _
+          (own_found o.role (text_of source o.span) name (length front) (shared_in front) (functions_in front) (tasks_in front) h)
 
   -- what is found in front is found in all
   found_behind : (name : List ℕ) (behind front : List Occurrence) → is_some (global_in source name front) ≡ true
@@ -246,4 +247,5 @@ module _ (source : List ℕ) where
 
   pub program_words : (p : Program Span Span Span) → HaveWords (program_names source p) → All (λ d. HasWords d.extent) p.shared
   unfolding program_names
-  program_words p h = let types = shared_type source p.shared in shared_words p.shared (function_names types p.functions (task_names types p.tasks (and_front [] p.entry role.Target))) h
+  program_words p h = let types = shared_type source p.shared in
+      shared_words p.shared (function_names types p.functions (task_names types p.tasks (and_front [] p.entry role.Target))) h

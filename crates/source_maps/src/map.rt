@@ -19,7 +19,10 @@ use image_map::{Map, Name, Place, RingPlaces, RuntimeWords, ValueType, Variable}
 use memory_map::{Layout, Logging, PrivateScalar, Region, RuntimeWord, TaskLayout, VariablePlace};
 use source_report::spelled;
 use std::alloc::{AllocError, Global};
-use task_ast::{CheckedSource, Extent, FunctionName, SharedDeclaration, TaskDeclaration, TaskName, VariableName, WordType};
+use task_ast::{
+    CheckedSource, Extent, FunctionName, SharedDeclaration, TaskDeclaration, TaskName,
+    VariableName, WordType,
+};
 
 // The name that stands at a span of the text.
 fn name_at(text: &[u8], span: Span) -> Name

@@ -68,7 +68,8 @@ task_holds whole text p allow plans l few laid k inside =
     let words = at_most_total (task_words (summaries p) p.shared) p.tasks k t.0 t.1 in
     let own = task_seen l.runtime.logging place.0 in
     let no_more = seen_words l.runtime.logging place.0 in
-    let code = blocks_keep_to_words (summaries p) (places_of (map_seen t.0.body l) own) (scalars_of (summaries p) p.shared t.0.body) t.0.body (omega (arith, privates, no_more)) in
+    let code = blocks_keep_to_words (summaries p) (places_of (map_seen t.0.body l) own) (scalars_of (summaries p) p.shared t.0.body) t.0.body
+    (omega (arith, privates, no_more)) in
     let small : task_words (summaries p) p.shared t.0.body ≤ 22000 = omega (arith, words, allowed.within_size) in
     let places = places_of (map_seen t.0.body l) own in
     let conditions = block_few places t.0.body in
@@ -123,7 +124,8 @@ as_many l (task ∷ tasks) [] e = absurd (omega (arith, e))
 as_many l (task ∷ tasks) (t ∷ ts) e = ap suc (as_many l tasks ts (omega (arith, e)))
 
 -- a task as it is declared, where it stands
-pub task_at : (ts : List (TaskDeclaration VariableName TaskName FunctionName)) (k : ℕ) (t : TaskDeclaration VariableName TaskName FunctionName) (task : CheckedTask)
+pub task_at : (ts : List (TaskDeclaration VariableName TaskName FunctionName)) (k : ℕ) (t : TaskDeclaration VariableName TaskName FunctionName)
+    (task : CheckedTask)
     → slice_get (map task_of ts) k ≡ Some task
     → t ≡ get_or ts k t → (t.name ≡ task.name) × (block_view t.body.items ≡ task.body)
 task_at ts k t task there is =

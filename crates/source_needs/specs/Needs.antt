@@ -33,7 +33,8 @@ ways_gone lines p l k task =
     let taken = (dearest_way l.runtime.events program).taken in
     task_ways (counts_from true 0 choices taken) (counts_from false 0 choices taken) lines (block_ifs 0 task.body)
 
--- a task by its number: its need with its parts, the cycles and the words that the table of allowances has for it, and the ways that the dearest one through it goes
+-- a task by its number: its need with its parts, the cycles and the words that the table of allowances has for it, and the ways that the dearest one through
+-- it goes
 abbrev pub need_row : List ℕ → CheckedProgram → MemoryMap → ℕ → List IfWay → CheckedTask → NeedRow
 need_row text p l k ways task = let n = need_parts p l k in record {
   name = spelled text task.name;

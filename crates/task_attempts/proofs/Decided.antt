@@ -174,7 +174,8 @@ module _ (st : Started) where
     pub lists_within : ListsWithin p l s.task z.fram
     lists_within =
         let own : own_privates l s.task ≡ i.layout.privates = ap privates_of i.layout_is in
-        let same : elements_of (summaries p) p.shared (task_body p s.task) ≡ elements_of (summaries p) p.shared code = ap (elements_of (summaries p) p.shared) (body_is p l s.task i) in
+        let same : elements_of (summaries p) p.shared (task_body p s.task) ≡ elements_of (summaries p) p.shared code =
+        ap (elements_of (summaries p) p.shared) (body_is p l s.task i) in
         let elements = few_elements in
         let entries = few_entries here 0 left.listed left.there.fram facts.redo left.stands.list in
         let runs = ap (λ ps. length (runs_of ps)) own in

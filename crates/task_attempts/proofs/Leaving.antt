@@ -303,7 +303,8 @@ module _ (run : Attempting) where
         let apart = given.apart in
         let none = run.emit_count in
         let most =
-        stays_within (Tame run) (word_place l EmitCount) (emits_of (summaries p) code) (λ w q. q.emit_count refl) before x.fram tame_before (omega (arith, none)) in
+        stays_within (Tame run) (word_place l EmitCount) (emits_of (summaries p) code) (λ w q. q.emit_count refl) before x.fram tame_before
+        (omega (arith, none)) in
         let there = ap (λ f. f (word_place l EmitCount)) (world_fram before x) in
         let here = z_before (word_place l EmitCount) (λ e. omega (arith, apart, e)) in
         let counted = emit_count_is in

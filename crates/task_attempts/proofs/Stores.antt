@@ -100,7 +100,8 @@ module _ (st : Started) where
   before_list a h = let apart = given.source.apart in omega (arith, apart, h)
 
   list_fits : list_of (summaries p) p.shared code ≤ l.entries
-  list_fits = subst (λ b. list_of (summaries p) p.shared b ≤ l.entries) (body_is p l s.task i) (given.source.room.list s.task st.start.undecided.is_open.is_task)
+  list_fits = subst (λ b. list_of (summaries p) p.shared b ≤ l.entries) (body_is p l s.task i)
+      (given.source.room.list s.task st.start.undecided.is_open.is_task)
 
   -- a scalar that the task writes is private, and then the task has its copy, or is written in place
   written_quiet : (v n w : ℕ) → IsScalarWord here v n → some_path_writes code v ≡ true → w < 0x10000 → Quiet (scalar_address here v n) w

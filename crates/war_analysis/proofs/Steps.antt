@@ -37,10 +37,12 @@ within xs i P h = elim (cases_lt i (length xs)) [
   | inr past ↦ absurd (subst (λ o. IsSomeAnd o P) (slice_get_past xs i past) h)
 ]
 
-pub private_within : (fs : List CheckedFunction) (shared : List SharedDeclaration) (code : CheckedBlock) (i : ℕ) → IsPrivateIn fs shared code i → i < length shared
+pub private_within : (fs : List CheckedFunction) (shared : List SharedDeclaration) (code : CheckedBlock) (i : ℕ) → IsPrivateIn fs shared code i
+    → i < length shared
 private_within fs shared code i h = within shared i (λ d. is_scalar d.extent ≡ true) h.scalar
 
-pub versioned_within : (fs : List CheckedFunction) (shared : List SharedDeclaration) (code : CheckedBlock) (i : ℕ) → IsVersionedIn fs shared code i → i < length shared
+pub versioned_within : (fs : List CheckedFunction) (shared : List SharedDeclaration) (code : CheckedBlock) (i : ℕ) → IsVersionedIn fs shared code i
+    → i < length shared
 versioned_within fs shared code i h = within shared i (λ d. is_scalar d.extent ≡ false) h.array
 
 -- one variable, what the paths say of it, and whether it is found
@@ -144,15 +146,17 @@ calls_at tasks n task body lt at b calls =
     subst (λ x. BlockCallsBelow 0 (block_view x)) (sym b) (subst (λ t. BlockCallsBelow 0 t.body) same here)
 
 -- the plans of the first tasks
-pub record PlansBelow (fs : List CheckedFunction) (shared : List SharedDeclaration) (tasks : List CheckedTask) (n : ℕ) (plans : List TaskPlanValue) : Type 0 where
-  pub count : length plans ≡ n
-  pub each : (k : ℕ) (plan : TaskPlanValue) → slice_get plans k ≡ Some plan → (task : CheckedTask) → slice_get tasks k ≡ Some task
-      → IsTaskPlan fs shared task.body plan
+pub record PlansBelow (fs : List CheckedFunction) (shared : List SharedDeclaration) (tasks : List CheckedTask) (n : ℕ) (plans : List TaskPlanValue) : Type 0
+  where
+    pub count : length plans ≡ n
+    pub each : (k : ℕ) (plan : TaskPlanValue) → slice_get plans k ≡ Some plan → (task : CheckedTask) → slice_get tasks k ≡ Some task
+        → IsTaskPlan fs shared task.body plan
 
 pub no_plans : (fs : List CheckedFunction) (shared : List SharedDeclaration) (tasks : List CheckedTask) → PlansBelow fs shared tasks 0 []
 no_plans fs shared tasks = record { count = refl; each = λ k plan e. let no : None ≡ Some plan = e in cc }
 
-pub next_plan : (fs : List CheckedFunction) (shared : List SharedDeclaration) (tasks : List (TaskDeclaration VariableName TaskName FunctionName)) (n : ℕ) (task : TaskDeclaration VariableName TaskName FunctionName)
+pub next_plan : (fs : List CheckedFunction) (shared : List SharedDeclaration) (tasks : List (TaskDeclaration VariableName TaskName FunctionName)) (n : ℕ)
+    (task : TaskDeclaration VariableName TaskName FunctionName)
     (body : List (Stmt VariableName TaskName FunctionName))
     (plan : TaskPlanValue) (xs ys : List TaskPlanValue) → n < length tasks → task ≡ get_or tasks n task → body ≡ task.body.items
     → IsTaskPlan fs shared (block_view body) plan → ys ≡ xs ++ plan ∷ []
@@ -167,7 +171,8 @@ next_plan fs shared tasks n task body plan xs ys lt at b is e h = subst (λ zs. 
       subst (λ c. IsTaskPlan fs shared c plan) (ap block_view b ∙ ap (λ t. t.body) same) is);
 })
 
-pub all_plans : (fs : List CheckedFunction) (shared : List SharedDeclaration) (tasks : List (TaskDeclaration VariableName TaskName FunctionName)) (n : ℕ) (plans : List TaskPlanValue) → n ≡ length tasks
+pub all_plans : (fs : List CheckedFunction) (shared : List SharedDeclaration) (tasks : List (TaskDeclaration VariableName TaskName FunctionName)) (n : ℕ)
+    (plans : List TaskPlanValue) → n ≡ length tasks
     → PlansBelow fs shared (map task_of tasks) n plans
     → ArePlans fs shared (map task_of tasks) plans
 all_plans fs shared tasks n plans e h = record { count = h.count ∙ e ∙ sym (length-map tasks task_of); each = λ k task plan t p. h.each k plan p task t }

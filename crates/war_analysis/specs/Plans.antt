@@ -24,7 +24,8 @@ IsScalarAt shared i = IsSomeAnd (slice_get shared i) (λ d. is_scalar d.extent �
 abbrev pub IsArrayAt : List SharedDeclaration → ℕ → Type 0
 IsArrayAt shared i = IsSomeAnd (slice_get shared i) (λ d. is_scalar d.extent ≡ false)
 
--- A shared scalar is private in a task, which may call these functions, exactly where some path of the task writes it, and not every path writes it before it reads it
+-- A shared scalar is private in a task, which may call these functions, exactly where some path of the task writes it, and not every path writes it before it
+-- reads it
 -- and before its transition. A scalar that the task writes and that isn't private in it stays in place.
 pub record IsPrivateIn (functions : List CheckedFunction) (shared : List SharedDeclaration) (code : CheckedBlock) (i : ℕ) : Type 0 where
   pub scalar : IsScalarAt shared i

@@ -15,7 +15,8 @@ use Rattle.privatise.proofs.placing.layout_of.Goals as goal
 
 pub sizes_of-requires-clause-written : goal.sizes_of-requires-clause-written
 sizes_of-requires-clause-written c = λ i l. c.written_variables-written.ensures i l ∙ ap (λ ts. is_written [] (map task_of ts) i) c.as_slice-tasks.ensures.value
-    ∙ ap (λ (known : List Summary). is_written known (program_of c.args.source.now).tasks i) (sym (no_summaries (program_of c.args.source.now) c.requires.plain))
+    ∙ ap (λ (known : List Summary). is_written known (program_of c.args.source.now).tasks i)
+    (sym (no_summaries (program_of c.args.source.now) c.requires.plain))
 
 pub sizes_of-requires-clause-small : goal.sizes_of-requires-clause-small
 sizes_of-requires-clause-small c = plain_small (program_of c.args.source.now) c.requires.allowed.within_size
@@ -30,7 +31,8 @@ pub place_variables-requires-clause-room : goal.place_variables-requires-clause-
 place_variables-requires-clause-room c =
     let marks : AreWritten (program_of c.args.source.now) c.written_variables-written.result =
     λ i l. c.written_variables-written.ensures i l ∙ ap (λ ts. is_written [] (map task_of ts) i) c.as_slice-tasks.ensures.value
-    ∙ ap (λ (known : List Summary). is_written known (program_of c.args.source.now).tasks i) (sym (no_summaries (program_of c.args.source.now) c.requires.plain)) in
+    ∙ ap (λ (known : List Summary). is_written known (program_of c.args.source.now).tasks i)
+    (sym (no_summaries (program_of c.args.source.now) c.requires.plain)) in
     rw c.as_slice-shared.ensures.value (room (program_of c.args.source.now) c.args.allow.now c.sizes_of.result c.regions_of-regions.result
     c.written_variables-written.result c.requires.few marks c.requires.allowed c.sizes_of.ensures c.regions_of-regions.ensures)
 
@@ -70,7 +72,8 @@ pub new-requires : goal.new-requires
 new-requires c =
     let marks : AreWritten (program_of c.args.source.now) c.written_variables-written.result =
     λ i l. c.written_variables-written.ensures i l ∙ ap (λ ts. is_written [] (map task_of ts) i) c.as_slice-tasks.ensures.value
-    ∙ ap (λ (known : List Summary). is_written known (program_of c.args.source.now).tasks i) (sym (no_summaries (program_of c.args.source.now) c.requires.plain)) in
+    ∙ ap (λ (known : List Summary). is_written known (program_of c.args.source.now).tasks i)
+    (sym (no_summaries (program_of c.args.source.now) c.requires.plain)) in
     laid_out _ (program_of c.args.source.now) c.args.allow.now c.args.plan.now c.sizes_of.result c.regions_of-regions.result c.written_variables-written.result
     c.in_ok-variables.variables.items c.in_ok-layouts.layouts.items
     (record {
@@ -95,7 +98,8 @@ pub returns : goal.returns
 returns c =
     let marks : AreWritten (program_of c.args.source.now) c.written_variables-written.result =
     λ i l. c.written_variables-written.ensures i l ∙ ap (λ ts. is_written [] (map task_of ts) i) c.as_slice-tasks.ensures.value
-    ∙ ap (λ (known : List Summary). is_written known (program_of c.args.source.now).tasks i) (sym (no_summaries (program_of c.args.source.now) c.requires.plain)) in
+    ∙ ap (λ (known : List Summary). is_written known (program_of c.args.source.now).tasks i)
+    (sym (no_summaries (program_of c.args.source.now) c.requires.plain)) in
     let is = whole (program_of c.args.source.now) c.args.allow.now c.args.plan.now c.sizes_of.result c.regions_of-regions.result
     c.written_variables-written.result
     c.in_ok-variables.variables.items c.in_ok-layouts.layouts.items

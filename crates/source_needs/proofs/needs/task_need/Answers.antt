@@ -148,7 +148,8 @@ returns c = λ task there.
     let elements = (rw (shared, body) at c.table_of-table.ensures.elements) ∙ ap (λ b. elements_of (summaries p) p.shared b) block in
     let emits = (rw body at c.table_of-table.ensures.emits) ∙ ap (emits_of (summaries p)) block in
     let bound : table.bound ≡ (program_parts p l).cost k =
-    (rw (events, versions, shared, body) at c.table_of-table.ensures.bound) ∙ ap (λ b. task_bound (summaries p) (uses_events p) (versions_of p) p.shared b) block in
+    (rw (events, versions, shared, body) at c.table_of-table.ensures.bound) ∙ ap (λ b. task_bound (summaries p) (uses_events p) (versions_of p) p.shared b)
+    block in
     let small : table.bound < 2 ^ 32 = omega (arith, rw (events, versions, shared, body) at c.table_of-table.ensures.bound, h.bound) in
     let name : c.spelled.result.now ≡ spelled text h.task.name =
     c.spelled.ensures ∙ ap (λ t. spelled t c.index-task.result.now.name) c.source.ensures ∙ ap (spelled text) at.0 in

@@ -14,7 +14,8 @@ returns-in_err-source-clause-refused c =
 pub returns-in_err-image-clause-refused : goal.returns-in_err-image-clause-refused
 returns-in_err-image-clause-refused c =
     handed_on _ _ _ c.from_residual-in_err-image.ensures
-    (fails_at _ _ _ c.args.names (editions_of c.args.texts) 1 refl (λ r no. the_old_image _ r (c.in_ok-source.ensures.said, c.in_ok-source.ensures.plain) no) c.in_err-image.ensures.refused)
+    (fails_at _ _ _ c.args.names (editions_of c.args.texts) 1 refl (λ r no. the_old_image _ r (c.in_ok-source.ensures.said, c.in_ok-source.ensures.plain) no)
+    c.in_err-image.ensures.refused)
 
 pub returns-in_err-state-clause-refused : goal.returns-in_err-state-clause-refused
 returns-in_err-state-clause-refused c =
