@@ -34,9 +34,9 @@ use Rattle.compiled_runs.proofs.Program.{code_makes}
 use Rattle.compiled_runs.proofs.Logged.{LoggedBodyWithin, LoggedCosts, logged_code_makes}
 
 -- a task's cost is its need under the runtime that the map names
-need_costs_task : (p : CheckedProgram) (l : MemoryMap) (logging : Logging) → l.runtime.logging ≡ logging → (m : Model State) (t : ℕ)
+need_is_cost : (p : CheckedProgram) (l : MemoryMap) (logging : Logging) → l.runtime.logging ≡ logging → (m : Model State) (t : ℕ)
     → t < length p.tasks → need_under logging p l t ≡ (with_needs p l m).task_cost t
-need_costs_task p l logging logs m t below = ap (λ g. need_under g p l t) (sym logs) ∙ own_cost p l m t below
+need_is_cost p l logging logs m t below = ap (λ g. need_under g p l t) (sym logs) ∙ own_cost p l m t below
 
 -- the greatest of the costs has a commit of a full list and a full buffer
 pending_paid : (p : CheckedProgram) (l : MemoryMap) (logging : Logging) → l.runtime.logging ≡ logging
@@ -110,7 +110,7 @@ module _ (p : CheckedProgram) (l : MemoryMap) (logs : l.runtime.logging ≡ Redo
   -- what is made within a task's need is within its cost
   so : (s : State) (q : ProgramEffects) (b : MachineBoard) → s.task < length p.tasks → Makes c m.delay (need_under Redo p l s.task) q b
       → Makes c m.delay (n.task_cost s.task) q b
-  so s q b below made = subst (λ most. Makes c m.delay most q b) (need_costs_task p l Redo logs m s.task below) made
+  so s q b below made = subst (λ most. Makes c m.delay most q b) (need_is_cost p l Redo logs m s.task below) made
 
   code_needs : ProgramLaws n c
   code_needs =
@@ -166,7 +166,7 @@ module _ (p : CheckedProgram) (l : MemoryMap) (logs : l.runtime.logging ≡ Undo
       → Makes (compiled_program p l) mu.delay (need_under Undo p l s.task) q b
       → Makes (compiled_program p l) mu.delay ((with_needs p l mu).task_cost s.task) q b
   logged_so s q b below made =
-      subst (λ most. Makes (compiled_program p l) mu.delay most q b) (need_costs_task p l Undo logs mu s.task below) made
+      subst (λ most. Makes (compiled_program p l) mu.delay most q b) (need_is_cost p l Undo logs mu s.task below) made
 
   logged_needs : ProgramLaws (with_needs p l mu) (compiled_program p l)
   logged_needs =
