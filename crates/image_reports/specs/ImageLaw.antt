@@ -238,9 +238,9 @@ pub record IsLawfulRun (text : List ℕ) (p : CheckedProgram) (allow : Allow) (l
   -- the tasks that were completed in it, and of the one that was to come
   pub progress : let m = map_of text p l allow in let b = fresh image.words readings events in
       EachChargePays m (λ h. cost_of p h.task) cs b (at_first m b) r
-  -- and where it does, each is less than those and what the tasks need by the code that is linked, of which none needs more than its part of the bound:
-  -- so one that holds what the next n tasks need has n transitions
-  pub needs : l.runtime.logging ≡ Redo → let m = map_of text p l allow in let b = fresh image.words readings events in
+  -- and each is less than those and what the tasks need by the code that is linked, of which none needs more than its part of the bound: so one that holds
+  -- what the next n tasks need has n transitions
+  pub needs : let m = map_of text p l allow in let b = fresh image.words readings events in
       EachChargePays m (λ h. need_of p l h.task) cs b (at_first m b) r
   -- its report is told by the source, where the charges have fewer than 2^64 cycles and instructions in all
   pub told : all_amounts cs < 2 ^ 64
