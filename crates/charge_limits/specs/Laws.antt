@@ -52,5 +52,6 @@ words_from p l (Pending to) (d ∷ ds) s = emits_of (task_body p s.task)
 -- so at each board of a run, where the model keeps its laws, and under undo each task has its room
 abbrev pub WordsAreFew : Type 0
 WordsAreFew = (p : CheckedProgram) (l : MemoryMap) → (l.runtime.logging ≡ Undo → HaveRoom (program_places p l)) → ModelLaws (compiled_model p l)
-    → (readings : List ℕ) (origin : Origin State) (h : History) → FollowsScript (compiled_model p l) readings h → (stands : StandsFor (compiled_model p l) readings origin h)
+    → (readings : List ℕ) (origin : Origin State) (h : History) → FollowsScript (compiled_model p l) readings h
+    → (stands : StandsFor (compiled_model p l) readings origin h)
     → length (words_offered h.effects) ≤ words_from p l origin h.completed stands.state

@@ -1,5 +1,5 @@
 //! The commands of the program.
-ghost use Rattle.std.specs.Prelude.{◌≡◌, ℕ, List, ◌≤◌, ◌⊎◌, ¬◌, IfSome, map, string_bytes};
+ghost use Rattle.std.specs.Prelude.{◌≡◌, ℕ, List, ◌≤◌, ◌⊎◌, IfSome, map, string_bytes};
 ghost use Rattle.plain_commands.specs.alp_io.Count.{Rose};
 ghost use Rattle.plain_commands.specs.alp_io.Shelf.{NeverFall, Told};
 ghost use Rattle.plain_commands.specs.command_answers.Messages.{Tells};
