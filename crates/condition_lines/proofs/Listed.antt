@@ -80,6 +80,7 @@ statement_few k n statement ts block is count =
     let sum = count_of_arms ts block in let all = ap statement_conditions is in omega (arith, sum, all, count)
 
 -- its arms have no more than it
-pub arms_few : (statement : CheckedStatement) (ts : List (Tested VariableName TaskName FunctionName)) (block : CheckedBlock) → statement ≡ choose (choice_of ts (Some block))
+pub arms_few : (statement : CheckedStatement) (ts : List (Tested VariableName TaskName FunctionName)) (block : CheckedBlock)
+    → statement ≡ choose (choice_of ts (Some block))
     → choice_conditions (choice_of ts None) ≤ statement_conditions statement
 arms_few statement ts block is = let sum = count_of_arms ts block in let all = ap statement_conditions is in omega (arith, sum, all)
