@@ -24,8 +24,7 @@ fn open_name(name: Span, body: &[Stmt<VariableName, TaskName, FunctionName>]) ->
 
 /// The first function of a source that some path leaves without a return, by its name in its declaration.
 pub fn first_open_function(source: &CheckedSource) -> Option<Span>
-    requires { CallsAreKnown (program_of source.now) }
-    ensures { IsFirst result (NoReturnAt (program_of source.now)) }
+    ensures { CallsAreKnown (program_of source.now) → IsFirst result (NoReturnAt (program_of source.now)) }
 {
     let mut first = None;
     for i in (0..source.functions.len()).rev() {
@@ -37,8 +36,7 @@ pub fn first_open_function(source: &CheckedSource) -> Option<Span>
 
 /// The first task of a source that some path leaves without a transition, by its name in its declaration.
 pub fn first_open_task(source: &CheckedSource) -> Option<Span>
-    requires { CallsAreKnown (program_of source.now) }
-    ensures { IsFirst result (NoTransitionAt (program_of source.now)) }
+    ensures { CallsAreKnown (program_of source.now) → IsFirst result (NoTransitionAt (program_of source.now)) }
 {
     let mut first = None;
     for i in (0..source.tasks.len()).rev() {

@@ -152,8 +152,7 @@ fn first_in_body(
 
 // The first read of an unassigned local in functions.
 fn first_in_functions(alloc: Global, source: &CheckedSource) -> Result<Option<Span>, AllocError>
-    requires { CallsAreKnown (program_of source.now) }
-    ensures { IfOk result (λ first. IsFirst first (UnassignedInFunction (program_of source.now))) }
+    ensures { IfOk result (λ first. CallsAreKnown (program_of source.now) → IsFirst first (UnassignedInFunction (program_of source.now))) }
 {
     let mut first = None;
     for i in (0..source.functions.len()).rev() {
@@ -166,8 +165,7 @@ fn first_in_functions(alloc: Global, source: &CheckedSource) -> Result<Option<Sp
 
 // The first read of an unassigned local in tasks.
 fn first_in_tasks(alloc: Global, source: &CheckedSource) -> Result<Option<Span>, AllocError>
-    requires { CallsAreKnown (program_of source.now) }
-    ensures { IfOk result (λ first. IsFirst first (UnassignedInTask (program_of source.now))) }
+    ensures { IfOk result (λ first. CallsAreKnown (program_of source.now) → IsFirst first (UnassignedInTask (program_of source.now))) }
 {
     let mut first = None;
     for i in (0..source.tasks.len()).rev() {
@@ -179,8 +177,7 @@ fn first_in_tasks(alloc: Global, source: &CheckedSource) -> Result<Option<Span>,
 
 /// The first place of a source at which some path of a function or a task reads a local while it is unassigned. Fails where memory does.
 pub fn first_unassigned(alloc: Global, source: &CheckedSource) -> Result<Option<Span>, AllocError>
-    requires { CallsAreKnown (program_of source.now) }
-    ensures { IfOk result (λ first. IsFirst first (UnassignedAt (program_of source.now))) }
+    ensures { IfOk result (λ first. CallsAreKnown (program_of source.now) → IsFirst first (UnassignedAt (program_of source.now))) }
 {
     let in_functions = first_in_functions(alloc, source)?;
     let in_tasks = first_in_tasks(alloc, source)?;
