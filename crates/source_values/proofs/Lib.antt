@@ -3,6 +3,7 @@ mod Completions
 mod Emitted
 mod Marked
 mod Rows
+mod Sizes
 mod Takes
 mod Tasks
 mod Turns
