@@ -7,6 +7,7 @@ use Rattle.machine_effects.specs.Inputs.{Look, InputsAreWords, no_inputs}
 use Rattle.machine_effects.specs.Machine.{Code, MachineBoard}
 use Rattle.machine_effects.proofs.Interface.{code_changes_by_effects, fram_after-append}
 use Rattle.code_forms.specs.Forms.{Core, board_of}
+use Rattle.cost_bound.specs.Summaries.{summaries}
 use Rattle.cost_bound.specs.Allowance.{list_of}
 use Rattle.cost_bound.specs.Counts.{emits_of}
 use Rattle.source_values.specs.Runs.{CheckedProgram, State, task_body}
@@ -71,10 +72,10 @@ module _ (p : CheckedProgram) (l : MemoryMap) (logs : l.runtime.logging ≡ Undo
   start = undo_start l (private_homes l)
 
   abbrev list : ℕ → ℕ
-  list t = list_of p.shared (task_body p t)
+  list t = list_of (summaries p) p.shared (task_body p t)
 
   abbrev emits : ℕ → ℕ
-  emits t = emits_of (task_body p t)
+  emits t = emits_of (summaries p) (task_body p t)
 
   whole : ProgramsAreWhole (lowered l p)
   whole = are_whole p l r

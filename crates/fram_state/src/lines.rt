@@ -15,9 +15,7 @@ use image_text::{Image, Map, Name, Task, Variable};
 use source_meaning::Accepted;
 use source_report::spelled;
 use std::alloc::Global;
-use task_ast::{
-    CheckedSource, Extent, SharedDeclaration, TaskDeclaration, TaskName, VariableName, WordType,
-};
+use task_ast::{CheckedSource, Extent, FunctionName, SharedDeclaration, TaskDeclaration, TaskName, VariableName, WordType};
 use thiserror::Error;
 use war_analysis::{Plan, TaskPlan, analyse, one_plan};
 
@@ -123,7 +121,7 @@ fn are_privates(text: &[u8], shared: &[SharedDeclaration], numbers: &[u32], name
 fn is_planned(
     text: &[u8],
     shared: &[SharedDeclaration],
-    declaration: &TaskDeclaration<VariableName, TaskName>,
+    declaration: &TaskDeclaration<VariableName, TaskName, FunctionName>,
     plan: &TaskPlan,
     task: &Task,
 ) -> bool
@@ -138,7 +136,7 @@ fn is_planned(
 fn are_planned(
     text: &[u8],
     shared: &[SharedDeclaration],
-    declared: &[TaskDeclaration<VariableName, TaskName>],
+    declared: &[TaskDeclaration<VariableName, TaskName, FunctionName>],
     plans: &[TaskPlan],
     tasks: &[Task],
 ) -> bool
@@ -160,7 +158,7 @@ fn are_planned(
 fn has_ring(source: &CheckedSource) -> bool
     ensures { result ≡ uses_events (program_of source.now) }
 {
-    uses_events(source.tasks.as_slice())
+    uses_events(source)
 }
 
 // Whether a map has the lines that a source with this plan gives.

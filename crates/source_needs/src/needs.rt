@@ -30,7 +30,7 @@ use privatise::{layout, one_layout};
 use source_meaning::Accepted;
 use source_report::spelled;
 use std::alloc::{AllocError, Global};
-use task_ast::{SharedDeclaration, Stmt, TaskName, VariableName};
+use task_ast::{FunctionName, SharedDeclaration, Stmt, TaskName, VariableName};
 use war_analysis::{Plan, analyse, one_plan};
 use whole_programs::{privates_are_few, tasks_are_whole};
 
@@ -48,7 +48,7 @@ fn table_of(
     shared: &[SharedDeclaration],
     events: bool,
     versions: u64,
-    body: &[Stmt<VariableName, TaskName>],
+    body: &[Stmt<VariableName, TaskName, FunctionName>],
 ) -> Table
     requires few { length shared.now ≤ 256 }
     requires small { task_bound events versions shared.now (block_view body.now) < 2 ^ 32 }

@@ -3,6 +3,7 @@ use Rattle.std.specs.Prelude.{ℕ, ◌+◌, ◌<◌, ◌≤◌, true, List, leng
 use Rattle.alp_words.specs.Words.{HoldsWords}
 use Rattle.machine_effects.specs.Inputs.{Inputs, InputsAreWords}
 use Rattle.code_forms.specs.Forms.{Core}
+use Rattle.cost_bound.specs.Summaries.{summaries}
 use Rattle.cost_bound.specs.Counts.{emits_of}
 use Rattle.source_values.specs.Runs.{CheckedProgram, task_body}
 use Rattle.array_versions.specs.Program.{Program, nothing}
@@ -35,12 +36,12 @@ TasksKeepToTheirWays = (l : MemoryMap) (programs : List Program) → CodeFits l 
 abbrev pub AttemptsAreCounted : Type 0
 AttemptsAreCounted = (p : CheckedProgram) (l : MemoryMap) (t spent : ℕ) → spent ≤ path_need p l t
     → with_events l.runtime.events 3 + 6 + start_cycles l.runtime.events true l.versions.words (length (privates_in (task_entries l) t)) + spent
-    + commit_cycles l.runtime.events (own_entries p l t) (own_words p l t) (emits_of (task_body p t)) ≤ need_of p l t
+    + commit_cycles l.runtime.events (own_entries p l t) (own_words p l t) (emits_of (summaries p) (task_body p t)) ≤ need_of p l t
 
 -- and those of a boot that finds this commit pending
 abbrev pub OwnCommitsAreCounted : Type 0
 OwnCommitsAreCounted = (p : CheckedProgram) (l : MemoryMap) (t : ℕ)
-    → boot_cycles l + commit_cycles l.runtime.events (own_entries p l t) (own_words p l t) (emits_of (task_body p t)) ≤ need_of p l t
+    → boot_cycles l + commit_cycles l.runtime.events (own_entries p l t) (own_words p l t) (emits_of (summaries p) (task_body p t)) ≤ need_of p l t
 
 -- the greatest of the needs has those of a boot that finds a commit pending of whatever tasks, where it is one of the costs
 abbrev pub PendingCommitsAreCounted : Type 0

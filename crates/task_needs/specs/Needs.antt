@@ -2,6 +2,7 @@
 -- of its own commit, on every path.
 use Rattle.std.specs.Prelude.{ℕ, ◌+◌, ◌-◌, min, true, List, [], length, Option, Some, None, slice_get}
 use Rattle.task_ast.specs.declared.SharedDeclaration.{SharedDeclaration}
+use Rattle.cost_bound.specs.Summaries.{Summary, summaries}
 use Rattle.cost_bound.specs.Allowance.{list_part, shared_sum}
 use Rattle.cost_bound.specs.Counts.{CheckedBlock, emits_of, stores_of}
 use Rattle.source_values.specs.Runs.{CheckedProgram, task_body}
@@ -26,16 +27,16 @@ abbrev pub own_privates : MemoryMap → ℕ → List PrivateScalar
 own_privates l t = privates_of (slice_get l.tasks t)
 
 -- how many elements statements list: of each array the counted stores, but no more than it has elements
-abbrev pub elements_of : List SharedDeclaration → CheckedBlock → ℕ
-elements_of shared code = shared_sum (λ i extent. list_part (stores_of i code) extent) shared
+abbrev pub elements_of : List Summary → List SharedDeclaration → CheckedBlock → ℕ
+elements_of known shared code = shared_sum (λ i extent. list_part (stores_of known i code) extent) shared
 
 -- the entries of a task's commit list: one for each run of private scalars that stand side by side, and one for each element
 abbrev pub own_entries : CheckedProgram → MemoryMap → ℕ → ℕ
-own_entries p l t = length (runs_of (own_privates l t)) + elements_of p.shared (task_body p t)
+own_entries p l t = length (runs_of (own_privates l t)) + elements_of (summaries p) p.shared (task_body p t)
 
 -- and the words that they name
 abbrev pub own_words : CheckedProgram → MemoryMap → ℕ → ℕ
-own_words p l t = private_words (own_privates l t) + elements_of p.shared (task_body p t)
+own_words p l t = private_words (own_privates l t) + elements_of (summaries p) p.shared (task_body p t)
 
 -- ---- part by part
 
@@ -49,7 +50,7 @@ start_need l t = start_cycles l.runtime.events true l.versions.words (private_wo
 
 -- the commit of a task
 abbrev pub commit_need : CheckedProgram → MemoryMap → ℕ → ℕ
-commit_need p l t = commit_cycles l.runtime.events (own_entries p l t) (own_words p l t) (emits_of (task_body p t))
+commit_need p l t = commit_cycles l.runtime.events (own_entries p l t) (own_words p l t) (emits_of (summaries p) (task_body p t))
 
 -- what a task needs beside its own code
 abbrev pub beside_path : CheckedProgram → MemoryMap → ℕ → ℕ

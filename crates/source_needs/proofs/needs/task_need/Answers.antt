@@ -3,6 +3,7 @@ use Rattle.std.proofs.lemmas.Option.{get_or_from_slice_get, same_Some}
 use Rattle.task_ast.specs.View.{block_view, program_of}
 use Rattle.source_report.specs.SourceReport.{spelled}
 use Rattle.source_values.specs.Runs.{body_of}
+use Rattle.cost_bound.specs.Summaries.{summaries}
 use Rattle.cost_bound.specs.Counts.{emits_of}
 use Rattle.cost_bound.specs.Allowance.{CheckedTask, task_bound, task_words, uses_events, versions_of}
 use Rattle.code_costs.specs.Dearest.{most_spent}
@@ -44,7 +45,7 @@ table_of-table-requires-clause-short c =
     (c.index-task.ensures ∙ ap (λ s. get_or s.tasks.items k c.index-task.result.now) source) in
     let shared : c.deref.result.now ≡ p.shared = c.deref.ensures.value ∙ ap (λ s. s.shared.items) source in
     let body : block_view c.deref-2.result.now ≡ h.task.body = ap block_view c.deref-2.ensures.value ∙ at.1 in
-    let small : task_words p.shared h.task.body < 2 ^ 32 = omega (arith, h.words) in
+    let small : task_words (summaries p) p.shared h.task.body < 2 ^ 32 = omega (arith, h.words) in
     rw (shared, body) small
 
 pub parts_of-parts-requires-clause-few : goal.parts_of-parts-requires-clause-few
@@ -144,10 +145,10 @@ returns c = λ task there.
     let cleared : c.allow.result.now.versions ≡ l.versions.words = ap (λ a. a.versions) c.allow.ensures ∙ sym h.cleared in
     let privates : c.privates.result.now ≡ own_privates l k = own ∙ sym (ap privates_of h.placed) in
     let block = sym (ap body_of h.there) in
-    let elements = (rw (shared, body) at c.table_of-table.ensures.elements) ∙ ap (λ b. elements_of p.shared b) block in
-    let emits = (rw body at c.table_of-table.ensures.emits) ∙ ap emits_of block in
+    let elements = (rw (shared, body) at c.table_of-table.ensures.elements) ∙ ap (λ b. elements_of (summaries p) p.shared b) block in
+    let emits = (rw body at c.table_of-table.ensures.emits) ∙ ap (emits_of (summaries p)) block in
     let bound : table.bound ≡ (program_parts p l).cost k =
-    (rw (events, versions, shared, body) at c.table_of-table.ensures.bound) ∙ ap (λ b. task_bound (uses_events p) (versions_of p) p.shared b) block in
+    (rw (events, versions, shared, body) at c.table_of-table.ensures.bound) ∙ ap (λ b. task_bound (summaries p) (uses_events p) (versions_of p) p.shared b) block in
     let small : table.bound < 2 ^ 32 = omega (arith, rw (events, versions, shared, body) at c.table_of-table.ensures.bound, h.bound) in
     let name : c.spelled.result.now ≡ spelled text h.task.name =
     c.spelled.ensures ∙ ap (λ t. spelled t c.index-task.result.now.name) c.source.ensures ∙ ap (spelled text) at.0 in
@@ -158,7 +159,7 @@ returns c = λ task there.
     let path : c.parts_of-parts.result.path ≡ n.path =
     (rw (at_runtime, cleared, privates, elements, emits) at c.parts_of-parts.ensures.path) ∙ cut
     ∙ ap (λ b. min (most_spent l.runtime.events (task_program p l k)) (b - beside_path p l k)) bound in
-    let words : table.words ≡ task_words p.shared h.task.body = rw (shared, body) at c.table_of-table.ensures.words in
+    let words : table.words ≡ task_words (summaries p) p.shared h.task.body = rw (shared, body) at c.table_of-table.ensures.words in
     let same : h.task ≡ task = same_Some h.task task (sym h.there ∙ there) in
     let P : CheckedTask → Type 0 = λ t. row_of (record {
       name = c.spelled.result;

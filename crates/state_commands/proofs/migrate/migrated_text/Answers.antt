@@ -26,6 +26,12 @@ returns-in_err-check_belongs-clause-refused c =
     (fails_at _ _ _ c.args.names (editions_of c.args.texts) 2 refl
     (refused_state _ _ c.in_ok-said.ensures.said old new) c.in_err-check_belongs.ensures.refused)
 
+pub migrated_of-requires-clause-old_plain : goal.migrated_of-requires-clause-old_plain
+migrated_of-requires-clause-old_plain c = c.in_ok-said.ensures.said.source_said.1
+
+pub migrated_of-requires-clause-new_plain : goal.migrated_of-requires-clause-new_plain
+migrated_of-requires-clause-new_plain c = c.in_ok-said.ensures.said.new_source_said.1
+
 pub migrated_of-requires-clause-old : goal.migrated_of-requires-clause-old
 migrated_of-requires-clause-old c =
     let old = c.in_ok-check_suits.ensures.suits in
