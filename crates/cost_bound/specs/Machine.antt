@@ -19,14 +19,14 @@ summary_of s = record {
 abbrev pub known_of : List FunctionSummary → List Summary
 known_of kept = map summary_of kept
 
--- two summaries are the same as far as 64 bits keep them, for 256 variables and 64 functions
+-- two summaries are the same as far as 64 bits keep them, for 256 variables and functions
 pub record IsSame (a b : Summary) : Type 0 where
   pub cycles : capped a.cycles ≡ capped b.cycles
   pub words : capped a.words ≡ capped b.words
   pub emits : capped a.emits ≡ capped b.emits
   pub stores : (i : ℕ) → i < 256 → capped (a.stores i) ≡ capped (b.stores i)
   pub assigns : (i : ℕ) → i < 256 → a.assigns i ≡ b.assigns i
-  pub reaches : (k : ℕ) → k < 64 → a.reaches k ≡ b.reaches k
+  pub reaches : (k : ℕ) → k < 256 → a.reaches k ≡ b.reaches k
   pub depth : capped a.depth ≡ capped b.depth
 
 -- the same of lists of them

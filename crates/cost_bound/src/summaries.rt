@@ -28,8 +28,8 @@ pub struct FunctionSummary {
     pub stores: [u64; SHARED],
     /// The shared variables that stand on the left of an assignment, by number.
     pub assigns: [bool; SHARED],
-    /// The functions that it reaches by calls, by number.
-    pub reaches: [bool; FUNCTIONS],
+    /// The functions that it calls, and those that they reach, by number.
+    pub reaches: [bool; SHARED],
     /// The words of the greatest chain of frames that begins with its own.
     pub depth: u64,
 }
@@ -42,7 +42,7 @@ impl Default for FunctionSummary {
             emits: 0,
             stores: [0; SHARED],
             assigns: [false; SHARED],
-            reaches: [false; FUNCTIONS],
+            reaches: [false; SHARED],
             depth: 0,
         }
     }
@@ -56,6 +56,7 @@ fn summary(
     functions: &[FunctionSummary],
     function: &FunctionDeclaration<VariableName, TaskName, FunctionName>,
 ) -> FunctionSummary
+    requires few { length functions.now ≤ 64 }
     ensures { IsSame (summary_of result) (function_summary (known_of functions.now) (function_of function.now)) }
 {
     let body = function.body.as_slice();
@@ -81,8 +82,8 @@ pub fn summaries(
     ensures { AreSame (known_of result.items) (function_summaries (map function_of functions.now)) }
 {
     let mut known = ArrayVec::new();
-    for function in functions {
-        let next = summary(&known, function);
+    for i in 0..functions.len() {
+        let next = summary(&known, &functions[i]);
         known.push(next);
     }
     known
