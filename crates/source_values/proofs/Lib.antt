@@ -1,6 +1,8 @@
 mod Choices
 mod Completions
 mod Emitted
+mod Functions
+mod Kept
 mod Marked
 mod Rows
 mod Sizes
