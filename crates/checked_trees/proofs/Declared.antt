@@ -1,5 +1,6 @@
 -- Which variables the names of a source declare.
-use Rattle.std.proofs.Common.{◌≡◌, ℕ, ◌+◌, List, [], ◌∷◌, ◌++◌, length, Bool, true, false, Option, Some, None, slice_get, refl, sym, ap, ◌∙◌, subst, arith, append_assoc}
+use Rattle.std.proofs.Common.{◌≡◌, ℕ, ◌+◌, List, [], ◌∷◌, ◌++◌, length, Bool, true, false, Option, Some, None, slice_get, refl, sym, ap, ◌∙◌, subst, arith}
+use Rattle.std.proofs.Common.{append_assoc}
 use Rattle.std.specs.Prelude.{All}
 use Rattle.std.proofs.lemmas.List.Elements.{All-head, All-tail}
 use Rattle.alp_text.specs.declared.lines.Span.{Span}
@@ -106,7 +107,8 @@ mutual
   values_none types t.no_value behind h = h
   values_none types (t.value e more) behind h = expression_none types e (values_names types more behind) (values_none types more behind h)
 
-value_none : (types : Span → WordType) (e : Option (Expression Span Span)) (behind : List Occurrence) → DeclareNone behind → DeclareNone (value_names types e behind)
+value_none : (types : Span → WordType) (e : Option (Expression Span Span)) (behind : List Occurrence) → DeclareNone behind
+    → DeclareNone (value_names types e behind)
 value_none types None behind h = h
 value_none types (Some e) behind h = expression_none types e behind h
 

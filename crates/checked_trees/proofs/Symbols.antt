@@ -1,5 +1,6 @@
 -- What the names of a source stand for, where no check finds a fault.
-use Rattle.std.proofs.Common.{◌≡◌, ℕ, ◌<◌, ◌≤◌, ◌==◌, ◌&&◌, ◌||◌, nat_le, nat_lt, Bool, true, false, cond, List, [], ◌∷◌, length, Option, Some, None, slice_get, refl}
+use Rattle.std.proofs.Common.{◌≡◌, ℕ, ◌<◌, ◌≤◌, ◌==◌, ◌&&◌, ◌||◌, nat_le, nat_lt, Bool, true, false, cond, List, [], ◌∷◌, length, Option, Some, None}
+use Rattle.std.proofs.Common.{slice_get, refl}
 use Rattle.std.proofs.Common.{arith}
 use Rattle.std.specs.Option.{option_or}
 use Rattle.std.specs.Str.{bytes_eq}
@@ -226,5 +227,6 @@ symbol_sound source shared all o front d here e =
     let few = front_clean (limit_fault source) o front e in
     by_role shared o.span o.role (shared_in front) (functions_in front) (tasks_in front) (locals_in front) _ here.0 (few_locals source front few)
     (not_too_many source o front e)
-    (meaning_sound shared (known_functions (functions_in front) (tasks_in front)) (behind all front) (local_in source (text_of source o.span) front) (global_in source (text_of source o.span) all)
+    (meaning_sound shared (known_functions (functions_in front) (tasks_in front)) (behind all front) (local_in source (text_of source o.span) front)
+      (global_in source (text_of source o.span) all)
     (local_sound source (text_of source o.span) shared front here.1 few) (global_sound source (text_of source o.span) shared all d))

@@ -1,5 +1,6 @@
 -- The emits that the allowance counts are those that a run may make.
 use Rattle.std.proofs.Common.{◌≡◌, ◌≤◌, ◌+◌, ◌-◌, ◌*◌, ℕ, List, [], ◌∷◌, ◌++◌, map, max, Some, None, refl, ap, ap₂, sym, ◌∙◌, subst, arith}
+use Rattle.std.specs.Prelude.{slice_index}
 use Rattle.std.proofs.lemmas.List.{map-append}
 use Rattle.task_ast.specs.Answers.{answers_from}
 use Rattle.task_ast.specs.Tree as t
@@ -20,7 +21,7 @@ module _ (ns : List ℕ) where
     expression_same (t.element x index) = expression_same index
     expression_same t.sense = refl
     expression_same t.next_event = refl
-    expression_same (t.call f values) = let v = values_same values in omega (arith, v)
+    expression_same (t.call f values) = ap (λ m. m + slice_index ns f.function) (values_same values)
     expression_same (t.unary op e) = expression_same e
     expression_same (t.binary op a b) = ap₂ (λ m n. m + n) (expression_same a) (expression_same b)
     expression_same (t.shift op e count) = expression_same e

@@ -118,9 +118,9 @@ return_comes text program checks k f e s =
     let calls = calls_at 0 functions k k f placed.calls.functions e (omega arith) in
     let known = take k (meanings program) in
     let may : FunctionMay f.body = block_in_function f.body (at (λ g. block_ends false g.body ≡ true) functions k f placed.functions e) in
-    let open : (xs : List Access) → BlockPath (map at_once functions) f.body xs path.goes_on → ⊥ =
+    let closed : (xs : List Access) → BlockPath (map at_once functions) f.body xs path.goes_on → ⊥ =
     λ xs p. checks.checks.paths.returns f.name (some_at (λ g. OpenAt functions g.name g.body f.name) functions k f e (refl, (xs, p))) in
-    ends_returning (λ xs. BlockPath (map at_once functions) f.body xs path.goes_on) open (run_block known f.body s)
+    ends_returning (λ xs. BlockPath (map at_once functions) f.body xs path.goes_on) closed (run_block known f.body s)
     (block_path functions k (omega (arith, within)) known f.body calls s) (block_ends_so known NoTarget (Unit {0}) f.body may s)
 
 -- what no check refuses can be run where it emits few words

@@ -1,5 +1,5 @@
 //! Whether a source has helper functions: such a source isn't compiled yet.
-ghost use Rattle.std.specs.Prelude.{◌≡◌, ◌<◌, ◌^◌, ◌-◌, length, IfOk, IfErr};
+ghost use Rattle.std.specs.Prelude.{◌≡◌, ◌<◌, ◌^◌, ◌-◌, length, map, IfOk, IfErr};
 ghost use Rattle.task_ast.specs.View.{program_of, function_of};
 ghost use Rattle.task_ast.specs.Paths.{CheckedProgram};
 ghost use Rattle.cost_bound.specs.declared.allowance.Allow.{Allow};
@@ -10,6 +10,7 @@ ghost use Rattle.source_meaning.specs.Plain.{IsPlain, IsUncompiled, function_lin
 use crate::fault::SourceFault;
 use crate::passes::{Accepted, accept};
 use std::alloc::Global;
+use task_ast::{FunctionDeclaration, FunctionName, TaskName, VariableName};
 use task_lex::line_at;
 
 // The line of a place, from 1. Past the text's end it is that of its end.
@@ -20,14 +21,25 @@ fn line_from(text: &[u8], at: usize) -> u32
     line_at(text, at.min(text.len()))
 }
 
+// The line of the first function's name, if there is a function.
+fn line_of_first(
+    text: &[u8],
+    functions: &[FunctionDeclaration<VariableName, TaskName, FunctionName>],
+) -> Option<u32>
+    requires { length text.now < 2 ^ 32 - 1 }
+    ensures { result ≡ function_line text.now (map function_of functions.now) }
+{
+    match functions.first() {
+        Some(function) => Some(line_from(text, function.name.from)),
+        None => None,
+    }
+}
+
 /// The line of the name of the source's first function; or it has none.
 pub fn first_function(accepted: &Accepted) -> Option<u32>
     ensures { result ≡ function_line accepted.now.text.items (program_of accepted.now.checked.source).functions }
 {
-    match accepted.checked().source().functions.first() {
-        Some(function) => Some(line_from(accepted.source(), function.name.from)),
-        None => None,
-    }
+    line_of_first(accepted.source(), &accepted.checked().source().functions)
 }
 
 /// Takes a text through all passes, as `accept` does, and behind them through the last one of what is compiled: a source with functions

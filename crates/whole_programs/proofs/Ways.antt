@@ -424,7 +424,8 @@ module _ (p : Places) (words : PlacesOfWords p) (shared : List SharedDeclaration
       by_variable (Local v) is k = absurd k
 
   -- what follows a statement, where others stand behind it
-  step_follows : (s : CheckedStatement) (more : CheckedBlock) (u : ℕ → Bool) (next rest : Place → Type 0) → WellFormedBlock shared more → Follows (BlockPath [] (t.step s more)) u next
+  step_follows : (s : CheckedStatement) (more : CheckedBlock) (u : ℕ → Bool) (next rest : Place → Type 0) → WellFormedBlock shared more
+      → Follows (BlockPath [] (t.step s more)) u next
       → ((xs : List Access) → StatementPath [] s xs goes_on → (a : ℕ → Bool) → Covers (behind u xs) a → rest (at 0 a)) → Follows (StatementPath [] s) u rest
   step_follows s more u next rest is h k = record { safe = λ xs end q. by_end xs end q; on = k }
     where
@@ -503,7 +504,8 @@ module _ (p : Places) (words : PlacesOfWords p) (shared : List SharedDeclaration
         (record { safe = λ xs end q. h.safe xs end (path.otherwise b xs end q); on = λ xs q. h.on xs (path.otherwise b xs goes_on q) })
     choice_way (t.test e b more) u a next is c h =
         let some = some_block [] shared b is.1 in
-        let s = h.safe (names_read e ++ some.accesses) some.end (path.taken e b more (names_read e) some.accesses some.end (is_path [] shared e is.0) some.is) in
+        let s = h.safe (names_read e ++ some.accesses) some.end
+          (path.taken e b more (names_read e) some.accesses some.end (is_path [] shared e is.0) some.is) in
         let reads = reads_assigned shared u a e c is.0 (safe_expression u e some.accesses s).0 in
         (lowering_has (ways enough a) p words shared 0 e is.0 is.3 reads).test (EachWay enough (lowered_block p b) next)
         (EachWay enough (lowered_choice p more) next)

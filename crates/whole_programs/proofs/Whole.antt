@@ -48,7 +48,7 @@ tasks_are_whole text program allow plans l laid k task t e f =
     block_whole (places_of (map_seen task.body l) own) program.shared task.body
     (task_places (map_seen task.body l) seen own (privates_seen (some_path_writes task.body) l.variables own.privates
     (seen_all (HasItsPlace l.variables) l.runtime.logging t privates))) (even_of l rules).commit
-    (task_checked text program laid.accepted.checks k task e)
+    (task_checked text program laid.accepted.checks laid.layout.plain k task e)
 
 -- what holds of each task's program by number holds of all
 all_lowered : (P : word.Program → Type 0) (l : MemoryMap) (tasks : List CheckedTask) (layouts : List TaskPlace)

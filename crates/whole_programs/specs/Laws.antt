@@ -2,6 +2,7 @@
 use Rattle.std.specs.Prelude.{◌≡◌, ◌≤◌, ℕ, List, All, Some, slice_get}
 use Rattle.task_ast.specs.Paths.{CheckedProgram, CheckedTask}
 use Rattle.cost_bound.specs.declared.allowance.Allow.{Allow}
+use Rattle.cost_bound.specs.Summaries.{summaries}
 use Rattle.cost_bound.specs.Allowance.{scalars_of}
 use Rattle.source_meaning.specs.Acceptance.{IsAcceptedText}
 use Rattle.war_analysis.specs.PlanValue.{TaskPlanValue}
@@ -41,4 +42,4 @@ ProgramsAreWhole = OfTexts (λ program l. All IsWhole (lowered l program) × All
 -- the private scalars of each task have at most as many words as its allowance counts, which counts those on the left of an assignment
 abbrev pub PrivatesAreFew : Type 0
 PrivatesAreFew = OfTexts (λ program l. (k : ℕ) (task : CheckedTask) (t : TaskPlace)
-    → slice_get program.tasks k ≡ Some task → slice_get l.tasks k ≡ Some t → private_words t.privates ≤ scalars_of program.shared task.body)
+    → slice_get program.tasks k ≡ Some task → slice_get l.tasks k ≡ Some t → private_words t.privates ≤ scalars_of (summaries program) program.shared task.body)
