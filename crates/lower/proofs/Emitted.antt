@@ -1,5 +1,5 @@
 -- Statements emit no more words than they count.
-use Rattle.lower.proofs.Names.{ℕ, ◌+◌, ◌≤◌, length, CheckedStatement, CheckedBlock, Outcome, to_task, returns, short, run_statement, run_block, statement_emits}
+use Rattle.lower.proofs.Names.{ℕ, ◌+◌, ◌≤◌, [], length, CheckedStatement, CheckedBlock, Outcome, to_task, returns, short, run_statement, run_block, statement_emits}
 use Rattle.lower.proofs.Names.{block_emits, EmitsUpTo, statement_up_to, block_up_to}
 use Rattle.source_values.specs.Statements.{Attempt, goes_on}
 
@@ -19,8 +19,8 @@ where_it_goes_on n short h = tt
 
 -- a statement that goes on has emitted no more words than it counts
 pub statement_emitted : (s : CheckedStatement) (m : Attempt) (n : ℕ) → length m.emitted + statement_emits [] s ≤ n → EmitsAtMost n (run_statement [] s m)
-statement_emitted s m n h = where_it_goes_on n (run_statement [] s m) (statement_up_to s m n h)
+statement_emitted s m n h = where_it_goes_on n (run_statement [] s m) (statement_up_to [] [] tt s m n h)
 
 -- nor has a block
 pub block_emitted : (b : CheckedBlock) (m : Attempt) (n : ℕ) → length m.emitted + block_emits [] b ≤ n → EmitsAtMost n (run_block [] b m)
-block_emitted b m n h = where_it_goes_on n (run_block [] b m) (block_up_to b m n h)
+block_emitted b m n h = where_it_goes_on n (run_block [] b m) (block_up_to [] [] tt b m n h)

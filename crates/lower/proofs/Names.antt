@@ -51,7 +51,7 @@ pub use Rattle.cost_bound.specs.Table.{words_column}
 pub use Rattle.path_runs.proofs.Interface.{runs_go_on_along_paths}
 pub use Rattle.path_sums.specs.Access.{is_same, summary}
 pub use Rattle.path_sums.specs.Sums.{block_sum, choice_sum, statement_sum}
-pub use Rattle.source_values.proofs.Interface.{EmitsUpTo, block_up_to, more_turns, scalar_word, statement_up_to, value_takes}
+pub use Rattle.source_values.proofs.Interface.{EmitsUpTo, block_up_to, more_turns, scalar_word, statement_up_to, value_keeps}
 pub use Rattle.source_values.specs.Statements.{Outcome, and_then, block_emits, choice_emits, if_value, returns, run_block, run_choice, run_statement}
 pub use Rattle.source_values.specs.Statements.{short, statement_emits, to_task, with_value}
 pub use Rattle.source_values.specs.Values.{Evaluated, Variables, binary_result, binary_value, converted, gives, holds, is_settled, long_binary_value}

@@ -2,7 +2,7 @@
 use Rattle.lower.proofs.Names.{◌≡◌, ℕ, Bool, true, false, ◌&&◌, Option, Some, None, refl, sym, ap, subst, ◌∙◌, if◌then◌else◌, eqb-true, and_parts}
 use Rattle.lower.proofs.Names.{CheckedExpression, WordType, Unsigned, Int, Long, BinaryOperator, Variable, Shared, Local, VariableName, PlacedOperator}
 use Rattle.lower.proofs.Names.{IsOneWord, by_one_word, joined_word, ◌>>?◌, Evaluated, gives, made_of, word_at, scalar_value, binary_value, binary_result}
-use Rattle.lower.proofs.Names.{value_of, scalar_word, value_takes, Outcome, if_value, with_value, PlainOperation, plain_word, plain_operation, is_same}
+use Rattle.lower.proofs.Names.{value_of, scalar_word, value_keeps, Outcome, if_value, with_value, PlainOperation, plain_word, plain_operation, is_same}
 use Rattle.lower.proofs.Names.{is_name, updating, of_words, is_number, are_alike, element_updating}
 use Rattle.source_values.specs.Values.{Attempt, joined_type, type_of}
 use Rattle.source_values.specs.Statements.{goes_on, assigned}
@@ -127,7 +127,7 @@ updated_value x i b m f o same = by (value_of [] b m) refl
         → if_value (made_of f r) (λ v s. goes_on (assigned s x i v)) ≡ if_value r (λ v s. goes_on (assigned s x i (plain_word o (word_at s.variables x i) v)))
     by None is = refl
     by (Some y) is = ap (λ v. goes_on (assigned y.behind x i v))
-        (same y.value ∙ ap (λ vs. plain_word o (word_at vs x i) y.value) (sym (value_takes b m y is).keeps.variables))
+        (same y.value ∙ ap (λ vs. plain_word o (word_at vs x i) y.value) (sym (value_keeps b m y is).variables))
 
 pub update_goes_on : (x : Variable) (op : PlacedOperator) (a b : CheckedExpression) (o : PlainOperation) (m : Attempt) → IsUpdate x op.operator a o
     → IsOneWord (type_of a) → IsOneWord (type_of b)

@@ -50,7 +50,7 @@ pub use Rattle.lower.proofs.Interface.{is_private_of}
 pub use Rattle.cost_bound.specs.Allowance.{CheckedTask, is_written, list_of, scalars_of}
 pub use Rattle.cost_bound.specs.Counts.{CheckedBlock, emits_of, stores_of}
 pub use Rattle.privatise.specs.Layouts.{AreVariables, IsPlaceOf}
-pub use Rattle.source_values.proofs.Interface.{for_value, readings_left_over_lem}
+pub use Rattle.source_values.proofs.Interface.{for_kept_value, readings_left_over_lem}
 pub use Rattle.source_values.specs.Runs.{CheckedProgram, Completion, EndsWell, State, TransitionComes, attempt_of, body_of, completion_of, fresh_attempt}
 pub use Rattle.source_values.specs.Runs.{TaskInputs, initial_words, is_long_extent, task_body}
 pub use Rattle.source_values.specs.Statements.{Attempt, Outcome, and_then, assigned, assigned_to, assigned_value, block_emits, goes_on, run_block, run_choice}

@@ -5,7 +5,7 @@ use Rattle.task_attempts.proofs.Names.{CheckedExpression, CheckedStatement, Chec
 use Rattle.task_attempts.proofs.Names.{Long, Variable, Shared, Local, by_width, type_of, converted, holds, Attempt, Outcome, goes_on, to_task, returns, short}
 use Rattle.task_attempts.proofs.Names.{and_then}
 use Rattle.task_attempts.proofs.Names.{with_value, assigned, assigned_to, assigned_value, word_of, turns, run_statement, run_choice, run_block, initial_words}
-use Rattle.task_attempts.proofs.Names.{VariablePlace, Scalar, Array, scalar_words, IsPlaceOf, place_length, are_words, are_rows, for_value}
+use Rattle.task_attempts.proofs.Names.{VariablePlace, Scalar, Array, scalar_words, IsPlaceOf, place_length, are_words, are_rows, for_kept_value}
 use Rattle.task_ast.specs.Tree as t
 use Rattle.task_ast.specs.declared.Extent.TheVariants as extent
 use Rattle.std.proofs.Math.ListN.{length-set}
@@ -27,7 +27,7 @@ rows_then n short next h f = tt
 
 rows_value : (n : ℕ) (e : CheckedExpression) (m : Attempt) (next : ℕ → Attempt → Outcome) → length m.variables.shared ≡ n
     → ((v : ℕ) (s : Attempt) → length s.variables.shared ≡ n → HasRows n (next v s)) → HasRows n (with_value [] e m next)
-rows_value n e m next h f = for_value [] (HasRows n) e m next tt (λ v s is. f v s (ap (λ u. length u.shared) is.variables ∙ h))
+rows_value n e m next h f = for_kept_value (HasRows n) e m next tt (λ v s is. f v s (ap (λ u. length u.shared) is.variables ∙ h))
 
 rows_if : (n : ℕ) (b : Bool) (o q : Outcome) → HasRows n o → HasRows n q → HasRows n (if b then o else q)
 rows_if n true o q h k = h
