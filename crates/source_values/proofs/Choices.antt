@@ -16,7 +16,7 @@ use Rattle.task_ast.specs.declared.names.FunctionName.{FunctionName}
 use Rattle.task_ast.specs.declared.Arm.{Arm, fold_out-Arm}
 use Rattle.task_ast.specs.declared.Stmt.{Stmt}
 use Rattle.source_values.specs.Values.{Evaluated, Meaning, value_of, holds}
-use Rattle.source_values.specs.Statements.{Attempt, if_value, run_choice, run_block, expression_emits, block_emits, choice_emits, conditions_emit}
+use Rattle.source_values.specs.Statements.{Attempt, short, if_value, run_choice, run_block, expression_emits, block_emits, choice_emits, conditions_emit}
 use Rattle.source_values.proofs.Sizes.{expression_size, choice_size, block_size}
 
 -- an arm's condition and block
@@ -51,6 +51,15 @@ arm_taken known arms i arm last body s x h is e v t =
     ap (λ choice. run_choice known choice s) (choice_at arms i arm last h is)
     ∙ choice_by known (expression_of arm.condition) (block_view arm.block.items) (choice_of (map tested_of (drop (i + 1) arms)) last) s x true v t
     ∙ ap (λ b. run_block known (block_view b) x.behind) (sym e)
+
+-- where an arm's condition has no value
+pub arm_short : (known : List Meaning) (arms : List (Arm VariableName TaskName FunctionName)) (i : ℕ) (arm : Arm VariableName TaskName FunctionName)
+    (last : Option CheckedBlock) (s : Attempt) → i < length arms → arm ≡ get_or arms i arm → None ≡ value_of known (expression_of arm.condition) s
+    → run_choice known (choice_of (map tested_of (drop i arms)) last) s ≡ short
+arm_short known arms i arm last s h is e =
+    ap (λ choice. run_choice known choice s) (choice_at arms i arm last h is)
+    ∙ ap (λ o. if_value o (λ w s. if holds w then run_block known (block_view arm.block.items) s
+        else run_choice known (choice_of (map tested_of (drop (i + 1) arms)) last) s)) (sym e)
 
 pub arm_passed : (known : List Meaning) (arms : List (Arm VariableName TaskName FunctionName)) (i : ℕ) (arm : Arm VariableName TaskName FunctionName)
     (last : Option CheckedBlock) (s : Attempt) (x : Evaluated)

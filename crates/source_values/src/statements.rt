@@ -11,8 +11,8 @@ ghost use Rattle.source_values.specs.Numbers.{number_type};
 ghost use Rattle.source_values.specs.Statements.{run_statement, run_choice, run_block, expression_emits, values_emits, statement_emits, conditions_emit};
 ghost use Rattle.source_values.specs.Statements.{choice_emits, block_emits};
 ghost use Rattle.source_values.specs.declared.statements.End.TheVariants as end;
-ghost use Rattle.source_values.specs.View.{attempt_in, evaluated_in, meanings_of, counts_of, waiting_in, placed_words, given_in, leaves, outcome_of};
-ghost use Rattle.source_values.specs.View.{chosen_outcome, ChosenEmits};
+ghost use Rattle.source_values.specs.View.{attempt_in, evaluated_in, meanings_of, counts_of, waiting_in, placed, placed_words, given_in, leaves};
+ghost use Rattle.source_values.specs.View.{outcome_of, chosen_outcome, ChosenEmits};
 
 use crate::frame::Frame;
 use crate::numbers::{Number, binary_number, number_of, shifted_number, unary_number};
@@ -205,7 +205,7 @@ fn words<'r>(
         }
         Args::Value(e, more) => {
             let x = evaluate(functions, e, scratch, frames, readings)?;
-            let left = words(functions, more, from + 1, scratch, frames, x.left)?;
+            let left = words(functions, more, local_behind(from), scratch, frames, x.left)?;
             frames[0].set(from, x.number.word());
             Some(left)
         }
@@ -381,6 +381,13 @@ pub fn run_block<'r>(
         left = ran.left;
     }
     Some(Ran::on(left))
+}
+
+// The number behind one of a local; 256 where there is none.
+fn local_behind(n: usize) -> usize
+    ensures { (words : List ℕ) → placed result words ≡ placed (n + 1) words }
+{
+    if n < 256 { n + 1 } else { 256 }
 }
 
 fn greater(a: u16, b: u16) -> u16
