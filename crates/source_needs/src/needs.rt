@@ -151,9 +151,15 @@ fn priced(accepted: &Accepted, layout: &Layout, most: u64, number: usize) -> Pri
     let runtime = layout.runtime();
     let versions = accepted.allow().versions as u64;
     let table = table_of(&source.shared, runtime.events, versions, &task.body);
-    let privates = layout.tasks()[number].privates();
+    let parts = parts_of(
+        runtime,
+        versions,
+        layout.tasks()[number].privates(),
+        table,
+        most,
+    );
     Priced {
-        parts: parts_of(runtime, versions, privates, table, most),
+        parts,
         bound: table.bound,
         words: table.words,
     }
