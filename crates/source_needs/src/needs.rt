@@ -376,6 +376,7 @@ pub fn needs_of<'a>(alloc: Global, accepted: &'a Accepted) -> Result<Vec<TaskNee
     one_plan();
     one_layout();
     one_logged_layout();
+    layouts_are_logged();
     let plan = analyse(alloc, accepted.checked())?;
     let undo = needs_in_place(alloc, accepted, &plan)?;
     let layout = layout_of(alloc, accepted, &plan)?;
