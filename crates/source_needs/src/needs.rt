@@ -153,9 +153,15 @@ fn priced(accepted: &Accepted, layout: &Layout, most: u64, number: usize) -> Pri
     let runtime = layout.runtime();
     let versions = accepted.allow().versions as u64;
     let table = table_of(&source.shared, runtime.events, versions, &task.body);
-    let privates = layout.tasks()[number].privates();
+    let parts = parts_of(
+        runtime,
+        versions,
+        layout.tasks()[number].privates(),
+        table,
+        most,
+    );
     Priced {
-        parts: parts_of(runtime, versions, privates, table, most),
+        parts,
         bound: table.bound,
         words: table.words,
     }
@@ -373,6 +379,7 @@ pub fn needs_of<'a>(alloc: Global, accepted: &'a Accepted) -> Result<Vec<TaskNee
     one_plan();
     one_layout();
     one_logged_layout();
+    layouts_are_logged();
     let plan = analyse(alloc, accepted.checked())?;
     let undo = needs_in_place(alloc, accepted, &plan)?;
     let layout = layout_of(alloc, accepted, &plan)?;

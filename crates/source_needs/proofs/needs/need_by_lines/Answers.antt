@@ -15,7 +15,7 @@ dearest_way-requires-clause-room c =
     let p = program_of c.args.accepted.now.checked.source in
     let l = c.args.layout.now in
     let k = c.args.number in
-    let h = task_holds c.tasks_are_whole.ensures text p c.args.accepted.now.allow c.args.plan.now l c.privates_are_few.ensures c.requires.laid_out k
+    let h = task_holds c.tasks_are_whole.ensures text p c.args.accepted.now.allow c.requires.laid_out.0 l c.privates_are_few.ensures c.requires.laid_out.1 k
     c.requires.task in
     rw c.requires.program h.room
 
@@ -25,7 +25,7 @@ dearest_way-requires-clause-whole c =
     let p = program_of c.args.accepted.now.checked.source in
     let l = c.args.layout.now in
     let k = c.args.number in
-    let h = task_holds c.tasks_are_whole.ensures text p c.args.accepted.now.allow c.args.plan.now l c.privates_are_few.ensures c.requires.laid_out k
+    let h = task_holds c.tasks_are_whole.ensures text p c.args.accepted.now.allow c.requires.laid_out.0 l c.privates_are_few.ensures c.requires.laid_out.1 k
     c.requires.task in
     rw c.requires.program h.whole
 
@@ -47,7 +47,7 @@ returns c = λ task there.
     let way = rw (at_runtime, c.requires.program) at c.in_ok-way.ensures.way in
     let held = c.deref.ensures.value ∙ way.held in
     let failed = c.deref-2.ensures.value ∙ way.failed in
-    let ways = c.in_ok-ways.ensures ∙ ap (λ h. task_ways h c.deref-2.result.now c.args.lines.now (lists_of c.args.ifs.now)) held
-    ∙ ap (λ f. task_ways (counts_from true 0 n taken) f c.args.lines.now (lists_of c.args.ifs.now)) failed
-    ∙ ap (task_ways (counts_from true 0 n taken) (counts_from false 0 n taken) c.args.lines.now) (c.requires.ifs task there) in
+    let ways = c.in_ok-ways.ensures ∙ ap (λ h. task_ways h c.deref-2.result.now c.args.ifs.lines.now (lists_of c.args.ifs.numbers.now)) held
+    ∙ ap (λ f. task_ways (counts_from true 0 n taken) f c.args.ifs.lines.now (lists_of c.args.ifs.numbers.now)) failed
+    ∙ ap (task_ways (counts_from true 0 n taken) (counts_from false 0 n taken) c.args.ifs.lines.now) (c.requires.ifs task there) in
     c.task_need.ensures task there ∙ ap (λ ws. need_row text p l k ws task) ways
