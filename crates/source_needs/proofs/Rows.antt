@@ -12,7 +12,7 @@ use Rattle.task_ast.specs.declared.names.VariableName.{VariableName}
 use Rattle.task_ast.specs.declared.names.FunctionName.{FunctionName}
 use Rattle.task_ast.specs.declared.names.TaskName.{TaskName}
 use Rattle.task_ast.specs.View.{block_view, task_of}
-use Rattle.cost_bound.specs.Summaries.{summaries}
+use Rattle.cost_bound.specs.Summaries.{function_summaries, summaries}
 use Rattle.cost_bound.specs.declared.allowance.Allow.{Allow}
 use Rattle.cost_bound.specs.Allowance.{CheckedTask, scalars_of, task_bound, task_words, uses_events, versions_of}
 use Rattle.code_paths.specs.Paths.{capped}
@@ -57,6 +57,7 @@ pub record TaskHolds (text : List ℕ) (p : CheckedProgram) (allow : Allow) (l :
   pub room : words_of (task_program p l k) ≤ 0x7FFF
   pub privates : private_words place.privates ≤ scalars_of (summaries p) p.shared task.body
   pub conditions : block_conditions task.body < 2 ^ 32
+  pub none : [] ≡ summaries p
 
 pub task_holds : TasksAreWhole → (text : List ℕ) (p : CheckedProgram) (allow : Allow) (plans : List TaskPlanValue) (l : MemoryMap)
     → PrivatesAreFew → IsLaidOutText text p allow plans l
@@ -92,6 +93,7 @@ task_holds whole text p allow plans l few laid k inside =
       room = omega (arith, ap words_of program, code, small);
       privates = privates;
       conditions = omega (arith, conditions, choices, code, small);
+      none = ap function_summaries (sym laid.layout.plain);
     }
 
 -- ways that are cut at 2^64 - 1 are cut by a bound of 32 bits
