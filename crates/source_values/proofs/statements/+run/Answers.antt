@@ -14,7 +14,7 @@ use Rattle.source_values.proofs.Called.{unknown_call, call_behind, known_at, cou
 use Rattle.source_values.proofs.Choices.{arm_short, arm_taken, arm_passed, arm_emits, arm_size, none_emits, last_emits, none_size, last_size, same_conditions}
 use Rattle.source_values.proofs.Choices.{none_kept, behind_most, on_some}
 use Rattle.source_values.proofs.Sizes.{function_falls, statement_size, choice_size}
-use Rattle.source_values.proofs.Statements.{statement_falls}
+use Rattle.source_values.proofs.Blocks.{statement_falls}
 use Rattle.source_values.proofs.Views.{if_view, for_view}
 use Rattle.source_values.proofs.Turns.{turns_step, attempt_set, turn_emits, ended_stays, ended_goes_on}
 use Rattle.source_values.proofs.statements.+run.Goals as goal
