@@ -1,6 +1,6 @@
 -- What the steps of a call come to.
 use Rattle.std.proofs.Common.{◌≡◌, ◌≤◌, ◌<◌, ◌+◌, ℕ, List, [], ◌∷◌, ◌++◌, map, length, take, get_or, refl, ap, ◌∙◌, sym, subst, arith, Option, Some, None, zero, suc, slice_get}
-use Rattle.std.proofs.Common.{slice_index, slice_set}
+use Rattle.std.proofs.Common.{slice_index}
 use Rattle.std.specs.Option.{option_map}
 use Rattle.std.proofs.lemmas.List.{length-map}
 use Rattle.std.proofs.lemmas.Option.{slice_get_past, slice_get-map, slice_get-get_or, get_or_from_slice_get}
@@ -12,7 +12,7 @@ use Rattle.task_ast.specs.declared.names.VariableName.{VariableName}
 use Rattle.task_ast.specs.declared.names.TaskName.{TaskName}
 use Rattle.task_ast.specs.declared.names.FunctionName.{FunctionName}
 use Rattle.task_ast.proofs.Interface.{answers_length, answer_of}
-use Rattle.source_values.specs.Values.{◌>>?◌, Attempt, Evaluated, EvaluatedWords, Meaning, evaluated, meaning_in, word_before, new_locals}
+use Rattle.source_values.specs.Values.{◌>>?◌, Attempt, Evaluated, EvaluatedWords, Meaning, evaluated, meaning_in, new_locals}
 use Rattle.source_values.specs.Statements.{Outcome, run_block, entered, left_with, meaning_of, function_emits, block_emits}
 use Rattle.source_values.specs.View.{FunctionsInFront, meanings_of, counts_of, placed, placed_words, attempt_in, ended, word_of_end}
 use Rattle.source_values.specs.declared.scratch.Scratch.{Scratch}
@@ -46,16 +46,6 @@ call_behind (Some x) first u r m e f =
     let same : first ≡ placed 0 x.words = pair.0 in
     let behind : u ≡ x.behind = pair.1 in
     f x.words (same ∙ placed_is x.words) ∙ ap (m x.words) behind
-
--- one word more in front
-pub words_put : (k w : ℕ) (first : List ℕ) (u : Attempt) (o : Option EvaluatedWords) → Some (first, u) ≡ option_map (placed_words (k + 1)) o
-    → Some (slice_set first k w, u) ≡ option_map (placed_words k) (o >>? λ ws. Some (word_before w ws))
-words_put k w first u None e = absurd (cc)
-words_put k w first u (Some x) e =
-    let pair = same_pair first (placed (k + 1) x.words) u x.behind e in
-    let same : first ≡ placed (k + 1) x.words = pair.0 in
-    let behind : u ≡ x.behind = pair.1 in
-    ap (λ ws. Some (slice_set ws k w, u)) same ∙ ap (λ v. Some (placed k (w ∷ x.words), v)) behind
 
 -- ---- the function of a number
 

@@ -1,6 +1,7 @@
 use Rattle.std.proofs.Common.{◌≡◌, ◌+◌, ◌-◌, ◌∙◌, sym, ap, arith, rules, ℕ, List, Option, None, Some, Vec, length, map, take, refl}
 use Rattle.std.proofs.lemmas.List.{length-take-le}
 use Rattle.std.specs.Global.{Global}
+use Rattle.std.specs.Option.{option_map}
 use Rattle.task_ast.specs.Tree.{choice_of}
 use Rattle.task_ast.specs.View.{expression_of, values_of, statement_of, tested_of, block_view, choice_view, last_view}
 use Rattle.task_ast.specs.declared.names.VariableName.{VariableName}
@@ -8,7 +9,7 @@ use Rattle.task_ast.specs.declared.names.TaskName.{TaskName}
 use Rattle.task_ast.specs.declared.names.FunctionName.{FunctionName}
 use Rattle.task_ast.specs.declared.Stmt.{Stmt, If, For}
 use Rattle.task_ast.specs.declared.Arm.{Arm}
-use Rattle.source_values.specs.Values.{Meaning, evaluated, words_of, meaning_in}
+use Rattle.source_values.specs.Values.{Meaning, Evaluated, evaluated, words_of, meaning_in}
 use Rattle.source_values.specs.Statements.{Attempt, short, run_statement, run_block, turns, statement_emits, block_emits, choice_emits, conditions_emit}
 use Rattle.source_values.specs.View.{attempt_in, evaluated_in, meanings_of, counts_of, ended}
 use Rattle.source_values.proofs.Called.{unknown_call, call_behind, known_at, count_at, entered_is, given_is}
@@ -66,10 +67,30 @@ run_function-returns-in_err-ran-clause-value t c = λ words h.
     (ap (run_block (meanings_of (take c.args.k c.args.functions.now)) (block_view c.deref.result.now)) entered ∙ c.in_err-ran.ensures.outcome)))
 
 pub run_function-returns-in_err-word-clause-value : goal.run_function-returns-in_err-word-clause-value
-run_function-returns-in_err-word-clause-value t c = ?
+run_function-returns-in_err-word-clause-value t c = λ words h.
+    let entered = entered_is c.args.scratch.now c.swap.new.x c.in_ok-frames.own.now c.args.frames.now c.in_ok-frames.rest.now words c.args.readings.now
+    c.swap.ensures.x_after c.in_ok-frames.ensures.cases.0 h in
+    let ran = known_at c.args.functions.now c.args.k c.index-functions-k.result c.deref.result.now words (attempt_in c.args.scratch.now c.args.readings.now)
+    (ended c.in_ok-ran.ran.end (attempt_in c.run_block-ran.new.scratch c.in_ok-ran.ran.left.now)) c.requires.known c.deref.ensures.value
+    (ap (run_block (meanings_of (take c.args.k c.args.functions.now)) (block_view c.deref.result.now)) entered ∙ c.in_ok-ran.ensures.outcome) in
+    let given = given_is c.run_block-ran.new.scratch c.args.scratch.now.locals c.swap-2.new.y c.in_ok-ran.ran.left.now c.in_ok-ran.ran.end
+    (c.swap-2.ensures.y_after ∙ c.swap.ensures.y_after) in
+    let give : ℕ → Evaluated =
+    λ w. evaluated w (attempt_in (record c.run_block-ran.new.scratch { locals = c.swap-2.new.y }) c.in_ok-ran.ran.left.now) in
+    rw c.from_residual-in_err-word.ensures (ap (option_map give) c.in_err-word.ensures ∙ sym (ran ∙ given))
 
 pub run_function-returns-clause-value : goal.run_function-returns-clause-value
-run_function-returns-clause-value t c = ?
+run_function-returns-clause-value t c = λ words h.
+    let entered = entered_is c.args.scratch.now c.swap.new.x c.in_ok-frames.own.now c.args.frames.now c.in_ok-frames.rest.now words c.args.readings.now
+    c.swap.ensures.x_after c.in_ok-frames.ensures.cases.0 h in
+    let ran = known_at c.args.functions.now c.args.k c.index-functions-k.result c.deref.result.now words (attempt_in c.args.scratch.now c.args.readings.now)
+    (ended c.in_ok-ran.ran.end (attempt_in c.run_block-ran.new.scratch c.in_ok-ran.ran.left.now)) c.requires.known c.deref.ensures.value
+    (ap (run_block (meanings_of (take c.args.k c.args.functions.now)) (block_view c.deref.result.now)) entered ∙ c.in_ok-ran.ensures.outcome) in
+    let given = given_is c.run_block-ran.new.scratch c.args.scratch.now.locals c.swap-2.new.y c.in_ok-ran.ran.left.now c.in_ok-ran.ran.end
+    (c.swap-2.ensures.y_after ∙ c.swap.ensures.y_after) in
+    let give : ℕ → Evaluated =
+    λ w. evaluated w (attempt_in (record c.run_block-ran.new.scratch { locals = c.swap-2.new.y }) c.in_ok-ran.ran.left.now) in
+    ap (option_map give) c.in_ok-word.ensures ∙ sym (ran ∙ given)
 
 pub run_function-returns-clause-emitted : goal.run_function-returns-clause-emitted
 run_function-returns-clause-emitted t c =
