@@ -11,7 +11,7 @@ each_answer P make one known [] h = h
 each_answer P make one known (f ∷ fs) h =
     each_answer P make one (known ++ make known f ∷ []) fs (All-append P known (make known f ∷ []) h (one known f h, tt))
 
-pushed : {A B : Type 0} (R : A → B → Type 0) (xs : List A) (ys : List B) (x : A) (y : B) → AllZip R xs ys → R x y
+pub pushed : {A B : Type 0} (R : A → B → Type 0) (xs : List A) (ys : List B) (x : A) (y : B) → AllZip R xs ys → R x y
     → AllZip R (xs ++ x ∷ []) (ys ++ y ∷ [])
 pushed R [] [] x y h r = (r, tt)
 pushed R [] (b ∷ ys) x y h r = absurd h

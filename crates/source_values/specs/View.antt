@@ -72,6 +72,18 @@ leaves GoesOn = false
 leaves (ToTask t) = true
 leaves (Returns w) = true
 
+-- the task of a transition
+abbrev pub task_of_end : End → Option ℕ
+task_of_end GoesOn = None
+task_of_end (ToTask t) = Some t
+task_of_end (Returns w) = None
+
+-- the word of a `return`
+abbrev pub word_of_end : End → Option ℕ
+word_of_end GoesOn = None
+word_of_end (ToTask t) = None
+word_of_end (Returns w) = Some w
+
 -- the outcome of statements that left this
 abbrev pub outcome_of : Option Ran → Scratch → Outcome
 outcome_of None s = short
