@@ -1,4 +1,4 @@
-use Rattle.std.proofs.Common.{◌∙◌, sym, arith}
+use Rattle.std.proofs.Common.{◌+◌, ◌∙◌, sym, arith}
 use Rattle.source_values.proofs.Placed.{placed_past}
 use Rattle.source_values.proofs.statements.local_behind.Goals as goal
 
