@@ -288,7 +288,7 @@ fn need_by_lines<'a>(
     requires undo { undo ≡ undo_need (program_of accepted.now.checked.source) (logged_map layout.now) number }
     ensures { IfOk result (λ n. (task : CheckedTask) → slice_get (program_of accepted.now.checked.source).tasks number ≡ Some task
         → row_of n ≡ need_row accepted.now.text.items (program_of accepted.now.checked.source) layout.now number
-        (ways_gone ifs.lines.now (program_of accepted.now.checked.source) layout.now number task) task) }
+        (ways_gone ifs.entry.lines.now (program_of accepted.now.checked.source) layout.now number task) task) }
 {
     tasks_are_whole();
     privates_are_few();
