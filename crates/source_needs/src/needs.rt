@@ -135,7 +135,7 @@ struct Priced {
 }
 
 // The same of the task of a number, whose dearest way takes so many cycles.
-fn priced(accepted: &Accepted, layout: &Layout, most: u64, number: usize) -> Priced
+fn price_task(accepted: &Accepted, layout: &Layout, most: u64, number: usize) -> Priced
     requires laid_out { IsPlannedText accepted.now.text.items (program_of accepted.now.checked.source) accepted.now.allow layout.now }
     requires task { number < length (program_of accepted.now.checked.source).tasks }
     requires most { most ≡ capped (most_spent layout.now.runtime.events (task_program (program_of accepted.now.checked.source) layout.now number)) }
@@ -185,7 +185,7 @@ fn task_need<'a>(
         → row_of result ≡ need_row accepted.now.text.items (program_of accepted.now.checked.source) layout.now number ways.items task }
 {
     let task = &accepted.checked().source().tasks[number];
-    let priced = priced(accepted, layout, most, number);
+    let priced = price_task(accepted, layout, most, number);
     TaskNeed {
         name: spelled(accepted.source(), task.name),
         boot: priced.parts.boot as u32,
@@ -216,7 +216,7 @@ fn undo_need_of(
     tasks_are_whole();
     privates_are_few();
     let way = dearest_way(alloc, layout.runtime().events, program)?;
-    let priced = priced(accepted, layout, way.cycles, number);
+    let priced = price_task(accepted, layout, way.cycles, number);
     Ok(UndoNeed {
         boot: priced.parts.boot as u32,
         start: priced.parts.start as u32,
@@ -290,7 +290,7 @@ fn need_by_lines<'a>(
     requires undo { undo ≡ undo_need (program_of accepted.now.checked.source) (logged_map layout.now) number }
     ensures { IfOk result (λ n. (task : CheckedTask) → slice_get (program_of accepted.now.checked.source).tasks number ≡ Some task
         → row_of n ≡ need_row accepted.now.text.items (program_of accepted.now.checked.source) layout.now number
-        (ways_gone ifs.lines.now (program_of accepted.now.checked.source) layout.now number task) task) }
+        (ways_gone ifs.entry.lines.now (program_of accepted.now.checked.source) layout.now number task) task) }
 {
     tasks_are_whole();
     privates_are_few();

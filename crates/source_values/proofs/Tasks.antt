@@ -1,5 +1,5 @@
 -- The task that an attempt runs, and what it leaves of the readings.
-use Rattle.std.proofs.Common.{◌≡◌, ◌<◌, ◌≤◌, ◌+◌, ◌-◌, ◌++◌, ℕ, List, [], map, length, drop, get_or, sym, ap, ◌∙◌, subst, arith, Option, Some, None, All, length-append}
+use Rattle.std.proofs.Common.{◌≡◌, ◌<◌, ◌≤◌, ◌+◌, ◌-◌, ◌++◌, ℕ, List, [], map, length, drop, get_or, sym, ap, ◌∙◌, subst, arith, Some, None, All, length-append}
 use Rattle.std.specs.Option.{option_map}
 use Rattle.std.proofs.lemmas.Option.{slice_get-map, slice_get-get_or}
 use Rattle.std.proofs.lemmas.List.{length-map}

@@ -1,5 +1,5 @@
 -- What the values of the code stand for.
-use Rattle.std.specs.Prelude.{◌≡◌, ◌≤◌, ◌+◌, ℕ, Bool, true, false, List, [], ◌∷◌, map, Option, Some, None, slice_index_or, slice_set}
+use Rattle.std.specs.Prelude.{◌≤◌, ◌+◌, ℕ, Bool, true, false, List, [], ◌∷◌, map, Option, Some, None, slice_index_or, slice_set}
 use denote.Bor.{Bor}
 pub use Rattle.source_values.specs.Rows.{rows_of}
 use Rattle.task_ast.specs.Answers.{answers}

@@ -53,7 +53,7 @@ minus = does (step (give nowhere (binary (here Subtract) (name (local 0)) (name 
 abbrev pub until : CheckedFunction
 until = does (step (loop (local 1) 0 (local 1) 9 (local 1) (step (emit (name (local 1)))
     (step (choose (test (binary (here Equal) (name (local 1)) (name (local 0)))
-        (step (give nowhere (binary (here Multiply) (name (local 1)) (number 10))) end) nothing)) end)))
+    (step (give nowhere (binary (here Multiply) (name (local 1)) (number 10))) end) nothing)) end)))
     (step (give nowhere (number 99)) end))
 
 -- `{ emit(1); return sense(); }`

@@ -253,13 +253,7 @@ fn run_function<'r>(
 {
     let (own, rest) = frames.split_first_mut()?;
     mem::swap(&mut scratch.locals, own);
-    let ran = run_block(
-        &functions[..k],
-        &functions[k].body,
-        scratch,
-        rest,
-        readings,
-    );
+    let ran = run_block(&functions[..k], &functions[k].body, scratch, rest, readings);
     mem::swap(own, &mut scratch.locals);
     let ran = ran?;
     let word = ran.end.word()?;

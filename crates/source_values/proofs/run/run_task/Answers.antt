@@ -1,4 +1,4 @@
-use Rattle.std.proofs.Common.{◌≡◌, ◌∙◌, ap, arith, length, ℕ}
+use Rattle.std.proofs.Common.{◌≡◌, ◌∙◌, ap, arith, length}
 use Rattle.task_ast.specs.View.{program_of}
 use Rattle.source_values.specs.Statements.{meanings, run_block, to_task}
 use Rattle.source_values.specs.Runs.{task_body}

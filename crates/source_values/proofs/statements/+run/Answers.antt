@@ -3,7 +3,7 @@ use Rattle.std.proofs.lemmas.List.{length-take-le}
 use Rattle.std.specs.Global.{Global}
 use Rattle.std.specs.Option.{option_map}
 use Rattle.task_ast.specs.Tree.{choice_of}
-use Rattle.task_ast.specs.View.{expression_of, values_of, statement_of, tested_of, block_view, choice_view, last_view}
+use Rattle.task_ast.specs.View.{values_of, statement_of, tested_of, block_view, choice_view, last_view}
 use Rattle.task_ast.specs.declared.names.VariableName.{VariableName}
 use Rattle.task_ast.specs.declared.names.TaskName.{TaskName}
 use Rattle.task_ast.specs.declared.names.FunctionName.{FunctionName}
@@ -48,8 +48,7 @@ run_function-run_block-ran-requires t c =
     let size = ap (λ b. block_size (block_view b)) body in
     let frames = ap length c.in_ok-frames.ensures.cases.0 in
     let front = length-take-le c.args.k c.args.functions.now (omega (arith, c.requires.known)) in
-    let count = count_at c.args.functions.now c.args.k c.index-functions-k.result c.deref.result.now c.requires.known body in
-    (
+    let count = count_at c.args.functions.now c.args.k c.index-functions-k.result c.deref.result.now c.requires.known body in (
       omega (arith, falls, size, c.decreases),
       (
         omega (arith, c.requires.known, c.requires.frames, frames, front),
@@ -103,8 +102,7 @@ pub run_arms-evaluate-requires : goal.run_arms-evaluate-requires
 run_arms-evaluate-requires t c =
     let smaller = arm_size c.args.arms.now c.loop-arm.arm-index c.arm-item.result c.arm-item.result.block.items c.loop-arm-test.true c.arm-item.is refl in
     let here = arm_emits (counts_of c.args.functions.now) c.args.arms.now c.loop-arm.arm-index c.arm-item.result c.arm-item.result.block.items
-    c.loop-arm-test.true c.arm-item.is refl in
-    (
+    c.loop-arm-test.true c.arm-item.is refl in (
       omega (arith, smaller, c.decreases),
       (
         omega (arith, c.requires.frames, c.loop-arm.auto.frames),
@@ -122,8 +120,7 @@ pub run_arms-run_block-requires : goal.run_arms-run_block-requires
 run_arms-run_block-requires t c =
     let smaller = arm_size c.args.arms.now c.loop-arm.arm-index c.arm-item.result c.deref.result.now c.loop-arm-test.true c.arm-item.is c.deref.ensures.value in
     let here = arm_emits (counts_of c.args.functions.now) c.args.arms.now c.loop-arm.arm-index c.arm-item.result c.deref.result.now c.loop-arm-test.true
-    c.arm-item.is c.deref.ensures.value in
-    (
+    c.arm-item.is c.deref.ensures.value in (
       omega (arith, smaller, c.decreases),
       (
         omega (arith, c.requires.frames, c.loop-arm.auto.frames, c.evaluate.auto.frames),
@@ -169,8 +166,7 @@ pub run_block-run_statement-requires : goal.run_block-run_statement-requires
 run_block-run_statement-requires t c =
     let falls = statement_falls c.args.body.now c.loop-statement.statement-index c.statement-item.result c.loop-statement-test.true c.statement-item.is in
     let at = ap (block_emits (counts_of c.args.functions.now))
-    (block_at c.args.body.now c.loop-statement.statement-index c.statement-item.result c.loop-statement-test.true c.statement-item.is) in
-    (
+    (block_at c.args.body.now c.loop-statement.statement-index c.statement-item.result c.loop-statement-test.true c.statement-item.is) in (
       omega (arith, falls, c.decreases),
       (
         omega (arith, c.requires.frames, c.loop-statement.auto.frames),
@@ -217,8 +213,7 @@ run_statement-run_block-requires t c =
     let asked = ap (λ a. conditions_emit counts (choice_of (map tested_of a) None)) c.deref.ensures.value in
     let size = ap (λ b. block_size (block_view b)) c.deref-in-Some.ensures.value in
     let same = ap (λ b. block_emits counts (block_view b)) c.deref-in-Some.ensures.value in
-    let kept = none_kept c.in_ok-ran-in-If.field-0 c.in-NoneHolds.left _ _ _ _ c.in-NoneHolds.is c.in_ok-ran-in-If.ensures.emitted in
-    (
+    let kept = none_kept c.in_ok-ran-in-If.field-0 c.in-NoneHolds.left _ _ _ _ c.in-NoneHolds.is c.in_ok-ran-in-If.ensures.emitted in (
       omega (arith, falls, part, size, c.decreases),
       (
         omega (arith, c.requires.frames, c.run_arms.auto.frames),

@@ -11,7 +11,7 @@ use Rattle.memory_map.proofs.Interface.{privates_few}
 use Rattle.compiled_model.specs.Parts.{program_parts, task_program}
 use Rattle.task_needs.specs.Needs.{beside_path, elements_of, need_parts, own_privates, privates_of}
 use Rattle.source_needs.proofs.Rows.{path_cut, task_at, task_holds}
-use Rattle.source_needs.proofs.needs.priced.Goals as goal
+use Rattle.source_needs.proofs.needs.price_task.Goals as goal
 
 pub table_of-table-requires-clause-small : goal.table_of-table-requires-clause-small
 table_of-table-requires-clause-small c =
