@@ -82,7 +82,7 @@ module _ (calls : ℕ → Bool) (of : Summary → ℕ) (kept : List FunctionSumm
       let same : k - 1 + 1 ≡ k = omega (arith, pos) in
       z ∙ ap (λ d. max d n) y ∙ ap (λ n. max (if calls (k - 1) then of (summary_of element) else 0) n) x
       ∙ ap (λ j. max (if calls (k - 1) then of (summary_of element) else 0) (most_called_from calls of j (known_of (drop k kept)))) (sym same)
-      ∙ ap (λ fs. most_called_from calls of (k - 1) (known_of fs)) (sym (drop_back kept k f pos h (read_again kept (k - 1) _ (omega (arith, pos, h)))))
+      ∙ ap (λ fs. most_called_from calls of (k - 1) (known_of fs)) (sym (drop_back kept k element pos h (read_again kept (k - 1) _ (omega (arith, pos, h)))))
 
   pub all_more : (n d m : ℕ) → n ≡ capped (all_called_from calls of k (known_of (drop k kept)))
       → d ≡ capped (if calls (k - 1) then of (summary_of element) else 0) → m ≡ capped (d + n)
@@ -93,7 +93,7 @@ module _ (calls : ℕ → Bool) (of : Summary → ℕ) (kept : List FunctionSumm
       omega (arith, x, y, z) in
       first
       ∙ ap (λ j. capped ((if calls (k - 1) then of (summary_of element) else 0) + all_called_from calls of j (known_of (drop k kept)))) (sym same)
-      ∙ ap (λ fs. capped (all_called_from calls of (k - 1) (known_of fs))) (sym (drop_back kept k f pos h (read_again kept (k - 1) _ (omega (arith, pos, h)))))
+      ∙ ap (λ fs. capped (all_called_from calls of (k - 1) (known_of fs))) (sym (drop_back kept k element pos h (read_again kept (k - 1) _ (omega (arith, pos, h)))))
 
 -- ---- the same marks
 

@@ -12,5 +12,7 @@ loop-i-preserved c = record {
   are = one_known c.args.functions.now c.loop-i.i c.index-functions-i.result c.loop-i.known.items c.push.new.self.items c.summary-next.result
       c.loop-i-test.true c.index-functions-i.is
       (let few = c.requires.few in let count = c.loop-i.invariant.count in let l = c.loop-i-test.true in omega (arith, few, count, l))
-      c.loop-i.invariant.are ? c.push.ensures.items;
+      c.loop-i.invariant.are
+      (subst (λ ks. IsSame (summary_of c.summary-next.result) (function_summary (known_of ks) (function_of c.index-functions-i.result))) c.deref.ensures.0
+      c.summary-next.ensures) c.push.ensures.items;
 }

@@ -1,4 +1,4 @@
-use Rattle.std.proofs.Common.{◌≡◌, ◌∙◌, ap, arith, length}
+use Rattle.std.proofs.Common.{◌∙◌, ap, refl}
 use Rattle.task_ast.specs.View.{block_view}
 use Rattle.cost_bound.specs.Table.{capped, cycles_column, words_column, block_price}
 use Rattle.cost_bound.specs.Counts.{assigns_of, reaches_of, emits_of, stores_of}
@@ -21,6 +21,6 @@ returns c =
       stores = λ i l. c.store_counts.ensures i l ∙ ap (λ b. capped (stores_of known i b)) body;
       assigns = λ i l. c.assigned_variables.ensures i l ∙ ap (assigns_of known i) body;
       reaches = λ k l. c.reached_functions.ensures k l ∙ ap (reaches_of known k) body;
-      depth = kept_depth known c.args.function.now.parameters.items c.as_slice-parameters.result.now _ _ c.len.result _ _ c.plus.result
-          c.as_slice-parameters.ensures.value body c.len.ensures c.frame.ensures c.deepest.ensures c.plus.ensures;
+      depth = kept_depth known c.args.function.now.parameters.items c.as_slice-parameters.result.now _ _ _ _ _ c.plus.result
+          c.as_slice-parameters.ensures.value body refl c.frame.ensures c.deepest.ensures c.plus.ensures;
     }
