@@ -1,10 +1,11 @@
 -- What is kept of a function, where it is called.
-use Rattle.std.proofs.Common.{◌≡◌, ℕ, zero, suc, ◌+◌, ◌-◌, ◌*◌, ◌<◌, ◌≤◌, ◌||◌, Bool, true, false, List, [], ◌∷◌, length, get_or, drop, map, max, refl, ap, sym, ◌∙◌, subst}
+use Rattle.std.proofs.Common.{◌≡◌, ℕ, zero, suc, ◌+◌, ◌-◌, ◌*◌, ◌<◌, ◌≤◌, ◌||◌, Bool, true, false, List, [], ◌∷◌, length, get_or, drop, map, max, refl, ap}
+use Rattle.std.proofs.Common.{sym, ◌∙◌, subst}
 use Rattle.std.proofs.Common.{if◌then◌else◌, arith, slice_index, slice_index_or}
 use Rattle.task_ast.proofs.Interface.{drop_back}
 use Rattle.cost_bound.specs.Summary.{Summary}
 use Rattle.cost_bound.specs.Table.{capped}
-use Rattle.cost_bound.specs.Counts.{CheckedBlock, block_calls, assigns_of, reaches_of, routine_words, some_called_from, most_called_from, all_called_from}
+use Rattle.cost_bound.specs.Counts.{CheckedBlock, block_calls, reaches_of, routine_words, some_called_from, most_called_from, all_called_from}
 use Rattle.cost_bound.specs.Frames.{frame_of, deepest}
 use Rattle.cost_bound.specs.Rooms.{AreMarked, HaveGrown}
 use Rattle.cost_bound.specs.Machine.{summary_of, known_of}
@@ -69,7 +70,8 @@ module _ (has : ℕ → Summary → Bool) (calls : ℕ → Bool) (kept : List Fu
       ∙ ap (λ n. slice_index_or old i false || (here i || some_called_from calls (has i) n (known_of (drop k kept)))) (sym same)
 
   pub called_marked : AreMarked old after (λ i. some_called_from calls (has i) (k - 1) (known_of (drop (k - 1) kept)))
-  called_marked = subst (λ fs. AreMarked old after (λ i. some_called_from calls (has i) (k - 1) (known_of fs))) (sym (drop_back kept k f pos h (read_again kept (k - 1) _ (omega (arith, pos, h))))) marked
+  called_marked = subst (λ fs. AreMarked old after (λ i. some_called_from calls (has i) (k - 1) (known_of fs)))
+      (sym (drop_back kept k f pos h (read_again kept (k - 1) _ (omega (arith, pos, h))))) marked
 
 -- numbers of the called functions
 module _ (calls : ℕ → Bool) (of : Summary → ℕ) (kept : List FunctionSummary) (k : ℕ) (e : FunctionSummary) (pos : 0 < k) (h : k ≤ length kept) where
@@ -93,7 +95,8 @@ module _ (calls : ℕ → Bool) (of : Summary → ℕ) (kept : List FunctionSumm
       omega (arith, x, y, z) in
       first
       ∙ ap (λ j. capped ((if calls (k - 1) then of (summary_of element) else 0) + all_called_from calls of j (known_of (drop k kept)))) (sym same)
-      ∙ ap (λ fs. capped (all_called_from calls of (k - 1) (known_of fs))) (sym (drop_back kept k element pos h (read_again kept (k - 1) _ (omega (arith, pos, h)))))
+      ∙ ap (λ fs. capped (all_called_from calls of (k - 1) (known_of fs)))
+      (sym (drop_back kept k element pos h (read_again kept (k - 1) _ (omega (arith, pos, h)))))
 
 -- ---- the same marks
 

@@ -8,8 +8,6 @@ use Rattle.task_ast.specs.declared.TaskDeclaration.{TaskDeclaration}
 use Rattle.task_ast.specs.declared.names.VariableName.{VariableName}
 use Rattle.task_ast.specs.declared.names.TaskName.{TaskName}
 use Rattle.task_ast.specs.declared.names.FunctionName.{FunctionName}
-use Rattle.task_ast.specs.Answers.{answers}
-use Rattle.task_ast.specs.Paths.{CheckedTask}
 use Rattle.task_ast.specs.View.{function_of, task_of}
 use Rattle.task_ast.proofs.Interface.{answers_append, answers_length}
 use Rattle.cost_bound.specs.Summary.{Summary}

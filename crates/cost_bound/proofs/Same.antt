@@ -1,7 +1,8 @@
 -- What 64 bits keep of a source depends on what they keep of its functions.
-use Rattle.std.proofs.Common.{◌≡◌, ℕ, zero, suc, ◌+◌, ◌-◌, ◌*◌, ◌^◌, ◌<◌, ◌≤◌, ◌||◌, Bool, true, false, List, [], ◌∷◌, length, map, max, min, refl, ap, sym, ◌∙◌}
+use Rattle.std.proofs.Common.{◌≡◌, ℕ, zero, suc, ◌+◌, ◌-◌, ◌*◌, ◌<◌, ◌≤◌, ◌||◌, Bool, true, false, List, [], ◌∷◌, length, map, max, refl, ap, sym}
+use Rattle.std.proofs.Common.{◌∙◌}
 use Rattle.std.proofs.Common.{if◌then◌else◌, arith, Some, None, slice_index, get_or, take}
-use Rattle.std.specs.Prelude.{slice_get, All}
+use Rattle.std.specs.Prelude.{All}
 use Rattle.task_ast.specs.Tree.{number, long_number, name, element, sense, next_event, call, unary, binary, shift, short_circuit, no_value, value}
 use Rattle.task_ast.specs.Tree.{declare, assign, store, choose, loop, emit, give, transition, nothing, otherwise, test, end, step}
 use Rattle.task_ast.specs.Paths.{CheckedExpression, CheckedValues, CheckedStatement, CheckedChoice, CheckedBlock, CheckedFunction, CheckedTask}
@@ -12,7 +13,7 @@ use Rattle.cost_bound.specs.Table.{cycles_column, words_column, blocks_together,
 use Rattle.cost_bound.specs.Counts.{expression_count, values_count, statement_count, conditions_count, choice_count, block_count, called_emits, called_stores}
 use Rattle.cost_bound.specs.Counts.{is_emit, is_store_to, emits_of, stores_of, block_calls, block_assigns, assigns_of, reaches_of, routine_words}
 use Rattle.cost_bound.specs.Counts.{some_called_from, most_called_from, all_called_from}
-use Rattle.cost_bound.specs.Frames.{deepest, stack_of, frame_of}
+use Rattle.cost_bound.specs.Frames.{deepest, stack_of}
 use Rattle.cost_bound.specs.Summaries.{function_summary}
 use Rattle.cost_bound.specs.Machine.{IsSame, AreSame}
 use Rattle.cost_bound.specs.Needs.{AreNeeds}
@@ -209,7 +210,8 @@ module _ (as' bs : List Summary) (few : length as' ≤ 64) (same : AreSame as' b
 
   pub stores_same : (i : ℕ) → i < 256 → (b : CheckedBlock) → capped (stores_of as' i b) ≡ capped (stores_of bs i b)
   unfolding stores_of
-  stores_same i l b = block_counted (called_stores as' i) (called_stores bs i) (number_same (λ s. s.stores i) (λ s t h. h.stores i l) as' bs same) (is_store_to i) b
+  stores_same i l b = block_counted (called_stores as' i) (called_stores bs i) (number_same (λ s. s.stores i) (λ s t h. h.stores i l) as' bs same)
+      (is_store_to i) b
 
   pub assigns_same : (i : ℕ) → i < 256 → (b : CheckedBlock) → assigns_of as' i b ≡ assigns_of bs i b
   assigns_same i l b = ap (λ x. x || block_assigns i b) (some_is_same (λ k. block_calls k b) (λ s. s.assigns i) (λ s t h. h.assigns i l) 0 as' bs same)

@@ -1,5 +1,6 @@
 -- Steps of the walks that mark and count.
-use Rattle.std.proofs.Common.{◌≡◌, ℕ, zero, suc, [], ◌∷◌, ◌+◌, ◌-◌, ◌*◌, ◌<◌, ◌≤◌, ◌||◌, Bool, true, false, max, List, length, get_or, drop, map, replicate, Option, ap, sym, subst}
+use Rattle.std.proofs.Common.{◌≡◌, ℕ, zero, suc, [], ◌∷◌, ◌+◌, ◌-◌, ◌*◌, ◌<◌, ◌≤◌, ◌||◌, Bool, true, false, max, List, length, get_or, drop, map, replicate}
+use Rattle.std.proofs.Common.{Option, ap, sym, subst}
 use Rattle.std.proofs.Common.{refl, ◌∙◌, arith, slice_index, slice_index_or}
 use Rattle.std.proofs.lemmas.List.{get_or-replicate}
 use Rattle.std.specs.declared.alloc.Global.{Global}
@@ -171,19 +172,20 @@ capped_both : (old between new conditions blocks : ℕ) → capped between ≡ c
 capped_both old between new conditions blocks x y = omega arith
 
 -- an `if`: the calls of its conditions, and then the greatest block
-module _ (ns : ℕ → List ℕ) (s : CheckedStmt) (arms : Vec CheckedArm Global) (tested items : List CheckedArm) (field last : Option (Vec CheckedStmt Global)) where
-  pub if_counted : (old between new : List ℕ) → s ≡ If arms field → field ≡ last → tested ≡ arms.items → items ≡ arms.items
-      → HaveGrown old between (λ k. conditions_count (ns k) (choice_of (map tested_of tested) (last_view last)))
-      → HaveGrown between new (λ k. choice_count (ns k) (is_store_to k) (choice_of (map tested_of items) (last_view last)))
-      → HaveGrown old new (λ k. statement_count (ns k) (is_store_to k) (statement_of s))
-  if_counted old between new e g t f x y = λ k l.
-      capped_both (slice_index old k) (slice_index between k) (slice_index new k) _ _ (x k l) (y k l)
-      ∙ ap (λ v. capped (slice_index old k + (conditions_count (ns k) (choice_of (map tested_of v) (last_view last))
-      + choice_count (ns k) (is_store_to k) (choice_of (map tested_of items) (last_view last))))) t
-      ∙ ap (λ v. capped (slice_index old k + (conditions_count (ns k) (choice_of (map tested_of arms.items) (last_view last))
-      + choice_count (ns k) (is_store_to k) (choice_of (map tested_of v) (last_view last))))) f
-      ∙ ap (λ v. capped (slice_index old k + statement_count (ns k) (is_store_to k) v))
-      (sym (statement_of-If arms last) ∙ ap (λ o. statement_of (If arms o)) (sym g) ∙ ap statement_of (sym e))
+module _ (ns : ℕ → List ℕ) (s : CheckedStmt) (arms : Vec CheckedArm Global) (tested items : List CheckedArm) (field last : Option (Vec CheckedStmt Global))
+  where
+    pub if_counted : (old between new : List ℕ) → s ≡ If arms field → field ≡ last → tested ≡ arms.items → items ≡ arms.items
+        → HaveGrown old between (λ k. conditions_count (ns k) (choice_of (map tested_of tested) (last_view last)))
+        → HaveGrown between new (λ k. choice_count (ns k) (is_store_to k) (choice_of (map tested_of items) (last_view last)))
+        → HaveGrown old new (λ k. statement_count (ns k) (is_store_to k) (statement_of s))
+    if_counted old between new e g t f x y = λ k l.
+        capped_both (slice_index old k) (slice_index between k) (slice_index new k) _ _ (x k l) (y k l)
+        ∙ ap (λ v. capped (slice_index old k + (conditions_count (ns k) (choice_of (map tested_of v) (last_view last))
+        + choice_count (ns k) (is_store_to k) (choice_of (map tested_of items) (last_view last))))) t
+        ∙ ap (λ v. capped (slice_index old k + (conditions_count (ns k) (choice_of (map tested_of arms.items) (last_view last))
+        + choice_count (ns k) (is_store_to k) (choice_of (map tested_of v) (last_view last))))) f
+        ∙ ap (λ v. capped (slice_index old k + statement_count (ns k) (is_store_to k) v))
+        (sym (statement_of-If arms last) ∙ ap (λ o. statement_of (If arms o)) (sym g) ∙ ap statement_of (sym e))
 
 capped_sum : (old new turns a b : ℕ) → capped new ≡ capped (old + turns * a) → capped a ≡ capped b → capped new ≡ capped (old + turns * b)
 capped_sum old new turns a b x y =

@@ -1,5 +1,6 @@
 //! The allowance of a source.
-ghost use Rattle.std.specs.Prelude.{◌≡◌, ◌≤◌, ◌+◌, ◌*◌, ◌<◌, ◌^◌, length, map, max, nat_lt, ℕ, false, if◌then◌else◌, slice_index_or, All, IfSome, IfNone, IfOk, IfErr};
+ghost use Rattle.std.specs.Prelude.{◌≡◌, ◌≤◌, ◌+◌, ◌*◌, ◌<◌, ◌^◌, length, map, max, nat_lt, ℕ, false, if◌then◌else◌, slice_index_or, All, IfSome, IfNone};
+ghost use Rattle.std.specs.Prelude.{IfOk, IfErr};
 ghost use Rattle.task_ast.specs.View.{block_view, function_of, task_of, program_of};
 ghost use Rattle.cost_bound.specs.Table.{capped, words_column, cycles_column, block_price};
 ghost use Rattle.cost_bound.specs.Counts.{assigns_of, emits_of, all_called_from, routine_words};
@@ -16,11 +17,11 @@ use crate::assigned::assigned_variables;
 use crate::calls::reached_functions;
 use crate::fault::Over;
 use crate::frames::stack;
+use crate::function_summaries::{FunctionSummary, summaries};
 use crate::marks::add_marks;
 use crate::prices::{CYCLES, EMITS, EVENTS, block_price, plus, times, words_column};
 use crate::shared::{array_entries, places, scalars, versions};
 use crate::stores::store_counts;
-use crate::function_summaries::{FunctionSummary, summaries};
 use task_ast::{
     CheckedSource, FunctionDeclaration, FunctionName, SharedDeclaration, Stmt, TaskDeclaration,
     TaskName, VariableName,
@@ -57,10 +58,7 @@ pub struct Allow {
 }
 
 // How often the task counts an emit.
-fn emits(
-    functions: &[FunctionSummary],
-    body: &[Stmt<VariableName, TaskName, FunctionName>],
-) -> u64
+fn emits(functions: &[FunctionSummary], body: &[Stmt<VariableName, TaskName, FunctionName>]) -> u64
     ensures { result ≡ capped (emits_of (known_of functions.now) (block_view body.now)) }
 {
     block_price(functions, &EMITS, body)

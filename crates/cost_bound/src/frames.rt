@@ -11,8 +11,8 @@ ghost use Rattle.cost_bound.specs.Machine.{summary_of, known_of};
 
 use crate::SHARED;
 use crate::calls::called_functions;
-use crate::prices::{NODES, expression_price, plus, times};
 use crate::function_summaries::FunctionSummary;
+use crate::prices::{NODES, expression_price, plus, times};
 use task_ast::{Arm, Expr, FunctionName, Stmt, TaskName, VariableName};
 
 fn expression_nodes(e: &Expr<VariableName, FunctionName>) -> u64

@@ -1,4 +1,4 @@
-use Rattle.std.proofs.Common.{◌≡◌, ◌∙◌, ◌+◌, ap, arith, subst, length}
+use Rattle.std.proofs.Common.{◌∙◌, ◌+◌, ap, arith, subst, length}
 use Rattle.task_ast.specs.View.{function_of}
 use Rattle.cost_bound.specs.Summaries.{function_summary}
 use Rattle.cost_bound.specs.Machine.{known_of, summary_of, IsSame}

@@ -2,7 +2,6 @@ use Rattle.std.proofs.Common.{◌∙◌, ap, refl}
 use Rattle.task_ast.specs.View.{block_view}
 use Rattle.cost_bound.specs.Table.{capped, cycles_column, words_column, block_price}
 use Rattle.cost_bound.specs.Counts.{assigns_of, reaches_of, emits_of, stores_of}
-use Rattle.cost_bound.specs.Frames.{frame_of, deepest}
 use Rattle.cost_bound.specs.Machine.{known_of}
 use Rattle.cost_bound.proofs.Emits.{block_price-emits}
 use Rattle.cost_bound.proofs.Called.{kept_price, kept_depth}

@@ -19,7 +19,8 @@ count_in_choice-returns t c = λ b h.
 
 pub count_in_statement-returns-in-For : goal.count_in_statement-returns-in-For
 count_in_statement-returns-in-For t c =
-    loop_counted (λ k. called_stores (known_of c.args.functions.now) k) c.args.s.now c.in-For.variable c.in-For.from c.in-For.tested c.in-For.below c.in-For.stepped
+    loop_counted (λ k. called_stores (known_of c.args.functions.now) k) c.args.s.now c.in-For.variable c.in-For.from c.in-For.tested c.in-For.below
+    c.in-For.stepped
     c.in-For.body c.deref-in-For.result.now
     c.saturating_sub.result c.args.counts.now c.store_counts-turn.result c.add_turns.new.counts
     c.in-For.is c.deref-in-For.ensures.value c.saturating_sub.ensures c.store_counts-turn.ensures c.add_turns.ensures
