@@ -1,5 +1,5 @@
 -- When a second turn tells no more than the first.
-use Rattle.std.proofs.Common.{◌≡◌, ℕ, Bool, true, false, ◌&&◌, ◌||◌, refl, ap, ap₂, sym, ◌∙◌, if◌then◌else◌}
+use Rattle.std.proofs.Common.{[], ◌≡◌, ℕ, Bool, true, false, ◌&&◌, ◌||◌, refl, ap, ap₂, sym, ◌∙◌, if◌then◌else◌}
 use Rattle.std.proofs.lemmas.Bool.{and_parts}
 use Rattle.alp_text.specs.declared.lines.Span.{Span}
 use Rattle.task_ast.specs.Paths.{CheckedBlock, Access, read, write, unset}
@@ -59,8 +59,8 @@ well_kept x p = record {
 }
 
 -- what a turn does is well: the body, then the write of the variable
-pub well_turn : (x : ℕ) (p : Span) (b : CheckedBlock) (a : Access) → IsWell (assignment_seq (block_sum (assignment x p) b) (assignment_one x p a))
-well_turn x p b a = (well_kept x p).seq _ _ (every_block (assignment x p) IsWell (well_kept x p) b) (well_one x p a)
+pub well_turn : (x : ℕ) (p : Span) (b : CheckedBlock) (a : Access) → IsWell (assignment_seq (block_sum [] (assignment x p) b) (assignment_one x p a))
+well_turn x p b a = (well_kept x p).seq _ _ (every_block [] (assignment x p) IsWell (well_kept x p) (λ k. (well_kept x p).unit) b) (well_one x p a)
 
 absorbed : (f x w : Bool) → (x ≡ true → f ≡ true) → (w ≡ true → f ≡ true) → (f || (x || w)) ≡ f
 absorbed true x w h k = refl

@@ -3,6 +3,7 @@ mod Operands
 mod Walks
 mod Fronts
 mod Parts
+mod Standing
 mod Finish
 mod Fill
 mod Counted

@@ -3,10 +3,10 @@ use Rattle.task_ast.specs.View.{expression_of}
 use Rattle.task_check.specs.Typed.{types_of}
 use Rattle.task_check.specs.Occurrences.{expression_names, occurrence}
 use Rattle.task_check.proofs.Operands.{put_back, stands_within}
-use Rattle.task_check.proofs.collect.+expression_names.Goals as goal
+use Rattle.task_check.proofs.collect.+expression.Goals as goal
 
-pub put_role-requires : goal.put_role-requires
-put_role-requires t c =
+pub expression_names-put_role-requires : goal.expression_names-put_role-requires
+expression_names-put_role-requires t c =
     let types = types_of c.args.types.now in
     let front = c.expression_names-in-Binary.new.names.items in
     let left = expression_of c.deref-in-Binary-2.result.now in
@@ -18,8 +18,8 @@ put_role-requires t c =
     let sizes = ap length names in
     omega arith
 
-pub returns-in_ok-left-in-Binary-clause-names : goal.returns-in_ok-left-in-Binary-clause-names
-returns-in_ok-left-in-Binary-clause-names t c =
+pub expression_names-returns-in_ok-left-in-Binary-clause-names : goal.expression_names-returns-in_ok-left-in-Binary-clause-names
+expression_names-returns-in_ok-left-in-Binary-clause-names t c =
     let types = types_of c.args.types.now in
     let front = c.expression_names-in-Binary.new.names.items in
     let left = expression_of c.deref-in-Binary-2.result.now in
@@ -32,8 +32,8 @@ returns-in_ok-left-in-Binary-clause-names t c =
     c.put_role.ensures ∙ ap (λ n. set c.expression_names-in-Binary-2.new.names.items n last) count ∙ ap (λ xs. set xs (length front) last) names
     ∙ put_back types left front first last ∙ whole
 
-pub put_role-requires-in-Shift : goal.put_role-requires-in-Shift
-put_role-requires-in-Shift t c =
+pub expression_names-put_role-requires-in-Shift : goal.expression_names-put_role-requires-in-Shift
+expression_names-put_role-requires-in-Shift t c =
     let types = types_of c.args.types.now in
     let front = c.args.names.now.items in
     let left = expression_of c.deref-in-Shift.result.now in
@@ -45,8 +45,8 @@ put_role-requires-in-Shift t c =
     let sizes = ap length names in
     omega arith
 
-pub returns-in_ok-left-in-Shift-clause-names : goal.returns-in_ok-left-in-Shift-clause-names
-returns-in_ok-left-in-Shift-clause-names t c =
+pub expression_names-returns-in_ok-left-in-Shift-clause-names : goal.expression_names-returns-in_ok-left-in-Shift-clause-names
+expression_names-returns-in_ok-left-in-Shift-clause-names t c =
     let types = types_of c.args.types.now in
     let front = c.args.names.now.items in
     let left = expression_of c.deref-in-Shift.result.now in
