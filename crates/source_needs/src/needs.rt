@@ -294,9 +294,7 @@ fn need_by_lines<'a>(
     privates_are_few();
     let way = dearest_way(alloc, layout.runtime().events, program)?;
     let ways = task_ways(alloc, ifs.lines, ifs.numbers, &way.held, &way.failed)?;
-    Ok(task_need(
-        accepted, layout, way.cycles, ways, undo, number,
-    ))
+    Ok(task_need(accepted, layout, way.cycles, ways, undo, number))
 }
 
 // The lines behind so many.
