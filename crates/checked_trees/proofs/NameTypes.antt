@@ -140,7 +140,7 @@ module _ (source name : List ℕ) (shared : List SharedDeclaration) where
   first_typed [] d = refl
   first_typed (o ∷ front) d =
       one_more o.span o.role (length front) (shared_in front) (functions_in front) (tasks_in front) (bytes_eq (text_of source o.span) name)
-        (global_in source name front) refl d.0
+      (global_in source name front) refl d.0
       (first_typed front d.1)
 
   -- the type of a prefix's first is that of all

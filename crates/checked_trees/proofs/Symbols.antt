@@ -228,5 +228,5 @@ symbol_sound source shared all o front d here e =
     by_role shared o.span o.role (shared_in front) (functions_in front) (tasks_in front) (locals_in front) _ here.0 (few_locals source front few)
     (not_too_many source o front e)
     (meaning_sound shared (known_functions (functions_in front) (tasks_in front)) (behind all front) (local_in source (text_of source o.span) front)
-      (global_in source (text_of source o.span) all)
+    (global_in source (text_of source o.span) all)
     (local_sound source (text_of source o.span) shared front here.1 few) (global_sound source (text_of source o.span) shared all d))

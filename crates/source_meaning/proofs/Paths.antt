@@ -5,7 +5,7 @@ use Rattle.std.specs.Option.{option_map}
 use Rattle.std.proofs.lemmas.Option.{slice_get-map}
 use Rattle.task_ast.specs.Tree as t
 use Rattle.task_ast.specs.Worked.{nowhere}
-use Rattle.task_ast.specs.Paths.{CheckedFunction, CheckedExpression, CheckedValues, CheckedStatement, CheckedChoice, CheckedBlock, Access, write, End}
+use Rattle.task_ast.specs.Paths.{CheckedFunction, CheckedExpression, CheckedValues, CheckedStatement, CheckedChoice, CheckedBlock, Access, write}
 use Rattle.task_ast.specs.Paths.{ExpressionPath, ValuesPath, StatementPath, ChoicePath, TurnsPath, BlockPath}
 use Rattle.task_ast.specs.Paths as path
 use Rattle.task_ast.specs.Calls.{CallsAreBelow, ValuesCallBelow, StatementCallsBelow, ChoiceCallsBelow, BlockCallsBelow}

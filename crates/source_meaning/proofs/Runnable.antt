@@ -1,6 +1,6 @@
 -- An accepted source can be run.
-use Rattle.std.proofs.Common.{◌≡◌, ◌∙◌, ◌≤◌, ◌+◌, ℕ, zero, suc, true, false, nat_lt, List, [], ◌∷◌, length, map, take, refl, sym, subst}
-use Rattle.std.proofs.Common.{inl, inr, Some, None, All, ltb-true, arith, slice_get}
+use Rattle.std.proofs.Common.{◌≡◌, ◌+◌, ℕ, zero, suc, true, false, nat_lt, List, [], ◌∷◌, length, map, take, refl, sym, subst}
+use Rattle.std.proofs.Common.{inl, inr, Some, All, ltb-true, arith, slice_get}
 use Rattle.std.proofs.lemmas.Option.{slice_get_within}
 use Rattle.std.proofs.lemmas.Bool.{and_parts}
 use Rattle.std.proofs.lemmas.List.Elements.{All-nil, All-cons, All-head, All-tail}
@@ -16,8 +16,7 @@ use Rattle.task_check.specs.Placed.{block_ends}
 use Rattle.task_check.proofs.Interface.{few_shared, few_functions, few_tasks, targets_numbered}
 use Rattle.cost_bound.specs.Summaries.{summaries}
 use Rattle.cost_bound.specs.Allowance.{FewEmits}
-use Rattle.source_values.specs.Values.{Meaning}
-use Rattle.source_values.specs.Statements.{Attempt, Outcome, goes_on, to_task, returns, short, run_block, meanings}
+use Rattle.source_values.specs.Statements.{Outcome, goes_on, to_task, returns, short, run_block, meanings}
 use Rattle.source_values.specs.Runs.{EndsWell, TransitionComes, EndsReturning, ReturnComes, EmitsFit}
 use Rattle.source_values.specs.Running.{IsRunnable}
 use Rattle.source_meaning.specs.Acceptance.{Checks}

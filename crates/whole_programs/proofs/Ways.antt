@@ -505,7 +505,7 @@ module _ (p : Places) (words : PlacesOfWords p) (shared : List SharedDeclaration
     choice_way (t.test e b more) u a next is c h =
         let some = some_block [] shared b is.1 in
         let s = h.safe (names_read e ++ some.accesses) some.end
-          (path.taken e b more (names_read e) some.accesses some.end (is_path [] shared e is.0) some.is) in
+        (path.taken e b more (names_read e) some.accesses some.end (is_path [] shared e is.0) some.is) in
         let reads = reads_assigned shared u a e c is.0 (safe_expression u e some.accesses s).0 in
         (lowering_has (ways enough a) p words shared 0 e is.0 is.3 reads).test (EachWay enough (lowered_block p b) next)
         (EachWay enough (lowered_choice p more) next)
