@@ -1,6 +1,7 @@
 -- Under undo, too, what a run follows from a power-up or a done on takes no more readings, and offers no more words, than a task's text has: entries that are
 -- put back take and offer nothing, and leave CUR as it is.
 use Rattle.std.proofs.Common.{◌≡◌, ℕ, suc, ◌+◌, ◌≤◌, ◌==◌, Bool, true, false, if◌then◌else◌, List, [], ◌∷◌, ◌++◌, length, refl, sym, ap, ◌∙◌, subst, arith}
+use Rattle.cost_bound.specs.Summaries.{summaries}
 use Rattle.machine_effects.specs.fram_board.Effects.{Effect}
 use Rattle.machine_effects.specs.World.{World, fram_after, world_after, readings_taken, looks_taken}
 use Rattle.machine_effects.specs.Inputs.{Inputs}
@@ -23,7 +24,7 @@ use Rattle.stands_for.specs.Layout.{HaveRoom}
 use Rattle.compiled_model.specs.Places.{program_places}
 use Rattle.compiled_model.specs.View.{state_view}
 use Rattle.compiled_model.specs.Parts.{logged_model, private_homes, task_program}
-use Rattle.task_readings.specs.Readings.{block_readings}
+use Rattle.task_readings.specs.Readings.{block_readings, reading_counts}
 use Rattle.charge_limits.specs.Laws.{readings_from, words_from}
 use Rattle.charge_limits.proofs.Weights.{weighed, weighed-append, readings_weigh, words_weigh, none_offered}
 use Rattle.charge_limits.proofs.Takes.{program_takes}
@@ -65,13 +66,13 @@ module _ (weight : ℕ) where
 
   -- an attempt weighs no more than its task's text has readings, whatever a word weighs
   attempt_weighs : (p : CheckedProgram) (l : MemoryMap) (f : ℕ → ℕ) (inputs : Inputs)
-      → Weighs weight (block_readings (task_body p (f (word_place l CurrentTask)))) ((logged_model p l).attempt f inputs).effects
+      → Weighs weight (block_readings (reading_counts p) (task_body p (f (word_place l CurrentTask)))) ((logged_model p l).attempt f inputs).effects
   attempt_weighs p l f inputs =
       let k = f (word_place l CurrentTask) in
       let es = undo_start l (private_homes l) f in
       let own = program_takes weight (task_program p l k) (started (fram_after es f) inputs) in
       let text = task_few p l k in
-      two_weigh weight (block_readings (task_body p k)) es _ (start_none l (private_homes l) f) (omega (arith, own, text))
+      two_weigh weight (block_readings (reading_counts p) (task_body p k)) es _ (start_none l (private_homes l) f) (omega (arith, own, text))
 
 commit_none : (l : MemoryMap) (f : ℕ → ℕ) → weighed 0 (undo_commit l f) ≤ 0
 commit_none l f = commit_weighs 0 l 0 f (sends_no_reading (f (word_place l EmitCount)) (f (word_place l SentBase)) l.emits.address f)
@@ -83,7 +84,7 @@ module _ (p : CheckedProgram) (l : MemoryMap) (apart : AreApart l) (laws : Model
   m = logged_model p l
 
   abbrev text_of : (ℕ → ℕ) → ℕ
-  text_of f = block_readings (task_body p (f (word_place l CurrentTask)))
+  text_of f = block_readings (reading_counts p) (task_body p (f (word_place l CurrentTask)))
 
   taken_few : (n : ℕ) (f : ℕ → ℕ) (inputs : Inputs) (a : ProgramEffects) → weighed 0 a.effects ≤ n → weighed 0 (with_commit m f inputs a).effects ≤ n
   taken_few n f inputs a few =
@@ -117,7 +118,7 @@ module _ (p : CheckedProgram) (l : MemoryMap) (apart : AreApart l) (laws : Model
       let f = fram_after es x.fram in
       let a = m.attempt f inputs in
       let own = attempt_weighs 0 p l f inputs in
-      let same : text_of f ≡ text_of x.fram = ap (λ k. block_readings (task_body p k)) (same_task s x u) in
+      let same : text_of f ≡ text_of x.fram = ap (λ k. block_readings (reading_counts p) (task_body p k)) (same_task s x u) in
       let back = recovery_none 0 l x.fram in
       let all = weighed-append 0 es a.effects in
       taken_few (text_of x.fram) x.fram inputs (behind_effects es a) (omega (arith, own, same, back, all))
@@ -161,7 +162,7 @@ module _ (p : CheckedProgram) (l : MemoryMap) (room : HaveRoom (program_places p
 
   attempt_offers_none : (f : ℕ → ℕ) (inputs : Inputs) → offered (mw.attempt f inputs).effects ≡ 0
   attempt_offers_none f inputs =
-      let most = block_readings (task_body p (f (word_place l CurrentTask))) in
+      let most = block_readings (reading_counts p) (task_body p (f (word_place l CurrentTask))) in
       let light = attempt_weighs (suc most) p l f inputs in
       none_offered (suc most) (mw.attempt f inputs).effects (omega (arith, light))
 
@@ -173,7 +174,7 @@ module _ (p : CheckedProgram) (l : MemoryMap) (room : HaveRoom (program_places p
       let words = words_weigh (undo_commit l f) in
       omega (arith, weight, words)
 
-  decided_offers_few : (s next : State) (x : World) → mw.Decided s next x → offered (undo_commit l x.fram) ≤ emits_of (task_body p s.task)
+  decided_offers_few : (s next : State) (x : World) → mw.Decided s next x → offered (undo_commit l x.fram) ≤ emits_of (summaries p) (task_body p s.task)
   decided_offers_few s next x d =
       let few = commit_offers_few x.fram in
       let count = d.closes.sends.emit_count in
@@ -187,7 +188,7 @@ module _ (p : CheckedProgram) (l : MemoryMap) (room : HaveRoom (program_places p
       omega (arith, few, fits)
 
   -- as the law of models wants it
-  offers : Offers mw (λ s. emits_of (task_body p s.task)) l.emits.words
+  offers : Offers mw (λ s. emits_of (summaries p) (task_body p s.task)) l.emits.words
   offers = record {
     recoveries = recovery_offers_none;
     attempts = attempt_offers_none;
@@ -198,4 +199,4 @@ module _ (p : CheckedProgram) (l : MemoryMap) (room : HaveRoom (program_places p
   pub words_under_undo : WordsFollow p l mw
   words_under_undo laws readings origin h follows stands =
       subst (λ n. offered h.effects ≤ n) (same_words p l origin h.completed stands.state)
-      (words_follow mw laws (λ s. emits_of (task_body p s.task)) l.emits.words offers readings origin h follows stands)
+      (words_follow mw laws (λ s. emits_of (summaries p) (task_body p s.task)) l.emits.words offers readings origin h follows stands)

@@ -4,6 +4,7 @@ use Rattle.std.proofs.Common.{arith}
 use Rattle.machine_effects.specs.fram_board.Effects.{Effect}
 use Rattle.machine_effects.specs.World.{World, fram_after, readings_taken, looks_taken}
 use Rattle.machine_effects.specs.Inputs.{Inputs}
+use Rattle.cost_bound.specs.Summaries.{summaries}
 use Rattle.cost_bound.specs.Counts.{emits_of}
 use Rattle.source_values.specs.Runs.{CheckedProgram, State, task_body}
 use Rattle.array_versions.specs.Behaviour.{started}
@@ -18,7 +19,7 @@ use Rattle.crash_rules.specs.Model.{Model, ModelLaws, ProgramEffects, program_ef
 use Rattle.crash_rules.specs.History.{Done, History, inputs_from}
 use Rattle.crash_rules.specs.Laws.{Origin, Resting, Pending, StandsFor, FollowsScript}
 use Rattle.compiled_model.specs.Parts.{redo_model, task_program}
-use Rattle.task_readings.specs.Readings.{block_readings}
+use Rattle.task_readings.specs.Readings.{block_readings, reading_counts}
 use Rattle.charge_limits.specs.Laws.{readings_from, words_from}
 use Rattle.charge_limits.proofs.Weights.{weighed, weighed-append, readings_weigh, words_weigh, none_offered}
 use Rattle.charge_limits.proofs.Takes.{program_takes}
@@ -75,13 +76,13 @@ module _ (weight : ℕ) where
 
   -- an attempt weighs no more than its task's text has readings, whatever a word weighs
   attempt_weighs : (p : CheckedProgram) (l : MemoryMap) (f : ℕ → ℕ) (inputs : Inputs)
-      → Weighs (block_readings (task_body p (f (word_place l CurrentTask)))) ((redo_model p l).attempt f inputs).effects
+      → Weighs (block_readings (reading_counts p) (task_body p (f (word_place l CurrentTask)))) ((redo_model p l).attempt f inputs).effects
   attempt_weighs p l f inputs =
       let k = f (word_place l CurrentTask) in
       let es = start_effects l (privates_in (task_entries l)) f in
       let own = program_takes weight (task_program p l k) (started (fram_after es f) inputs) in
       let text = task_few p l k in
-      two_weigh (block_readings (task_body p k)) es _ (start_none l (privates_in (task_entries l)) f) (omega (arith, own, text))
+      two_weigh (block_readings (reading_counts p) (task_body p k)) es _ (start_none l (privates_in (task_entries l)) f) (omega (arith, own, text))
 
 -- ---- readings
 
@@ -111,7 +112,7 @@ module _ (p : CheckedProgram) (l : MemoryMap) where
   m = redo_model p l
 
   abbrev text_of : (ℕ → ℕ) → ℕ
-  text_of f = block_readings (task_body p (f (word_place l CurrentTask)))
+  text_of f = block_readings (reading_counts p) (task_body p (f (word_place l CurrentTask)))
 
   -- ---- readings
 
@@ -161,7 +162,7 @@ module _ (p : CheckedProgram) (l : MemoryMap) where
       omega (arith, weight, words)
 
   -- and as many as a task emits at most, where the world was decided from its state
-  decided_offers_few : (s next : State) (x : World) → m.Decided s next x → offered (commit_effects l x.fram) ≤ emits_of (task_body p s.task)
+  decided_offers_few : (s next : State) (x : World) → m.Decided s next x → offered (commit_effects l x.fram) ≤ emits_of (summaries p) (task_body p s.task)
   decided_offers_few s next x d =
       let few = commit_offers_few x.fram in
       let count = d.decided.sends.emit_count in
@@ -173,7 +174,7 @@ module _ (p : CheckedProgram) (l : MemoryMap) where
   committing_offers_few to x c = let few = commit_offers_few x.fram in let room = c.pending.emit_count in omega (arith, few, room)
 
   -- as the law of models wants it
-  offers : Offers m (λ s. emits_of (task_body p s.task)) l.emits.words
+  offers : Offers m (λ s. emits_of (summaries p) (task_body p s.task)) l.emits.words
   offers = record {
     recoveries = λ f. refl;
     attempts = attempt_offers_none;
@@ -183,7 +184,7 @@ module _ (p : CheckedProgram) (l : MemoryMap) where
 
 -- the two say the same of a source
 pub same_words : (p : CheckedProgram) (l : MemoryMap) (origin : Origin State) (ds : List Done) (s : State)
-    → offered_from (λ t. emits_of (task_body p t.task)) l.emits.words origin ds s ≡ words_from p l origin ds s
+    → offered_from (λ t. emits_of (summaries p) (task_body p t.task)) l.emits.words origin ds s ≡ words_from p l origin ds s
 same_words p l (Resting first) ds s = refl
 same_words p l (Pending to) [] s = refl
 same_words p l (Pending to) (d ∷ ds) s = refl
@@ -196,4 +197,4 @@ WordsFollow p l m = ModelLaws m → (readings : List ℕ) (origin : Origin State
 pub words_under_redo : (p : CheckedProgram) (l : MemoryMap) → WordsFollow p l (redo_model p l)
 words_under_redo p l laws readings origin h follows stands =
     subst (λ n. offered h.effects ≤ n) (same_words p l origin h.completed stands.state)
-    (words_follow (redo_model p l) laws (λ s. emits_of (task_body p s.task)) l.emits.words (offers p l) readings origin h follows stands)
+    (words_follow (redo_model p l) laws (λ s. emits_of (summaries p) (task_body p s.task)) l.emits.words (offers p l) readings origin h follows stands)

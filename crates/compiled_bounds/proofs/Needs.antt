@@ -3,6 +3,7 @@ use Rattle.std.proofs.Common.{◌≡◌, ℕ, zero, suc, ◌+◌, ◌≤◌, ◌
 use Rattle.std.proofs.lemmas.Bool.{cases_lt}
 use Rattle.std.proofs.lemmas.List.Elements.{All-nil}
 use Rattle.machine_effects.specs.Inputs.{Look, Inputs, InputsAreWords, no_inputs}
+use Rattle.cost_bound.specs.Summaries.{summaries}
 use Rattle.cost_bound.specs.Counts.{emits_of}
 use Rattle.crash_rules.specs.Model.{bound, greatest}
 use Rattle.crash_rules.proofs.Interface.{below_greatest}
@@ -40,42 +41,44 @@ module _ (p : CheckedProgram) (allow : Allow) (plans : List TaskPlanValue) (l : 
     (layout : IsLayout p allow plans l) (t : ℕ) (below : t < length p.tasks) where
   -- as many words as the allowance counts
   counted_at : (task : CheckedTask) (own : TaskPlace) → slice_get p.tasks t ≡ Some task → slice_get l.tasks t ≡ Some own
-      → private_words (own_privates l t) ≤ scalars_of p.shared (task_body p t)
+      → private_words (own_privates l t) ≤ scalars_of (summaries p) p.shared (task_body p t)
   counted_at task own at_task at_own =
       let counted = few t task own at_task at_own in
-      let body = ap (λ o. scalars_of p.shared (body_of o)) at_task in
+      let body = ap (λ o. scalars_of (summaries p) p.shared (body_of o)) at_task in
       let words = ap (λ o. private_words (privates_of o)) at_own in
       omega (arith, counted, body, words)
 
-  counted : private_words (own_privates l t) ≤ scalars_of p.shared (task_body p t)
+  counted : private_words (own_privates l t) ≤ scalars_of (summaries p) p.shared (task_body p t)
   counted =
       let task = element p.tasks t below in
       let count = layout.tasks.count in
       let own = element l.tasks t (omega (arith, below, count)) in
       counted_at task.0 own.0 task.1 own.1
 
-  entries_fit : own_entries p l t ≤ list_of p.shared (task_body p t)
+  entries_fit : own_entries p l t ≤ list_of (summaries p) p.shared (task_body p t)
   entries_fit =
       let runs = runs_are_few (own_privates l t) in
       let scalars = privates_few (own_privates l t) in
       let words = counted in
       omega (arith, runs, scalars, words)
 
-  words_fit : own_words p l t ≤ list_of p.shared (task_body p t)
+  words_fit : own_words p l t ≤ list_of (summaries p) p.shared (task_body p t)
   words_fit = let words = counted in omega (arith, words)
 
   covered : (fram : ℕ → ℕ) (inputs : Inputs) → HoldsWords fram → InputsAreWords inputs
       → beside_path Redo p l t + code_spent (task_program p l t) (started fram inputs) ≤ (program_parts p l).cost t
   covered fram inputs words are_words =
-      let whole : whole_cycles p l t fram inputs ≤ task_bound (uses_events p) (versions_of p) p.shared (task_body p t) =
+      let whole : whole_cycles p l t fram inputs ≤ task_bound (summaries p) (uses_events p) (versions_of p) p.shared (task_body p t) =
       (tasks_keep_to_the_bound p allow plans l allowed few layout).within t fram inputs below words are_words in
       let start : (beside_parts Redo p l t).start
       ≡ start_cycles l.runtime.events true l.versions.words (length (privates_in (task_entries l) t)) =
       ap (λ n. start_cycles l.runtime.events true l.versions.words n) (sym (privates_count l t)) in
       let commit : (beside_parts Redo p l t).commit
-      ≤ commit_cycles l.runtime.events (list_of p.shared (task_body p t)) (list_of p.shared (task_body p t)) (emits_of (task_body p t)) =
-      commit_grows l.runtime.events (own_entries p l t) (list_of p.shared (task_body p t)) (own_words p l t) (list_of p.shared (task_body p t))
-      (emits_of (task_body p t)) (emits_of (task_body p t)) entries_fit words_fit (omega arith) in
+      ≤ commit_cycles l.runtime.events (list_of (summaries p) p.shared (task_body p t)) (list_of (summaries p) p.shared (task_body p t))
+      (emits_of (summaries p) (task_body p t)) =
+      commit_grows l.runtime.events (own_entries p l t) (list_of (summaries p) p.shared (task_body p t)) (own_words p l t)
+      (list_of (summaries p) p.shared (task_body p t))
+      (emits_of (summaries p) (task_body p t)) (emits_of (summaries p) (task_body p t)) entries_fit words_fit (omega arith) in
       omega (arith, whole, start, commit)
 
 -- under undo the same parts are those that the table is known to cover
@@ -83,7 +86,7 @@ logged_covered : (p : CheckedProgram) (l : MemoryMap) → LoggedCostsAreWithin p
     → HoldsWords fram → InputsAreWords inputs
     → beside_path Undo p l t + code_spent (task_program p l t) (started fram inputs) ≤ (program_parts p l).cost t
 logged_covered p l costs t below fram inputs words are_words =
-    let whole : logged_cycles p l t fram inputs ≤ task_bound (uses_events p) (versions_of p) p.shared (task_body p t) =
+    let whole : logged_cycles p l t fram inputs ≤ task_bound (summaries p) (uses_events p) (versions_of p) p.shared (task_body p t) =
     costs.within t fram inputs below words are_words in
     let start : (beside_parts Undo p l t).start ≡ logged_start l.runtime.events true l.versions.words (length (private_homes l t)) =
     ap (λ n. logged_start l.runtime.events true l.versions.words n) (sym (listed_count l t)) in

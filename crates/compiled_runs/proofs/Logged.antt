@@ -7,6 +7,7 @@ use Rattle.machine_effects.specs.Inputs.{Look, Inputs, InputsAreWords, no_inputs
 use Rattle.machine_effects.specs.Machine.{Code, MachineBoard}
 use Rattle.machine_effects.proofs.Interface.{code_changes_by_effects, fram_after-append}
 use Rattle.code_forms.specs.Forms.{Core, board_of}
+use Rattle.cost_bound.specs.Summaries.{summaries}
 use Rattle.cost_bound.specs.Allowance.{list_of}
 use Rattle.cost_bound.specs.Counts.{emits_of}
 use Rattle.source_values.specs.Runs.{CheckedProgram, State, task_body}
@@ -67,15 +68,15 @@ pub record LoggedBodyWithin (p : CheckedProgram) (l : MemoryMap) (cost k : ℕ) 
   pub most : ℕ
   pub comes : (v : Core) → Enters (entry_at (task_entries l) k).code (stack_origin l.runtime.events) g inputs v
       → let b = behaviour (task_program p l k) (started g inputs) in ComesTo (placed_code p l) most v b.effects b.end
-  pub within : with_events l.runtime.events 3 + 6 + recovery_cycles (list_of p.shared (task_body p k))
+  pub within : with_events l.runtime.events 3 + 6 + recovery_cycles (list_of (summaries p) p.shared (task_body p k))
       + start_cycles l.runtime.events true l.versions.words (length (private_homes l k)) + most
-      + commit_cycles l.runtime.events (emits_of (task_body p k)) ≤ cost
+      + commit_cycles l.runtime.events (emits_of (summaries p) (task_body p k)) ≤ cost
 
 -- what each task costs: its cost has its body's cycles, and those of a commit that it left pending
 pub record LoggedCosts (p : CheckedProgram) (l : MemoryMap) : Type 0 where
   pub cost : ℕ → ℕ
   pub body : (k : ℕ) (g : ℕ → ℕ) (inputs : Inputs) → k < length p.tasks → HoldsWords g → InputsAreWords inputs → LoggedBodyWithin p l (cost k) k g inputs
-  pub commits : (k : ℕ) → k < length p.tasks → boot_cycles l + commit_cycles l.runtime.events (emits_of (task_body p k)) ≤ cost k
+  pub commits : (k : ℕ) → k < length p.tasks → boot_cycles l + commit_cycles l.runtime.events (emits_of (summaries p) (task_body p k)) ≤ cost k
 
 module _ (p : CheckedProgram) (l : MemoryMap) (logs : l.runtime.logging ≡ Undo) (r : CanRun p l) (laws : ModelLaws (logged_model p l))
     (costs : LoggedCosts p l) where
@@ -92,10 +93,10 @@ module _ (p : CheckedProgram) (l : MemoryMap) (logs : l.runtime.logging ≡ Undo
   start = undo_start l (private_homes l)
 
   abbrev list : ℕ → ℕ
-  list t = list_of p.shared (task_body p t)
+  list t = list_of (summaries p) p.shared (task_body p t)
 
   abbrev emits : ℕ → ℕ
-  emits t = emits_of (task_body p t)
+  emits t = emits_of (summaries p) (task_body p t)
 
   whole : ProgramsAreWhole (lowered l p)
   whole = are_whole p l r
@@ -408,7 +409,7 @@ module _ (p : CheckedProgram) (l : MemoryMap) (logs : l.runtime.logging ≡ Undo
       }
 
   bound_commits : (k : ℕ) → k < length p.tasks
-      → boot_cycles l + commit_cycles l.runtime.events (emits_of (task_body p k)) ≤ (logged_model p l).task_cost k
+      → boot_cycles l + commit_cycles l.runtime.events (emits_of (summaries p) (task_body p k)) ≤ (logged_model p l).task_cost k
   bound_commits k named =
       let zeros : ℕ → ℕ = λ a. 0 in
       let paid : logged_cycles p l k zeros no_inputs ≤ (logged_model p l).task_cost k =

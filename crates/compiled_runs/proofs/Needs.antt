@@ -5,6 +5,7 @@ use Rattle.machine_effects.specs.World.{World, fram_after}
 use Rattle.machine_effects.specs.Inputs.{Inputs, InputsAreWords}
 use Rattle.machine_effects.specs.Machine.{MachineBoard}
 use Rattle.machine_effects.proofs.Interface.{code_changes_by_effects}
+use Rattle.cost_bound.specs.Summaries.{summaries}
 use Rattle.cost_bound.specs.Counts.{emits_of}
 use Rattle.source_values.specs.Runs.{CheckedProgram, State, task_body}
 use Rattle.array_versions.specs.Behaviour.{started}
@@ -83,14 +84,14 @@ module _ (p : CheckedProgram) (l : MemoryMap) (logs : l.runtime.logging ≡ Redo
       (cases_lt left most)
 
   lists : (s : State) (x : World) (inputs : Inputs) → InputsAreWords inputs → m.Undecided s x → let q = m.attempt x.fram inputs in
-      q.ends ≡ true → FitsCommit l (entries s.task) (words s.task) (emits_of (task_body p s.task)) (fram_after q.effects x.fram)
+      q.ends ≡ true → FitsCommit l (entries s.task) (words s.task) (emits_of (summaries p) (task_body p s.task)) (fram_after q.effects x.fram)
   lists s x inputs ready und ends =
       let d = decided_behind m s x inputs (m.attempt x.fram inputs) (laws.attempts s x inputs ready und) ends in
       let own : ListsWithin p l s.task d.world.fram = subst (ListsWithin p l s.task) (sym d.fram) (lists_there p l logs r few s x inputs ready und ends) in
-      subst (FitsCommit l (entries s.task) (words s.task) (emits_of (task_body p s.task))) d.fram (own_fits s d.next d.world d.decided own)
+      subst (FitsCommit l (entries s.task) (words s.task) (emits_of (summaries p) (task_body p s.task))) d.fram (own_fits s d.next d.world d.decided own)
     where
       own_fits : (s next : State) (x : World) → m.Decided s next x → ListsWithin p l s.task x.fram
-          → FitsCommit l (entries s.task) (words s.task) (emits_of (task_body p s.task)) x.fram
+          → FitsCommit l (entries s.task) (words s.task) (emits_of (summaries p) (task_body p s.task)) x.fram
       own_fits s next x d own =
           let k = fits_commit p l r laws s next x d in record { can = k.can; list = own.entries; named = own.words; sent = k.sent; base = k.base }
 

@@ -1,5 +1,9 @@
+pub mod Summary
 pub mod Table
 pub mod Counts
+pub mod Frames
+pub mod Summaries
+pub mod Machine
 pub mod Rooms
 pub mod Allowance
 pub mod Needs

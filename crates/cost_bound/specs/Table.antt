@@ -1,15 +1,17 @@
 -- The table of prices: what a tree comes to in one of its columns, in numbers without an end.
-use Rattle.std.specs.Prelude.{ℕ, ◌+◌, ◌-◌, ◌*◌, ◌^◌, true, false, min, max, if◌then◌else◌, Some, None}
+use Rattle.std.specs.Prelude.{ℕ, ◌+◌, ◌-◌, ◌*◌, ◌^◌, true, false, min, max, if◌then◌else◌, List, map, Some, None, slice_index}
 use Rattle.task_ast.specs.Types.{by_width, joined_type, type_of}
-use Rattle.task_ast.specs.Tree.{Expression, number, long_number, name, element, sense, next_event, unary, binary, shift, short_circuit}
-use Rattle.task_ast.specs.Tree.{Statement, declare, assign, store, choose}
-use Rattle.task_ast.specs.Tree.{loop, emit, transition, Choice, nothing, otherwise, test, Block, end, step}
+use Rattle.task_ast.specs.Tree.{number, long_number, name, element, sense, next_event, call, unary, binary, shift, short_circuit}
+use Rattle.task_ast.specs.Tree.{no_value, value, declare, assign, store, choose}
+use Rattle.task_ast.specs.Tree.{loop, emit, give, transition, nothing, otherwise, test, end, step}
+use Rattle.task_ast.specs.Paths.{CheckedExpression, CheckedValues, CheckedStatement, CheckedChoice, CheckedBlock}
 use Rattle.task_ast.specs.declared.WordType.{WordType}
 use Rattle.task_ast.specs.declared.BinaryOperator.{BinaryOperator}
 use Rattle.task_ast.specs.declared.BinaryOperator.TheVariants.{Multiply, Divide, Remainder}
-use Rattle.task_ast.specs.declared.names.VariableName.{VariableName}
-use Rattle.task_ast.specs.declared.names.TaskName.{TaskName}
+use Rattle.cost_bound.specs.Summary.{Summary}
 use Rattle.cost_bound.specs.declared.prices.Column.{Column}
+use Rattle.cost_bound.specs.declared.prices.Body.{Body}
+use Rattle.cost_bound.specs.declared.prices.Body.TheVariants.{Cycles, Emits, Nothing}
 
 -- as 64 bits keep it: a greater number stands at 2^64 - 1
 abbrev pub capped : ℕ → ℕ
@@ -34,7 +36,11 @@ cycles_column = record {
   divide = 400;
   -- a read of `a[e]`
   element = 60;
-  -- a declaration with a value, an assignment to a scalar, and one to a long
+  -- a call, whose function's body counts each time; and each of its values
+  call = 60;
+  call_value = 0;
+  body = Cycles;
+  -- a declaration with a value, an assignment to a scalar, a `return`; and an assignment to a long
   assign = 40;
   long_assign = 80;
   -- an assignment to an element
@@ -64,6 +70,9 @@ words_column scalars = record {
   multiply = 16;
   divide = 16;
   element = 24;
+  call = 24;
+  call_value = 4;
+  body = Nothing;
   assign = 24;
   long_assign = 40;
   store = 60;
@@ -90,6 +99,9 @@ events_column = record {
   multiply = 0;
   divide = 0;
   element = 0;
+  call = 0;
+  call_value = 0;
+  body = Nothing;
   assign = 0;
   long_assign = 0;
   store = 0;
@@ -104,6 +116,45 @@ events_column = record {
   each_turn = false;
 }
 
+-- a node each, of expressions
+abbrev pub nodes_column : Column
+nodes_column = record {
+  leaf = 1;
+  next_event = 1;
+  operator = 1;
+  long = 1;
+  shift = 1;
+  long_shift = 1;
+  multiply = 1;
+  divide = 1;
+  element = 1;
+  call = 1;
+  call_value = 0;
+  body = Nothing;
+  assign = 0;
+  long_assign = 0;
+  store = 0;
+  emit = 0;
+  transition = 0;
+  choose = 0;
+  condition = 0;
+  long_condition = 0;
+  all_blocks = false;
+  repeat = 0;
+  turn = 0;
+  each_turn = false;
+}
+
+-- what a column counts of a function's body at each call of it
+abbrev pub body_price : Body → Summary → ℕ
+body_price Cycles s = s.cycles
+body_price Emits s = s.emits
+body_price Nothing s = 0
+
+-- the same of the function of a number, nothing where there is none
+abbrev pub called_price : List Summary → Column → ℕ → ℕ
+called_price known c k = slice_index (map (body_price c.body) known) k
+
 -- an operator between two parts of a joined type
 abbrev pub operator_price : Column → BinaryOperator → WordType → ℕ
 operator_price c Multiply t = c.multiply
@@ -111,19 +162,26 @@ operator_price c Divide t = c.divide
 operator_price c Remainder t = c.divide
 operator_price c _ t = by_width t c.operator c.long
 
-abbrev pub expression_price : Column → Expression VariableName → ℕ
-expression_price c (number _) = c.leaf
-expression_price c (long_number _) = c.long
-expression_price c (name x) = by_width x.word_type c.leaf c.long
-expression_price c sense = c.leaf
-expression_price c next_event = c.next_event
-expression_price c (unary _ e) = by_width (type_of e) c.operator c.long + expression_price c e
-expression_price c (binary op a b) =
-    operator_price c op.operator (joined_type (type_of a) (type_of b)) + expression_price c a + expression_price c b
-expression_price c (short_circuit _ a b) =
-    by_width (joined_type (type_of a) (type_of b)) c.operator c.long + expression_price c a + expression_price c b
-expression_price c (shift _ left _) = by_width (type_of left) c.shift c.long_shift + expression_price c left
-expression_price c (element _ index) = c.element + expression_price c index
+abbrev mutual
+  -- an expression, whose calls are of functions that these are the summaries of
+  pub expression_price : List Summary → Column → CheckedExpression → ℕ
+  expression_price known c (number _) = c.leaf
+  expression_price known c (long_number _) = c.long
+  expression_price known c (name x) = by_width x.word_type c.leaf c.long
+  expression_price known c sense = c.leaf
+  expression_price known c next_event = c.next_event
+  expression_price known c (call f values) = c.call + values_price known c values + called_price known c f.function
+  expression_price known c (unary _ e) = by_width (type_of e) c.operator c.long + expression_price known c e
+  expression_price known c (binary op a b) =
+      operator_price c op.operator (joined_type (type_of a) (type_of b)) + expression_price known c a + expression_price known c b
+  expression_price known c (short_circuit _ a b) =
+      by_width (joined_type (type_of a) (type_of b)) c.operator c.long + expression_price known c a + expression_price known c b
+  expression_price known c (shift _ left _) = by_width (type_of left) c.shift c.long_shift + expression_price known c left
+  expression_price known c (element _ index) = c.element + expression_price known c index
+
+  pub values_price : List Summary → Column → CheckedValues → ℕ
+  values_price known c no_value = 0
+  values_price known c (value e more) = c.call_value + expression_price known c e + values_price known c more
 
 -- two blocks of an `if`: both, or the greater
 abbrev pub blocks_together : Column → ℕ → ℕ → ℕ
@@ -134,27 +192,28 @@ abbrev pub turns_together : Column → ℕ → ℕ → ℕ
 turns_together c n turn = if c.each_turn then n * turn else turn
 
 abbrev mutual
-  pub statement_price : Column → Statement VariableName TaskName → ℕ
-  statement_price c (declare _ _ None) = 0
-  statement_price c (declare _ _ (Some value)) = c.assign + expression_price c value
-  statement_price c (assign x value) = by_width x.word_type c.assign c.long_assign + expression_price c value
-  statement_price c (store _ index value) = c.store + expression_price c index + expression_price c value
-  statement_price c (emit value) = c.emit + expression_price c value
-  statement_price c (transition _) = c.transition
-  statement_price c (choose choice) = c.choose + conditions_price c choice + blocks_price c choice
-  statement_price c (loop _ from _ below _ body) = c.repeat + turns_together c (below - from) (c.turn + block_price c body)
+  pub statement_price : List Summary → Column → CheckedStatement → ℕ
+  statement_price known c (declare _ _ None) = 0
+  statement_price known c (declare _ _ (Some e)) = c.assign + expression_price known c e
+  statement_price known c (assign x e) = by_width x.word_type c.assign c.long_assign + expression_price known c e
+  statement_price known c (store _ index e) = c.store + expression_price known c index + expression_price known c e
+  statement_price known c (emit e) = c.emit + expression_price known c e
+  statement_price known c (give _ e) = c.assign + expression_price known c e
+  statement_price known c (transition _ _) = c.transition
+  statement_price known c (choose choice) = c.choose + conditions_price known c choice + blocks_price known c choice
+  statement_price known c (loop _ from _ below _ body) = c.repeat + turns_together c (below - from) (c.turn + block_price known c body)
 
-  pub conditions_price : Column → Choice VariableName TaskName → ℕ
-  conditions_price c nothing = 0
-  conditions_price c (otherwise _) = 0
-  conditions_price c (test condition _ more) =
-      c.condition + by_width (type_of condition) 0 c.long_condition + expression_price c condition + conditions_price c more
+  pub conditions_price : List Summary → Column → CheckedChoice → ℕ
+  conditions_price known c nothing = 0
+  conditions_price known c (otherwise _) = 0
+  conditions_price known c (test condition _ more) =
+      c.condition + by_width (type_of condition) 0 c.long_condition + expression_price known c condition + conditions_price known c more
 
-  pub blocks_price : Column → Choice VariableName TaskName → ℕ
-  blocks_price c nothing = 0
-  blocks_price c (otherwise block) = block_price c block
-  blocks_price c (test _ block more) = blocks_together c (block_price c block) (blocks_price c more)
+  pub blocks_price : List Summary → Column → CheckedChoice → ℕ
+  blocks_price known c nothing = 0
+  blocks_price known c (otherwise block) = block_price known c block
+  blocks_price known c (test _ block more) = blocks_together c (block_price known c block) (blocks_price known c more)
 
-  pub block_price : Column → Block VariableName TaskName → ℕ
-  block_price c end = 0
-  block_price c (step s more) = statement_price c s + block_price c more
+  pub block_price : List Summary → Column → CheckedBlock → ℕ
+  block_price known c end = 0
+  block_price known c (step s more) = statement_price known c s + block_price known c more

@@ -1,20 +1,30 @@
 //! The allowance of a source.
 ghost use Rattle.std.specs.Prelude.{◌≡◌, ◌≤◌, ◌+◌, ◌*◌, ◌<◌, ◌^◌, length, map, max, nat_lt, ℕ, false, slice_index_or, All, IfSome, IfNone, IfOk, IfErr};
-ghost use Rattle.task_ast.specs.View.{block_view, task_of, program_of};
-ghost use Rattle.cost_bound.specs.Table.{capped, words_column, cycles_column, events_column, block_price};
-ghost use Rattle.cost_bound.specs.Counts.{block_assigns, emits_of};
-ghost use Rattle.cost_bound.specs.Allowance.{scalars_of, list_of, task_bound, task_words, greatest, is_written, versions_of, places_of, bound_of, words_of};
-ghost use Rattle.cost_bound.specs.Allowance.{use_events, for_events};
-ghost use Rattle.cost_bound.specs.Allowance.{FewEmits, IsFirstOver, IsAllowed, IsOver};
+ghost use Rattle.task_ast.specs.View.{block_view, function_of, task_of, program_of};
+ghost use Rattle.cost_bound.specs.Table.{capped, words_column, cycles_column, block_price};
+ghost use Rattle.cost_bound.specs.Counts.{assigns_of, emits_of, all_called_from, routine_words};
+ghost use Rattle.cost_bound.specs.Frames.{stack_of};
+ghost use Rattle.cost_bound.specs.Summaries.{summaries, function_summaries};
+ghost use Rattle.cost_bound.specs.Machine.{known_of, AreSame};
+ghost use Rattle.cost_bound.specs.Allowance.{scalars_of, list_of, task_bound, task_words, own_words, greatest, is_written, versions_of, places_of, bound_of};
+ghost use Rattle.cost_bound.specs.Allowance.{has_event, use_events, functions_use_events, uses_events, for_events, words_of, stack_words};
+ghost use Rattle.cost_bound.specs.Allowance.{FewEmits, AllFewEmits, IsFirstOver, IsAllowed, IsOver};
 ghost use Rattle.cost_bound.specs.Needs.{AreNeeds};
 
 use crate::SHARED;
-use crate::assigned::mark_assigned;
+use crate::assigned::assigned_variables;
+use crate::calls::reached_functions;
 use crate::fault::Over;
+use crate::frames::stack;
+use crate::marks::add_marks;
 use crate::prices::{CYCLES, EMITS, EVENTS, block_price, plus, times, words_column};
 use crate::shared::{array_entries, places, scalars, versions};
 use crate::stores::store_counts;
-use task_ast::{CheckedSource, SharedDeclaration, Stmt, TaskDeclaration, TaskName, VariableName};
+use crate::summaries::{FunctionSummary, summaries};
+use task_ast::{
+    CheckedSource, FunctionDeclaration, FunctionName, SharedDeclaration, Stmt, TaskDeclaration,
+    TaskName, VariableName,
+};
 
 /// The emits that a task may count.
 const MAX_EMITS: u64 = 256;
@@ -26,6 +36,10 @@ const EVENT_CYCLES: u64 = 60;
 const EVENT_WORDS: u64 = 200;
 /// The greatest size, in words.
 const MAX_WORDS: u64 = 22_000;
+/// The greatest stack, in words.
+const MAX_STACK: u64 = 1_000;
+/// The words of a function's code in a task, beside those of its body.
+const ROUTINE: u64 = 40;
 
 /// What a source may cost, and the room that its tasks need.
 #[derive(Clone, Copy)]
@@ -43,21 +57,23 @@ pub struct Allow {
 }
 
 // How often the task counts an emit.
-fn emits(body: &[Stmt<VariableName, TaskName>]) -> u64
-    ensures { result ≡ capped (emits_of (block_view body.now)) }
+fn emits(
+    functions: &[FunctionSummary],
+    body: &[Stmt<VariableName, TaskName, FunctionName>],
+) -> u64
+    ensures { result ≡ capped (emits_of (known_of functions.now) (block_view body.now)) }
 {
-    block_price(&EMITS, body)
+    block_price(functions, &EMITS, body)
 }
 
-// Whether `next_event()` stands in the task.
-fn has_event(body: &[Stmt<VariableName, TaskName>]) -> bool
-    ensures { result ≡ nat_lt 0 (block_price events_column (block_view body.now)) }
+// Whether `next_event()` stands in the text.
+fn has_event(body: &[Stmt<VariableName, TaskName, FunctionName>]) -> bool
+    ensures { result ≡ has_event (block_view body.now) }
 {
-    block_price(&EVENTS, body) > 0
+    block_price(&[], &EVENTS, body) > 0
 }
 
-/// Whether `next_event()` stands in some task, be it never reached.
-pub fn uses_events(tasks: &[TaskDeclaration<VariableName, TaskName>]) -> bool
+fn tasks_use_events(tasks: &[TaskDeclaration<VariableName, TaskName, FunctionName>]) -> bool
     ensures { result ≡ use_events (map task_of tasks.now) }
 {
     let mut used = false;
@@ -65,6 +81,25 @@ pub fn uses_events(tasks: &[TaskDeclaration<VariableName, TaskName>]) -> bool
         used = has_event(&tasks[i].body) || used;
     }
     used
+}
+
+fn functions_use_events(
+    functions: &[FunctionDeclaration<VariableName, TaskName, FunctionName>],
+) -> bool
+    ensures { result ≡ functions_use_events (map function_of functions.now) }
+{
+    let mut used = false;
+    for i in (0..functions.len()).rev() {
+        used = has_event(&functions[i].body) || used;
+    }
+    used
+}
+
+/// Whether `next_event()` stands in some task or function, be it never reached.
+pub fn uses_events(source: &CheckedSource) -> bool
+    ensures { result ≡ uses_events (program_of source.now) }
+{
+    functions_use_events(&source.functions) || tasks_use_events(&source.tasks)
 }
 
 // What a source costs more where it uses events.
@@ -75,36 +110,77 @@ fn for_events(used: bool, price: u64) -> u64
     if used { price } else { 0 }
 }
 
-/// The marks of the shared variables that stand on the left of an assignment in the task.
-pub fn assigned_variables(body: &[Stmt<VariableName, TaskName>]) -> [bool; SHARED]
-    ensures { (i : ℕ) → i < 256 → slice_index_or result i false ≡ block_assigns i (block_view body.now) }
-{
-    let mut marks = [false; SHARED];
-    mark_assigned(body, &mut marks);
-    marks
-}
-
-/// How many shared scalars stand on the left of an assignment in the task, a long as two.
-pub fn assigned_scalars(shared: &[SharedDeclaration], body: &[Stmt<VariableName, TaskName>]) -> u64
+/// How many shared scalars stand on the left of an assignment in the task or in a function that it calls, a long as two.
+pub fn assigned_scalars(
+    functions: &[FunctionSummary],
+    shared: &[SharedDeclaration],
+    body: &[Stmt<VariableName, TaskName, FunctionName>],
+) -> u64
     requires few { length shared.now ≤ 256 }
-    ensures value { result ≡ scalars_of shared.now (block_view body.now) }
+    requires few_functions { length functions.now ≤ 64 }
+    ensures value { result ≡ scalars_of (known_of functions.now) shared.now (block_view body.now) }
     ensures low { result ≤ 512 }
 {
-    scalars(shared, &assigned_variables(body))
+    scalars(shared, &assigned_variables(functions, body))
 }
 
 // The entries of the task's commit list, of which so many are scalars.
 fn list_entries(
+    functions: &[FunctionSummary],
     shared: &[SharedDeclaration],
     scalars: u64,
-    body: &[Stmt<VariableName, TaskName>],
+    body: &[Stmt<VariableName, TaskName, FunctionName>],
 ) -> u64
     requires few { length shared.now ≤ 256 }
-    requires scalars { scalars ≡ scalars_of shared.now (block_view body.now) }
-    ensures { result ≡ capped (list_of shared.now (block_view body.now)) }
+    requires scalars { scalars ≡ scalars_of (known_of functions.now) shared.now (block_view body.now) }
+    ensures { result ≡ capped (list_of (known_of functions.now) shared.now (block_view body.now)) }
 {
-    let stores = store_counts(body);
+    let stores = store_counts(functions, body);
     plus(scalars, array_entries(shared, &stores))
+}
+
+// The words of the code of the marked functions in a task.
+fn marked_words(functions: &[FunctionSummary], marks: &[bool; SHARED]) -> u64
+    requires few { length functions.now ≤ 64 }
+    ensures { result ≡ capped (all_called_from (λ k. slice_index_or marks.now k false) (λ s. 40 + s.words) 0 (known_of functions.now)) }
+{
+    let mut n = 0;
+    for k in (0..functions.len()).rev() {
+        let words = if marks[k] {
+            plus(ROUTINE, functions[k].words)
+        } else {
+            0
+        };
+        n = plus(words, n);
+    }
+    n
+}
+
+// The words of the code of the functions that the task reaches.
+fn routine_words(
+    functions: &[FunctionSummary],
+    body: &[Stmt<VariableName, TaskName, FunctionName>],
+) -> u64
+    requires few { length functions.now ≤ 64 }
+    ensures { result ≡ capped (routine_words (known_of functions.now) (block_view body.now)) }
+{
+    marked_words(functions, &reached_functions(functions, body))
+}
+
+/// The words of the task's code, where it assigns so many shared scalars: its own, and that of the functions that it reaches, of which
+/// each task has a copy; 2^64 - 1 where they are more.
+pub fn code_words(
+    functions: &[FunctionSummary],
+    scalars: u64,
+    body: &[Stmt<VariableName, TaskName, FunctionName>],
+) -> u64
+    requires few { scalars ≤ 512 }
+    requires few_functions { length functions.now ≤ 64 }
+    ensures { result ≡ capped (block_price (known_of functions.now) (words_column scalars) (block_view body.now)
+        + routine_words (known_of functions.now) (block_view body.now)) }
+{
+    let own = block_price(functions, &words_column(scalars), body);
+    plus(own, routine_words(functions, body))
 }
 
 /// What tasks need by the table, 2^64 - 1 where it is more.
@@ -118,34 +194,40 @@ pub struct Needs {
     pub list: u64,
     /// The emits of each at most.
     pub emits: u64,
+    /// The words of stack of each at most.
+    pub stack: u64,
 }
 
 /// What a task needs by the table, in a source that takes events or not, with so many version words.
 pub fn task_needs(
+    functions: &[FunctionSummary],
     shared: &[SharedDeclaration],
     events: bool,
     versions: u64,
-    body: &[Stmt<VariableName, TaskName>],
+    body: &[Stmt<VariableName, TaskName, FunctionName>],
 ) -> Needs
     requires few { length shared.now ≤ 256 }
+    requires few_functions { length functions.now ≤ 64 }
     requires low { versions < 2 ^ 32 }
-    ensures bound { result.bound ≡ capped (task_bound events versions shared.now (block_view body.now)) }
-    ensures words { result.words ≡ capped (task_words shared.now (block_view body.now)) }
-    ensures list { result.list ≡ capped (list_of shared.now (block_view body.now)) }
-    ensures emits { result.emits ≡ capped (emits_of (block_view body.now)) }
+    ensures bound { result.bound ≡ capped (task_bound (known_of functions.now) events versions shared.now (block_view body.now)) }
+    ensures words { result.words ≡ capped (task_words (known_of functions.now) shared.now (block_view body.now)) }
+    ensures list { result.list ≡ capped (list_of (known_of functions.now) shared.now (block_view body.now)) }
+    ensures emits { result.emits ≡ capped (emits_of (known_of functions.now) (block_view body.now)) }
+    ensures stack { result.stack ≡ capped (stack_of (known_of functions.now) (block_view body.now)) }
 {
-    let scalars = assigned_scalars(shared, body);
-    let list = list_entries(shared, scalars, body);
-    let emits = emits(body);
+    let scalars = assigned_scalars(functions, shared, body);
+    let list = list_entries(functions, shared, scalars, body);
+    let emits = emits(functions, body);
     let cycles = plus(
         for_events(events, EVENT_CYCLES) + 400 + 12 * versions + 72 * scalars,
-        block_price(&CYCLES, body),
+        block_price(functions, &CYCLES, body),
     );
     Needs {
         bound: plus(cycles, plus(times(40, list), times(40, emits))),
-        words: plus(200 + 16 * scalars, code_words(scalars, body)),
+        words: plus(200 + 16 * scalars, code_words(functions, scalars, body)),
         list,
         emits,
+        stack: stack(functions, body),
     }
 }
 
@@ -155,63 +237,68 @@ fn together(a: Needs, b: Needs) -> Needs
     ensures words { result.words ≡ capped (a.words + b.words) }
     ensures list { result.list ≡ max a.list b.list }
     ensures emits { result.emits ≡ max a.emits b.emits }
+    ensures stack { result.stack ≡ max a.stack b.stack }
 {
     Needs {
         bound: a.bound.max(b.bound),
         words: plus(a.words, b.words),
         list: a.list.max(b.list),
         emits: a.emits.max(b.emits),
+        stack: a.stack.max(b.stack),
     }
 }
 
 fn all_needs(
+    functions: &[FunctionSummary],
     shared: &[SharedDeclaration],
     events: bool,
     versions: u64,
-    tasks: &[TaskDeclaration<VariableName, TaskName>],
+    tasks: &[TaskDeclaration<VariableName, TaskName, FunctionName>],
 ) -> Needs
     requires few { length shared.now ≤ 256 }
+    requires few_functions { length functions.now ≤ 64 }
     requires low { versions < 2 ^ 32 }
-    ensures { AreNeeds events versions shared.now (map task_of tasks.now) result }
+    ensures { AreNeeds (known_of functions.now) events versions shared.now (map task_of tasks.now) result }
 {
     let mut all = Needs {
         bound: 0,
         words: 0,
         list: 0,
         emits: 0,
+        stack: 0,
     };
     for i in (0..tasks.len()).rev() {
-        all = together(task_needs(shared, events, versions, &tasks[i].body), all);
+        let needs = task_needs(functions, shared, events, versions, &tasks[i].body);
+        all = together(needs, all);
     }
     all
 }
 
-/// The words of the task's code, where it assigns so many shared scalars; 2^64 - 1 where they are more.
-pub fn code_words(scalars: u64, body: &[Stmt<VariableName, TaskName>]) -> u64
-    requires few { scalars ≤ 512 }
-    ensures { result ≡ capped (block_price (words_column scalars) (block_view body.now)) }
-{
-    block_price(&words_column(scalars), body)
-}
-
-/// The marks of the shared variables that stand on the left of an assignment in some task.
-pub fn written_variables(tasks: &[TaskDeclaration<VariableName, TaskName>]) -> [bool; SHARED]
-    ensures { (i : ℕ) → i < 256 → slice_index_or result i false ≡ is_written (map task_of tasks.now) i }
+/// The marks of the shared variables that stand on the left of an assignment in some task or in a function that it calls.
+pub fn written_variables(
+    functions: &[FunctionSummary],
+    tasks: &[TaskDeclaration<VariableName, TaskName, FunctionName>],
+) -> [bool; SHARED]
+    requires few { length functions.now ≤ 64 }
+    ensures { (i : ℕ) → i < 256 → slice_index_or result i false ≡ is_written (known_of functions.now) (map task_of tasks.now) i }
 {
     let mut marks = [false; SHARED];
     for i in (0..tasks.len()).rev() {
-        mark_assigned(&tasks[i].body, &mut marks);
+        add_marks(&mut marks, &assigned_variables(functions, &tasks[i].body));
     }
     marks
 }
 
 // The first task that counts more than 256 emits.
-fn first_over(tasks: &[TaskDeclaration<VariableName, TaskName>]) -> Option<usize>
-    ensures none { IfNone result (All FewEmits (map task_of tasks.now)) }
-    ensures some { IfSome result (IsFirstOver (map task_of tasks.now)) }
+fn first_over(
+    functions: &[FunctionSummary],
+    tasks: &[TaskDeclaration<VariableName, TaskName, FunctionName>],
+) -> Option<usize>
+    ensures none { IfNone result (All (FewEmits (known_of functions.now)) (map task_of tasks.now)) }
+    ensures some { IfSome result (IsFirstOver (known_of functions.now) (map task_of tasks.now)) }
 {
     for i in 0..tasks.len() {
-        if emits(&tasks[i].body) > MAX_EMITS {
+        if emits(functions, &tasks[i].body) > MAX_EMITS {
             return Some(i);
         }
     }
@@ -230,45 +317,68 @@ fn size(needs: Needs, events: bool, places: u64) -> u64
 }
 
 // Why the task of this number is refused.
-fn too_many_emits(source: &CheckedSource, lines: &[u32], number: usize) -> Over
+fn too_many_emits(
+    functions: &[FunctionSummary],
+    source: &CheckedSource,
+    lines: &[u32],
+    number: usize,
+) -> Over
     requires lines { length lines.now ≡ length source.now.tasks.items }
-    requires first { IsFirstOver (map task_of source.now.tasks.items) number }
+    requires same { AreSame (known_of functions.now) (summaries (program_of source.now)) }
+    requires first { IsFirstOver (known_of functions.now) (map task_of source.now.tasks.items) number }
     ensures { IsOver (program_of source.now) lines.now result }
 {
     let task = &source.tasks[number];
     Over::TooManyEmits {
         line: lines[number],
         name: task.name,
-        count: emits(&task.body),
+        count: emits(functions, &task.body),
     }
 }
 
-fn version_words(source: &CheckedSource, written: &[bool; SHARED]) -> u64
+fn version_words(
+    functions: &[FunctionSummary],
+    source: &CheckedSource,
+    written: &[bool; SHARED],
+) -> u64
     requires few { length source.now.shared.items ≤ 256 }
+    requires same { AreSame (known_of functions.now) (summaries (program_of source.now)) }
     requires written { (i : ℕ) → i < 256
-        → slice_index_or written.now i false ≡ is_written (map task_of source.now.tasks.items) i }
+        → slice_index_or written.now i false ≡ is_written (known_of functions.now) (map task_of source.now.tasks.items) i }
     ensures value { result ≡ versions_of (program_of source.now) }
     ensures low { result < 2 ^ 32 }
 {
     versions(&source.shared, written)
 }
 
-fn place_words(source: &CheckedSource, written: &[bool; SHARED]) -> u64
+fn place_words(
+    functions: &[FunctionSummary],
+    source: &CheckedSource,
+    written: &[bool; SHARED],
+) -> u64
     requires few { length source.now.shared.items ≤ 256 }
+    requires same { AreSame (known_of functions.now) (summaries (program_of source.now)) }
     requires written { (i : ℕ) → i < 256
-        → slice_index_or written.now i false ≡ is_written (map task_of source.now.tasks.items) i }
+        → slice_index_or written.now i false ≡ is_written (known_of functions.now) (map task_of source.now.tasks.items) i }
     ensures value { result ≡ places_of (program_of source.now) }
     ensures low { result < 2 ^ 32 }
 {
     places(&source.shared, written)
 }
 
-fn source_needs(source: &CheckedSource, events: bool, versions: u64) -> Needs
+fn source_needs(
+    functions: &[FunctionSummary],
+    source: &CheckedSource,
+    events: bool,
+    versions: u64,
+) -> Needs
     requires few { length source.now.shared.items ≤ 256 }
+    requires few_functions { length functions.now ≤ 64 }
+    requires same { AreSame (known_of functions.now) (summaries (program_of source.now)) }
     requires low { versions < 2 ^ 32 }
-    ensures { AreNeeds events versions source.now.shared.items (map task_of source.now.tasks.items) result }
+    ensures { AreNeeds (summaries (program_of source.now)) events versions source.now.shared.items (map task_of source.now.tasks.items) result }
 {
-    all_needs(&source.shared, events, versions, &source.tasks)
+    all_needs(functions, &source.shared, events, versions, &source.tasks)
 }
 
 // What a source comes to; 2^64 - 1 where it is more.
@@ -276,45 +386,55 @@ fn source_needs(source: &CheckedSource, events: bool, versions: u64) -> Needs
 struct Totals {
     cycles: u64,
     words: u64,
+    stack: u64,
     list: u64,
     emits: u64,
     versions: u64,
 }
 
-fn totals_of(source: &CheckedSource) -> Totals
+fn totals_of(functions: &[FunctionSummary], source: &CheckedSource) -> Totals
     requires few { length source.now.shared.items ≤ 256 }
+    requires few_functions { length functions.now ≤ 64 }
+    requires same { AreSame (known_of functions.now) (summaries (program_of source.now)) }
     ensures cycles { result.cycles ≡ capped (bound_of (program_of source.now)) }
     ensures words { result.words ≡ capped (words_of (program_of source.now)) }
+    ensures stack { result.stack ≡ capped (stack_words (program_of source.now)) }
     ensures list { result.list
-        ≡ capped (greatest (list_of source.now.shared.items) (map task_of source.now.tasks.items)) }
-    ensures emits { result.emits ≡ capped (greatest emits_of (map task_of source.now.tasks.items)) }
+        ≡ capped (greatest (list_of (summaries (program_of source.now)) source.now.shared.items) (map task_of source.now.tasks.items)) }
+    ensures emits { result.emits
+        ≡ capped (greatest (emits_of (summaries (program_of source.now))) (map task_of source.now.tasks.items)) }
     ensures versions { result.versions ≡ versions_of (program_of source.now) }
     ensures low { result.versions < 2 ^ 32 }
 {
-    let written = written_variables(&source.tasks);
-    let versions = version_words(source, &written);
-    let events = uses_events(&source.tasks);
-    let needs = source_needs(source, events, versions);
+    let written = written_variables(functions, &source.tasks);
+    let versions = version_words(functions, source, &written);
+    let events = uses_events(source);
+    let needs = source_needs(functions, source, events, versions);
     Totals {
         cycles: needs.bound,
-        words: size(needs, events, place_words(source, &written)),
+        words: size(needs, events, place_words(functions, source, &written)),
+        stack: needs.stack,
         list: needs.list,
         emits: needs.emits,
         versions,
     }
 }
 
-/// The allowance of a source with its names looked up, each task's name on its line; or why it is too much.
-pub fn allowance(source: &CheckedSource, lines: &[u32]) -> Result<Allow, Over>
-    requires few { length source.now.shared.items ≤ 256 }
-    requires lines { length lines.now ≡ length source.now.tasks.items }
+// The allowance of a source that comes to this and counts few emits; or why it is too much.
+fn allowed(source: &CheckedSource, lines: &[u32], totals: Totals) -> Result<Allow, Over>
+    requires few_emits { AllFewEmits (program_of source.now) }
+    requires cycles { totals.cycles ≡ capped (bound_of (program_of source.now)) }
+    requires words { totals.words ≡ capped (words_of (program_of source.now)) }
+    requires stack { totals.stack ≡ capped (stack_words (program_of source.now)) }
+    requires list { totals.list
+        ≡ capped (greatest (list_of (summaries (program_of source.now)) source.now.shared.items) (map task_of source.now.tasks.items)) }
+    requires emits { totals.emits
+        ≡ capped (greatest (emits_of (summaries (program_of source.now))) (map task_of source.now.tasks.items)) }
+    requires versions { totals.versions ≡ versions_of (program_of source.now) }
+    requires low { totals.versions < 2 ^ 32 }
     ensures ok { IfOk result (IsAllowed (program_of source.now)) }
     ensures over { IfErr result (IsOver (program_of source.now) lines.now) }
 {
-    if let Some(number) = first_over(&source.tasks) {
-        return Err(too_many_emits(source, lines, number));
-    }
-    let totals = totals_of(source);
     if totals.cycles > MAX_CYCLES {
         return Err(Over::BoundTooLarge {
             number: totals.cycles,
@@ -325,6 +445,11 @@ pub fn allowance(source: &CheckedSource, lines: &[u32]) -> Result<Allow, Over>
             number: totals.words,
         });
     }
+    if totals.stack > MAX_STACK {
+        return Err(Over::StackTooLarge {
+            number: totals.stack,
+        });
+    }
     Ok(Allow {
         cycles: totals.cycles as u32,
         words: totals.words as u32,
@@ -332,4 +457,19 @@ pub fn allowance(source: &CheckedSource, lines: &[u32]) -> Result<Allow, Over>
         emits: totals.emits as u32,
         versions: totals.versions as u32,
     })
+}
+
+/// The allowance of a source with its names looked up, each task's name on its line; or why it is too much.
+pub fn allowance(source: &CheckedSource, lines: &[u32]) -> Result<Allow, Over>
+    requires few { length source.now.shared.items ≤ 256 }
+    requires few_functions { length source.now.functions.items ≤ 64 }
+    requires lines { length lines.now ≡ length source.now.tasks.items }
+    ensures ok { IfOk result (IsAllowed (program_of source.now)) }
+    ensures over { IfErr result (IsOver (program_of source.now) lines.now) }
+{
+    let functions = summaries(&source.functions);
+    if let Some(number) = first_over(&functions, &source.tasks) {
+        return Err(too_many_emits(&functions, source, lines, number));
+    }
+    allowed(source, lines, totals_of(&functions, source))
 }

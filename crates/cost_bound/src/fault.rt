@@ -15,4 +15,7 @@ pub enum Over {
     /// A size of more than 22,000 words.
     #[error("{number} words, more than 22000")]
     TooLarge { number: u64 },
+    /// A stack of more than 1,000 words: that of the task that needs most.
+    #[error("a stack of {number} words, more than 1000")]
+    StackTooLarge { number: u64 },
 }

@@ -1,15 +1,27 @@
 //! The table of prices, one column at a time.
 ghost use Rattle.std.specs.Prelude.{◌≡◌, ◌≤◌, ◌+◌, ◌*◌, ℕ, [], map, Option};
-ghost use Rattle.task_ast.specs.Tree.{Block, choice_of, choose};
-ghost use Rattle.task_ast.specs.declared.names.VariableName.{VariableName};
-ghost use Rattle.task_ast.specs.declared.names.TaskName.{TaskName};
-ghost use Rattle.task_ast.specs.View.{expression_of, statement_of, tested_of, block_view};
+ghost use Rattle.task_ast.specs.Tree.{choice_of, choose};
+ghost use Rattle.task_ast.specs.Paths.{CheckedBlock};
+ghost use Rattle.task_ast.specs.View.{expression_of, values_of, statement_of, tested_of, block_view};
 ghost use Rattle.task_ast.specs.Types.{by_width, type_of};
-ghost use Rattle.cost_bound.specs.Table.{capped, operator_price, expression_price, statement_price, block_price, conditions_price, blocks_price};
-ghost use Rattle.cost_bound.specs.Table.{blocks_together, turns_together, words_column};
+ghost use Rattle.cost_bound.specs.Table.{capped, body_price, called_price, operator_price, expression_price, values_price, statement_price, block_price};
+ghost use Rattle.cost_bound.specs.Table.{conditions_price, blocks_price, blocks_together, turns_together, words_column};
+ghost use Rattle.cost_bound.specs.Machine.{summary_of, known_of};
 
+use crate::summaries::FunctionSummary;
 use task_ast::types::{binary_type, joined_type, literal_type, unary_type};
-use task_ast::{Arm, BinaryOperator, Expr, Stmt, TaskName, VariableName, WordType};
+use task_ast::{
+    Args, Arm, BinaryOperator, Expr, FunctionName, Stmt, TaskName, VariableName, WordType,
+};
+
+/// What a column counts of a function's body at each call of the function.
+#[derive(Clone, Copy)]
+pub enum Body {
+    Cycles,
+    Emits,
+    /// The body stands elsewhere, and counts there.
+    Nothing,
+}
 
 /// One column of the table of prices: what each kind of node costs, its parts aside.
 #[derive(Clone, Copy)]
@@ -30,7 +42,13 @@ pub struct Column {
     pub divide: u64,
     /// An element of an array that is read.
     pub element: u64,
-    /// A declaration with a value, an assignment to a scalar.
+    /// A call.
+    pub call: u64,
+    /// Each value of a call.
+    pub call_value: u64,
+    /// The body of the function that is called.
+    pub body: Body,
+    /// A declaration with a value, an assignment to a scalar, a `return`.
     pub assign: u64,
     /// An assignment to a long.
     pub long_assign: u64,
@@ -114,9 +132,36 @@ fn operator_price(column: &Column, op: BinaryOperator, operands: WordType) -> u6
     }
 }
 
+fn body_price(body: Body, function: &FunctionSummary) -> u64
+    ensures { result ≡ body_price body (summary_of function.now) }
+{
+    match body {
+        Body::Cycles => function.cycles,
+        Body::Emits => function.emits,
+        Body::Nothing => 0,
+    }
+}
+
+// What the body of a function costs at a call of it: nothing, where there is no such function.
+fn called_price(functions: &[FunctionSummary], column: &Column, number: u32) -> u64
+    ensures { result ≡ called_price (known_of functions.now) column.now number }
+{
+    let number = number as usize;
+    if number < functions.len() {
+        body_price(column.body, &functions[number])
+    } else {
+        0
+    }
+}
+
 // What an expression costs in a column, and its type, which its parts' types tell on the way.
-fn priced(column: &Column, e: &Expr<VariableName>) -> (u64, WordType)
-    ensures price { result.0 ≡ capped (expression_price column.now (expression_of e.now)) }
+#[cycle(expressions)]
+fn priced(
+    functions: &[FunctionSummary],
+    column: &Column,
+    e: &Expr<VariableName, FunctionName>,
+) -> (u64, WordType)
+    ensures price { result.0 ≡ capped (expression_price (known_of functions.now) column.now (expression_of e.now)) }
     ensures typed { result.1 ≡ type_of (expression_of e.now) }
 {
     match e {
@@ -127,65 +172,93 @@ fn priced(column: &Column, e: &Expr<VariableName>) -> (u64, WordType)
             (plus(price, 0), x.word_type)
         }
         Expr::Element(x, index) => {
-            let (index, _) = priced(column, index);
+            let (index, _) = priced(functions, column, index);
             (plus(column.element, index), x.word_type)
         }
         Expr::Sense => (plus(column.leaf, 0), WordType::Unsigned),
         Expr::NextEvent => (plus(column.next_event, 0), WordType::Unsigned),
+        Expr::Call(function, values) => {
+            let given = values_price(functions, column, values);
+            let body = called_price(functions, column, function.function);
+            (plus(column.call, plus(given, body)), function.word_type)
+        }
         Expr::Unary(op, inner) => {
-            let (price, of) = priced(column, inner);
+            let (price, of) = priced(functions, column, inner);
             let own = by_width(of, column.operator, column.long);
             (plus(own, price), unary_type(*op, of))
         }
         Expr::Binary(op, a, b) => {
-            let (left, of) = priced(column, a);
-            let (right, with) = priced(column, b);
+            let (left, of) = priced(functions, column, a);
+            let (right, with) = priced(functions, column, b);
             let own = operator_price(column, op.operator, joined_type(of, with));
             let word_type = binary_type(op.operator, of, with);
             (plus(own, plus(left, right)), word_type)
         }
         Expr::Shift(_, left, _) => {
-            let (price, of) = priced(column, left);
+            let (price, of) = priced(functions, column, left);
             let own = by_width(of, column.shift, column.long_shift);
             (plus(own, price), of)
         }
         Expr::ShortCircuit(_, a, b) => {
-            let (left, of) = priced(column, a);
-            let (right, with) = priced(column, b);
+            let (left, of) = priced(functions, column, a);
+            let (right, with) = priced(functions, column, b);
             let own = by_width(joined_type(of, with), column.operator, column.long);
             (plus(own, plus(left, right)), WordType::Int)
         }
     }
 }
 
-fn expression_price(column: &Column, e: &Expr<VariableName>) -> u64
-    ensures { result ≡ capped (expression_price column.now (expression_of e.now)) }
+#[cycle(expressions)]
+fn values_price(
+    functions: &[FunctionSummary],
+    column: &Column,
+    values: &Args<VariableName, FunctionName>,
+) -> u64
+    ensures { result ≡ capped (values_price (known_of functions.now) column.now (values_of values.now)) }
 {
-    priced(column, e).0
+    match values {
+        Args::End => 0,
+        Args::Value(e, more) => {
+            let (price, _) = priced(functions, column, e);
+            let rest = values_price(functions, column, more);
+            plus(column.call_value, plus(price, rest))
+        }
+    }
+}
+
+/// What an expression costs in a column; 2^64 - 1 where it is more.
+pub fn expression_price(
+    functions: &[FunctionSummary],
+    column: &Column,
+    e: &Expr<VariableName, FunctionName>,
+) -> u64
+    ensures { result ≡ capped (expression_price (known_of functions.now) column.now (expression_of e.now)) }
+{
+    priced(functions, column, e).0
 }
 
 #[cycle(prices)]
-fn statement_price(column: &Column, s: &Stmt<VariableName, TaskName>) -> u64
-    ensures { result ≡ capped (statement_price column.now (statement_of s.now)) }
+fn statement_price(functions: &[FunctionSummary], column: &Column, s: &Stmt<VariableName, TaskName, FunctionName>) -> u64
+    ensures { result ≡ capped (statement_price (known_of functions.now) column.now (statement_of s.now)) }
 {
     match s {
         Stmt::Declare(_, _, None) => 0,
-        Stmt::Declare(_, _, Some(value)) => plus(column.assign, expression_price(column, value)),
+        Stmt::Declare(_, _, Some(value)) => plus(column.assign, expression_price(functions, column, value)),
         Stmt::Assign(x, value) => plus(
             by_width(x.word_type, column.assign, column.long_assign),
-            expression_price(column, value),
+            expression_price(functions, column, value),
         ),
         Stmt::Store(_, index, value) => plus(
             column.store,
             plus(
-                expression_price(column, index),
-                expression_price(column, value),
+                expression_price(functions, column, index),
+                expression_price(functions, column, value),
             ),
         ),
-        Stmt::If(arms, None) => choice_price(column, arms, 0),
+        Stmt::If(arms, None) => choice_price(functions, column, arms, 0),
         Stmt::If(arms, Some(last)) => {
-            let last = block_price(column, last);
-            choice_price(column, arms, last)
+            let last = block_price(functions, column, last);
+            choice_price(functions, column, arms, last)
         }
         Stmt::For {
             from,
@@ -193,40 +266,41 @@ fn statement_price(column: &Column, s: &Stmt<VariableName, TaskName>) -> u64
             body,
             ..
         } => {
-            let turn = plus(column.turn, block_price(column, body));
+            let turn = plus(column.turn, block_price(functions, column, body));
             plus(
                 column.repeat,
                 turns_together(column, below.saturating_sub(*from), turn),
             )
         }
-        Stmt::Emit(value) => plus(column.emit, expression_price(column, value)),
-        Stmt::TransitionTo(_) => plus(column.transition, 0),
+        Stmt::Emit(value) => plus(column.emit, expression_price(functions, column, value)),
+        Stmt::Return(_, value) => plus(column.assign, expression_price(functions, column, value)),
+        Stmt::TransitionTo(_, _) => plus(column.transition, 0),
     }
 }
 
 // An `if`, of which the last block costs so much.
 #[cycle(prices)]
-fn choice_price(column: &Column, arms: &[Arm<VariableName, TaskName>], last: u64) -> u64
-    ensures { (b : Option (Block VariableName TaskName))
-        → last ≡ capped (blocks_price column.now (choice_of [] b))
-        → result ≡ capped (statement_price column.now (choose (choice_of (map tested_of arms.now) b))) }
+fn choice_price(functions: &[FunctionSummary], column: &Column, arms: &[Arm<VariableName, TaskName, FunctionName>], last: u64) -> u64
+    ensures { (b : Option CheckedBlock)
+        → last ≡ capped (blocks_price (known_of functions.now) column.now (choice_of [] b))
+        → result ≡ capped (statement_price (known_of functions.now) column.now (choose (choice_of (map tested_of arms.now) b))) }
 {
     plus(
         column.choose,
         plus(
-            conditions_price(column, arms),
-            blocks_price(column, arms, last),
+            conditions_price(functions, column, arms),
+            blocks_price(functions, column, arms, last),
         ),
     )
 }
 
-fn conditions_price(column: &Column, arms: &[Arm<VariableName, TaskName>]) -> u64
-    ensures { (last : Option (Block VariableName TaskName))
-        → result ≡ capped (conditions_price column.now (choice_of (map tested_of arms.now) last)) }
+fn conditions_price(functions: &[FunctionSummary], column: &Column, arms: &[Arm<VariableName, TaskName, FunctionName>]) -> u64
+    ensures { (last : Option CheckedBlock)
+        → result ≡ capped (conditions_price (known_of functions.now) column.now (choice_of (map tested_of arms.now) last)) }
 {
     let mut n = 0;
     for i in (0..arms.len()).rev() {
-        let (price, of) = priced(column, &arms[i].condition);
+        let (price, of) = priced(functions, column, &arms[i].condition);
         let own = plus(column.condition, by_width(of, 0, column.long_condition));
         n = plus(plus(own, price), n);
     }
@@ -235,22 +309,22 @@ fn conditions_price(column: &Column, arms: &[Arm<VariableName, TaskName>]) -> u6
 
 // The blocks of an `if`, of which the last one costs so much.
 #[cycle(prices)]
-fn blocks_price(column: &Column, arms: &[Arm<VariableName, TaskName>], last: u64) -> u64
-    ensures { (b : Option (Block VariableName TaskName))
-        → last ≡ capped (blocks_price column.now (choice_of [] b))
-        → result ≡ capped (blocks_price column.now (choice_of (map tested_of arms.now) b)) }
+fn blocks_price(functions: &[FunctionSummary], column: &Column, arms: &[Arm<VariableName, TaskName, FunctionName>], last: u64) -> u64
+    ensures { (b : Option CheckedBlock)
+        → last ≡ capped (blocks_price (known_of functions.now) column.now (choice_of [] b))
+        → result ≡ capped (blocks_price (known_of functions.now) column.now (choice_of (map tested_of arms.now) b)) }
 {
     let mut n = last;
     for i in (0..arms.len()).rev() {
-        n = blocks_together(column, block_price(column, &arms[i].block), n);
+        n = blocks_together(column, block_price(functions, column, &arms[i].block), n);
     }
     n
 }
 
 /// What a block costs in a column; 2^64 - 1 where it is more.
 #[cycle(prices)]
-pub fn block_price(column: &Column, body: &[Stmt<VariableName, TaskName>]) -> u64
-    ensures { result ≡ capped (block_price column.now (block_view body.now)) }
+pub fn block_price(functions: &[FunctionSummary], column: &Column, body: &[Stmt<VariableName, TaskName, FunctionName>]) -> u64
+    ensures { result ≡ capped (block_price (known_of functions.now) column.now (block_view body.now)) }
 {
     let mut n = 0;
     for i in (0..body.len()).rev() {
@@ -270,6 +344,9 @@ pub const CYCLES: Column = Column {
     multiply: 300,
     divide: 400,
     element: 60,
+    call: 60,
+    call_value: 0,
+    body: Body::Cycles,
     assign: 40,
     long_assign: 80,
     store: 120,
@@ -295,6 +372,9 @@ pub const EMITS: Column = Column {
     multiply: 0,
     divide: 0,
     element: 0,
+    call: 0,
+    call_value: 0,
+    body: Body::Emits,
     assign: 0,
     long_assign: 0,
     store: 0,
@@ -320,6 +400,9 @@ pub const EVENTS: Column = Column {
     multiply: 0,
     divide: 0,
     element: 0,
+    call: 0,
+    call_value: 0,
+    body: Body::Nothing,
     assign: 0,
     long_assign: 0,
     store: 0,
@@ -329,6 +412,34 @@ pub const EVENTS: Column = Column {
     condition: 0,
     long_condition: 0,
     all_blocks: true,
+    repeat: 0,
+    turn: 0,
+    each_turn: false,
+};
+
+/// The column that counts the nodes of expressions.
+pub const NODES: Column = Column {
+    leaf: 1,
+    next_event: 1,
+    operator: 1,
+    long: 1,
+    shift: 1,
+    long_shift: 1,
+    multiply: 1,
+    divide: 1,
+    element: 1,
+    call: 1,
+    call_value: 0,
+    body: Body::Nothing,
+    assign: 0,
+    long_assign: 0,
+    store: 0,
+    emit: 0,
+    transition: 0,
+    choose: 0,
+    condition: 0,
+    long_condition: 0,
+    all_blocks: false,
     repeat: 0,
     turn: 0,
     each_turn: false,
@@ -349,6 +460,9 @@ pub fn words_column(scalars: u64) -> Column
         multiply: 16,
         divide: 16,
         element: 24,
+        call: 24,
+        call_value: 4,
+        body: Body::Nothing,
         assign: 24,
         long_assign: 40,
         store: 60,

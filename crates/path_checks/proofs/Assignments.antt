@@ -1,12 +1,14 @@
 -- What paths do with one local: the sums, their laws, and what they say of one path.
-use Rattle.std.proofs.Common.{◌≡◌, ℕ, Bool, true, false, ◌&&◌, ◌||◌, List, [], ◌∷◌, refl, ap, ◌∙◌, if◌then◌else◌}
+use Rattle.std.proofs.Common.{◌≡◌, ℕ, Bool, true, false, ◌&&◌, ◌||◌, List, [], ◌∷◌, refl, ap, sym, ◌∙◌, if◌then◌else◌}
 use Rattle.std.proofs.Math.Bool.{or_assoc, and-true, or_self, and_assoc, or_comm}
 use Rattle.alp_text.specs.declared.lines.Span.{Span}
-use Rattle.task_ast.specs.Paths.{Access, read, write, unset, End, goes_on, goes_to}
+use Rattle.task_ast.specs.declared.names.Variable.{Variable}
+use Rattle.task_ast.specs.declared.names.Variable.TheVariants.{Shared, Local}
+use Rattle.task_ast.specs.Paths.{Access, read, write, unset, End, goes_on, goes_to, returns, is_of_shared, is_seen_outside}
 use Rattle.path_sums.proofs.Interface.{path_sum, Lawful, agree, late, late_none, late_assoc, and_or, late_or, or_and, or_late, and_cube, late_cube}
 use Rattle.path_checks.specs.Loops.{is_local}
 use Rattle.path_checks.specs.Assignments.{is_at, Assignment, assignment_unit, assignment_read, assignment_write, assignment_unset, turned, faulty}
-use Rattle.path_checks.specs.Assignments.{assignment_seq, assignment}
+use Rattle.path_checks.specs.Assignments.{assignment_one, assignment_seq, assignment}
 
 -- whether a path reads the local at the place while it is unassigned, from a state on
 abbrev pub reads_unassigned : Bool → ℕ → Span → List Access → Bool
@@ -18,6 +20,24 @@ reads_unassigned u x p (unset n ∷ more) = reads_unassigned (if is_local x n.va
 pub assignment_eq : (s t : Assignment) → s.falls_through ≡ t.falls_through → s.untouched ≡ t.untouched → s.unassigned ≡ t.unassigned → s.exposed ≡ t.exposed
     → s.fault ≡ t.fault → s ≡ t
 assignment_eq s t a b c d e = λ i. record { falls_through = a i; untouched = b i; unassigned = c i; exposed = d i; fault = e i }
+
+-- an access of a shared variable does nothing to a local
+shared_alone : (x : ℕ) (p : Span) (a : Access) → is_seen_outside a ≡ true → assignment_one x p a ≡ assignment_unit
+shared_alone x p (read n) h = by n.variable h
+  where
+    by : (v : Variable) → is_of_shared v ≡ true → assignment_read (is_local x v && is_at p n.span) ≡ assignment_unit
+    by (Shared y) h = refl
+    by (Local y) h = cc
+shared_alone x p (write n) h = by n.variable h
+  where
+    by : (v : Variable) → is_of_shared v ≡ true → (if is_local x v then assignment_write else assignment_unit) ≡ assignment_unit
+    by (Shared y) h = refl
+    by (Local y) h = cc
+shared_alone x p (unset n) h = by n.variable h
+  where
+    by : (v : Variable) → is_of_shared v ≡ true → (if is_local x v then assignment_unset else assignment_unit) ≡ assignment_unit
+    by (Shared y) h = refl
+    by (Local y) h = cc
 
 pub assignment_law : (x : ℕ) (p : Span) → Lawful (assignment x p)
 assignment_law x p = record {
@@ -48,6 +68,10 @@ assignment_law x p = record {
       (or_comm r.exposed s.exposed) (or_comm r.fault s.fault);
   cube = λ s. assignment_eq _ _ (and_cube s.falls_through) (and_cube s.untouched) (turned_cube s.falls_through s.unassigned s.untouched)
       (late_cube s.exposed s.untouched) (faulty_cube s.fault s.falls_through s.unassigned s.exposed s.untouched);
+  called_gone = refl;
+  called_seen = λ a s h. ap (λ one. assignment_seq one assignment_unit) (sym (shared_alone x p a h));
+  called_unseen = λ a s h. refl;
+  called_join = λ r s. refl;
 }
   where
     or_false : (a : Bool) → (a || false) ≡ a
@@ -115,6 +139,7 @@ none_step = agree 1 (λ u. false) (λ u. u && false) refl
 pub reads_is : (x : ℕ) (p : Span) (xs : List Access) (end : End) (u : Bool) → reads_unassigned u x p xs ≡ from_state u (path_sum (assignment x p) xs end)
 reads_is x p [] goes_on u = none_step u
 reads_is x p [] (goes_to _) u = none_step u
+reads_is x p [] returns u = none_step u
 reads_is x p (read n ∷ xs) end u = ap (λ b. (u && (is_local x n.variable && is_at p n.span)) || b) (reads_is x p xs end u)
     ∙ read_step u (is_local x n.variable && is_at p n.span) (path_sum (assignment x p) xs end)
 reads_is x p (write n ∷ xs) end u = reads_is x p xs end (if is_local x n.variable then false else u)

@@ -1,6 +1,7 @@
 -- What is found is the first bad loop.
 use Rattle.std.proofs.Common.{◌≡◌, Bool, true, false, refl, Option, Some, None, if◌then◌else◌, ap, subst, sym, arith, List}
 use Rattle.alp_text.specs.declared.lines.Span.{Span}
+use Rattle.task_ast.specs.declared.names.FunctionName.{FunctionName}
 use Rattle.task_ast.specs.declared.names.VariableName.{VariableName}
 use Rattle.task_ast.specs.declared.names.TaskName.{TaskName}
 use Rattle.task_ast.specs.declared.Stmt.{Stmt}
@@ -27,7 +28,8 @@ mutual
   statement_is (t.choose c) = choice_is c
   statement_is (t.loop a _ b _ c body) = first_either _ _ _ _ (head_is a b c body) (block_is body)
   statement_is (t.emit _) = λ s h. h
-  statement_is (t.transition _) = λ s h. h
+  statement_is (t.give _ _) = λ s h. h
+  statement_is (t.transition _ _) = λ s h. h
 
   choice_is : (c : CheckedChoice) → IsFirst (bad_in_choice c) (BadLoopInChoice c)
   choice_is t.nothing = λ s h. h
@@ -38,7 +40,7 @@ mutual
   block_is t.end = λ s h. h
   block_is (t.step statement more) = first_either _ _ _ _ (statement_is statement) (block_is more)
 
-pub found_is : (r : Option Span) (xs ys : List (Stmt VariableName TaskName)) → r ≡ bad_in_block (block_view xs) → xs ≡ ys
+pub found_is : (r : Option Span) (xs ys : List (Stmt VariableName TaskName FunctionName)) → r ≡ bad_in_block (block_view xs) → xs ≡ ys
     → IsFirst r (BadLoopIn (block_view ys))
 found_is r xs ys e d = subst (λ zs. IsFirst r (BadLoopIn (block_view zs))) d
     (subst (λ o. IsFirst o (BadLoopIn (block_view xs))) (sym e) (block_is (block_view xs)))

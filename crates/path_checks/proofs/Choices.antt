@@ -6,6 +6,7 @@ use Rattle.std.specs.Global.{Global}
 use Rattle.std.specs.declared.alloc.AllocError.{AllocError}
 use Rattle.std.proofs.lemmas.List.{drop_all}
 use Rattle.alp_text.specs.declared.lines.Span.{Span}
+use Rattle.task_ast.specs.declared.names.FunctionName.{FunctionName}
 use Rattle.task_ast.specs.declared.names.VariableName.{VariableName}
 use Rattle.task_ast.specs.declared.names.TaskName.{TaskName}
 use Rattle.task_ast.specs.declared.Stmt.{the_lemmas}
@@ -103,26 +104,26 @@ pub record IsStart (before : Walk) (start : Start) : Type 0 where
   pub comes : start.comes ≡ before.falls_through
 
 -- an arm's condition is read, its block is walked, and the way ends
-pub record Way (before : Walk) (start : Start) (ends both : Ends) (w v : Walk) (a : Arm VariableName TaskName) : Type 0 where
+pub record Way (before : Walk) (start : Start) (ends both : Ends) (w v : Walk) (a : Arm VariableName TaskName FunctionName) : Type 0 where
   pub at : IsStart before start
   pub passed : Walk
   pub walked : Walk
-  pub read : Does w passed (λ x p. expression_sum (assignment x p) (expression_of (out-Arm VariableName TaskName a).condition))
+  pub read : Does w passed (λ x p. expression_sum [] (assignment x p) (expression_of (out-Arm VariableName TaskName FunctionName a).condition))
   pub falls : passed.falls_through ≡ w.falls_through
   pub assigned : passed.assigned ≡ w.assigned
   pub turned : passed.turned ≡ w.turned
-  pub block : Does passed walked (λ x p. block_sum (assignment x p) (block_view (out-Arm VariableName TaskName a).block.items))
+  pub block : Does passed walked (λ x p. block_sum [] (assignment x p) (block_view (out-Arm VariableName TaskName FunctionName a).block.items))
   pub end : IsWayEnd start.mark start.comes ends both walked v
 
-module _ (before w v : Walk) (ends both : Ends) (start : Start) (whole R : Family) (a : Arm VariableName TaskName)
-    (s : SoFar before w ends whole (λ x p. assignment_seq (expression_sum (assignment x p) (expression_of (out-Arm VariableName TaskName a).condition))
-    (assignment_join (block_sum (assignment x p) (block_view (out-Arm VariableName TaskName a).block.items)) (R x p))))
+module _ (before w v : Walk) (ends both : Ends) (start : Start) (whole R : Family) (a : Arm VariableName TaskName FunctionName)
+    (s : SoFar before w ends whole (λ x p. assignment_seq (expression_sum [] (assignment x p) (expression_of (out-Arm VariableName TaskName FunctionName a).condition))
+    (assignment_join (block_sum [] (assignment x p) (block_view (out-Arm VariableName TaskName FunctionName a).block.items)) (R x p))))
     (way : Way before start ends both w v a) where
   E : Family
-  E x p = expression_sum (assignment x p) (expression_of (out-Arm VariableName TaskName a).condition)
+  E x p = expression_sum [] (assignment x p) (expression_of (out-Arm VariableName TaskName FunctionName a).condition)
 
   B : Family
-  B x p = block_sum (assignment x p) (block_view (out-Arm VariableName TaskName a).block.items)
+  B x p = block_sum [] (assignment x p) (block_view (out-Arm VariableName TaskName FunctionName a).block.items)
 
   behind : IsBehind before way.walked
   behind = behind_both before way.passed way.walked (behind_self before way.passed (ap (λ v. v.items) way.turned ∙ s.turned)
@@ -189,45 +190,45 @@ no_way w whole = record {
 
 -- ---- the arms of a tree
 
-tested_is : (a : Arm VariableName TaskName) → tested_of a ≡ record {
-  condition = expression_of (out-Arm VariableName TaskName a).condition;
-  block = block_view (out-Arm VariableName TaskName a).block.items;
+tested_is : (a : Arm VariableName TaskName FunctionName) → tested_of a ≡ record {
+  condition = expression_of (out-Arm VariableName TaskName FunctionName a).condition;
+  block = block_view (out-Arm VariableName TaskName FunctionName a).block.items;
 }
 tested_is a = search (rules, the_lemmas)
 
 -- what is to come, with the next arm at its front
-arm_front : (arms : List (Arm VariableName TaskName)) (i : ℕ) (a : Arm VariableName TaskName) (last : Option CheckedBlock) (x : ℕ) (p : Span)
-    → i < length arms → a ≡ get_or arms i a → choice_sum (assignment x p) (choice_of (map tested_of (drop i arms)) last)
-    ≡ assignment_seq (expression_sum (assignment x p) (expression_of (out-Arm VariableName TaskName a).condition))
-    (assignment_join (block_sum (assignment x p) (block_view (out-Arm VariableName TaskName a).block.items))
-    (choice_sum (assignment x p) (choice_of (map tested_of (drop (i + 1) arms)) last)))
+arm_front : (arms : List (Arm VariableName TaskName FunctionName)) (i : ℕ) (a : Arm VariableName TaskName FunctionName) (last : Option CheckedBlock) (x : ℕ) (p : Span)
+    → i < length arms → a ≡ get_or arms i a → choice_sum [] (assignment x p) (choice_of (map tested_of (drop i arms)) last)
+    ≡ assignment_seq (expression_sum [] (assignment x p) (expression_of (out-Arm VariableName TaskName FunctionName a).condition))
+    (assignment_join (block_sum [] (assignment x p) (block_view (out-Arm VariableName TaskName FunctionName a).block.items))
+    (choice_sum [] (assignment x p) (choice_of (map tested_of (drop (i + 1) arms)) last)))
 arm_front arms i a last x p h e =
     let rest = choice_of (map tested_of (drop (i + 1) arms)) last in
     let front : drop i arms ≡ a ∷ drop (i + 1) arms = rw (add-one) (drop-cons arms i a h) ∙ ap (λ x. x ∷ drop (i + 1) arms) (sym e) in
-    ap (λ xs. choice_sum (assignment x p) (choice_of (map tested_of xs) last)) front
-    ∙ ap (λ d. assignment_seq (expression_sum (assignment x p) d.condition)
-    (assignment_join (block_sum (assignment x p) d.block) (choice_sum (assignment x p) rest))) (tested_is a)
+    ap (λ xs. choice_sum [] (assignment x p) (choice_of (map tested_of xs) last)) front
+    ∙ ap (λ d. assignment_seq (expression_sum [] (assignment x p) d.condition)
+    (assignment_join (block_sum [] (assignment x p) d.block) (choice_sum [] (assignment x p) rest))) (tested_is a)
 
 rest_as : (before w : Walk) (ends : Ends) (whole rest rest' : Family) → ((x : ℕ) (p : Span) → rest x p ≡ rest' x p) → SoFar before w ends whole rest
     → SoFar before w ends whole rest'
 rest_as before w ends whole rest rest' e h = let q : rest ≡ rest' = λ i x p. e x p i in subst (SoFar before w ends whole) q h
 
 -- what is to come from the i-th arm on
-abbrev pub to_come : List (Arm VariableName TaskName) → Option CheckedBlock → ℕ → Family
-to_come arms last i x p = choice_sum (assignment x p) (choice_of (map tested_of (drop i arms)) last)
+abbrev pub to_come : List (Arm VariableName TaskName FunctionName) → Option CheckedBlock → ℕ → Family
+to_come arms last i x p = choice_sum [] (assignment x p) (choice_of (map tested_of (drop i arms)) last)
 
 -- the arms up to the i-th have been walked
-abbrev pub Passed : Walk → Walk → Ends → List (Arm VariableName TaskName) → ℕ → Type 0
+abbrev pub Passed : Walk → Walk → Ends → List (Arm VariableName TaskName FunctionName) → ℕ → Type 0
 Passed before w ends arms i = (last : Option CheckedBlock) → SoFar before w ends (to_come arms last 0) (to_come arms last i)
 
-pub one_way : (before w v : Walk) (ends both : Ends) (start : Start) (arms : List (Arm VariableName TaskName)) (i : ℕ) (a : Arm VariableName TaskName)
+pub one_way : (before w v : Walk) (ends both : Ends) (start : Start) (arms : List (Arm VariableName TaskName FunctionName)) (i : ℕ) (a : Arm VariableName TaskName FunctionName)
     → (i < length arms) × (a ≡ get_or arms i a) → Way before start ends both w v a → Passed before w ends arms i → Passed before v both arms (i + 1)
 one_way before w v ends both start arms i a next way s = λ last.
     way_ended before w v ends both start (to_come arms last 0) (to_come arms last (i + 1)) a
     (rest_as before w ends (to_come arms last 0) (to_come arms last i) _ (λ x p. arm_front arms i a last x p next.0 next.1) (s last)) way
 
 -- all arms have been walked
-pub all_ways : (before w : Walk) (ends : Ends) (arms : List (Arm VariableName TaskName)) (i : ℕ) → length arms ≤ i → Passed before w ends arms i
-    → (last : Option CheckedBlock) → SoFar before w ends (to_come arms last 0) (λ x p. choice_sum (assignment x p) (choice_of [] last))
+pub all_ways : (before w : Walk) (ends : Ends) (arms : List (Arm VariableName TaskName FunctionName)) (i : ℕ) → length arms ≤ i → Passed before w ends arms i
+    → (last : Option CheckedBlock) → SoFar before w ends (to_come arms last 0) (λ x p. choice_sum [] (assignment x p) (choice_of [] last))
 all_ways before w ends arms i h s last = rest_as before w ends (to_come arms last 0) (to_come arms last i) _
-    (λ x p. ap (λ xs. choice_sum (assignment x p) (choice_of (map tested_of xs) last)) (drop_all i arms h)) (s last)
+    (λ x p. ap (λ xs. choice_sum [] (assignment x p) (choice_of (map tested_of xs) last)) (drop_all i arms h)) (s last)

@@ -1,14 +1,10 @@
 -- The first of two places is the first at which either is so.
-use Rattle.std.proofs.Common.{◌≡◌, ℕ, ◌-◌, ◌<◌, ◌≤◌, Bool, true, false, List, length, get_or, drop, map, Option, Some, None, ◌⊎◌, inl, inr, sym, subst, refl}
+use Rattle.std.proofs.Common.{◌≡◌, ℕ, zero, suc, ◌-◌, ◌<◌, ◌≤◌, Bool, true, false, List, [], ◌∷◌, All, length, get_or, drop, map, Option, Some, None, ◌⊎◌, inl, inr, sym, subst, refl}
 use Rattle.std.proofs.Common.{arith, if◌then◌else◌, nat_le}
 use Rattle.std.proofs.lemmas.Bool.Decides.{nat_tests}
 use Rattle.alp_text.specs.declared.lines.Span.{Span}
-use Rattle.task_ast.specs.declared.names.VariableName.{VariableName}
-use Rattle.task_ast.specs.declared.names.TaskName.{TaskName}
-use Rattle.task_ast.specs.declared.TaskDeclaration.{TaskDeclaration}
-use Rattle.task_ast.specs.View.{task_of}
 use Rattle.task_ast.proofs.Interface.{drop_back}
-use Rattle.path_checks.specs.Firsts.{CheckedTask, IsFirst, SomeTask, first_of}
+use Rattle.path_checks.specs.Firsts.{IsFirst, SomeOf, first_of}
 
 pub first_same : (o : Option Span) (P Q : Span → Type 0) → ((s : Span) → P s → Q s) → ((s : Span) → Q s → P s) → IsFirst o P → IsFirst o Q
 first_same None P Q to from h = λ s q. h s (from s q)
@@ -34,17 +30,23 @@ first_either (Some p) (Some q) P Q h k = choose (nat_le p.from q.from) refl
         let l = le_false p.from q.from e in
         (inr k.0, λ s x. elim x [ inl y ↦ (let m : p.from ≤ s.from = h.1 s y in omega arith) | inr y ↦ k.1 s y ])
 
--- one more task at the front
-pub first_task : (P : CheckedTask → Span → Type 0) (ts : List (TaskDeclaration VariableName TaskName)) (i : ℕ) (a : TaskDeclaration VariableName TaskName)
-    (one all r : Option Span) → 0 < i → i ≤ length ts
-    → a ≡ get_or ts (i - 1) a → r ≡ first_of one all → IsFirst one (P (task_of a)) → IsFirst all (λ s. SomeTask (map task_of (drop i ts)) (λ t. P t s))
-    → IsFirst r (λ s. SomeTask (map task_of (drop (i - 1) ts)) (λ t. P t s))
-first_task P ts i a one all r pos h at e x y =
-    let front = drop_back ts i a pos h at in
-    subst (λ us. IsFirst r (λ s. SomeTask (map task_of us) (λ t. P t s))) (sym front)
-    (subst (λ o. IsFirst o (λ s. P (task_of a) s ⊎ SomeTask (map task_of (drop i ts)) (λ t. P t s))) (sym e) (first_either one all _ _ x y))
+-- one more at the front
+pub first_back : {A D : Type 0} (view : D → A) (P : A → Span → Type 0) (xs : List D) (i : ℕ) (x : D) (one all r : Option Span) → 0 < i → i ≤ length xs
+    → x ≡ get_or xs (i - 1) x → r ≡ first_of one all → IsFirst one (P (view x)) → IsFirst all (λ s. SomeOf (map view (drop i xs)) (λ a. P a s))
+    → IsFirst r (λ s. SomeOf (map view (drop (i - 1) xs)) (λ a. P a s))
+first_back view P xs i x one all r pos h at e y z =
+    let front = drop_back xs i x pos h at in
+    subst (λ us. IsFirst r (λ s. SomeOf (map view us) (λ a. P a s))) (sym front)
+    (subst (λ o. IsFirst o (λ s. P (view x) s ⊎ SomeOf (map view (drop i xs)) (λ a. P a s))) (sym e) (first_either one all _ _ y z))
 
--- all the tasks
-pub first_whole : (P : CheckedTask → Span → Type 0) (ts : List (TaskDeclaration VariableName TaskName)) (i : ℕ) (r : Option Span) → i ≡ 0
-    → IsFirst r (λ s. SomeTask (map task_of (drop i ts)) (λ t. P t s)) → IsFirst r (λ s. SomeTask (map task_of ts) (λ t. P t s))
-first_whole P ts i r z h = subst (λ j. IsFirst r (λ s. SomeTask (map task_of (drop j ts)) (λ t. P t s))) z h
+-- all of them
+pub first_whole : {A D : Type 0} (view : D → A) (P : A → Span → Type 0) (xs : List D) (i : ℕ) (r : Option Span) → i ≡ 0
+    → IsFirst r (λ s. SomeOf (map view (drop i xs)) (λ a. P a s)) → IsFirst r (λ s. SomeOf (map view xs) (λ a. P a s))
+first_whole view P xs i r z h = subst (λ j. IsFirst r (λ s. SomeOf (map view (drop j xs)) (λ a. P a s))) z h
+
+-- what holds of each holds of one of them
+pub one_of_all : {A D : Type 0} (view : D → A) (Q : A → Type 0) (xs : List D) (i : ℕ) (x : D) → 0 < i → i ≤ length xs → x ≡ get_or xs (i - 1) x
+    → All Q (map view xs) → Q (view x)
+one_of_all view Q [] i x pos le at all = absurd (omega arith)
+one_of_all view Q (y ∷ xs) (suc zero) x pos le at all = subst (λ z. Q (view z)) (sym at) all.0
+one_of_all view Q (y ∷ xs) (suc (suc i)) x pos le at all = one_of_all view Q xs (suc i) x (omega arith) (omega arith) at all.1

@@ -1,4 +1,5 @@
 pub mod FirstPlaces
+mod Below
 mod BadLoops
 mod Assignments
 mod TwoTurns

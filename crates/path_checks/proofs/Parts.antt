@@ -1,6 +1,7 @@
 -- Parts that are walked one after another.
 use Rattle.std.proofs.Common.{◌≡◌, ◌==◌, ◌+◌, ◌-◌, ◌<◌, ◌≤◌, ℕ, Bool, List, ◌∷◌, length, drop, drop-cons, get_or, ap, sym, ◌∙◌, if◌then◌else◌, arith, add-one}
 use Rattle.std.proofs.lemmas.List.{drop_all, get_or_default}
+use Rattle.task_ast.specs.declared.names.FunctionName.{FunctionName}
 use Rattle.task_ast.specs.declared.names.VariableName.{VariableName}
 use Rattle.task_ast.specs.declared.names.TaskName.{TaskName}
 use Rattle.task_ast.specs.declared.Stmt.{Stmt}
@@ -26,16 +27,16 @@ put_step es i d old now new pos h inv put x =
     ∙ ap (λ us. ended us x (old x)) (sym (drop_back es i e pos h (get_or_default es (i - 1) d e below)))
 
 -- one more statement in front of the rest of a block
-pub block_step : (body : List (Stmt VariableName TaskName)) (i : ℕ) (s : Stmt VariableName TaskName) (w v u : Walk) → i < length body → s ≡ get_or body i s
-    → Does w v (λ x p. statement_sum (assignment x p) (statement_of s))
-    → Does v u (λ x p. block_sum (assignment x p) (block_view (drop (i + 1) body)))
-    → Does w u (λ x p. block_sum (assignment x p) (block_view (drop i body)))
+pub block_step : (body : List (Stmt VariableName TaskName FunctionName)) (i : ℕ) (s : Stmt VariableName TaskName FunctionName) (w v u : Walk) → i < length body → s ≡ get_or body i s
+    → Does w v (λ x p. statement_sum [] (assignment x p) (statement_of s))
+    → Does v u (λ x p. block_sum [] (assignment x p) (block_view (drop (i + 1) body)))
+    → Does w u (λ x p. block_sum [] (assignment x p) (block_view (drop i body)))
 block_step body i s w v u h at d e =
     let front : drop i body ≡ s ∷ drop (i + 1) body = rw (add-one) (drop-cons body i s h) ∙ ap (λ x. x ∷ drop (i + 1) body) (sym at) in
-    does_as w u _ _ (λ x p. sym (ap (λ xs. block_sum (assignment x p) (block_view xs)) front)) (does_both d e)
+    does_as w u _ _ (λ x p. sym (ap (λ xs. block_sum [] (assignment x p) (block_view xs)) front)) (does_both d e)
 
 -- nothing is left of the block
-pub block_done : (body : List (Stmt VariableName TaskName)) (i : ℕ) (w : Walk) → length body ≤ i
-    → Does w w (λ x p. block_sum (assignment x p) (block_view (drop i body)))
+pub block_done : (body : List (Stmt VariableName TaskName FunctionName)) (i : ℕ) (w : Walk) → length body ≤ i
+    → Does w w (λ x p. block_sum [] (assignment x p) (block_view (drop i body)))
 block_done body i w h =
-    does_as w w _ _ (λ x p. sym (ap (λ xs. block_sum (assignment x p) (block_view xs)) (drop_all i body h))) (does_nothing w)
+    does_as w w _ _ (λ x p. sym (ap (λ xs. block_sum [] (assignment x p) (block_view xs)) (drop_all i body h))) (does_nothing w)

@@ -85,9 +85,9 @@ module _ (w v : Walk) (T : Family) (d : Does w v T) (mark : ℕ) (m : mark ≡ l
               sym (h.unassigned x p) ∙ and_from _ _ (h.falls_through x p ∙ came) (ap not (was_left x (not_so _ here.1)))
 
 pub settled_turn : (w v : Walk) (n mark : ℕ) (b : CheckedBlock) (name : VariableName) (all : Bool) → (n ≡ 0 → ⊥)
-    → Does w v (λ x p. assignment_seq (block_sum (assignment x p) b) (assignment_one x p (write name))) → mark ≡ length w.turned.items
+    → Does w v (λ x p. assignment_seq (block_sum [] (assignment x p) b) (assignment_one x p (write name))) → mark ≡ length w.turned.items
     → all ≡ list_all (is_assigned v) (drop mark v.turned.items) → all ≡ true
-    → Does w v (λ x p. turns_sum (assignment x p) n (assignment_seq (block_sum (assignment x p) b) (assignment_one x p (write name))))
+    → Does w v (λ x p. turns_sum (assignment x p) n (assignment_seq (block_sum [] (assignment x p) b) (assignment_one x p (write name))))
 settled_turn w v n mark b name all some d m e so =
-    by_count w v (n == 0) (n == 1) (λ x p. assignment_seq (block_sum (assignment x p) b) (assignment_one x p (write name)))
+    by_count w v (n == 0) (n == 1) (λ x p. assignment_seq (block_sum [] (assignment x p) b) (assignment_one x p (write name)))
     (λ h. absurd (some (zero_so n h))) (λ h. d) (λ h k. again w v _ d mark m (sym e ∙ so) (λ x p. well_turn x p b (write name)))

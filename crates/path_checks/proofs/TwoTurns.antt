@@ -59,8 +59,8 @@ well_kept x p = record {
 }
 
 -- what a turn does is well: the body, then the write of the variable
-pub well_turn : (x : ℕ) (p : Span) (b : CheckedBlock) (a : Access) → IsWell (assignment_seq (block_sum (assignment x p) b) (assignment_one x p a))
-well_turn x p b a = (well_kept x p).seq _ _ (every_block (assignment x p) IsWell (well_kept x p) b) (well_one x p a)
+pub well_turn : (x : ℕ) (p : Span) (b : CheckedBlock) (a : Access) → IsWell (assignment_seq (block_sum [] (assignment x p) b) (assignment_one x p a))
+well_turn x p b a = (well_kept x p).seq _ _ (every_block [] (assignment x p) IsWell (well_kept x p) (λ k. (well_kept x p).unit) b) (well_one x p a)
 
 absorbed : (f x w : Bool) → (x ≡ true → f ≡ true) → (w ≡ true → f ≡ true) → (f || (x || w)) ≡ f
 absorbed true x w h k = refl

@@ -1,14 +1,17 @@
 -- The fault of a walk is the first place at which some path reads an unassigned local.
-use Rattle.std.proofs.Common.{◌≡◌, ◌==◌, ℕ, Bool, true, false, ◌&&◌, ◌||◌, List, [], ◌∷◌, ◌++◌, refl, ap, sym, ◌∙◌, subst, if◌then◌else◌, arith, inl, inr}
+use Rattle.std.proofs.Common.{◌≡◌, ◌==◌, ℕ, Bool, true, false, not, nat_lt, ◌&&◌, ◌||◌, List, [], ◌∷◌, ◌++◌, map, length, refl, ap, sym, ◌∙◌, subst, if◌then◌else◌, arith, inl, inr}
 use Rattle.std.proofs.lemmas.Bool.Decides.{nat_tests}
 use Rattle.std.proofs.lemmas.Bool.{and_parts, and_from, or_cases, or_right}
+use Rattle.std.proofs.lemmas.List.{length-map}
 use Rattle.alp_text.specs.declared.lines.Span.{Span}
 use Rattle.task_ast.specs.declared.names.Variable.{Variable}
 use Rattle.task_ast.specs.declared.names.Variable.TheVariants.{Shared, Local}
 use Rattle.task_ast.specs.declared.names.VariableName.{VariableName}
-use Rattle.task_ast.specs.Paths.{CheckedBlock, Access, read, write, unset, End, BlockPath}
+use Rattle.task_ast.specs.Paths.{CheckedBlock, CheckedFunction, Access, read, write, unset, End, BlockPath}
 use Rattle.path_sums.specs.Sums.{block_sum}
-use Rattle.path_sums.proofs.Interface.{agree, joins_block, found, holds}
+use Rattle.task_ast.specs.Calls.{BlockCallsBelow}
+use Rattle.path_sums.specs.Reaches.{at_once}
+use Rattle.path_sums.proofs.Interface.{agree, joins_block, at_once_known, found, holds}
 use Rattle.path_checks.specs.Firsts.{IsFirst}
 use Rattle.path_checks.specs.Loops.{is_local}
 use Rattle.path_checks.specs.Unassigned.{is_unassigned, ReadsUnassigned}
@@ -88,14 +91,18 @@ read_holds u x p (read m ∷ before) n after l t h = or_right _ _ (read_holds u 
 read_holds u x p (write m ∷ before) n after l t h = read_holds (if is_local x m.variable then false else u) x p before n after l t h
 read_holds u x p (unset m ∷ before) n after l t h = read_holds (if is_local x m.variable then true else u) x p before n after l t h
 
--- some path reads this local at the place while it is unassigned
-pub ReadsLocal : CheckedBlock → ℕ → Span → Type 0
-ReadsLocal b x p = (xs : List Access) × (end : End) × BlockPath b xs end × (reads_unassigned true x p xs ≡ true)
+-- whether a local is unassigned at the begin
+abbrev at_begin : ℕ → ℕ → Bool
+at_begin given x = not (nat_lt x given)
 
-local_read : (b : CheckedBlock) (x : ℕ) (p : Span) → ReadsLocal b x p → ReadsUnassigned b p
+-- some path reads this local at the place while it is unassigned
+pub ReadsLocal : List CheckedFunction → ℕ → CheckedBlock → ℕ → Span → Type 0
+ReadsLocal fs given b x p = (xs : List Access) × (end : End) × BlockPath (map at_once fs) b xs end × (reads_unassigned (at_begin given x) x p xs ≡ true)
+
+local_read : (fs : List CheckedFunction) (given : ℕ) (b : CheckedBlock) (x : ℕ) (p : Span) → ReadsLocal fs given b x p → ReadsUnassigned fs given b p
 unfolding ReadsLocal
-local_read b x p h =
-    let r = read_found true x p h.0 h.3 in
+local_read fs given b x p h =
+    let r = read_found (at_begin given x) x p h.0 h.3 in
     record {
       x = x;
       name = r.name;
@@ -104,40 +111,51 @@ local_read b x p h =
       before = r.before;
       after = r.after;
       end = h.1;
-      path = subst (λ xs. BlockPath b xs h.1) r.whole h.2;
+      path = subst (λ xs. BlockPath (map at_once fs) b xs h.1) r.whole h.2;
       unassigned = r.unassigned;
     }
 
-read_local : (b : CheckedBlock) (p : Span) (r : ReadsUnassigned b p) → ReadsLocal b r.x p
+read_local : (fs : List CheckedFunction) (given : ℕ) (b : CheckedBlock) (p : Span) (r : ReadsUnassigned fs given b p) → ReadsLocal fs given b r.x p
 unfolding ReadsLocal
-read_local b p r = (
+read_local fs given b p r = (
   r.before ++ read r.name ∷ r.after,
   r.end,
   r.path,
-  read_holds true r.x p r.before r.name r.after (is_local_self r.x r.name.variable r.is_x)
+  read_holds (at_begin given r.x) r.x p r.before r.name r.after (is_local_self r.x r.name.variable r.is_x)
       (at_self p r.name.span r.place) r.unassigned,
 )
 
 -- ---- the sum over the paths
 
-state_join : (s t : Assignment) → from_state true (assignment_join s t) ≡ (from_state true s || from_state true t)
-state_join s t = agree 4 (λ a b c d. (a || b) || (c || d)) (λ a b c d. (a || c) || (b || d)) refl s.fault t.fault s.exposed t.exposed
+state_join : (u : Bool) (s t : Assignment) → from_state u (assignment_join s t) ≡ (from_state u s || from_state u t)
+state_join u s t = agree 5 (λ u a b c d. (a || b) || (u && (c || d))) (λ u a b c d. (a || (u && c)) || (b || (u && d))) refl u s.fault t.fault
+    s.exposed t.exposed
 
-sum_reads : (b : CheckedBlock) (x : ℕ) (p : Span) → from_state true (block_sum (assignment x p) b) ≡ true → ReadsLocal b x p
-unfolding ReadsLocal
-sum_reads b x p h =
-    let f = found (assignment x p) (from_state true) state_join (BlockPath b) _ (joins_block (assignment x p) (assignment_law x p) b) h in
-    (f.0, f.1, f.2, reads_is x p f.0 f.1 true ∙ f.3)
+module _ (fs : List CheckedFunction) (given : ℕ) (b : CheckedBlock) (calls : BlockCallsBelow (length fs) b) where
+  in_all : BlockCallsBelow (length (map at_once fs)) b
+  in_all = subst (λ n. BlockCallsBelow n b) (sym (length-map fs at_once)) calls
 
-reads_sum : (b : CheckedBlock) (x : ℕ) (p : Span) → ReadsLocal b x p → from_state true (block_sum (assignment x p) b) ≡ true
-unfolding ReadsLocal
-reads_sum b x p h =
-    holds (assignment x p) (from_state true) state_join (BlockPath b) _ (joins_block (assignment x p) (assignment_law x p) b) h.0 h.1 h.2
-    (sym (reads_is x p h.0 h.1 true) ∙ h.3)
+  sum_reads : (x : ℕ) (p : Span) → from_state (at_begin given x) (block_sum [] (assignment x p) b) ≡ true → ReadsLocal fs given b x p
+  unfolding ReadsLocal
+  sum_reads x p h =
+      let f = found (assignment x p) (from_state (at_begin given x)) (state_join (at_begin given x)) (BlockPath (map at_once fs) b) _
+      (joins_block (assignment x p) (assignment_law x p) (map at_once fs) []
+      (at_once_known (assignment x p) (assignment_law x p) (λ s. refl) fs) b in_all) h in
+      (f.0, f.1, f.2, reads_is x p f.0 f.1 (at_begin given x) ∙ f.3)
 
--- ---- the walk
+  reads_sum : (x : ℕ) (p : Span) → ReadsLocal fs given b x p → from_state (at_begin given x) (block_sum [] (assignment x p) b) ≡ true
+  unfolding ReadsLocal
+  reads_sum x p h =
+      holds (assignment x p) (from_state (at_begin given x)) (state_join (at_begin given x)) (BlockPath (map at_once fs) b) _
+      (joins_block (assignment x p) (assignment_law x p) (map at_once fs) []
+      (at_once_known (assignment x p) (assignment_law x p) (λ s. refl) fs) b in_all) h.0 h.1 h.2
+      (sym (reads_is x p h.0 h.1 (at_begin given x)) ∙ h.3)
 
--- what a walk of the whole body has found
-pub walk_reads : (b : CheckedBlock) (w : Walk) → Tells w (λ x p. assignment_seq begun (block_sum (assignment x p) b)) → IsFirst w.fault (ReadsUnassigned b)
-walk_reads b w told = first_same w.fault (SomeLocal (λ x p. (assignment_seq begun (block_sum (assignment x p) b)).fault)) (ReadsUnassigned b)
-    (λ p y. local_read b y.0 p (sum_reads b y.0 p y.1)) (λ p r. (r.x, reads_sum b r.x p (read_local b p r))) told.fault
+  -- ---- the walk
+
+  -- what a walk of the whole body has found
+  pub walk_reads : (w : Walk) → Tells w (λ x p. assignment_seq (begun given x) (block_sum [] (assignment x p) b))
+      → IsFirst w.fault (ReadsUnassigned fs given b)
+  walk_reads w told =
+      first_same w.fault (SomeLocal (λ x p. (assignment_seq (begun given x) (block_sum [] (assignment x p) b)).fault)) (ReadsUnassigned fs given b)
+      (λ p y. local_read fs given b y.0 p (sum_reads y.0 p y.1)) (λ p r. (r.x, reads_sum r.x p (read_local fs given b p r))) told.fault

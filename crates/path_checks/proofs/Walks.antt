@@ -1,21 +1,22 @@
 -- Steps of a walk.
 use Rattle.std.proofs.Common.{◌≡◌, ◌==◌, ℕ, Bool, true, false, ◌&&◌, ◌||◌, not, List, [], ◌∷◌, ◌++◌, take, drop, length, refl, ap, ap₂, sym, ◌∙◌, subst}
-use Rattle.std.proofs.Common.{if◌then◌else◌, Option, None, Some, Result, Ok, Err, IfOk, append-nil, append_assoc, ◌⊎◌, inl, inr, get_or}
+use Rattle.std.proofs.Common.{if◌then◌else◌, Option, None, Some, Result, Ok, Err, IfOk, append-nil, append_assoc, ◌⊎◌, inl, inr, get_or, zero, suc, nat_lt, replicate}
 use Rattle.std.proofs.lemmas.Bool.{and_parts, and_from, or_cases, or_left, or_right}
 use Rattle.std.specs.declared.alloc.AllocError.{AllocError}
 use Rattle.alp_text.specs.declared.lines.Span.{Span}
 use Rattle.task_ast.specs.declared.names.Variable.{Variable}
 use Rattle.task_ast.specs.declared.names.Variable.TheVariants.{Local}
 use Rattle.task_ast.specs.declared.names.VariableName.{VariableName}
+use Rattle.task_ast.specs.declared.names.FunctionName.{FunctionName}
 use Rattle.task_ast.specs.declared.WordType.{WordType}
 use Rattle.task_ast.specs.Tree as t
-use Rattle.task_ast.specs.Paths.{CheckedExpression, CheckedStatement, read, write, unset}
-use Rattle.path_sums.specs.Sums.{expression_sum, statement_sum}
+use Rattle.task_ast.specs.Paths.{CheckedExpression, CheckedValues, CheckedStatement, read, write, unset}
+use Rattle.path_sums.specs.Sums.{expression_sum, values_sum, statement_sum}
 use Rattle.path_sums.proofs.Interface.{agree}
 use Rattle.path_checks.specs.Firsts.{IsFirst, first_of}
 use Rattle.path_checks.specs.Loops.{is_local}
 use Rattle.path_checks.specs.Assignments.{Assignment, assignment, assignment_unit, assignment_gone, assignment_one}
-use Rattle.path_checks.specs.Assignments.{assignment_seq, assignment_join}
+use Rattle.path_checks.specs.Assignments.{assignment_seq, assignment_join, begun}
 use Rattle.path_checks.specs.declared.walk.Walk.{Walk}
 use Rattle.path_checks.specs.Walks.{Family, is_assigned, SomeLocal, Tells, turned_back, at_mark, IsBehind, Does}
 use Rattle.path_checks.proofs.FirstPlaces.{first_same, first_either}
@@ -86,32 +87,32 @@ then_ok (Ok _) a b c s t h k = does_both h k
 then_ok (Err _) a b c s t h k = tt
 
 -- the same statement
-pub statement_as : (a b : Walk) (s s' : CheckedStatement) → s ≡ s' → Does a b (λ x p. statement_sum (assignment x p) s')
-    → Does a b (λ x p. statement_sum (assignment x p) s)
-statement_as a b s s' e h = subst (λ s. Does a b (λ x p. statement_sum (assignment x p) s)) (sym e) h
+pub statement_as : (a b : Walk) (s s' : CheckedStatement) → s ≡ s' → Does a b (λ x p. statement_sum [] (assignment x p) s')
+    → Does a b (λ x p. statement_sum [] (assignment x p) s)
+statement_as a b s s' e h = subst (λ s. Does a b (λ x p. statement_sum [] (assignment x p) s)) (sym e) h
 
 pub statement_ok : (r : Result (Unit {0}) AllocError) (a b : Walk) (s s' : CheckedStatement) → s ≡ s'
-    → IfOk r (λ _. Does a b (λ x p. statement_sum (assignment x p) s')) → IfOk r (λ _. Does a b (λ x p. statement_sum (assignment x p) s))
+    → IfOk r (λ _. Does a b (λ x p. statement_sum [] (assignment x p) s')) → IfOk r (λ _. Does a b (λ x p. statement_sum [] (assignment x p) s))
 statement_ok (Ok _) a b s s' e h = statement_as a b s s' e h
 statement_ok (Err _) a b s s' e h = tt
 
 -- a declaration
 pub declared_none : (r : Result (Unit {0}) AllocError) (a b : Walk) (n : VariableName) (v : Option CheckedExpression) → v ≡ None
     → IfOk r (λ _. Does a b (λ x p. assignment_one x p (unset n)))
-    → IfOk r (λ _. (of : WordType) → Does a b (λ x p. statement_sum (assignment x p) (t.declare of n v)))
-declared_none (Ok _) a b n v e h = λ of. subst (λ v. Does a b (λ x p. statement_sum (assignment x p) (t.declare of n v))) (sym e) h
+    → IfOk r (λ _. (of : WordType) → Does a b (λ x p. statement_sum [] (assignment x p) (t.declare of n v)))
+declared_none (Ok _) a b n v e h = λ of. subst (λ v. Does a b (λ x p. statement_sum [] (assignment x p) (t.declare of n v))) (sym e) h
 declared_none (Err _) a b n v e h = tt
 
 pub declared_some : (r : Result (Unit {0}) AllocError) (a b : Walk) (n : VariableName) (v : Option CheckedExpression) (value : CheckedExpression)
-    → v ≡ Some value → IfOk r (λ _. Does a b (λ x p. assignment_seq (expression_sum (assignment x p) value) (assignment_one x p (write n))))
-    → IfOk r (λ _. (of : WordType) → Does a b (λ x p. statement_sum (assignment x p) (t.declare of n v)))
-declared_some (Ok _) a b n v value e h = λ of. subst (λ v. Does a b (λ x p. statement_sum (assignment x p) (t.declare of n v))) (sym e) h
+    → v ≡ Some value → IfOk r (λ _. Does a b (λ x p. assignment_seq (expression_sum [] (assignment x p) value) (assignment_one x p (write n))))
+    → IfOk r (λ _. (of : WordType) → Does a b (λ x p. statement_sum [] (assignment x p) (t.declare of n v)))
+declared_some (Ok _) a b n v value e h = λ of. subst (λ v. Does a b (λ x p. statement_sum [] (assignment x p) (t.declare of n v))) (sym e) h
 declared_some (Err _) a b n v value e h = tt
 
 pub declared_ok : (r : Result (Unit {0}) AllocError) (a b : Walk) (s : CheckedStatement) (of : WordType) (n : VariableName)
     (v : Option CheckedExpression) → s ≡ t.declare of n v
-    → IfOk r (λ _. (of : WordType) → Does a b (λ x p. statement_sum (assignment x p) (t.declare of n v)))
-    → IfOk r (λ _. Does a b (λ x p. statement_sum (assignment x p) s))
+    → IfOk r (λ _. (of : WordType) → Does a b (λ x p. statement_sum [] (assignment x p) (t.declare of n v)))
+    → IfOk r (λ _. Does a b (λ x p. statement_sum [] (assignment x p) s))
 declared_ok (Ok _) a b s of n v e h = statement_as a b s _ e (h of)
 declared_ok (Err _) a b s of n v e h = tt
 
@@ -240,17 +241,23 @@ read_either s t h k = record {
   fault = ap₂ (λ a b. a || b) h.fault k.fault;
 }
 
-pub is_read : (x : ℕ) (p : Span) (e : CheckedExpression) → IsRead (expression_sum (assignment x p) e)
-is_read x p (t.number _) = read_unit
-is_read x p (t.long_number _) = read_unit
-is_read x p (t.name n) = read_one x p n
-is_read x p (t.element n index) = read_both _ _ (is_read x p index) (read_one x p n)
-is_read x p t.sense = read_unit
-is_read x p t.next_event = read_unit
-is_read x p (t.unary _ a) = is_read x p a
-is_read x p (t.binary _ a b) = read_both _ _ (is_read x p a) (is_read x p b)
-is_read x p (t.shift _ a _) = is_read x p a
-is_read x p (t.short_circuit _ a b) = read_either _ _ (is_read x p a) (read_both _ _ (is_read x p a) (is_read x p b))
+mutual
+  pub is_read : (x : ℕ) (p : Span) (e : CheckedExpression) → IsRead (expression_sum [] (assignment x p) e)
+  is_read x p (t.number _) = read_unit
+  is_read x p (t.long_number _) = read_unit
+  is_read x p (t.name n) = read_one x p n
+  is_read x p (t.element n index) = read_both _ _ (is_read x p index) (read_one x p n)
+  is_read x p t.sense = read_unit
+  is_read x p t.next_event = read_unit
+  is_read x p (t.call _ values) = read_both _ _ (are_read x p values) read_unit
+  is_read x p (t.unary _ a) = is_read x p a
+  is_read x p (t.binary _ a b) = read_both _ _ (is_read x p a) (is_read x p b)
+  is_read x p (t.shift _ a _) = is_read x p a
+  is_read x p (t.short_circuit _ a b) = read_either _ _ (is_read x p a) (read_both _ _ (is_read x p a) (is_read x p b))
+
+  are_read : (x : ℕ) (p : Span) (values : CheckedValues) → IsRead (values_sum [] (assignment x p) values)
+  are_read x p t.no_value = read_unit
+  are_read x p (t.value e more) = read_both _ _ (is_read x p e) (are_read x p more)
 
 -- nothing is read
 pub first_none : (a : ℕ → Bool) → IsFirst None (SomeLocal (λ x p. not (a x) && false))
@@ -281,39 +288,63 @@ exposed_both : (s t : Assignment) → IsRead s → (assignment_seq s t).exposed 
 exposed_both s t h = ap (λ u. s.exposed || (u && t.exposed)) h.untouched
 
 pub first_both : (w : Walk) (a b : CheckedExpression) (q r : Option Span)
-    → IsFirst q (SomeLocal (λ x p. not (is_assigned w x) && (expression_sum (assignment x p) a).exposed))
-    → IsFirst r (SomeLocal (λ x p. not (is_assigned w x) && (expression_sum (assignment x p) b).exposed))
+    → IsFirst q (SomeLocal (λ x p. not (is_assigned w x) && (expression_sum [] (assignment x p) a).exposed))
+    → IsFirst r (SomeLocal (λ x p. not (is_assigned w x) && (expression_sum [] (assignment x p) b).exposed))
     → IsFirst (first_of q r) (SomeLocal (λ x p. not (is_assigned w x)
-    && (assignment_seq (expression_sum (assignment x p) a) (expression_sum (assignment x p) b)).exposed))
-first_both w a b q r = first_two (is_assigned w) (λ x p. (expression_sum (assignment x p) a).exposed) (λ x p. (expression_sum (assignment x p) b).exposed)
-    (λ x p. (assignment_seq (expression_sum (assignment x p) a) (expression_sum (assignment x p) b)).exposed) q r
-    (λ x p. exposed_both (expression_sum (assignment x p) a) (expression_sum (assignment x p) b) (is_read x p a))
+    && (assignment_seq (expression_sum [] (assignment x p) a) (expression_sum [] (assignment x p) b)).exposed))
+first_both w a b q r = first_two (is_assigned w) (λ x p. (expression_sum [] (assignment x p) a).exposed) (λ x p. (expression_sum [] (assignment x p) b).exposed)
+    (λ x p. (assignment_seq (expression_sum [] (assignment x p) a) (expression_sum [] (assignment x p) b)).exposed) q r
+    (λ x p. exposed_both (expression_sum [] (assignment x p) a) (expression_sum [] (assignment x p) b) (is_read x p a))
 
 pub first_short : (w : Walk) (a b : CheckedExpression) (q r : Option Span)
-    → IsFirst q (SomeLocal (λ x p. not (is_assigned w x) && (expression_sum (assignment x p) a).exposed))
-    → IsFirst r (SomeLocal (λ x p. not (is_assigned w x) && (expression_sum (assignment x p) b).exposed))
-    → IsFirst (first_of q r) (SomeLocal (λ x p. not (is_assigned w x) && (assignment_join (expression_sum (assignment x p) a)
-    (assignment_seq (expression_sum (assignment x p) a) (expression_sum (assignment x p) b))).exposed))
-first_short w a b q r = first_two (is_assigned w) (λ x p. (expression_sum (assignment x p) a).exposed) (λ x p. (expression_sum (assignment x p) b).exposed)
-    (λ x p. (assignment_join (expression_sum (assignment x p) a) (assignment_seq (expression_sum (assignment x p) a)
-    (expression_sum (assignment x p) b))).exposed) q r
-    (λ x p. ap (λ c. (expression_sum (assignment x p) a).exposed || c)
-    (exposed_both (expression_sum (assignment x p) a) (expression_sum (assignment x p) b) (is_read x p a))
-    ∙ agree 2 (λ c d. c || (c || d)) (λ c d. c || d) refl (expression_sum (assignment x p) a).exposed (expression_sum (assignment x p) b).exposed)
+    → IsFirst q (SomeLocal (λ x p. not (is_assigned w x) && (expression_sum [] (assignment x p) a).exposed))
+    → IsFirst r (SomeLocal (λ x p. not (is_assigned w x) && (expression_sum [] (assignment x p) b).exposed))
+    → IsFirst (first_of q r) (SomeLocal (λ x p. not (is_assigned w x) && (assignment_join (expression_sum [] (assignment x p) a)
+    (assignment_seq (expression_sum [] (assignment x p) a) (expression_sum [] (assignment x p) b))).exposed))
+first_short w a b q r = first_two (is_assigned w) (λ x p. (expression_sum [] (assignment x p) a).exposed) (λ x p. (expression_sum [] (assignment x p) b).exposed)
+    (λ x p. (assignment_join (expression_sum [] (assignment x p) a) (assignment_seq (expression_sum [] (assignment x p) a)
+    (expression_sum [] (assignment x p) b))).exposed) q r
+    (λ x p. ap (λ c. (expression_sum [] (assignment x p) a).exposed || c)
+    (exposed_both (expression_sum [] (assignment x p) a) (expression_sum [] (assignment x p) b) (is_read x p a))
+    ∙ agree 2 (λ c d. c || (c || d)) (λ c d. c || d) refl (expression_sum [] (assignment x p) a).exposed (expression_sum [] (assignment x p) b).exposed)
+
+-- the values of a call
+pub first_call : (w : Walk) (o : Option Span) (e : CheckedExpression) (f : FunctionName) (values : CheckedValues) → e ≡ t.call f values
+    → IsFirst o (SomeLocal (λ x p. not (is_assigned w x) && (values_sum [] (assignment x p) values).exposed))
+    → IsFirst o (SomeLocal (λ x p. not (is_assigned w x) && (expression_sum [] (assignment x p) e).exposed))
+first_call w o e f values same h =
+    subst (λ e. IsFirst o (SomeLocal (λ x p. not (is_assigned w x) && (expression_sum [] (assignment x p) e).exposed))) (sym same)
+    (fault_same o _ _ (λ x p. ap (λ b. not (is_assigned w x) && b) (alone (values_sum [] (assignment x p) values))) h)
+  where
+    alone : (s : Assignment) → s.exposed ≡ (assignment_seq s assignment_unit).exposed
+    alone s = agree 2 (λ e u. e) (λ e u. e || (u && false)) refl s.exposed s.untouched
+
+-- one value in front of others
+pub first_value : (w : Walk) (o q r : Option Span) (all : CheckedValues) (e : CheckedExpression) (more : CheckedValues) → o ≡ first_of q r
+    → all ≡ t.value e more
+    → IsFirst q (SomeLocal (λ x p. not (is_assigned w x) && (expression_sum [] (assignment x p) e).exposed))
+    → IsFirst r (SomeLocal (λ x p. not (is_assigned w x) && (values_sum [] (assignment x p) more).exposed))
+    → IsFirst o (SomeLocal (λ x p. not (is_assigned w x) && (values_sum [] (assignment x p) all).exposed))
+first_value w o q r all e more first same h k =
+    subst (λ all. IsFirst o (SomeLocal (λ x p. not (is_assigned w x) && (values_sum [] (assignment x p) all).exposed))) (sym same)
+    (subst (λ o. IsFirst o (SomeLocal (λ x p. not (is_assigned w x) && (values_sum [] (assignment x p) (t.value e more)).exposed))) (sym first)
+    (first_two (is_assigned w) (λ x p. (expression_sum [] (assignment x p) e).exposed) (λ x p. (values_sum [] (assignment x p) more).exposed)
+    (λ x p. (values_sum [] (assignment x p) (t.value e more)).exposed) q r
+    (λ x p. exposed_both (expression_sum [] (assignment x p) e) (values_sum [] (assignment x p) more) (is_read x p e)) h k))
 
 -- the same expression
 pub first_as : (w : Walk) (o o' : Option Span) (e e' : CheckedExpression) → o ≡ o' → e ≡ e'
-    → IsFirst o' (SomeLocal (λ x p. not (is_assigned w x) && (expression_sum (assignment x p) e').exposed))
-    → IsFirst o (SomeLocal (λ x p. not (is_assigned w x) && (expression_sum (assignment x p) e).exposed))
+    → IsFirst o' (SomeLocal (λ x p. not (is_assigned w x) && (expression_sum [] (assignment x p) e').exposed))
+    → IsFirst o (SomeLocal (λ x p. not (is_assigned w x) && (expression_sum [] (assignment x p) e).exposed))
 first_as w o o' e e' q same h =
-    subst (λ e. IsFirst o (SomeLocal (λ x p. not (is_assigned w x) && (expression_sum (assignment x p) e).exposed))) (sym same)
-    (subst (λ o. IsFirst o (SomeLocal (λ x p. not (is_assigned w x) && (expression_sum (assignment x p) e').exposed))) (sym q) h)
+    subst (λ e. IsFirst o (SomeLocal (λ x p. not (is_assigned w x) && (expression_sum [] (assignment x p) e).exposed))) (sym same)
+    (subst (λ o. IsFirst o (SomeLocal (λ x p. not (is_assigned w x) && (expression_sum [] (assignment x p) e').exposed))) (sym q) h)
 
 -- reads where some path comes
 pub does_read : (w v : Walk) (e : CheckedExpression) (o : Option Span) → w.falls_through ≡ true
-    → IsFirst o (SomeLocal (λ x p. not (is_assigned w x) && (expression_sum (assignment x p) e).exposed))
+    → IsFirst o (SomeLocal (λ x p. not (is_assigned w x) && (expression_sum [] (assignment x p) e).exposed))
     → v.falls_through ≡ w.falls_through → v.assigned ≡ w.assigned → v.turned ≡ w.turned → v.fault ≡ first_of w.fault o
-    → Does w v (λ x p. expression_sum (assignment x p) e)
+    → Does w v (λ x p. expression_sum [] (assignment x p) e)
 does_read w v e o on first falls assigned turned fault = record {
   tells = λ f h. record {
     falls_through = λ x p. falls ∙ h.falls_through x p ∙ and_same (f x p).falls_through
@@ -321,7 +352,7 @@ does_read w v e o on first falls assigned turned fault = record {
     unassigned = λ x p. ap₂ (λ o a. o && not a) falls (same x) ∙ h.unassigned x p
         ∙ agree 2 (λ o u. u) (λ o u. (o && false) || (u && true)) refl (f x p).falls_through (f x p).unassigned
         ∙ ap₂ (λ a b. ((f x p).falls_through && a) || ((f x p).unassigned && b)) (sym (is_read x p e).unassigned) (sym (is_read x p e).untouched);
-    fault = subst (λ q. IsFirst q (SomeLocal (λ x p. (assignment_seq (f x p) (expression_sum (assignment x p) e)).fault))) (sym fault) (faults f h);
+    fault = subst (λ q. IsFirst q (SomeLocal (λ x p. (assignment_seq (f x p) (expression_sum [] (assignment x p) e)).fault))) (sym fault) (faults f h);
   };
   behind = behind_self w v (ap (λ v. v.items) turned) same;
 }
@@ -329,20 +360,36 @@ does_read w v e o on first falls assigned turned fault = record {
     same : (x : ℕ) → is_assigned v x ≡ is_assigned w x
     same x = ap (λ v. get_or v.items x false) assigned
 
-    faults : (f : Family) → Tells w f → IsFirst (first_of w.fault o) (SomeLocal (λ x p. (assignment_seq (f x p) (expression_sum (assignment x p) e)).fault))
+    faults : (f : Family) → Tells w f → IsFirst (first_of w.fault o) (SomeLocal (λ x p. (assignment_seq (f x p) (expression_sum [] (assignment x p) e)).fault))
     faults f h = fault_same (first_of w.fault o) _ _ (λ x p. sym (split x p)) both
       where
-        split : (x : ℕ) (p : Span) → (assignment_seq (f x p) (expression_sum (assignment x p) e)).fault
-            ≡ ((f x p).fault || (not (is_assigned w x) && (expression_sum (assignment x p) e).exposed))
+        split : (x : ℕ) (p : Span) → (assignment_seq (f x p) (expression_sum [] (assignment x p) e)).fault
+            ≡ ((f x p).fault || (not (is_assigned w x) && (expression_sum [] (assignment x p) e).exposed))
         split x p = let left : (f x p).unassigned ≡ not (is_assigned w x) = sym (h.unassigned x p) ∙ ap (λ o. o && not (is_assigned w x)) on in
-            ap₂ (λ g u. (f x p).fault || (((f x p).falls_through && g) || (u && (expression_sum (assignment x p) e).exposed))) (is_read x p e).fault left
+            ap₂ (λ g u. (f x p).fault || (((f x p).falls_through && g) || (u && (expression_sum [] (assignment x p) e).exposed))) (is_read x p e).fault left
             ∙ agree 3 (λ g o c. g || ((o && false) || c)) (λ g o c. g || c) refl (f x p).fault (f x p).falls_through
-            (not (is_assigned w x) && (expression_sum (assignment x p) e).exposed)
+            (not (is_assigned w x) && (expression_sum [] (assignment x p) e).exposed)
 
         both : IsFirst (first_of w.fault o)
-            (SomeLocal (λ x p. (f x p).fault || (not (is_assigned w x) && (expression_sum (assignment x p) e).exposed)))
+            (SomeLocal (λ x p. (f x p).fault || (not (is_assigned w x) && (expression_sum [] (assignment x p) e).exposed)))
         both = first_same _ (λ p. SomeLocal (λ x p. (f x p).fault) p
-            ⊎ SomeLocal (λ x p. not (is_assigned w x) && (expression_sum (assignment x p) e).exposed) p) _
+            ⊎ SomeLocal (λ x p. not (is_assigned w x) && (expression_sum [] (assignment x p) e).exposed) p) _
             (λ p z. elim z [ inl y ↦ (y.0, or_left _ _ y.1) | inr y ↦ (y.0, or_right (f y.0 p).fault _ y.1) ])
             (λ p z. elim (or_cases (f z.0 p).fault _ z.1) [ inl y ↦ inl (z.0, y) | inr y ↦ inr (z.0, y) ])
             (first_either w.fault o _ _ h.fault first)
+
+-- ---- before any access
+
+-- the first locals have values
+given_first : (n x : ℕ) → get_or (replicate n true) x false ≡ nat_lt x n
+given_first zero x = refl
+given_first (suc n) zero = refl
+given_first (suc n) (suc x) = given_first n x
+
+pub tells_begun : (w : Walk) (given : ℕ) → w.falls_through ≡ true → w.assigned.items ≡ replicate given true → w.fault ≡ None
+    → Tells w (λ x p. begun given x)
+tells_begun w given on values none = record {
+  falls_through = λ x p. on;
+  unassigned = λ x p. ap₂ (λ o a. o && not a) on (ap (λ xs. get_or xs x false) values ∙ given_first given x);
+  fault = subst (λ o. IsFirst o (SomeLocal (λ x p. false))) (sym none) (λ p y. let no : false ≡ true = y.1 in cc);
+}

@@ -1,5 +1,5 @@
 -- What paths do with one local.
-use Rattle.std.specs.Prelude.{◌==◌, ℕ, Bool, true, false, ◌&&◌, ◌||◌, if◌then◌else◌}
+use Rattle.std.specs.Prelude.{◌==◌, ℕ, Bool, true, false, not, nat_lt, ◌&&◌, ◌||◌, if◌then◌else◌}
 use Rattle.alp_text.specs.declared.lines.Span.{Span}
 use Rattle.task_ast.specs.Paths.{Access, read, write, unset}
 use Rattle.path_sums.specs.Sums.{Algebra}
@@ -62,9 +62,11 @@ assignment_join s t =
       fault = s.fault || t.fault;
     }
 
+-- a call does nothing to its caller's locals
 abbrev pub assignment : ℕ → Span → Algebra Assignment
-assignment x p = record { unit = assignment_unit; gone = assignment_gone; one = assignment_one x p; seq = assignment_seq; join = assignment_join }
+assignment x p = record { unit = assignment_unit; gone = assignment_gone; one = assignment_one x p; seq = assignment_seq; join = assignment_join;
+  called = λ _. assignment_unit }
 
--- before any access: a task begins with all its locals unassigned
-abbrev pub begun : Assignment
-begun = record { falls_through = true; untouched = true; unassigned = true; exposed = false; fault = false }
+-- before any access: so many locals have values that are given, and the others are unassigned
+abbrev pub begun : ℕ → ℕ → Assignment
+begun given x = record { falls_through = true; untouched = true; unassigned = not (nat_lt x given); exposed = false; fault = false }

@@ -19,7 +19,8 @@ abbrev mutual
   bad_in_statement (t.choose c) = bad_in_choice c
   bad_in_statement (t.loop a _ b _ c body) = first_of (bad_head a b c body) (bad_in_block body)
   bad_in_statement (t.emit _) = None
-  bad_in_statement (t.transition _) = None
+  bad_in_statement (t.give _ _) = None
+  bad_in_statement (t.transition _ _) = None
 
   pub bad_in_choice : CheckedChoice → Option Span
   bad_in_choice t.nothing = None

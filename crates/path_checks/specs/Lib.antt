@@ -1,7 +1,7 @@
 pub mod Firsts
 pub mod Loops
 pub mod Unassigned
-pub mod Transitions
+pub mod Ends
 pub mod FirstLoops
 pub mod Assignments
 pub mod Walks

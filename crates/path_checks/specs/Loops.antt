@@ -6,7 +6,7 @@ use Rattle.task_ast.specs.declared.names.Variable.TheVariants.{Shared, Local}
 use Rattle.task_ast.specs.declared.names.VariableName.{VariableName}
 use Rattle.task_ast.specs.Tree as t
 use Rattle.task_ast.specs.Paths.{CheckedStatement, CheckedChoice, CheckedBlock}
-use Rattle.path_checks.specs.Firsts.{CheckedProgram, SomeTask}
+use Rattle.path_checks.specs.Firsts.{CheckedProgram, SomeFunction, SomeTask}
 
 -- whether it is the local with this number
 abbrev pub is_local : ℕ → Variable → Bool
@@ -20,7 +20,7 @@ is_same_local (Local x) v = is_local x v
 
 abbrev mutual
   -- Whether a variable is given a value or used as a loop variable: it stands on the left of an assignment, is declared (which a
-  -- looked-up name never is within its own loop), or is one of the three names of a `for`.
+  -- looked-up name never is within its own loop), or is one of the three names of a `for`. A call gives its caller's locals no value.
   pub statement_assigns : Variable → CheckedStatement → Bool
   statement_assigns v (t.declare _ n _) = is_same_local n.variable v
   statement_assigns v (t.assign n _) = is_same_local n.variable v
@@ -29,7 +29,8 @@ abbrev mutual
   statement_assigns v (t.loop a _ b _ c body) =
       (is_same_local a.variable v || (is_same_local b.variable v || is_same_local c.variable v)) || block_assigns v body
   statement_assigns v (t.emit _) = false
-  statement_assigns v (t.transition _) = false
+  statement_assigns v (t.give _ _) = false
+  statement_assigns v (t.transition _ _) = false
 
   pub choice_assigns : Variable → CheckedChoice → Bool
   choice_assigns v t.nothing = false
@@ -54,7 +55,8 @@ abbrev mutual
   BadLoopInStatement (t.choose c) s = BadLoopInChoice c s
   BadLoopInStatement (t.loop a _ b _ c body) s = ((a.span ≡ s) × (is_good_loop a b c body ≡ false)) ⊎ BadLoopIn body s
   BadLoopInStatement (t.emit _) s = ⊥
-  BadLoopInStatement (t.transition _) s = ⊥
+  BadLoopInStatement (t.give _ _) s = ⊥
+  BadLoopInStatement (t.transition _ _) s = ⊥
 
   pub BadLoopInChoice : CheckedChoice → Span → Type 0
   BadLoopInChoice t.nothing s = ⊥
@@ -65,6 +67,6 @@ abbrev mutual
   BadLoopIn t.end s = ⊥
   BadLoopIn (t.step statement more) s = BadLoopInStatement statement s ⊎ BadLoopIn more s
 
--- a bad loop stands at the place
+-- a bad loop stands at the place, in a function or in a task
 abbrev pub BadLoopAt : CheckedProgram → Span → Type 0
-BadLoopAt program s = SomeTask program.tasks (λ task. BadLoopIn task.body s)
+BadLoopAt program s = SomeFunction program.functions (λ f. BadLoopIn f.body s) ⊎ SomeTask program.tasks (λ task. BadLoopIn task.body s)

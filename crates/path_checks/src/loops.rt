@@ -1,16 +1,19 @@
 //! Bad loops.
 
 ghost use Rattle.std.specs.Prelude.{◌≡◌, Option, [], map};
-ghost use Rattle.task_ast.specs.View.{statement_of, tested_of, block_view, program_of};
+ghost use Rattle.task_ast.specs.View.{statement_of, tested_of, block_view, function_of, task_of, program_of};
 ghost use Rattle.task_ast.specs.Tree.{choice_of};
 ghost use Rattle.task_ast.specs.Paths.{CheckedBlock};
-ghost use Rattle.path_checks.specs.Firsts.{IsFirst};
-ghost use Rattle.path_checks.specs.Loops.{is_same_local, is_good_loop, statement_assigns, choice_assigns, block_assigns, BadLoopAt};
+ghost use Rattle.path_checks.specs.Firsts.{IsFirst, SomeFunction, SomeTask};
+ghost use Rattle.path_checks.specs.Loops.{is_same_local, is_good_loop, statement_assigns, choice_assigns, block_assigns, BadLoopIn, BadLoopAt};
 ghost use Rattle.path_checks.specs.FirstLoops.{bad_head, bad_in_statement, bad_in_choice, bad_in_block};
 
 use crate::firsts::first_of;
 use alp_text::Span;
-use task_ast::{Arm, CheckedSource, Stmt, TaskName, Variable, VariableName};
+use task_ast::{
+    Arm, CheckedSource, FunctionDeclaration, FunctionName, Stmt, TaskDeclaration, TaskName, Variable,
+    VariableName,
+};
 
 fn same_local(a: Variable, b: Variable) -> bool
     ensures { result ≡ is_same_local a b }
@@ -22,7 +25,7 @@ fn same_local(a: Variable, b: Variable) -> bool
 }
 
 #[cycle(assigns)]
-fn statement_assigns(variable: Variable, statement: &Stmt<VariableName, TaskName>) -> bool
+fn statement_assigns(variable: Variable, statement: &Stmt<VariableName, TaskName, FunctionName>) -> bool
     ensures { result ≡ statement_assigns variable (statement_of statement.now) }
 {
     match statement {
@@ -46,12 +49,12 @@ fn statement_assigns(variable: Variable, statement: &Stmt<VariableName, TaskName
                 || (same_local(b.variable, variable) || same_local(c.variable, variable)))
                 || inside
         }
-        Stmt::Emit(_) | Stmt::TransitionTo(_) => false,
+        Stmt::Emit(_) | Stmt::Return(_, _) | Stmt::TransitionTo(_, _) => false,
     }
 }
 
 #[cycle(assigns)]
-fn arms_assign(variable: Variable, arms: &[Arm<VariableName, TaskName>], in_last: bool) -> bool
+fn arms_assign(variable: Variable, arms: &[Arm<VariableName, TaskName, FunctionName>], in_last: bool) -> bool
     ensures { (last : Option CheckedBlock) → in_last ≡ choice_assigns variable (choice_of [] last) →
         result ≡ choice_assigns variable (choice_of (map tested_of arms.now) last) }
 {
@@ -64,7 +67,7 @@ fn arms_assign(variable: Variable, arms: &[Arm<VariableName, TaskName>], in_last
 }
 
 #[cycle(assigns)]
-fn block_assigns(variable: Variable, body: &[Stmt<VariableName, TaskName>]) -> bool
+fn block_assigns(variable: Variable, body: &[Stmt<VariableName, TaskName, FunctionName>]) -> bool
     ensures { result ≡ block_assigns variable (block_view body.now) }
 {
     let mut found = false;
@@ -79,7 +82,7 @@ fn is_good_loop(
     a: &VariableName,
     b: &VariableName,
     c: &VariableName,
-    body: &[Stmt<VariableName, TaskName>],
+    body: &[Stmt<VariableName, TaskName, FunctionName>],
 ) -> bool
     ensures { result ≡ is_good_loop a.now b.now c.now (block_view body.now) }
 {
@@ -91,7 +94,7 @@ fn bad_head(
     a: &VariableName,
     b: &VariableName,
     c: &VariableName,
-    body: &[Stmt<VariableName, TaskName>],
+    body: &[Stmt<VariableName, TaskName, FunctionName>],
 ) -> Option<Span>
     ensures { result ≡ bad_head a.now b.now c.now (block_view body.now) }
 {
@@ -103,7 +106,7 @@ fn bad_head(
 }
 
 #[cycle(loops)]
-fn bad_in_statement(statement: &Stmt<VariableName, TaskName>) -> Option<Span>
+fn bad_in_statement(statement: &Stmt<VariableName, TaskName, FunctionName>) -> Option<Span>
     ensures { result ≡ bad_in_statement (statement_of statement.now) }
 {
     match statement {
@@ -128,12 +131,13 @@ fn bad_in_statement(statement: &Stmt<VariableName, TaskName>) -> Option<Span>
         | Stmt::Assign(_, _)
         | Stmt::Store(_, _, _)
         | Stmt::Emit(_)
-        | Stmt::TransitionTo(_) => None,
+        | Stmt::Return(_, _)
+        | Stmt::TransitionTo(_, _) => None,
     }
 }
 
 #[cycle(loops)]
-fn bad_in_arms(arms: &[Arm<VariableName, TaskName>], in_last: Option<Span>) -> Option<Span>
+fn bad_in_arms(arms: &[Arm<VariableName, TaskName, FunctionName>], in_last: Option<Span>) -> Option<Span>
     ensures { (last : Option CheckedBlock) → in_last ≡ bad_in_choice (choice_of [] last) →
         result ≡ bad_in_choice (choice_of (map tested_of arms.now) last) }
 {
@@ -145,7 +149,7 @@ fn bad_in_arms(arms: &[Arm<VariableName, TaskName>], in_last: Option<Span>) -> O
 }
 
 #[cycle(loops)]
-fn bad_in_block(body: &[Stmt<VariableName, TaskName>]) -> Option<Span>
+fn bad_in_block(body: &[Stmt<VariableName, TaskName, FunctionName>]) -> Option<Span>
     ensures { result ≡ bad_in_block (block_view body.now) }
 {
     let mut first = None;
@@ -155,14 +159,37 @@ fn bad_in_block(body: &[Stmt<VariableName, TaskName>]) -> Option<Span>
     first
 }
 
+// The first bad loop of functions.
+fn bad_in_functions(
+    functions: &[FunctionDeclaration<VariableName, TaskName, FunctionName>],
+) -> Option<Span>
+    ensures { IsFirst result (λ s. SomeFunction (map function_of functions.now) (λ f. BadLoopIn f.body s)) }
+{
+    let mut first = None;
+    for i in (0..functions.len()).rev() {
+        first = first_of(bad_in_block(&functions[i].body), first);
+    }
+    first
+}
+
+// The first bad loop of tasks.
+fn bad_in_tasks(tasks: &[TaskDeclaration<VariableName, TaskName, FunctionName>]) -> Option<Span>
+    ensures { IsFirst result (λ s. SomeTask (map task_of tasks.now) (λ task. BadLoopIn task.body s)) }
+{
+    let mut first = None;
+    for i in (0..tasks.len()).rev() {
+        first = first_of(bad_in_block(&tasks[i].body), first);
+    }
+    first
+}
+
 /// The first bad loop of a source, by the first of its three names: the names of a `for` have to be one local, which
 /// its body neither gives a value nor uses as a loop variable.
 pub fn first_bad_loop(source: &CheckedSource) -> Option<Span>
     ensures { IsFirst result (BadLoopAt (program_of source.now)) }
 {
-    let mut first = None;
-    for i in (0..source.tasks.len()).rev() {
-        first = first_of(bad_in_block(&source.tasks[i].body), first);
-    }
-    first
+    first_of(
+        bad_in_functions(&source.functions),
+        bad_in_tasks(&source.tasks),
+    )
 }

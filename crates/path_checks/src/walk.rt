@@ -1,13 +1,13 @@
-//! What is known of the locals of a task at a place of its body.
+//! What is known of the locals of a function or a task at a place of its body.
 
-ghost use Rattle.std.specs.Prelude.{◌≡◌, ◌≤◌, ◌&&◌, ℕ, not, drop, IfOk, vec_len, slice_index_or, false, if◌then◌else◌, ◌==◌};
+ghost use Rattle.std.specs.Prelude.{◌≡◌, ◌≤◌, ◌&&◌, ℕ, [], not, drop, IfOk, vec_len, slice_index_or, false, if◌then◌else◌, ◌==◌};
 ghost use Rattle.std.specs.List.{list_all};
-ghost use Rattle.task_ast.specs.View.{expression_of};
+ghost use Rattle.task_ast.specs.View.{expression_of, values_of};
 ghost use Rattle.task_ast.specs.Paths.{read, write, unset};
 ghost use Rattle.task_ast.specs.Tree as tree;
 ghost use Rattle.task_ast.specs.declared.WordType.{WordType};
 ghost use Rattle.std.specs.Option.{option_map};
-ghost use Rattle.path_sums.specs.Sums.{expression_sum, statement_sum};
+ghost use Rattle.path_sums.specs.Sums.{expression_sum, values_sum, statement_sum};
 ghost use Rattle.path_checks.specs.Firsts.{IsFirst};
 ghost use Rattle.path_checks.specs.Assignments.{begun, assignment, assignment_one, assignment_seq};
 ghost use Rattle.path_checks.specs.Walks.{is_assigned, turned_back, SomeLocal, Tells, Does, IsBehind, IsTurnedBack};
@@ -15,7 +15,7 @@ ghost use Rattle.path_checks.specs.Walks.{is_assigned, turned_back, SomeLocal, T
 use crate::firsts::first_of;
 use alp_text::Span;
 use std::alloc::{AllocError, Global};
-use task_ast::{Expr, Variable, VariableName};
+use task_ast::{Args, Expr, FunctionName, Variable, VariableName};
 
 /// What the paths up to a place have done.
 #[derive(Drop)]
@@ -32,17 +32,19 @@ pub struct Walk {
     pub fault: Option<Span>,
 }
 
-/// Before any access: all locals are unassigned.
-pub fn begin(alloc: Global) -> Walk
-    ensures { Tells result (λ x p. begun) }
+/// Before any access: so many locals have values, and the others are unassigned. Fails where memory does.
+pub fn begin(alloc: Global, given: usize) -> Result<Walk, AllocError>
+    ensures { IfOk result (λ walk. Tells walk (λ x p. begun given x)) }
 {
-    Walk {
+    let mut assigned = Vec::new(alloc);
+    assigned.resize(given, true)?;
+    Ok(Walk {
         alloc,
         falls_through: true,
-        assigned: Vec::new(alloc),
+        assigned,
         turned: Vec::new(alloc),
         fault: None,
-    }
+    })
 }
 
 fn entry(assigned: &[bool], x: u32) -> bool
@@ -167,13 +169,15 @@ fn first_read(walk: &Walk, name: &VariableName) -> Option<Span>
     }
 }
 
-fn first_in(walk: &Walk, e: &Expr<VariableName>) -> Option<Span>
-    ensures { IsFirst result (SomeLocal (λ x p. not (is_assigned walk.now x) && (expression_sum (assignment x p) (expression_of e.now)).exposed)) }
+#[cycle(first)]
+fn first_in(walk: &Walk, e: &Expr<VariableName, FunctionName>) -> Option<Span>
+    ensures { IsFirst result (SomeLocal (λ x p. not (is_assigned walk.now x) && (expression_sum [] (assignment x p) (expression_of e.now)).exposed)) }
 {
     match e {
         Expr::Number(_) | Expr::LongNumber(_) | Expr::Sense | Expr::NextEvent => None,
         Expr::Name(name) => first_read(walk, name),
         Expr::Element(name, index) => first_of(first_in(walk, index), first_read(walk, name)),
+        Expr::Call(_, values) => first_in_values(walk, values),
         Expr::Unary(_, a) => first_in(walk, a),
         Expr::Shift(_, a, _) => first_in(walk, a),
         Expr::Binary(_, a, b) => first_of(first_in(walk, a), first_in(walk, b)),
@@ -181,9 +185,20 @@ fn first_in(walk: &Walk, e: &Expr<VariableName>) -> Option<Span>
     }
 }
 
+// The reads of the values of a call. What the function does reads none of these locals.
+#[cycle(first)]
+fn first_in_values(walk: &Walk, values: &Args<VariableName, FunctionName>) -> Option<Span>
+    ensures { IsFirst result (SomeLocal (λ x p. not (is_assigned walk.now x) && (values_sum [] (assignment x p) (values_of values.now)).exposed)) }
+{
+    match values {
+        Args::End => None,
+        Args::Value(e, more) => first_of(first_in(walk, e), first_in_values(walk, more)),
+    }
+}
+
 /// The reads of an expression.
-pub fn read(walk: &mut Walk, e: &Expr<VariableName>)
-    ensures does { Does walk.old walk.new (λ x p. expression_sum (assignment x p) (expression_of e.now)) }
+pub fn read(walk: &mut Walk, e: &Expr<VariableName, FunctionName>)
+    ensures does { Does walk.old walk.new (λ x p. expression_sum [] (assignment x p) (expression_of e.now)) }
     ensures falls_through { walk.new.falls_through ≡ walk.old.falls_through }
     ensures assigned { walk.new.assigned ≡ walk.old.assigned }
     ensures turned { walk.new.turned ≡ walk.old.turned }
@@ -198,10 +213,10 @@ pub fn read(walk: &mut Walk, e: &Expr<VariableName>)
 pub fn assign(
     walk: &mut Walk,
     name: &VariableName,
-    value: &Expr<VariableName>,
+    value: &Expr<VariableName, FunctionName>,
 ) -> Result<(), AllocError>
     ensures { IfOk result (λ _. Does walk.old walk.new
-        (λ x p. assignment_seq (expression_sum (assignment x p) (expression_of value.now)) (assignment_one x p (write name.now)))) }
+        (λ x p. assignment_seq (expression_sum [] (assignment x p) (expression_of value.now)) (assignment_one x p (write name.now)))) }
 {
     read(walk, value);
     set(walk, name)
@@ -211,10 +226,10 @@ pub fn assign(
 pub fn declare(
     walk: &mut Walk,
     name: &VariableName,
-    value: &Option<Expr<VariableName>>,
+    value: &Option<Expr<VariableName, FunctionName>>,
 ) -> Result<(), AllocError>
     ensures { IfOk result (λ _. (of : WordType) → Does walk.old walk.new
-        (λ x p. statement_sum (assignment x p) (tree.declare of name.now (option_map expression_of value.now)))) }
+        (λ x p. statement_sum [] (assignment x p) (tree.declare of name.now (option_map expression_of value.now)))) }
 {
     match value {
         None => unset(walk, name),

@@ -1,6 +1,8 @@
 mod Taut
 mod Tests
 mod Joins
+mod Calls
+mod OneMore
 mod Bits
 mod FlowMeaning
 mod Every

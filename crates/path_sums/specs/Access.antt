@@ -2,7 +2,7 @@
 use Rattle.std.specs.Prelude.{◌≡◌, ◌==◌, Bool, true, false, ◌&&◌, ◌||◌, if◌then◌else◌, List, [], ◌∷◌}
 use Rattle.task_ast.specs.declared.names.Variable.{Variable}
 use Rattle.task_ast.specs.declared.names.Variable.TheVariants.{Shared, Local}
-use Rattle.task_ast.specs.Paths.{CheckedBlock, Access, read, write, unset, End, BlockPath}
+use Rattle.task_ast.specs.Paths.{CheckedBlock, CheckedFunction, Access, read, write, unset, End, BlockPath}
 use Rattle.path_sums.specs.Sums.{Algebra}
 use Rattle.path_sums.specs.declared.access.AccessSummary.{AccessSummary}
 
@@ -26,18 +26,18 @@ writes_first v (read n ∷ more) = if is_same v n.variable then false else write
 writes_first v (write n ∷ more) = if is_same v n.variable then true else writes_first v more
 writes_first v (unset n ∷ more) = writes_first v more
 
--- some path of the block is so
-abbrev pub SomePath : CheckedBlock → (List Access → Bool) → Type 0
-SomePath b holds = (xs : List Access) × (end : End) × BlockPath b xs end × (holds xs ≡ true)
+-- some path of the block, which may call these functions, is so
+abbrev pub SomePath : List CheckedFunction → CheckedBlock → (List Access → Bool) → Type 0
+SomePath fs b holds = (xs : List Access) × (end : End) × BlockPath fs b xs end × (holds xs ≡ true)
 
 -- some path of the block isn't
-abbrev pub SomePathNot : CheckedBlock → (List Access → Bool) → Type 0
-SomePathNot b holds = (xs : List Access) × (end : End) × BlockPath b xs end × (holds xs ≡ false)
+abbrev pub SomePathNot : List CheckedFunction → CheckedBlock → (List Access → Bool) → Type 0
+SomePathNot fs b holds = (xs : List Access) × (end : End) × BlockPath fs b xs end × (holds xs ≡ false)
 
 -- A shared scalar is private to a task where some path writes it, and not every path writes it before it reads it and before its
 -- transition. This is stricter than Alpaca's rule (Maeng, Colin, Lucia: Alpaca, OOPSLA 2017), which privatises what is read and later written.
-abbrev pub IsPrivate : CheckedBlock → Variable → Type 0
-IsPrivate b v = SomePath b (writes v) × SomePathNot b (writes_first v)
+abbrev pub IsPrivate : List CheckedFunction → CheckedBlock → Variable → Type 0
+IsPrivate fs b v = SomePath fs b (writes v) × SomePathNot fs b (writes_first v)
 
 abbrev pub summary_unit : AccessSummary
 summary_unit = record { falls_through = true; untouched = true; transitions_untouched = false; exposed = false; writes = false }
@@ -74,9 +74,27 @@ summary_join s t = record {
   writes = s.writes || t.writes;
 }
 
+-- a call of what this is the body's sum of: the paths that return go on, and locals are the function's own
+abbrev pub summary_called : Variable → AccessSummary → AccessSummary
+summary_called (Shared _) s = record {
+  falls_through = true;
+  untouched = s.transitions_untouched;
+  transitions_untouched = false;
+  exposed = s.exposed;
+  writes = s.writes;
+}
+summary_called (Local _) s = summary_unit
+
 -- the sums of what paths do with the variable
 unfoldable pub summary : Variable → Algebra AccessSummary
-summary v = record { unit = summary_unit; gone = summary_gone; one = summary_one v; seq = summary_seq; join = summary_join }
+summary v = record {
+  unit = summary_unit;
+  gone = summary_gone;
+  one = summary_one v;
+  seq = summary_seq;
+  join = summary_join;
+  called = summary_called v;
+}
 
 -- whether a variable is private where its accesses sum up so
 abbrev pub private_of : AccessSummary → Bool

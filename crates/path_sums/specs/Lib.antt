@@ -1,3 +1,4 @@
 pub mod Sums
+pub mod Known
 pub mod Reaches
 pub mod Access

@@ -1,13 +1,18 @@
 //! What the paths of a block do with one variable.
 
-ghost use Rattle.std.specs.Prelude.{◌≡◌, ◌↔◌, IsTrue, Option, [], map};
+ghost use Rattle.std.specs.Prelude.{◌≡◌, ◌↔◌, IsTrue, IfOk, List, Option, [], length, map};
 ghost use Rattle.task_ast.specs.Tree.{choice_of};
-ghost use Rattle.task_ast.specs.View.{expression_of, statement_of, tested_of, block_view};
-ghost use Rattle.task_ast.specs.Paths.{CheckedBlock, read, write, unset};
-ghost use Rattle.path_sums.specs.Sums.{expression_sum, turns_sum, statement_sum, choice_sum, block_sum};
+ghost use Rattle.task_ast.specs.Calls.{BlockCallsBelow};
+ghost use Rattle.task_ast.specs.View.{expression_of, values_of, statement_of, tested_of, block_view, function_of};
+ghost use Rattle.task_ast.specs.Paths.{CheckedBlock, CheckedFunction, read, write, unset};
+ghost use Rattle.path_sums.specs.Sums.{expression_sum, values_sum, call_sum, call_sums, turns_sum, statement_sum, choice_sum, block_sum};
 ghost use Rattle.path_sums.specs.Access.{is_same, writes, SomePath, IsPrivate, summary, private_of};
+ghost use Rattle.path_sums.specs.Known.{AreCallSums};
 
-use task_ast::{Arm, Expr, Stmt, TaskName, Variable, VariableName};
+use std::alloc::{AllocError, Global};
+use task_ast::{
+    Args, Arm, Expr, FunctionDeclaration, FunctionName, Stmt, TaskName, Variable, VariableName,
+};
 
 /// What the paths of a block do with one variable.
 #[derive(Clone, Copy)]
@@ -101,6 +106,19 @@ fn unset_of(v: Variable, name: &VariableName) -> AccessSummary
     UNIT
 }
 
+// Of a call: nothing, where there is no such function.
+#[tactic(auto, unfolding(crate::specs::Access::summary))]
+fn call_of(known: &[AccessSummary], v: Variable, function: u32) -> AccessSummary
+    ensures { result ≡ call_sum known.now (summary v) function }
+{
+    let number = function as usize;
+    if number < known.len() {
+        known[number]
+    } else {
+        UNIT
+    }
+}
+
 #[tactic(auto, unfolding(crate::specs::Access::summary))]
 fn seq(v: Variable, s: AccessSummary, t: AccessSummary) -> AccessSummary
     ensures { result ≡ (summary v).seq s t }
@@ -127,6 +145,22 @@ fn join(v: Variable, s: AccessSummary, t: AccessSummary) -> AccessSummary
     }
 }
 
+// A call of what this is the body's sum of.
+#[tactic(auto, unfolding(crate::specs::Access::summary))]
+fn called(v: Variable, s: AccessSummary) -> AccessSummary
+    ensures { result ≡ (summary v).called s }
+{
+    match v {
+        Variable::Shared(_) => AccessSummary {
+            falls_through: true,
+            untouched: s.transitions_untouched,
+            transitions_untouched: false,
+            ..s
+        },
+        Variable::Local(_) => UNIT,
+    }
+}
+
 fn turns(v: Variable, n: u16, s: AccessSummary) -> AccessSummary
     ensures { result ≡ turns_sum (summary v) n s }
 {
@@ -139,40 +173,67 @@ fn turns(v: Variable, n: u16, s: AccessSummary) -> AccessSummary
     }
 }
 
-fn of_expression(v: Variable, e: &Expr<VariableName>) -> AccessSummary
-    ensures { result ≡ expression_sum (summary v) (expression_of e.now) }
+#[cycle(expression)]
+fn of_expression(
+    known: &[AccessSummary],
+    v: Variable,
+    e: &Expr<VariableName, FunctionName>,
+) -> AccessSummary
+    ensures { result ≡ expression_sum known.now (summary v) (expression_of e.now) }
 {
     match e {
         Expr::Number(_) | Expr::LongNumber(_) | Expr::Sense | Expr::NextEvent => unit(v),
         Expr::Name(name) => read_of(v, name),
-        Expr::Element(name, index) => seq(v, of_expression(v, index), read_of(v, name)),
-        Expr::Unary(_, a) | Expr::Shift(_, a, _) => of_expression(v, a),
-        Expr::Binary(_, a, b) => seq(v, of_expression(v, a), of_expression(v, b)),
+        Expr::Element(name, index) => seq(v, of_expression(known, v, index), read_of(v, name)),
+        Expr::Call(name, values) => {
+            let given = of_values(known, v, values);
+            seq(v, given, call_of(known, v, name.function))
+        }
+        Expr::Unary(_, a) | Expr::Shift(_, a, _) => of_expression(known, v, a),
+        Expr::Binary(_, a, b) => seq(v, of_expression(known, v, a), of_expression(known, v, b)),
         Expr::ShortCircuit(_, a, b) => {
-            let left = of_expression(v, a);
-            join(v, left, seq(v, left, of_expression(v, b)))
+            let left = of_expression(known, v, a);
+            join(v, left, seq(v, left, of_expression(known, v, b)))
         }
     }
 }
 
+#[cycle(expression)]
+fn of_values(
+    known: &[AccessSummary],
+    v: Variable,
+    values: &Args<VariableName, FunctionName>,
+) -> AccessSummary
+    ensures { result ≡ values_sum known.now (summary v) (values_of values.now) }
+{
+    match values {
+        Args::End => unit(v),
+        Args::Value(e, more) => seq(v, of_expression(known, v, e), of_values(known, v, more)),
+    }
+}
+
 #[cycle(access)]
-fn of_statement(v: Variable, statement: &Stmt<VariableName, TaskName>) -> AccessSummary
-    ensures { result ≡ statement_sum (summary v) (statement_of statement.now) }
+fn of_statement(
+    known: &[AccessSummary],
+    v: Variable,
+    statement: &Stmt<VariableName, TaskName, FunctionName>,
+) -> AccessSummary
+    ensures { result ≡ statement_sum known.now (summary v) (statement_of statement.now) }
 {
     match statement {
         Stmt::Declare(_, name, None) => unset_of(v, name),
         Stmt::Declare(_, name, Some(value)) | Stmt::Assign(name, value) => {
-            seq(v, of_expression(v, value), write_of(v, name))
+            seq(v, of_expression(known, v, value), write_of(v, name))
         }
         Stmt::Store(name, index, value) => seq(
             v,
-            of_expression(v, index),
-            seq(v, of_expression(v, value), write_of(v, name)),
+            of_expression(known, v, index),
+            seq(v, of_expression(known, v, value), write_of(v, name)),
         ),
-        Stmt::If(arms, None) => of_arms(v, arms, unit(v)),
+        Stmt::If(arms, None) => of_arms(known, v, arms, unit(v)),
         Stmt::If(arms, Some(last)) => {
-            let in_last = access_summary(v, last);
-            of_arms(v, arms, in_last)
+            let in_last = access_summary(known, v, last);
+            of_arms(known, v, arms, in_last)
         }
         Stmt::For {
             variable,
@@ -182,45 +243,67 @@ fn of_statement(v: Variable, statement: &Stmt<VariableName, TaskName>) -> Access
             ..
         } => {
             let counted = write_of(v, variable);
-            let turn = seq(v, access_summary(v, body), counted);
+            let turn = seq(v, access_summary(known, v, body), counted);
             seq(v, counted, turns(v, below.saturating_sub(*from), turn))
         }
-        Stmt::Emit(value) => of_expression(v, value),
-        Stmt::TransitionTo(_) => gone(v),
+        Stmt::Emit(value) => of_expression(known, v, value),
+        Stmt::Return(_, value) => seq(v, of_expression(known, v, value), gone(v)),
+        Stmt::TransitionTo(_, _) => gone(v),
     }
 }
 
 #[cycle(access)]
 fn of_arms(
+    known: &[AccessSummary],
     v: Variable,
-    arms: &[Arm<VariableName, TaskName>],
+    arms: &[Arm<VariableName, TaskName, FunctionName>],
     in_last: AccessSummary,
 ) -> AccessSummary
-    ensures { (last : Option CheckedBlock) → in_last ≡ choice_sum (summary v) (choice_of [] last) →
-        result ≡ choice_sum (summary v) (choice_of (map tested_of arms.now) last) }
+    ensures { (last : Option CheckedBlock) → in_last ≡ choice_sum known.now (summary v) (choice_of [] last) →
+        result ≡ choice_sum known.now (summary v) (choice_of (map tested_of arms.now) last) }
 {
     let mut sum = in_last;
     for i in (0..arms.len()).rev() {
         let arm = &arms[i];
         sum = seq(
             v,
-            of_expression(v, &arm.condition),
-            join(v, access_summary(v, &arm.block), sum),
+            of_expression(known, v, &arm.condition),
+            join(v, access_summary(known, v, &arm.block), sum),
         );
     }
     sum
 }
 
-/// What the paths of the block do with the variable.
+/// What the paths of the block do with the variable, where these are the sums of the calls of the functions that it may call.
 #[cycle(access)]
-pub fn access_summary(v: Variable, body: &[Stmt<VariableName, TaskName>]) -> AccessSummary
-    ensures { result ≡ block_sum (summary v) (block_view body.now) }
+pub fn access_summary(
+    known: &[AccessSummary],
+    v: Variable,
+    body: &[Stmt<VariableName, TaskName, FunctionName>],
+) -> AccessSummary
+    ensures { result ≡ block_sum known.now (summary v) (block_view body.now) }
 {
     let mut sum = unit(v);
     for i in (0..body.len()).rev() {
-        sum = seq(v, of_statement(v, &body[i]), sum);
+        sum = seq(v, of_statement(known, v, &body[i]), sum);
     }
     sum
+}
+
+/// What calls of the functions do with the variable, in their order; or no memory is left.
+pub fn call_summaries(
+    alloc: Global,
+    v: Variable,
+    functions: &[FunctionDeclaration<VariableName, TaskName, FunctionName>],
+) -> Result<Vec<AccessSummary>, AllocError>
+    ensures { IfOk result (λ sums. sums.items ≡ call_sums (summary v) (map function_of functions.now)) }
+{
+    let mut known = Vec::new(alloc);
+    for i in 0..functions.len() {
+        let body = access_summary(&known, v, &functions[i].body);
+        known.push(called(v, body))?;
+    }
+    Ok(known)
 }
 
 fn private_of(s: AccessSummary) -> bool
@@ -229,17 +312,28 @@ fn private_of(s: AccessSummary) -> bool
     s.writes && (s.exposed || (s.transitions_untouched || s.untouched))
 }
 
-/// Whether some path of the block writes the variable: an array that is so is versioned in the task.
-pub fn is_written(v: Variable, body: &[Stmt<VariableName, TaskName>]) -> bool
-    ensures { IsTrue result ↔ SomePath (block_view body.now) (writes v) }
+/// Whether some path of the block writes the variable, where these are the sums of the calls of the functions that it may call: an
+/// array that is so is versioned in the task.
+pub fn is_written(
+    known: &[AccessSummary],
+    v: Variable,
+    body: &[Stmt<VariableName, TaskName, FunctionName>],
+) -> bool
+    ensures { (fs : List CheckedFunction) → AreCallSums (summary v) fs known.now → BlockCallsBelow (length fs) (block_view body.now) →
+        (IsTrue result ↔ SomePath fs (block_view body.now) (writes v)) }
 {
-    access_summary(v, body).writes
+    access_summary(known, v, body).writes
 }
 
 /// Whether a shared scalar is private to a task with this body: some path writes it, and not every path writes it
 /// before it reads it and before its transition.
-pub fn is_private(v: Variable, body: &[Stmt<VariableName, TaskName>]) -> bool
-    ensures { IsTrue result ↔ IsPrivate (block_view body.now) v }
+pub fn is_private(
+    known: &[AccessSummary],
+    v: Variable,
+    body: &[Stmt<VariableName, TaskName, FunctionName>],
+) -> bool
+    ensures { (fs : List CheckedFunction) → AreCallSums (summary v) fs known.now → BlockCallsBelow (length fs) (block_view body.now) →
+        (IsTrue result ↔ IsPrivate fs (block_view body.now) v) }
 {
-    private_of(access_summary(v, body))
+    private_of(access_summary(known, v, body))
 }

@@ -4,5 +4,5 @@
 mod access;
 mod reaches;
 
-pub use access::{AccessSummary, access_summary, is_private, is_same, is_written};
+pub use access::{AccessSummary, access_summary, call_summaries, is_private, is_same, is_written};
 pub use reaches::reaches_end;

@@ -12,7 +12,7 @@ use Rattle.need_lines.specs.Rows.{NeedRow}
 use Rattle.need_lines.specs.Lines.{needs_text}
 use Rattle.source_needs.specs.Needs.{AreNeedsOf}
 use Rattle.plain_commands.specs.command_answers.Ending.{well}
-use Rattle.plain_commands.specs.command_texts.Sources.{RefusesSource, SaysSource}
+use Rattle.plain_commands.specs.command_texts.Sources.{RefusesBuild, SaysPlainSource}
 use Rattle.plain_commands.specs.command_answers.Promises.{Promise, OfOneText}
 
 -- These are the lines of a source's tasks, behind them the greatest needs with the source's bound. The image that is compiled of the source has the layout
@@ -33,13 +33,13 @@ pub record Scopes (source output : List ℕ) : Type 0 where
   pub accepted : IsAcceptedText source program allow
   pub scope : IsScope source program allow output
 
--- what it promises
+-- What it promises. A source with functions is refused as one that isn't compiled yet.
 abbrev pub bounds_promise : (source : List ℕ) → Promise
 bounds_promise source = record {
   reads = source ∷ [];
   judges = source ∷ [];
   puts = None;
-  takes = OfOneText SaysSource;
+  takes = OfOneText SaysPlainSource;
   makes = λ texts p. OfOneText (λ s. Scopes s p.output × (p.file ≡ None) × (p.ending ≡ well)) texts;
-  refuses = λ texts place r. OfOneText (λ s. RefusesSource s r × (place ≡ 0)) texts;
+  refuses = λ texts place r. OfOneText (λ s. RefusesBuild s r × (place ≡ 0)) texts;
 }

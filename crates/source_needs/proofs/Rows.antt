@@ -9,8 +9,10 @@ use Rattle.std.specs.Prelude.{slice_get}
 use Rattle.std.proofs.lemmas.Option.{get_or_from_slice_get}
 use Rattle.task_ast.specs.declared.TaskDeclaration.{TaskDeclaration}
 use Rattle.task_ast.specs.declared.names.VariableName.{VariableName}
+use Rattle.task_ast.specs.declared.names.FunctionName.{FunctionName}
 use Rattle.task_ast.specs.declared.names.TaskName.{TaskName}
 use Rattle.task_ast.specs.View.{block_view, task_of}
+use Rattle.cost_bound.specs.Summaries.{function_summaries, summaries}
 use Rattle.cost_bound.specs.declared.allowance.Allow.{Allow}
 use Rattle.cost_bound.specs.Allowance.{CheckedTask, scalars_of, task_bound, task_words, uses_events, versions_of}
 use Rattle.code_paths.specs.Paths.{capped}
@@ -49,12 +51,13 @@ pub record TaskHolds (text : List ℕ) (p : CheckedProgram) (allow : Allow) (l :
   pub events : l.runtime.events ≡ uses_events p
   pub versions : allow.versions ≡ versions_of p
   pub cleared : l.versions.words ≡ allow.versions
-  pub bound : task_bound (uses_events p) (versions_of p) p.shared task.body < 2 ^ 32
-  pub words : task_words p.shared task.body ≤ 22000
+  pub bound : task_bound (summaries p) (uses_events p) (versions_of p) p.shared task.body < 2 ^ 32
+  pub words : task_words (summaries p) p.shared task.body ≤ 22000
   pub whole : IsWhole (task_program p l k)
   pub room : words_of (task_program p l k) ≤ 0x7FFF
-  pub privates : private_words place.privates ≤ scalars_of p.shared task.body
+  pub privates : private_words place.privates ≤ scalars_of (summaries p) p.shared task.body
   pub conditions : block_conditions task.body < 2 ^ 32
+  pub none : [] ≡ summaries p
 
 pub task_holds : TasksAreWhole → (text : List ℕ) (p : CheckedProgram) (allow : Allow) (plans : List TaskPlanValue) (l : MemoryMap)
     → PrivatesAreFew → IsLaidOutText text p allow plans l
@@ -66,12 +69,13 @@ task_holds whole text p allow plans l few laid k inside =
     let program : task_program p l k ≡ _ = program_at l p.tasks l.tasks k t.0 place.0 t.1 place.1 in
     let privates = few text p allow plans l laid k t.0 place.0 t.1 place.1 in
     let allowed = laid.accepted.allowed in
-    let bound = at_most_greatest (task_bound (uses_events p) (versions_of p) p.shared) p.tasks k t.0 t.1 in
-    let words = at_most_total (task_words p.shared) p.tasks k t.0 t.1 in
+    let bound = at_most_greatest (task_bound (summaries p) (uses_events p) (versions_of p) p.shared) p.tasks k t.0 t.1 in
+    let words = at_most_total (task_words (summaries p) p.shared) p.tasks k t.0 t.1 in
     let own = task_seen l.runtime.logging place.0 in
     let no_more = seen_words l.runtime.logging place.0 in
-    let code = blocks_keep_to_words (places_of (map_seen t.0.body l) own) (scalars_of p.shared t.0.body) t.0.body (omega (arith, privates, no_more)) in
-    let small : task_words p.shared t.0.body ≤ 22000 = omega (arith, words, allowed.within_size) in
+    let code = blocks_keep_to_words (summaries p) (places_of (map_seen t.0.body l) own) (scalars_of (summaries p) p.shared t.0.body) t.0.body
+    (omega (arith, privates, no_more)) in
+    let small : task_words (summaries p) p.shared t.0.body ≤ 22000 = omega (arith, words, allowed.within_size) in
     let places = places_of (map_seen t.0.body l) own in
     let conditions = block_few places t.0.body in
     let choices = program_few (lowered_block places t.0.body) in
@@ -89,6 +93,7 @@ task_holds whole text p allow plans l few laid k inside =
       room = omega (arith, ap words_of program, code, small);
       privates = privates;
       conditions = omega (arith, conditions, choices, code, small);
+      none = ap function_summaries (sym laid.layout.plain);
     }
 
 -- ways that are cut at 2^64 - 1 are cut by a bound of 32 bits
@@ -125,7 +130,8 @@ as_many l (task ∷ tasks) [] e = absurd (omega (arith, e))
 as_many l (task ∷ tasks) (t ∷ ts) e = ap suc (as_many l tasks ts (omega (arith, e)))
 
 -- a task as it is declared, where it stands
-pub task_at : (ts : List (TaskDeclaration VariableName TaskName)) (k : ℕ) (t : TaskDeclaration VariableName TaskName) (task : CheckedTask)
+pub task_at : (ts : List (TaskDeclaration VariableName TaskName FunctionName)) (k : ℕ) (t : TaskDeclaration VariableName TaskName FunctionName)
+    (task : CheckedTask)
     → slice_get (map task_of ts) k ≡ Some task
     → t ≡ get_or ts k t → (t.name ≡ task.name) × (block_view t.body.items ≡ task.body)
 task_at ts k t task there is =

@@ -1,6 +1,7 @@
 -- What each task of a source needs of a charge, as its lines tell it.
 use Rattle.std.specs.Prelude.{◌≡◌, ℕ, suc, ◌+◌, ◌-◌, ◌<◌, min, true, false, List, [], ◌∷◌, length, drop, get_or}
 use Rattle.cost_bound.specs.declared.allowance.Allow.{Allow}
+use Rattle.cost_bound.specs.Summaries.{summaries}
 use Rattle.cost_bound.specs.Allowance.{CheckedTask, task_words}
 use Rattle.source_values.specs.Runs.{CheckedProgram}
 use Rattle.source_report.specs.SourceReport.{spelled}
@@ -49,7 +50,7 @@ need_row text p l k ways task = let n = need_parts Redo p l k in record {
   path = n.path;
   commit = n.commit;
   table = (program_parts p l).cost k;
-  words = task_words p.shared task.body;
+  words = task_words (summaries p) p.shared task.body;
   ways = ways;
   undo = undo_need p (logged_map l) k;
 }

@@ -1,11 +1,13 @@
 //! What each task of a source needs.
 
-ghost use Rattle.std.specs.Prelude.{◌≡◌, ◌+◌, ◌*◌, ◌^◌, ◌<◌, ◌≤◌, IfOk, Some, drop, length, map, slice_get, ℕ};
+ghost use Rattle.std.specs.Prelude.{◌≡◌, ◌+◌, ◌*◌, ◌^◌, ◌<◌, ◌≤◌, [], IfOk, Some, drop, length, map, slice_get, ℕ};
 ghost use Rattle.task_ast.specs.View.{block_view, program_of};
 ghost use Rattle.task_ast.specs.Paths.{CheckedTask};
 ghost use Rattle.cost_bound.specs.Counts.{emits_of};
+ghost use Rattle.cost_bound.specs.Summaries.{summaries};
 ghost use Rattle.cost_bound.specs.Allowance.{list_of, scalars_of, task_bound, task_words};
 ghost use Rattle.source_meaning.specs.Acceptance.{IsAcceptedText};
+ghost use Rattle.source_meaning.specs.Plain.{IsPlain};
 ghost use Rattle.war_analysis.specs.Plans.{IsPlan};
 ghost use Rattle.memory_map.specs.declared.runtime.Logging.TheVariants.{Redo, Undo};
 ghost use Rattle.memory_map.specs.MemoryMap.{MemoryMap, logged_map};
@@ -34,7 +36,7 @@ use privatise::{layout, layouts_are_logged, one_layout, one_logged_layout};
 use source_meaning::Accepted;
 use source_report::spelled;
 use std::alloc::{AllocError, Global};
-use task_ast::{SharedDeclaration, Stmt, TaskName, VariableName};
+use task_ast::{FunctionName, SharedDeclaration, Stmt, TaskName, VariableName};
 use war_analysis::{Plan, analyse, one_plan};
 use whole_programs::{privates_are_few, tasks_are_whole};
 
@@ -48,27 +50,27 @@ struct Table {
     emits: u64,
 }
 
-// The same of a task with these statements, in a source whose bound has 32 bits.
+// The same of a task with these statements, which call no function, in a source whose bound has 32 bits.
 fn table_of(
     shared: &[SharedDeclaration],
     events: bool,
     versions: u64,
-    body: &[Stmt<VariableName, TaskName>],
+    body: &[Stmt<VariableName, TaskName, FunctionName>],
 ) -> Table
     requires few { length shared.now ≤ 256 }
-    requires small { task_bound events versions shared.now (block_view body.now) < 2 ^ 32 }
-    requires short { task_words shared.now (block_view body.now) < 2 ^ 32 }
-    ensures bound { result.bound ≡ task_bound events versions shared.now (block_view body.now) }
-    ensures words { result.words ≡ task_words shared.now (block_view body.now) }
-    ensures list { result.list ≡ list_of shared.now (block_view body.now) }
-    ensures elements { result.elements ≡ elements_of shared.now (block_view body.now) }
-    ensures emits { result.emits ≡ emits_of (block_view body.now) }
+    requires small { task_bound [] events versions shared.now (block_view body.now) < 2 ^ 32 }
+    requires short { task_words [] shared.now (block_view body.now) < 2 ^ 32 }
+    ensures bound { result.bound ≡ task_bound [] events versions shared.now (block_view body.now) }
+    ensures words { result.words ≡ task_words [] shared.now (block_view body.now) }
+    ensures list { result.list ≡ list_of [] shared.now (block_view body.now) }
+    ensures elements { result.elements ≡ elements_of [] shared.now (block_view body.now) }
+    ensures emits { result.emits ≡ emits_of [] (block_view body.now) }
     ensures few { 12 * versions + 40 * result.list + 40 * result.emits < 2 ^ 32 }
     ensures some { result.elements ≤ result.list }
-    ensures scalars { scalars_of shared.now (block_view body.now) ≤ 512 }
+    ensures scalars { scalars_of [] shared.now (block_view body.now) ≤ 512 }
 {
-    let needs = task_needs(shared, events, versions, body);
-    let scalars = assigned_scalars(shared, body);
+    let needs = task_needs(&[], shared, events, versions, body);
+    let scalars = assigned_scalars(&[], shared, body);
     Table {
         bound: needs.bound,
         words: needs.words,
@@ -140,7 +142,7 @@ fn price_task(accepted: &Accepted, layout: &Layout, most: u64, number: usize) ->
     ensures parts { parts_in result.parts ≡ need_parts layout.now.runtime.logging (program_of accepted.now.checked.source) layout.now number }
     ensures bound { result.bound ≡ (program_parts (program_of accepted.now.checked.source) layout.now).cost number }
     ensures words { (task : CheckedTask) → slice_get (program_of accepted.now.checked.source).tasks number ≡ Some task
-        → result.words ≡ task_words (program_of accepted.now.checked.source).shared task.body }
+        → result.words ≡ task_words (summaries (program_of accepted.now.checked.source)) (program_of accepted.now.checked.source).shared task.body }
     ensures low { (result.parts.boot < 2 ^ 32) × (result.parts.start < 2 ^ 32) × (result.parts.path < 2 ^ 32) × (result.parts.commit < 2 ^ 32) }
     ensures small { (result.bound < 2 ^ 32) × (result.words < 2 ^ 32) }
 {
@@ -294,9 +296,7 @@ fn need_by_lines<'a>(
     privates_are_few();
     let way = dearest_way(alloc, layout.runtime().events, program)?;
     let ways = task_ways(alloc, ifs.lines, ifs.numbers, &way.held, &way.failed)?;
-    Ok(task_need(
-        accepted, layout, way.cycles, ways, undo, number,
-    ))
+    Ok(task_need(accepted, layout, way.cycles, ways, undo, number))
 }
 
 // The lines behind so many.
@@ -340,9 +340,10 @@ fn tasks_need<'a>(
     Ok(needs)
 }
 
-// The layout of an accepted source.
+// The layout of an accepted source without functions.
 fn layout_of(alloc: Global, accepted: &Accepted, plan: &Plan) -> Result<Layout, AllocError>
     requires accepted { IsAcceptedText accepted.now.text.items (program_of accepted.now.checked.source) accepted.now.allow }
+    requires plain { IsPlain (program_of accepted.now.checked.source) }
     requires plan { IsPlan (program_of accepted.now.checked.source) plan.now }
     ensures { IfOk result (λ l. IsLayout (program_of accepted.now.checked.source) accepted.now.allow plan.now l) }
 {
@@ -356,6 +357,7 @@ fn needs_in_place(
     plan: &Plan,
 ) -> Result<Vec<UndoNeed>, AllocError>
     requires accepted { IsAcceptedText accepted.now.text.items (program_of accepted.now.checked.source) accepted.now.allow }
+    requires plain { IsPlain (program_of accepted.now.checked.source) }
     requires plan { IsPlan (program_of accepted.now.checked.source) plan.now }
     ensures { IfOk result (λ needs. (l : MemoryMap) → IsLayout (program_of accepted.now.checked.source) accepted.now.allow plan.now l
         → AreUndoNeeds (program_of accepted.now.checked.source) (logged_map l) needs.items) }
@@ -367,9 +369,10 @@ fn needs_in_place(
     undo_needs(alloc, accepted, &layout, programs.as_slice())
 }
 
-/// What each task of an accepted source needs, in order of declaration; or no memory is left.
+/// What each task of an accepted source without functions needs, in order of declaration; or no memory is left.
 pub fn needs_of<'a>(alloc: Global, accepted: &'a Accepted) -> Result<Vec<TaskNeed<'a>>, AllocError>
-    requires { IsAcceptedText accepted.now.text.items (program_of accepted.now.checked.source) accepted.now.allow }
+    requires accepted { IsAcceptedText accepted.now.text.items (program_of accepted.now.checked.source) accepted.now.allow }
+    requires plain { IsPlain (program_of accepted.now.checked.source) }
     ensures { IfOk result (λ needs. AreNeedsOf accepted.now.text.items (program_of accepted.now.checked.source) accepted.now.allow
         (map row_of needs.items)) }
 {

@@ -55,8 +55,14 @@ pub fn start_need(logging: Logging, events: bool, versions: u64, privates: u64) 
 {
     let cleared = 9 + (if_any(versions, 2) + 8 * versions);
     match logging {
-        Logging::Redo => 30 + with_events(events, 4) + cleared + (if_any(privates, 3) + 6 * privates),
-        Logging::Undo => 26 + with_events(events, 4) + cleared + (if_any(privates, 3) + 15 * privates),
+        Logging::Redo => 30
+            + with_events(events, 4)
+            + cleared
+            + (if_any(privates, 3) + 6 * privates),
+        Logging::Undo => 26
+            + with_events(events, 4)
+            + cleared
+            + (if_any(privates, 3) + 15 * privates),
     }
 }
 

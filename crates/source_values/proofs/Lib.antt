@@ -1,10 +1,16 @@
+mod Called
 mod Choices
 mod Completions
 mod Emitted
+mod Functions
+mod Kept
 mod Marked
+mod Placed
 mod Rows
+mod Sizes
 mod Takes
 mod Tasks
+mod Statements
 mod Turns
 mod Uses
 mod Views

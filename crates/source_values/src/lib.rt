@@ -2,6 +2,7 @@
 //! whole tasks, one after another.
 #![tactic(auto)]
 
+mod frame;
 pub mod laws;
 mod marks;
 mod numbers;

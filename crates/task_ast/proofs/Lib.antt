@@ -1,3 +1,4 @@
+mod Answers
 mod Backwards
 mod Widths
 pub mod Interface

@@ -1,6 +1,6 @@
 -- The types of expressions: C's, where an int has one word and a long two.
 use Rattle.std.specs.Prelude.{ℕ, Bool, true, false, nat_le, if◌then◌else◌}
-use Rattle.task_ast.specs.Tree.{Expression, number, long_number, name, element, sense, next_event, unary, binary, shift, short_circuit}
+use Rattle.task_ast.specs.Tree.{Expression, number, long_number, name, element, sense, next_event, call, unary, binary, shift, short_circuit}
 use Rattle.task_ast.specs.declared.WordType.{WordType}
 use Rattle.task_ast.specs.declared.WordType.TheVariants.{Unsigned, Int, Long}
 use Rattle.task_ast.specs.declared.UnaryOperator.{UnaryOperator}
@@ -9,6 +9,7 @@ use Rattle.task_ast.specs.declared.BinaryOperator.{BinaryOperator}
 use Rattle.task_ast.specs.declared.BinaryOperator.TheVariants.{Multiply, Divide, Remainder, Add, Subtract, Less, LessEqual, Greater, GreaterEqual, Equal}
 use Rattle.task_ast.specs.declared.BinaryOperator.TheVariants.{NotEqual, And, Xor, Or}
 use Rattle.task_ast.specs.declared.names.VariableName.{VariableName}
+use Rattle.task_ast.specs.declared.names.FunctionName.{FunctionName}
 
 -- whether a number of the type has two words
 abbrev pub is_long : WordType → Bool
@@ -69,19 +70,20 @@ unary_type Not t = Int
 abbrev pub literal_type : ℕ → WordType
 literal_type n = if nat_le n 32767 then Int else Unsigned
 
--- the type of an expression over names of these types: a reading is unsigned, a shift has the type of its left side
-abbrev pub expression_type : {V : Type 0} → (V → WordType) → Expression V → WordType
-expression_type of (number n) = literal_type n
-expression_type of (long_number n) = Long
-expression_type of (name x) = of x
-expression_type of (element x index) = of x
-expression_type of sense = Unsigned
-expression_type of next_event = Unsigned
-expression_type of (unary op e) = unary_type op (expression_type of e)
-expression_type of (binary op a b) = binary_type op.operator (expression_type of a) (expression_type of b)
-expression_type of (shift op e count) = expression_type of e
-expression_type of (short_circuit op a b) = Int
+-- the type of an expression over names of these types: a reading is unsigned, a call has its function's type, a shift that of its left side
+abbrev pub expression_type : {V F : Type 0} → (V → WordType) → (F → WordType) → Expression V F → WordType
+expression_type of gives (number n) = literal_type n
+expression_type of gives (long_number n) = Long
+expression_type of gives (name x) = of x
+expression_type of gives (element x index) = of x
+expression_type of gives sense = Unsigned
+expression_type of gives next_event = Unsigned
+expression_type of gives (call f values) = gives f
+expression_type of gives (unary op e) = unary_type op (expression_type of gives e)
+expression_type of gives (binary op a b) = binary_type op.operator (expression_type of gives a) (expression_type of gives b)
+expression_type of gives (shift op e count) = expression_type of gives e
+expression_type of gives (short_circuit op a b) = Int
 
 -- the type of an expression whose names have been looked up
-abbrev pub type_of : Expression VariableName → WordType
-type_of e = expression_type (λ x. x.word_type) e
+abbrev pub type_of : Expression VariableName FunctionName → WordType
+type_of e = expression_type (λ x. x.word_type) (λ f. f.word_type) e

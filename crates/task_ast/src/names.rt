@@ -4,7 +4,7 @@ use crate::{Source, WordType};
 use alp_text::Span;
 
 /// A variable by its number, counted from 0: a shared one in the order of its declaration in the source, a local one in the
-/// order of its declaration in its task.
+/// order of its declaration in its task or function, of which the parameters are the first.
 #[derive(Clone, Copy, Debug, PartialEq, Eq)]
 pub enum Variable {
     Shared(u32),
@@ -26,5 +26,14 @@ pub struct TaskName {
     pub task: u32,
 }
 
+/// A name that stands for a function: where it stands in the text, the function's number in the order of declaration, from 0, and the
+/// type of what it gives.
+#[derive(Clone, Copy, Debug, PartialEq, Eq)]
+pub struct FunctionName {
+    pub span: Span,
+    pub function: u32,
+    pub word_type: WordType,
+}
+
 /// A source whose names have been looked up.
-pub type CheckedSource = Source<VariableName, TaskName>;
+pub type CheckedSource = Source<VariableName, TaskName, FunctionName>;

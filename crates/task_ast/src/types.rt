@@ -4,7 +4,7 @@ ghost use Rattle.std.specs.Prelude.{◌≡◌};
 ghost use Rattle.task_ast.specs.View.{expression_of};
 ghost use Rattle.task_ast.specs.Types.{is_long, joined_type, quotient_type, binary_type, unary_type, literal_type, type_of};
 
-use crate::{BinaryOperator, Expr, UnaryOperator, VariableName, WordType};
+use crate::{BinaryOperator, Expr, FunctionName, UnaryOperator, VariableName, WordType};
 
 /// Whether a number of the type has two words.
 pub fn is_long(word_type: WordType) -> bool
@@ -79,7 +79,7 @@ pub fn binary_type(op: BinaryOperator, a: WordType, b: WordType) -> WordType
 }
 
 /// The type of an expression whose names have been looked up.
-pub fn type_of(e: &Expr<VariableName>) -> WordType
+pub fn type_of(e: &Expr<VariableName, FunctionName>) -> WordType
     ensures { result ≡ type_of (expression_of e.now) }
 {
     match e {
@@ -88,6 +88,7 @@ pub fn type_of(e: &Expr<VariableName>) -> WordType
         Expr::Name(x) | Expr::Element(x, _) => x.word_type,
         Expr::Sense => WordType::Unsigned,
         Expr::NextEvent => WordType::Unsigned,
+        Expr::Call(f, _) => f.word_type,
         Expr::Unary(op, operand) => unary_type(*op, type_of(operand)),
         Expr::Binary(op, a, b) => binary_type(op.operator, type_of(a), type_of(b)),
         Expr::Shift(_, operand, _) => type_of(operand),

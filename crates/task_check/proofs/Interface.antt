@@ -2,5 +2,5 @@
 
 -- A source is known by its tree and by what its names were looked up as.
 pub use Rattle.task_check.proofs.Fill.{one_program}
--- Numbers are in range where no name is one too many, and as many names are looked up as a tree has.
-pub use Rattle.task_check.proofs.Ranges.{both_none, no_fault, few_shared, few_tasks, targets_numbered, no_name_fault}
+-- Numbers are in range where no name is one too many.
+pub use Rattle.task_check.proofs.Ranges.{both_none, no_fault, few_shared, few_functions, few_tasks, targets_numbered, no_name_fault}

@@ -7,6 +7,7 @@ mod Finish
 mod Fill
 mod Counted
 mod Ranges
+mod Placed
 mod OneAnswer
 pub mod Interface
 pub use Rattle.task_lex.proofs as task_lex

@@ -1,6 +1,6 @@
--- Numbers are in range where no name is one too many, and as many names are looked up as a tree has.
+-- Numbers are in range where no name is one too many.
 use Rattle.std.proofs.Common.{◌≡◌, ℕ, ◌+◌, ◌<◌, ◌≤◌, Bool, true, false, List, [], ◌∷◌, ◌++◌, length, Option, Some, None, refl, sym, subst, ap, ◌∙◌, arith}
-use Rattle.std.specs.Prelude.{cond, ◌&&◌, ◌==◌, nat_lt, nat_le}
+use Rattle.std.specs.Prelude.{cond, ◌&&◌, ◌||◌, ◌==◌, nat_lt, nat_le}
 use Rattle.std.proofs.lemmas.Bool.Decides.{nat_tests}
 use Rattle.std.proofs.lemmas.Bool.{lt-ltb}
 use Rattle.std.proofs.lemmas.List.{length-append, length-map}
@@ -9,12 +9,14 @@ use Rattle.std.specs.List.{list_all}
 use Rattle.std.specs.Option.{option_or}
 use Rattle.std.specs.Str.{bytes_eq}
 use Rattle.alp_text.specs.declared.lines.Span.{Span}
+use Rattle.task_ast.specs.declared.names.FunctionName.{FunctionName}
+use Rattle.task_ast.specs.Paths.{CheckedProgram}
 use Rattle.task_ast.specs.declared.Extent.TheVariants as extent
 use Rattle.task_ast.specs.declared.names.VariableName.{VariableName}
 use Rattle.task_ast.specs.declared.names.TaskName.{TaskName}
 use Rattle.task_ast.specs.declared.Source.{Source}
 use Rattle.task_ast.specs.Tree.{Program}
-use Rattle.task_ast.specs.View.{program_of, task_of}
+use Rattle.task_ast.specs.View.{program_of, function_of, task_of}
 use Rattle.task_check.specs.declared.occurrence.Role.{Role}
 use Rattle.task_check.specs.declared.occurrence.Role.TheVariants as role
 use Rattle.task_check.specs.declared.occurrence.Occurrence.{Occurrence}
@@ -24,18 +26,16 @@ use Rattle.task_check.specs.declared.symbol.Global.{Global}
 use Rattle.task_check.specs.declared.symbol.Local.{Local}
 use Rattle.task_check.specs.declared.symbol.TypedVariable.{TypedVariable}
 use Rattle.task_check.specs.declared.fault.CheckFault.{CheckFault}
-use Rattle.task_check.specs.declared.walk.Walk.{Walk}
-use Rattle.task_check.specs.Walks.{IsWalked}
 use Rattle.task_check.specs.Occurrences.{program_names}
-use Rattle.task_check.specs.Scope.{text_of, one_shared, one_task, shared_in, tasks_in, locals_in, locals_after, local_in, local_with, global_in, global_with}
+use Rattle.task_check.specs.Scope.{text_of, one_shared, one_function, one_task, shared_in, functions_in, tasks_in, locals_in, locals_after, local_in}
+use Rattle.task_check.specs.Scope.{local_with, global_in, global_with, known_functions, known_symbol}
 use Rattle.task_check.specs.Scope.{if_named, or_global, meaning}
-use Rattle.task_check.specs.LookedUp.{program_back, task_back, task_variables, task_targets, symbol_by, symbol_at, behind, variable_of, target_of, variable_by}
+use Rattle.task_check.specs.LookedUp.{program_back, function_back, task_back, program_variables, program_targets, symbol_by, symbol_at, behind, variable_of, target_of, variable_by}
 use Rattle.task_check.specs.LookedUp.{target_by, variables_in, targets_in}
 use Rattle.task_check.specs.Faults.{first_fault, name_fault, name_fault_if, use_fault, use_fault_by, limit_fault, fault_if, is_unknown, is_too_many}
 use Rattle.task_check.specs.Limits.{is_numbered, are_numbered}
 use Rattle.task_check.specs.Answers.{IsLookedUp, limits_fault}
-use Rattle.task_check.specs.Counted.{tasks_count, tasks_transitions}
-use Rattle.task_check.proofs.Counted.{count, one_variable, one_target, shared_of_program, tasks_of_program, variables_of_program, targets_of_program}
+use Rattle.task_check.proofs.Counted.{shared_of_program, functions_of_program, tasks_of_program}
 
 -- no fault at a name nor in front of it
 pub both_none : {A : Type 0} (a b : Option A) → option_or a b ≡ None → (a ≡ None) × (b ≡ None)
@@ -47,14 +47,16 @@ both_none (Some x) b h = absurd (cc)
 -- the numbers of declarations in front are in range
 record AreFew (front : List Occurrence) : Type 0 where
   shared : shared_in front ≤ 256
+  functions : functions_in front ≤ 64
   tasks : tasks_in front ≤ 64
   locals : locals_in front ≤ 256
 
 -- one more of this role is none too many
 abbrev IsOneOf : Role → List Occurrence → Type 0
 IsOneOf (role.Shared of e) front = shared_in front < 256
+IsOneOf (role.Function of count) front = functions_in front < 64
 IsOneOf role.Task front = tasks_in front < 64
-IsOneOf (role.Local of b e) front = locals_in front < 256
+IsOneOf (role.Local of b e extra) front = locals_in front < 256
 IsOneOf _ front = Unit {0}
 
 -- no fault where the test fails
@@ -65,34 +67,54 @@ no_fault false e h = refl
 below : (n m : ℕ) → n ≤ m → (n == m) ≡ false → n < m
 below n m le h = grind (arith, nat_tests)
 
+neither : (a b : Bool) → (a || b) ≡ false → b ≡ false
+neither true b h = absurd (cc)
+neither false b h = h
+
 one_of : (source : List ℕ) (o : Occurrence) (r : Role) (front : List Occurrence) → AreFew front
-    → is_too_many r (shared_in front) (tasks_in front) (locals_in front) ≡ false → IsOneOf r front
+    → is_too_many r (shared_in front) (functions_in front) (tasks_in front) (locals_in front) ≡ false → IsOneOf r front
 one_of source o (role.Shared of e) front few h = below (shared_in front) 256 few.shared h
+one_of source o (role.Function of count) front few h = below (functions_in front) 64 few.functions h
 one_of source o role.Task front few h = below (tasks_in front) 64 few.tasks h
-one_of source o (role.Local of b e) front few h = below (locals_in front) 256 few.locals h
+one_of source o (role.Local of b e extra) front few h = below (locals_in front) 256 few.locals (neither extra (locals_in front == 256) h)
 one_of source o role.Scalar front few h = tt
 one_of source o role.Element front few h = tt
 one_of source o role.Counter front few h = tt
+one_of source o (role.Call count) front few h = tt
 one_of source o role.Target front few h = tt
 one_of source o (role.Operand refused kept) front few h = tt
+
+-- the numbers after one more of this role are in range
+abbrev AreWithin : Role → List Occurrence → Type 0
+AreWithin r front = (shared_in front + one_shared r ≤ 256) × (functions_in front + one_function r ≤ 64) × (tasks_in front + one_task r ≤ 64)
+    × (locals_after (locals_in front) r ≤ 256)
 
 -- one more
 few_more : (o : Occurrence) (r : Role) (front : List Occurrence) → r ≡ o.role → AreFew front → IsOneOf r front → AreFew (o ∷ front)
 few_more o r front is few one =
-    subst (λ r. (shared_in front + one_shared r ≤ 256) × (tasks_in front + one_task r ≤ 64) × (locals_after (locals_in front) r ≤ 256) → AreFew (o ∷ front))
-    (sym is)
-    (λ h. record { shared = h.0; tasks = h.1; locals = h.2 }) (bounds r one)
+    subst (λ r. AreWithin r front → AreFew (o ∷ front)) (sym is) (λ h. record { shared = h.0; functions = h.1; tasks = h.2; locals = h.3 }) (bounds r one)
   where
-    bounds : (r : Role) → IsOneOf r front → (shared_in front + one_shared r ≤ 256) × (tasks_in front + one_task r ≤ 64)
-        × (locals_after (locals_in front) r ≤ 256)
-    bounds (role.Shared of e) one = let a = few.shared in let b = few.tasks in let c = few.locals in (omega arith, omega arith, omega arith)
-    bounds role.Task one = let a = few.shared in let b = few.tasks in let c = few.locals in (omega arith, omega arith, omega arith)
-    bounds (role.Local of b e) one = let a = few.shared in let b = few.tasks in let c = few.locals in (omega arith, omega arith, omega arith)
-    bounds role.Scalar one = let a = few.shared in let b = few.tasks in let c = few.locals in (omega arith, omega arith, omega arith)
-    bounds role.Element one = let a = few.shared in let b = few.tasks in let c = few.locals in (omega arith, omega arith, omega arith)
-    bounds role.Counter one = let a = few.shared in let b = few.tasks in let c = few.locals in (omega arith, omega arith, omega arith)
-    bounds role.Target one = let a = few.shared in let b = few.tasks in let c = few.locals in (omega arith, omega arith, omega arith)
-    bounds (role.Operand refused kept) one = let a = few.shared in let b = few.tasks in let c = few.locals in (omega arith, omega arith, omega arith)
+    bounds : (r : Role) → IsOneOf r front → AreWithin r front
+    bounds (role.Shared of e) one =
+        let a = few.shared in let b = few.functions in let c = few.tasks in let d = few.locals in (omega arith, omega arith, omega arith, omega arith)
+    bounds (role.Function of count) one =
+        let a = few.shared in let b = few.functions in let c = few.tasks in let d = few.locals in (omega arith, omega arith, omega arith, omega arith)
+    bounds role.Task one =
+        let a = few.shared in let b = few.functions in let c = few.tasks in let d = few.locals in (omega arith, omega arith, omega arith, omega arith)
+    bounds (role.Local of b e extra) one =
+        let a = few.shared in let b = few.functions in let c = few.tasks in let d = few.locals in (omega arith, omega arith, omega arith, omega arith)
+    bounds role.Scalar one =
+        let a = few.shared in let b = few.functions in let c = few.tasks in let d = few.locals in (omega arith, omega arith, omega arith, omega arith)
+    bounds role.Element one =
+        let a = few.shared in let b = few.functions in let c = few.tasks in let d = few.locals in (omega arith, omega arith, omega arith, omega arith)
+    bounds role.Counter one =
+        let a = few.shared in let b = few.functions in let c = few.tasks in let d = few.locals in (omega arith, omega arith, omega arith, omega arith)
+    bounds (role.Call count) one =
+        let a = few.shared in let b = few.functions in let c = few.tasks in let d = few.locals in (omega arith, omega arith, omega arith, omega arith)
+    bounds role.Target one =
+        let a = few.shared in let b = few.functions in let c = few.tasks in let d = few.locals in (omega arith, omega arith, omega arith, omega arith)
+    bounds (role.Operand refused kept) one =
+        let a = few.shared in let b = few.functions in let c = few.tasks in let d = few.locals in (omega arith, omega arith, omega arith, omega arith)
 
 module _ (source : List ℕ) where
   one_here : (o : Occurrence) (front : List Occurrence) → AreFew front → limit_fault source o front ≡ None → IsOneOf o.role front
@@ -100,7 +122,7 @@ module _ (source : List ℕ) where
   one_here o front few h = one_of source o o.role front few (no_fault _ _ h)
 
   are_few : (front : List Occurrence) → first_fault (limit_fault source) front ≡ None → AreFew front
-  are_few [] h = record { shared = omega arith; tasks = omega arith; locals = omega arith }
+  are_few [] h = record { shared = omega arith; functions = omega arith; tasks = omega arith; locals = omega arith }
   are_few (o ∷ front) h =
       let both = both_none (first_fault (limit_fault source) front) (limit_fault source o front) h in
       let few = are_few front both.0 in
@@ -112,6 +134,7 @@ module _ (source : List ℕ) where
 abbrev IsInRange : ℕ → ℕ → Symbol → Type 0
 IsInRange shared tasks (symbol.Scalar n of) = n < shared
 IsInRange shared tasks (symbol.Array n of) = n < shared
+IsInRange shared tasks (symbol.Function n of count) = Unit {0}
 IsInRange shared tasks (symbol.Task n) = n < tasks
 IsInRange shared tasks (symbol.Local n of) = n < 256
 
@@ -141,50 +164,68 @@ global_or shared tasks b (Some x) g h k = h
 global_or shared tasks false None g h k = tt
 global_or shared tasks true None g h k = k
 
-local_here : (r : Role) (front : List Occurrence) → IsOneOf r front → IfLocal (local_with r (tasks_in front) (locals_in front))
+local_here : (r : Role) (front : List Occurrence) → IsOneOf r front → IfLocal (local_with r (functions_in front) (tasks_in front) (locals_in front))
 local_here (role.Shared of e) front one = tt
+local_here (role.Function of count) front one = tt
 local_here role.Task front one = tt
-local_here (role.Local of b e) front one = one
+local_here (role.Local of b e extra) front one = one
 local_here role.Scalar front one = tt
 local_here role.Element front one = tt
 local_here role.Counter front one = tt
+local_here (role.Call count) front one = tt
 local_here role.Target front one = tt
 local_here (role.Operand refused kept) front one = tt
 
 global_here : (shared tasks n : ℕ) (r : Role) (front : List Occurrence) → shared_in front + one_shared r ≤ shared → tasks_in front + one_task r ≤ tasks
-    → IfGlobal shared tasks (global_with r n (shared_in front) (tasks_in front))
+    → IfGlobal shared tasks (global_with r n (shared_in front) (functions_in front) (tasks_in front))
 global_here shared tasks n (role.Shared of (extent.Scalar x)) front h k = omega arith
 global_here shared tasks n (role.Shared of (extent.Long x)) front h k = omega arith
 global_here shared tasks n (role.Shared of (extent.Array x)) front h k = omega arith
+global_here shared tasks n (role.Function of count) front h k = tt
 global_here shared tasks n role.Task front h k = omega arith
-global_here shared tasks n (role.Local of b e) front h k = tt
+global_here shared tasks n (role.Local of b e extra) front h k = tt
 global_here shared tasks n role.Scalar front h k = tt
 global_here shared tasks n role.Element front h k = tt
 global_here shared tasks n role.Counter front h k = tt
+global_here shared tasks n (role.Call count) front h k = tt
 global_here shared tasks n role.Target front h k = tt
 global_here shared tasks n (role.Operand refused kept) front h k = tt
 
-meaning_in : (shared tasks n : ℕ) (l : Option Local) (g : Option Global) → IfLocal l → IfGlobal shared tasks g → IfInRange shared tasks (meaning n l g)
-meaning_in shared tasks n None None h k = tt
-meaning_in shared tasks n None (Some g) h k = k
-meaning_in shared tasks n (Some l) g h k = known (nat_le l.end n && nat_lt n l.begin)
+known_in : (shared tasks known : ℕ) (s : Symbol) → IsInRange shared tasks s → IfInRange shared tasks (known_symbol known s)
+known_in shared tasks known (symbol.Scalar n of) h = h
+known_in shared tasks known (symbol.Array n of) h = h
+known_in shared tasks known (symbol.Task n) h = h
+known_in shared tasks known (symbol.Local n of) h = h
+known_in shared tasks known (symbol.Function n of count) h = by (nat_lt n known)
   where
-    or_in : (g : Option Global) → IfGlobal shared tasks g → IfInRange shared tasks (or_global None g)
-    or_in None k = tt
-    or_in (Some g) k = k
+    by : (b : Bool) → IfInRange shared tasks (cond b (Some (symbol.Function n of count)) None)
+    by true = tt
+    by false = tt
 
-    known : (b : Bool) → IfInRange shared tasks (or_global (cond b (Some (symbol.Local l.number l.word_type)) None) g)
-    known true = h
-    known false = or_in g k
+meaning_in : (shared tasks known n : ℕ) (l : Option Local) (g : Option Global) → IfLocal l → IfGlobal shared tasks g
+    → IfInRange shared tasks (meaning known n l g)
+meaning_in shared tasks known n None None h k = tt
+meaning_in shared tasks known n None (Some g) h k = known_in shared tasks known g.symbol k
+meaning_in shared tasks known n (Some l) g h k = here (nat_le l.end n && nat_lt n l.begin)
+  where
+    or_in : (g : Option Global) → IfGlobal shared tasks g → IfInRange shared tasks (or_global known None g)
+    or_in None k = tt
+    or_in (Some g) k = known_in shared tasks known g.symbol k
+
+    here : (b : Bool) → IfInRange shared tasks (or_global known (cond b (Some (symbol.Local l.number l.word_type)) None) g)
+    here true = h
+    here false = or_in g k
 
 symbol_in : (shared tasks : ℕ) (r : Role) (front : List Occurrence) (found : Option Symbol) → IsOneOf r front → IfInRange shared tasks found
     → IfInRange shared tasks (symbol_by r (locals_in front) found)
 symbol_in shared tasks (role.Shared of e) front found one h = tt
+symbol_in shared tasks (role.Function of count) front found one h = tt
 symbol_in shared tasks role.Task front found one h = tt
-symbol_in shared tasks (role.Local of b e) front found one h = one
+symbol_in shared tasks (role.Local of b e extra) front found one h = one
 symbol_in shared tasks role.Scalar front found one h = h
 symbol_in shared tasks role.Element front found one h = h
 symbol_in shared tasks role.Counter front found one h = h
+symbol_in shared tasks (role.Call count) front found one h = h
 symbol_in shared tasks role.Target front found one h = h
 symbol_in shared tasks (role.Operand refused kept) front found one h = tt
 
@@ -196,16 +237,20 @@ variable_fine : (shared tasks : ℕ) (s : Symbol) → IsInRange shared tasks s �
 variable_fine shared tasks (symbol.Scalar n of) h = ap (λ b. b && true) (lt-ltb n shared h)
 variable_fine shared tasks (symbol.Array n of) h = ap (λ b. b && true) (lt-ltb n shared h)
 variable_fine shared tasks (symbol.Local n of) h = ap (λ b. b && true) (lt-ltb n 256 h)
+variable_fine shared tasks (symbol.Function n of count) h = refl
 variable_fine shared tasks (symbol.Task n) h = refl
 
 variables_fine : (shared tasks : ℕ) (r : Role) (s : Option Symbol) → IfInRange shared tasks s → list_all (is_fine shared) (variable_by r s) ≡ true
 variables_fine shared tasks role.Target s h = refl
+variables_fine shared tasks (role.Call count) s h = refl
+variables_fine shared tasks (role.Function of count) None h = refl
+variables_fine shared tasks (role.Function of count) (Some s) h = variable_fine shared tasks s h
 variables_fine shared tasks (role.Shared of e) None h = refl
 variables_fine shared tasks (role.Shared of e) (Some s) h = variable_fine shared tasks s h
 variables_fine shared tasks role.Task None h = refl
 variables_fine shared tasks role.Task (Some s) h = variable_fine shared tasks s h
-variables_fine shared tasks (role.Local of b e) None h = refl
-variables_fine shared tasks (role.Local of b e) (Some s) h = variable_fine shared tasks s h
+variables_fine shared tasks (role.Local of b e extra) None h = refl
+variables_fine shared tasks (role.Local of b e extra) (Some s) h = variable_fine shared tasks s h
 variables_fine shared tasks role.Scalar None h = refl
 variables_fine shared tasks role.Scalar (Some s) h = variable_fine shared tasks s h
 variables_fine shared tasks role.Element None h = refl
@@ -219,6 +264,7 @@ target_fine : (shared tasks : ℕ) (s : Symbol) → IsInRange shared tasks s →
 target_fine shared tasks (symbol.Scalar n of) h = refl
 target_fine shared tasks (symbol.Array n of) h = refl
 target_fine shared tasks (symbol.Local n of) h = refl
+target_fine shared tasks (symbol.Function n of count) h = refl
 target_fine shared tasks (symbol.Task n) h = ap (λ b. b && true) (lt-ltb n tasks h)
 
 targets_fine : (shared tasks : ℕ) (r : Role) (s : Option Symbol) → IfInRange shared tasks s → list_all (λ n. nat_lt n tasks) (target_by r s) ≡ true
@@ -226,7 +272,9 @@ targets_fine shared tasks role.Target None h = refl
 targets_fine shared tasks role.Target (Some s) h = target_fine shared tasks s h
 targets_fine shared tasks (role.Shared of e) s h = refl
 targets_fine shared tasks role.Task s h = refl
-targets_fine shared tasks (role.Local of b e) s h = refl
+targets_fine shared tasks (role.Local of b e extra) s h = refl
+targets_fine shared tasks (role.Function of count) s h = refl
+targets_fine shared tasks (role.Call count) s h = refl
 targets_fine shared tasks role.Scalar s h = refl
 targets_fine shared tasks role.Element s h = refl
 targets_fine shared tasks role.Counter s h = refl
@@ -240,7 +288,8 @@ module _ (source : List ℕ) where
   local_in_range name [] h = tt
   local_in_range name (o ∷ front) h =
       let both = both_none (first_fault (limit_fault source) front) (limit_fault source o front) h in
-      local_or (bytes_eq (text_of source o.span) name) (local_with o.role (tasks_in front) (locals_in front)) (local_in source name front)
+      local_or (bytes_eq (text_of source o.span) name) (local_with o.role (functions_in front) (tasks_in front) (locals_in front))
+      (local_in source name front)
       (local_here o.role front (one_here source o front (are_few source front both.0) both.1)) (local_in_range name front both.0)
 
   global_in_range : (shared tasks : ℕ) (name : List ℕ) (front : List Occurrence) → shared_in front ≤ shared → tasks_in front ≤ tasks
@@ -248,7 +297,7 @@ module _ (source : List ℕ) where
   global_in_range shared tasks name [] h k = tt
   global_in_range shared tasks name (o ∷ front) h k =
       global_or shared tasks (bytes_eq (text_of source o.span) name) (global_in source name front)
-      (global_with o.role (length front) (shared_in front) (tasks_in front))
+      (global_with o.role (length front) (shared_in front) (functions_in front) (tasks_in front))
       (global_in_range shared tasks name front (omega arith) (omega arith)) (global_here shared tasks (length front) o.role front h k)
 
   module _ (all : List Occurrence) where
@@ -257,9 +306,10 @@ module _ (source : List ℕ) where
     unfolding symbol_at
     symbol_in_range o front h k =
         let name = text_of source o.span in
-        symbol_in (shared_in all) (tasks_in all) o.role front (meaning (behind all front) (local_in source name front) (global_in source name all))
+        let known = known_functions (functions_in front) (tasks_in front) in
+        symbol_in (shared_in all) (tasks_in all) o.role front (meaning known (behind all front) (local_in source name front) (global_in source name all))
         (one_here source o front (are_few source front h) k)
-        (meaning_in (shared_in all) (tasks_in all) (behind all front) (local_in source name front) (global_in source name all) (local_in_range name front h)
+        (meaning_in (shared_in all) (tasks_in all) known (behind all front) (local_in source name front) (global_in source name all) (local_in_range name front h)
         (global_in_range (shared_in all) (tasks_in all) name all (omega arith) (omega arith)))
 
     variables_in_range : (front : List Occurrence) → first_fault (limit_fault source) front ≡ None
@@ -280,10 +330,13 @@ module _ (source : List ℕ) where
 
 -- ---- a source with its names looked up, of which none is too many
 
-module _ (source : List ℕ) (tree : Program Span Span) (checked : Program VariableName TaskName) (is : IsLookedUp source tree checked)
+module _ (source : List ℕ) (tree : Program Span Span Span) (checked : CheckedProgram) (is : IsLookedUp source tree checked)
     (fine : limits_fault source tree ≡ None) where
   shared_is : shared_in (program_names source tree) ≡ length checked.shared
   shared_is = shared_of_program source tree ∙ ap (λ p. length p.shared) (sym is.places)
+
+  functions_are : functions_in (program_names source tree) ≡ length checked.functions
+  functions_are = functions_of_program source tree ∙ (ap (λ p. length p.functions) (sym is.places) ∙ length-map checked.functions function_back)
 
   tasks_are : tasks_in (program_names source tree) ≡ length checked.tasks
   tasks_are = tasks_of_program source tree ∙ (ap (λ p. length p.tasks) (sym is.places) ∙ length-map checked.tasks task_back)
@@ -292,27 +345,31 @@ module _ (source : List ℕ) (tree : Program Span Span) (checked : Program Varia
   pub few_shared : length checked.shared ≤ 256
   few_shared = let h = are_few source (program_names source tree) fine in let k = h.shared in omega (arith, shared_is)
 
+  -- there are at most 64 functions
+  pub few_functions : length checked.functions ≤ 64
+  few_functions = let h = are_few source (program_names source tree) fine in let k = h.functions in omega (arith, functions_are)
+
   -- there are at most 64 tasks
   pub few_tasks : length checked.tasks ≤ 64
   few_tasks = let h = are_few source (program_names source tree) fine in let k = h.tasks in omega (arith, tasks_are)
 
-  variables_numbered : list_all (λ v. is_numbered (length checked.shared) v.variable) (task_variables checked.tasks []) ≡ true
+  variables_numbered : list_all (λ v. is_numbered (length checked.shared) v.variable) (program_variables checked) ≡ true
   variables_numbered = ap (list_all (λ v. is_numbered (length checked.shared) v.variable)) is.variables
       ∙ subst (λ n. list_all (λ v. is_numbered n v.variable) (variables_in source (program_names source tree) (program_names source tree)) ≡ true) shared_is
       (variables_in_range source (program_names source tree) (program_names source tree) fine)
 
   -- each transition names one of the tasks
-  pub targets_numbered : list_all (λ n. nat_lt n (length checked.tasks)) (task_targets checked.tasks (checked.entry.task ∷ [])) ≡ true
+  pub targets_numbered : list_all (λ n. nat_lt n (length checked.tasks)) (program_targets checked) ≡ true
   targets_numbered = ap (list_all (λ n. nat_lt n (length checked.tasks))) is.targets
       ∙ subst (λ m. list_all (λ n. nat_lt n m) (targets_in source (program_names source tree) (program_names source tree)) ≡ true) tasks_are
       (targets_in_range source (program_names source tree) (program_names source tree) fine)
 
   pub numbered : are_numbered checked ≡ true
-  numbered = ap (λ b. b && list_all (λ n. nat_lt n (length checked.tasks)) (task_targets checked.tasks (checked.entry.task ∷ []))) variables_numbered
+  numbered = ap (λ b. b && list_all (λ n. nat_lt n (length checked.tasks)) (program_targets checked)) variables_numbered
       ∙ targets_numbered
 
 -- the same of the code's tree, where the walk found none too many
-module _ (source : List ℕ) (s : Source VariableName TaskName) (is : IsLookedUp source (program_back (program_of s)) (program_of s))
+module _ (source : List ℕ) (s : Source VariableName TaskName FunctionName) (is : IsLookedUp source (program_back (program_of s)) (program_of s))
     (too_many : Option CheckFault)
     (limits : too_many ≡ limits_fault source (program_back (program_of s))) (fine : too_many ≡ None) where
   no_limit : limits_fault source (program_back (program_of s)) ≡ None
@@ -321,104 +378,18 @@ module _ (source : List ℕ) (s : Source VariableName TaskName) (is : IsLookedUp
   pub few_tasks_of : length s.tasks.items ≤ 64
   few_tasks_of = let h = few_tasks source (program_back (program_of s)) (program_of s) is no_limit in omega (arith, length-map s.tasks.items task_of)
 
+  pub few_functions_of : length s.functions.items ≤ 64
+  few_functions_of = let h = few_functions source (program_back (program_of s)) (program_of s) is no_limit in
+      omega (arith, length-map s.functions.items function_of)
+
   pub few_shared_of : length s.shared.items ≤ 256
   few_shared_of = few_shared source (program_back (program_of s)) (program_of s) is no_limit
 
   pub numbered_of : are_numbered (program_of s) ≡ true
   numbered_of = numbered source (program_back (program_of s)) (program_of s) is no_limit
 
--- ---- as many names are looked up as a tree has
-
 -- a name without a fault is known
 pub no_name_fault : (source : List ℕ) (o : Occurrence) (repeated unknown : Bool) → name_fault_if source o repeated unknown ≡ None → unknown ≡ false
 no_name_fault source o repeated false h = refl
 no_name_fault source o true true h = absurd (cc)
 no_name_fault source o false true h = absurd (cc)
-
-variable_found : (source : List ℕ) (o : Occurrence) (r : Role) (locals : ℕ) (found : Option Symbol) → is_unknown r (symbol_by r locals found) ≡ false
-    → use_fault_by source o r (symbol_by r locals found) ≡ None
-    → length (variable_by r (symbol_by r locals found)) ≡ one_variable r
-variable_found source o role.Target locals found h k = refl
-variable_found source o (role.Shared of e) locals found h k = refl
-variable_found source o role.Task locals found h k = refl
-variable_found source o (role.Local of b e) locals found h k = refl
-variable_found source o (role.Operand refused kept) locals found h k = refl
-variable_found source o role.Scalar locals None h k = absurd (cc)
-variable_found source o role.Scalar locals (Some (symbol.Scalar n of)) h k = refl
-variable_found source o role.Scalar locals (Some (symbol.Array n of)) h k = refl
-variable_found source o role.Scalar locals (Some (symbol.Local n of)) h k = refl
-variable_found source o role.Scalar locals (Some (symbol.Task n)) h k = absurd (cc)
-variable_found source o role.Element locals None h k = absurd (cc)
-variable_found source o role.Element locals (Some (symbol.Scalar n of)) h k = refl
-variable_found source o role.Element locals (Some (symbol.Array n of)) h k = refl
-variable_found source o role.Element locals (Some (symbol.Local n of)) h k = refl
-variable_found source o role.Element locals (Some (symbol.Task n)) h k = absurd (cc)
-variable_found source o role.Counter locals None h k = absurd (cc)
-variable_found source o role.Counter locals (Some (symbol.Scalar n of)) h k = refl
-variable_found source o role.Counter locals (Some (symbol.Array n of)) h k = refl
-variable_found source o role.Counter locals (Some (symbol.Local n of)) h k = refl
-variable_found source o role.Counter locals (Some (symbol.Task n)) h k = absurd (cc)
-
-target_found : (source : List ℕ) (o : Occurrence) (r : Role) (locals : ℕ) (found : Option Symbol) → is_unknown r (symbol_by r locals found) ≡ false
-    → use_fault_by source o r (symbol_by r locals found) ≡ None
-    → length (target_by r (symbol_by r locals found)) ≡ one_target r
-target_found source o role.Target locals None h k = absurd (cc)
-target_found source o role.Target locals (Some (symbol.Scalar n of)) h k = absurd (cc)
-target_found source o role.Target locals (Some (symbol.Array n of)) h k = absurd (cc)
-target_found source o role.Target locals (Some (symbol.Local n of)) h k = absurd (cc)
-target_found source o role.Target locals (Some (symbol.Task n)) h k = refl
-target_found source o (role.Shared of e) locals found h k = refl
-target_found source o role.Task locals found h k = refl
-target_found source o (role.Local of b e) locals found h k = refl
-target_found source o role.Scalar locals found h k = refl
-target_found source o role.Element locals found h k = refl
-target_found source o role.Counter locals found h k = refl
-target_found source o (role.Operand refused kept) locals found h k = refl
-
-module _ (source : List ℕ) (all : List Occurrence) where
-  known_here : (o : Occurrence) (front : List Occurrence) → name_fault source all o front ≡ None → is_unknown o.role (symbol_at source all o front) ≡ false
-  unfolding name_fault
-  known_here o front h = no_name_fault source o _ _ h
-
-  variable_here : (o : Occurrence) (front : List Occurrence) → name_fault source all o front ≡ None → use_fault source all o front ≡ None
-      → length (variable_by o.role (symbol_at source all o front)) ≡ one_variable o.role
-  unfolding use_fault symbol_at
-  variable_here o front h k = variable_found source o o.role _ _ (known_here o front h) k
-
-  target_here : (o : Occurrence) (front : List Occurrence) → name_fault source all o front ≡ None → use_fault source all o front ≡ None
-      → length (target_by o.role (symbol_at source all o front)) ≡ one_target o.role
-  unfolding use_fault symbol_at
-  target_here o front h k = target_found source o o.role _ _ (known_here o front h) k
-
-  variables_counted : (front : List Occurrence) → first_fault (name_fault source all) front ≡ None → first_fault (use_fault source all) front ≡ None
-      → length (variables_in source all front) ≡ count one_variable front
-  variables_counted [] h k = refl
-  variables_counted (o ∷ front) h k =
-      let a = both_none (first_fault (name_fault source all) front) (name_fault source all o front) h in
-      let b = both_none (first_fault (use_fault source all) front) (use_fault source all o front) k in
-      let e = variables_counted front a.0 b.0 in
-      let f = variable_here o front a.1 b.1 in
-      omega (arith, length-append (variables_in source all front) (variable_by o.role (symbol_at source all o front)))
-
-  targets_counted : (front : List Occurrence) → first_fault (name_fault source all) front ≡ None → first_fault (use_fault source all) front ≡ None
-      → length (targets_in source all front) ≡ count one_target front
-  targets_counted [] h k = refl
-  targets_counted (o ∷ front) h k =
-      let a = both_none (first_fault (name_fault source all) front) (name_fault source all o front) h in
-      let b = both_none (first_fault (use_fault source all) front) (use_fault source all o front) k in
-      let e = targets_counted front a.0 b.0 in
-      let f = target_here o front a.1 b.1 in
-      omega (arith, length-append (targets_in source all front) (target_by o.role (symbol_at source all o front)))
-
-module _ (source : List ℕ) (tree : Program Span Span) (names : List Occurrence) (w : Walk) (same : names ≡ program_names source tree)
-    (walked : IsWalked source names names w) (fine : w.wrong_use ≡ None) where
-  no_use : first_fault (use_fault source names) names ≡ None
-  no_use = sym walked.wrong_use ∙ fine
-
-  pub all_variables : length w.variables.items ≡ tasks_count tree.tasks
-  all_variables = ap length walked.variables
-      ∙ (variables_counted source names names walked.names no_use ∙ (ap (count one_variable) same ∙ variables_of_program source tree))
-
-  pub all_targets : length w.targets.items ≡ tasks_transitions tree.tasks + 1
-  all_targets =
-      ap length walked.targets ∙ (targets_counted source names names walked.names no_use ∙ (ap (count one_target) same ∙ targets_of_program source tree))

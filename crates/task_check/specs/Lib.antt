@@ -3,12 +3,12 @@ pub mod Occurrences
 pub mod Scope
 pub mod LookedUp
 pub mod Faults
+pub mod Placed
 pub mod Answers
 pub mod Limits
 pub mod Tables
 pub mod Typed
 pub mod Parts
-pub mod Counted
 pub mod Walks
 pub mod Laws
 pub use Rattle.task_lex.specs as task_lex

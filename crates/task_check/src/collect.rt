@@ -1,11 +1,10 @@
 //! The names of a tree, each where it stands: from the last of the text to the first.
 
-ghost use Rattle.std.specs.Prelude.{◌≡◌, ◌<◌, List, [], Option, length, map, set, IfOk};
+ghost use Rattle.std.specs.Prelude.{◌≡◌, ◌<◌, suc, List, [], Option, length, map, set, IfOk};
 ghost use Rattle.alp_text.specs.declared.lines.Span.{Span};
 ghost use Rattle.task_ast.specs.Tree.{Block, choice_of};
-ghost use Rattle.task_ast.specs.Types.{expression_type};
 ghost use Rattle.std.specs.Option.{option_map};
-ghost use Rattle.task_ast.specs.View.{expression_of, statement_of, tested_of, task_of, block_view, last_view, program_of};
+ghost use Rattle.task_ast.specs.View.{expression_of, values_of, statement_of, tested_of, function_of, task_of, block_view, last_view, program_of};
 ghost use Rattle.task_check.specs.declared.occurrence.Occurrence.{Occurrence};
 ghost use Rattle.task_check.specs.Typed.{HasSharedTypes, types_of};
 ghost use Rattle.task_check.specs.Occurrences as spec;
@@ -17,7 +16,8 @@ use alp_text::Span;
 use std::alloc::{AllocError, Global};
 use task_ast::types::{binary_type, is_long, joined_type, literal_type, unary_type};
 use task_ast::{
-    Arm, BinaryOperator, Expr, SharedDeclaration, Stmt, TaskDeclaration, Tree, WordType,
+    Args, Arm, BinaryOperator, Expr, FunctionDeclaration, Parameter, SharedDeclaration, Stmt,
+    TaskDeclaration, Tree, WordType,
 };
 
 fn add(names: &mut Vec<Occurrence>, span: Span, role: Role) -> Result<(), AllocError>
@@ -97,15 +97,26 @@ fn put_role(names: &mut Vec<Occurrence>, at: usize, span: Span, role: Role)
     names[at] = Occurrence { span, role };
 }
 
-// The names of an expression, and its type, which is found on the way. What an operator's operands forbid is known when both of them are
-// walked, so its role is put last.
+// One more value of a call.
+fn one_more(count: usize) -> Result<usize, AllocError>
+    ensures { IfOk result (λ n. n ≡ suc count) }
+{
+    match count.checked_add(1) {
+        Some(more) => Ok(more),
+        None => Err(AllocError),
+    }
+}
+
+// The names of an expression, and its type, which is found on the way; that of a call is as good as any that isn't long. What an operator's
+// operands forbid is known when both of them are walked, so its role is put last.
+#[cycle(expression)]
 fn expression_names(
     types: &SharedTypes<'_>,
-    e: &Expr<Span>,
+    e: &Expr<Span, Span>,
     names: &mut Vec<Occurrence>,
 ) -> Result<WordType, AllocError>
     requires { HasSharedTypes types.now }
-    ensures typed { IfOk result (λ of. of ≡ expression_type (types_of types.now) (expression_of e.now)) }
+    ensures typed { IfOk result (λ of. of ≡ spec.width_type (types_of types.now) (expression_of e.now)) }
     ensures names { IfOk result (λ _. names.new.items ≡ spec.expression_names (types_of types.now) (expression_of e.now) names.old.items) }
 {
     match e {
@@ -121,6 +132,11 @@ fn expression_names(
             let index = expression_names(types, index, names)?;
             add_element(*name, index, names)?;
             Ok(name_type(types, *name))
+        }
+        Expr::Call(name, values) => {
+            let count = values_names(types, values, names)?;
+            add(names, *name, Role::Call(count))?;
+            Ok(WordType::Unsigned)
         }
         Expr::Unary(op, inner) => {
             let inner = expression_names(types, inner, names)?;
@@ -150,10 +166,31 @@ fn expression_names(
     }
 }
 
+// The names of the values of a call, and how many there are.
+#[cycle(expression)]
+fn values_names(
+    types: &SharedTypes<'_>,
+    values: &Args<Span, Span>,
+    names: &mut Vec<Occurrence>,
+) -> Result<usize, AllocError>
+    requires { HasSharedTypes types.now }
+    ensures count { IfOk result (λ n. n ≡ spec.values_length (values_of values.now)) }
+    ensures names { IfOk result (λ _. names.new.items ≡ spec.values_names (types_of types.now) (values_of values.now) names.old.items) }
+{
+    match values {
+        Args::End => Ok(0),
+        Args::Value(e, more) => {
+            let count = values_names(types, more, names)?;
+            expression_names(types, e, names)?;
+            one_more(count)
+        }
+    }
+}
+
 // The names of an expression whose type nothing asks for.
 fn whole_names(
     types: &SharedTypes<'_>,
-    e: &Expr<Span>,
+    e: &Expr<Span, Span>,
     names: &mut Vec<Occurrence>,
 ) -> Result<(), AllocError>
     requires { HasSharedTypes types.now }
@@ -167,7 +204,7 @@ fn whole_names(
 fn element_names(
     types: &SharedTypes<'_>,
     name: Span,
-    index: &Expr<Span>,
+    index: &Expr<Span, Span>,
     names: &mut Vec<Occurrence>,
 ) -> Result<(), AllocError>
     requires { HasSharedTypes types.now }
@@ -180,7 +217,7 @@ fn element_names(
 
 fn value_names(
     types: &SharedTypes<'_>,
-    value: &Option<Expr<Span>>,
+    value: &Option<Expr<Span, Span>>,
     names: &mut Vec<Occurrence>,
 ) -> Result<(), AllocError>
     requires { HasSharedTypes types.now }
@@ -192,16 +229,25 @@ fn value_names(
     }
 }
 
-// The names of a statement; `end` names stand behind the end of its block.
+// A keyword that is refused or not.
+fn add_keyword(span: Span, refused: bool, names: &mut Vec<Occurrence>) -> Result<(), AllocError>
+    ensures { IfOk result (λ _. names.new.items ≡ spec.and_front names.old.items span (spec.keyword_role refused)) }
+{
+    let kept = Kept::Nothing;
+    add(names, span, Role::Operand { refused, kept })
+}
+
+// The names of a statement in a task or in a function; `end` names stand behind the end of its block.
 #[cycle(names)]
 fn statement_names(
     types: &SharedTypes<'_>,
+    in_task: bool,
     end: usize,
-    s: &Stmt<Span, Span>,
+    s: &Stmt<Span, Span, Span>,
     names: &mut Vec<Occurrence>,
 ) -> Result<(), AllocError>
     requires { HasSharedTypes types.now }
-    ensures { IfOk result (λ _. names.new.items ≡ spec.statement_names (types_of types.now) end (statement_of s.now) names.old.items) }
+    ensures { IfOk result (λ _. names.new.items ≡ spec.statement_names (types_of types.now) in_task end (statement_of s.now) names.old.items) }
 {
     match s {
         Stmt::Declare(word_type, name, value) => {
@@ -215,6 +261,7 @@ fn statement_names(
                     word_type,
                     begin,
                     end,
+                    extra: false,
                 },
             )
         }
@@ -226,10 +273,10 @@ fn statement_names(
             whole_names(types, e, names)?;
             element_names(types, *name, index, names)
         }
-        Stmt::If(arms, None) => arms_names(types, arms, names),
+        Stmt::If(arms, None) => arms_names(types, in_task, arms, names),
         Stmt::If(arms, Some(last)) => {
-            block_names(types, last, names)?;
-            arms_names(types, arms, names)
+            block_names(types, in_task, last, names)?;
+            arms_names(types, in_task, arms, names)
         }
         Stmt::For {
             variable,
@@ -239,13 +286,20 @@ fn statement_names(
             stepped,
             body,
         } => {
-            block_names(types, body, names)?;
+            block_names(types, in_task, body, names)?;
             add(names, *stepped, Role::Counter)?;
             add(names, *tested, Role::Counter)?;
             add(names, *variable, Role::Counter)
         }
         Stmt::Emit(e) => whole_names(types, e, names),
-        Stmt::TransitionTo(name) => add(names, *name, Role::Target),
+        Stmt::Return(at, e) => {
+            whole_names(types, e, names)?;
+            add_keyword(*at, in_task, names)
+        }
+        Stmt::TransitionTo(at, name) => {
+            add(names, *name, Role::Target)?;
+            add_keyword(*at, !in_task, names)
+        }
     }
 }
 
@@ -253,16 +307,17 @@ fn statement_names(
 #[cycle(names)]
 fn arms_names(
     types: &SharedTypes<'_>,
-    arms: &[Arm<Span, Span>],
+    in_task: bool,
+    arms: &[Arm<Span, Span, Span>],
     names: &mut Vec<Occurrence>,
 ) -> Result<(), AllocError>
     requires { HasSharedTypes types.now }
-    ensures { IfOk result (λ _. (last : Option (Block Span Span)) (behind : List Occurrence)
-        → names.old.items ≡ spec.choice_names (types_of types.now) (choice_of [] last) behind
-        → names.new.items ≡ spec.choice_names (types_of types.now) (choice_of (map tested_of arms.now) last) behind) }
+    ensures { IfOk result (λ _. (last : Option (Block Span Span Span)) (behind : List Occurrence)
+        → names.old.items ≡ spec.choice_names (types_of types.now) in_task (choice_of [] last) behind
+        → names.new.items ≡ spec.choice_names (types_of types.now) in_task (choice_of (map tested_of arms.now) last) behind) }
 {
     for i in (0..arms.len()).rev() {
-        block_names(types, &arms[i].block, names)?;
+        block_names(types, in_task, &arms[i].block, names)?;
         whole_names(types, &arms[i].condition, names)?;
     }
     Ok(())
@@ -271,30 +326,87 @@ fn arms_names(
 #[cycle(names)]
 fn block_names(
     types: &SharedTypes<'_>,
-    body: &[Stmt<Span, Span>],
+    in_task: bool,
+    body: &[Stmt<Span, Span, Span>],
     names: &mut Vec<Occurrence>,
 ) -> Result<(), AllocError>
     requires { HasSharedTypes types.now }
-    ensures { IfOk result (λ _. names.new.items ≡ spec.block_names (types_of types.now) (block_view body.now) names.old.items) }
+    ensures { IfOk result (λ _. names.new.items ≡ spec.block_names (types_of types.now) in_task (block_view body.now) names.old.items) }
 {
     let end = names.len();
     for i in (0..body.len()).rev() {
-        statement_names(types, end, &body[i], names)?;
+        statement_names(types, in_task, end, &body[i], names)?;
     }
     Ok(())
 }
 
 fn task_names(
     types: &SharedTypes<'_>,
-    tasks: &[TaskDeclaration<Span, Span>],
+    tasks: &[TaskDeclaration<Span, Span, Span>],
     names: &mut Vec<Occurrence>,
 ) -> Result<(), AllocError>
     requires { HasSharedTypes types.now }
     ensures { IfOk result (λ _. names.new.items ≡ spec.task_names (types_of types.now) (map task_of tasks.now) names.old.items) }
 {
     for i in (0..tasks.len()).rev() {
-        block_names(types, &tasks[i].body, names)?;
+        block_names(types, true, &tasks[i].body, names)?;
         add(names, tasks[i].name, Role::Task)?;
+    }
+    Ok(())
+}
+
+// The parameters of a function that may have eight; `end` names stand behind the end of its body.
+fn parameter_names(
+    end: usize,
+    parameters: &[Parameter<Span>],
+    names: &mut Vec<Occurrence>,
+) -> Result<(), AllocError>
+    ensures { IfOk result (λ _. names.new.items ≡ spec.parameter_names end 0 parameters.now names.old.items) }
+{
+    for i in (0..parameters.len()).rev() {
+        let Parameter { word_type, name } = parameters[i];
+        let begin = names.len();
+        add(
+            names,
+            name,
+            Role::Local {
+                word_type,
+                begin,
+                end,
+                extra: 8 <= i,
+            },
+        )?;
+    }
+    Ok(())
+}
+
+// The names of a function behind its own.
+fn inner_names(
+    types: &SharedTypes<'_>,
+    function: &FunctionDeclaration<Span, Span, Span>,
+    names: &mut Vec<Occurrence>,
+) -> Result<(), AllocError>
+    requires { HasSharedTypes types.now }
+    ensures { IfOk result (λ _. names.new.items ≡ spec.inner_names (types_of types.now) (function_of function.now) names.old.items) }
+{
+    let end = names.len();
+    block_names(types, false, &function.body, names)?;
+    parameter_names(end, &function.parameters, names)
+}
+
+fn function_names(
+    types: &SharedTypes<'_>,
+    functions: &[FunctionDeclaration<Span, Span, Span>],
+    names: &mut Vec<Occurrence>,
+) -> Result<(), AllocError>
+    requires { HasSharedTypes types.now }
+    ensures { IfOk result (λ _. names.new.items ≡ spec.function_names (types_of types.now) (map function_of functions.now) names.old.items) }
+{
+    for i in (0..functions.len()).rev() {
+        let function = &functions[i];
+        inner_names(types, function, names)?;
+        let role = Role::Function(function.word_type, function.parameters.len());
+        add(names, function.name, role)?;
     }
     Ok(())
 }
@@ -326,6 +438,7 @@ pub fn program_names(
     let mut names = Vec::new(alloc);
     add(&mut names, tree.entry, Role::Target)?;
     task_names(&types, &tree.tasks, &mut names)?;
+    function_names(&types, &tree.functions, &mut names)?;
     shared_names(&tree.shared, &mut names)?;
     Ok(names)
 }

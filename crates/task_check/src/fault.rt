@@ -4,7 +4,8 @@ use alp_text::Span;
 use std::alloc::{AllocError, AllocFailed};
 use thiserror::Error;
 
-/// What a wrong use keeps: the name; the count of a shift where that is at fault; of an operator that takes no long nothing.
+/// What a wrong use keeps: the name; the count of a shift where that is at fault; of an operator that takes no long, and of a keyword that may
+/// not stand there, nothing.
 #[derive(Clone, Copy, Debug)]
 pub enum Kept {
     Name(Span),
@@ -21,8 +22,9 @@ pub enum CheckFault {
     /// A name that is not known where it is used.
     #[error("line {line}: a name that is not known here")]
     UnknownName { line: u32, name: Span },
-    /// A task as a variable, an array without an index, a scalar with one, a variable as a task, a long index, a long side of `*`, `/` or `%`, or a shift
-    /// count above 31 where the left side is long, else above 15.
+    /// A task or a function as a variable, an array without an index, a scalar with one, something else than a task behind a transition, something else than
+    /// a function of as many parameters where values are given, a long index, a long side of `*`, `/` or `%`, a shift count above 31 where the left side is
+    /// long, else above 15, `return` in a task, or `transition_to` in a function.
     #[error("line {line}: a name that is not used as what it was declared")]
     WrongUse { line: u32, kept: Kept },
     /// An array of no words.
@@ -34,10 +36,14 @@ pub enum CheckFault {
     /// A local that some path reads here while it is unassigned.
     #[error("line {line}: a local that may be read before it is assigned")]
     Unassigned { line: u32, name: Span },
+    /// The name of a function some path of which reaches the end of its body.
+    #[error("line {line}: a function that may end without a return")]
+    NoReturn { line: u32, name: Span },
     /// The name of a task some path of which reaches the end of its body.
     #[error("line {line}: a task that may end without a transition")]
     NoTransition { line: u32, name: Span },
-    /// The 65th task, the 257th shared variable, or the 257th local of a task, at its name.
+    /// The 65th function or task, the 257th shared variable, the ninth parameter of a function, or the 257th local of a function, parameters among them, or of
+    /// a task, at its name.
     #[error("line {line}: more names than a program may have")]
     TooMany { line: u32 },
     #[error("out of memory")]

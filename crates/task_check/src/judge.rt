@@ -22,14 +22,22 @@ fn shared_symbol(number: u32, word_type: WordType, extent: Extent) -> Symbol
     }
 }
 
-/// The shared variable or the task that is declared by this role.
+/// The shared variable, the function or the task that is declared by this role.
 pub fn global_by(role: Role, front: usize, counts: Counts) -> Option<Global>
-    ensures { result ≡ scope.global_with role front counts.shared counts.tasks }
+    ensures { result ≡ scope.global_with role front counts.shared counts.functions counts.tasks }
 {
     match role {
         Role::Shared(word_type, extent) => Some(Global {
             front,
             symbol: shared_symbol(counts.shared, word_type, extent),
+        }),
+        Role::Function(word_type, parameters) => Some(Global {
+            front,
+            symbol: Symbol::Function {
+                number: counts.functions,
+                word_type,
+                parameters,
+            },
         }),
         Role::Task => Some(Global {
             front,
@@ -43,14 +51,16 @@ pub fn global_by(role: Role, front: usize, counts: Counts) -> Option<Global>
 
 /// The local that is declared by this role.
 pub fn local_by(role: Role, counts: Counts) -> Option<Local>
-    ensures { result ≡ scope.local_with role counts.tasks counts.locals }
+    ensures { result ≡ scope.local_with role counts.functions counts.tasks counts.locals }
 {
     match role {
         Role::Local {
             word_type,
             begin,
             end,
+            extra: _,
         } => Some(Local {
+            functions: counts.functions,
             tasks: counts.tasks,
             number: counts.locals,
             word_type,
@@ -74,23 +84,57 @@ fn known_local(behind: usize, local: Local) -> Option<Symbol>
     }
 }
 
-fn or_global(symbol: Option<Symbol>, global: Option<Global>) -> Option<Symbol>
-    ensures { result ≡ scope.or_global symbol global }
+fn known_symbol(known: u32, symbol: Symbol) -> Option<Symbol>
+    ensures { result ≡ scope.known_symbol known symbol }
+{
+    match symbol {
+        Symbol::Function { number, .. } => {
+            if number < known {
+                Some(symbol)
+            } else {
+                None
+            }
+        }
+        Symbol::Scalar { .. }
+        | Symbol::Array { .. }
+        | Symbol::Task { .. }
+        | Symbol::Local { .. } => Some(symbol),
+    }
+}
+
+fn or_global(known: u32, symbol: Option<Symbol>, global: Option<Global>) -> Option<Symbol>
+    ensures { result ≡ scope.or_global known symbol global }
 {
     match (symbol, global) {
         (Some(symbol), _) => Some(symbol),
-        (None, Some(global)) => Some(global.symbol),
+        (None, Some(global)) => known_symbol(known, global.symbol),
         (None, None) => None,
     }
 }
 
-/// What a name stands for with so many names behind.
-pub fn meaning(behind: usize, local: Option<Local>, global: Option<Global>) -> Option<Symbol>
-    ensures { result ≡ scope.meaning behind local global }
+/// How many functions are known at a place: all in a task, and in a function those in front of it.
+pub fn known_functions(counts: Counts) -> u32
+    ensures { result ≡ scope.known_functions counts.functions counts.tasks }
+{
+    if counts.tasks == 0 {
+        counts.functions.saturating_sub(1)
+    } else {
+        counts.functions
+    }
+}
+
+/// What a name stands for with so many known functions and so many names behind.
+pub fn meaning(
+    known: u32,
+    behind: usize,
+    local: Option<Local>,
+    global: Option<Global>,
+) -> Option<Symbol>
+    ensures { result ≡ scope.meaning known behind local global }
 {
     match local {
-        Some(local) => or_global(known_local(behind, local), global),
-        None => or_global(None, global),
+        Some(local) => or_global(known, known_local(behind, local), global),
+        None => or_global(known, None, global),
     }
 }
 
@@ -103,8 +147,8 @@ pub fn symbol_by(role: Role, locals: u32, found: Option<Symbol>) -> Option<Symbo
             number: locals,
             word_type,
         }),
-        Role::Scalar | Role::Element | Role::Counter | Role::Target => found,
-        Role::Shared(_, _) | Role::Task | Role::Operand { .. } => None,
+        Role::Scalar | Role::Element | Role::Counter | Role::Call(_) | Role::Target => found,
+        Role::Shared(_, _) | Role::Function(_, _) | Role::Task | Role::Operand { .. } => None,
     }
 }
 
@@ -118,22 +162,22 @@ pub fn stands_in_front(front: usize, global: Option<Global>) -> bool
     }
 }
 
-fn is_of_task(tasks: u32, local: Option<Local>) -> bool
-    ensures { result ≡ faults.is_of_task tasks local }
+fn is_of_body(counts: Counts, local: Option<Local>) -> bool
+    ensures { result ≡ faults.is_of_body counts.functions counts.tasks local }
 {
     match local {
-        Some(local) => local.tasks == tasks,
+        Some(local) => local.functions == counts.functions && local.tasks == counts.tasks,
         None => false,
     }
 }
 
 /// Whether a declared name is repeated.
-pub fn is_repeated(role: Role, global: bool, tasks: u32, local: Option<Local>) -> bool
-    ensures { result ≡ faults.is_repeated role global tasks local }
+pub fn is_repeated(role: Role, global: bool, counts: Counts, local: Option<Local>) -> bool
+    ensures { result ≡ faults.is_repeated role global counts.functions counts.tasks local }
 {
     match role {
-        Role::Shared(_, _) | Role::Task => global || local.is_some(),
-        Role::Local { .. } => global || is_of_task(tasks, local),
+        Role::Shared(_, _) | Role::Function(_, _) | Role::Task => global || local.is_some(),
+        Role::Local { .. } => global || is_of_body(counts, local),
         _ => false,
     }
 }
@@ -143,7 +187,8 @@ pub fn is_unknown(role: Role, symbol: Option<Symbol>) -> bool
     ensures { result ≡ faults.is_unknown role symbol }
 {
     match role {
-        Role::Scalar | Role::Element | Role::Counter | Role::Target => symbol.is_none(),
+        Role::Scalar | Role::Element | Role::Counter | Role::Call(_) | Role::Target =>
+            symbol.is_none(),
         _ => false,
     }
 }
@@ -168,7 +213,10 @@ pub fn name_fault(source: &[u8], o: Occurrence, repeated: bool, unknown: bool) -
 fn is_no_word(symbol: Option<Symbol>) -> bool
     ensures { result ≡ faults.is_no_word symbol }
 {
-    matches!(symbol, Some(Symbol::Task { .. } | Symbol::Array { .. }))
+    matches!(
+        symbol,
+        Some(Symbol::Task { .. } | Symbol::Function { .. } | Symbol::Array { .. })
+    )
 }
 
 fn is_no_array(symbol: Option<Symbol>) -> bool
@@ -181,6 +229,15 @@ fn is_no_task(symbol: Option<Symbol>) -> bool
     ensures { result ≡ faults.is_no_task symbol }
 {
     !matches!(symbol, Some(Symbol::Task { .. }))
+}
+
+fn is_no_call(count: usize, symbol: Option<Symbol>) -> bool
+    ensures { result ≡ faults.is_no_call count symbol }
+{
+    match symbol {
+        Some(Symbol::Function { parameters, .. }) => parameters != count,
+        _ => true,
+    }
 }
 
 fn wrong_use_if(source: &[u8], o: Occurrence, test: bool, kept: Kept) -> Option<CheckFault>
@@ -217,11 +274,14 @@ fn use_fault(source: &[u8], o: Occurrence, symbol: Option<Symbol>) -> Option<Che
     match o.role {
         Role::Scalar | Role::Counter => wrong_use_if(source, o, is_no_word(symbol), kept),
         Role::Element => wrong_use_if(source, o, is_no_array(symbol), kept),
+        Role::Call(count) => wrong_use_if(source, o, is_no_call(count, symbol), kept),
         Role::Target => wrong_use_if(source, o, is_no_task(symbol), kept),
         Role::Operand { refused, kept } => wrong_use_if(source, o, refused, kept),
         Role::Shared(_, Extent::Array(words)) => bad_length_if(source, o, words == 0),
-        Role::Shared(_, Extent::Scalar(_) | Extent::Long(_)) | Role::Task | Role::Local { .. } =>
-            None,
+        Role::Shared(_, Extent::Scalar(_) | Extent::Long(_))
+        | Role::Function(_, _)
+        | Role::Task
+        | Role::Local { .. } => None,
     }
 }
 
@@ -242,19 +302,21 @@ pub fn first_use_fault(
 }
 
 fn is_too_many(role: Role, counts: Counts) -> bool
-    ensures { result ≡ faults.is_too_many role counts.shared counts.tasks counts.locals }
+    ensures { result ≡ faults.is_too_many role counts.shared counts.functions counts.tasks counts.locals }
 {
     match role {
         Role::Shared(_, _) => counts.shared == 256,
+        Role::Function(_, _) => counts.functions == 64,
         Role::Task => counts.tasks == 64,
-        Role::Local { .. } => counts.locals == 256,
+        Role::Local { extra, .. } => extra || counts.locals == 256,
         _ => false,
     }
 }
 
 fn limit_fault(source: &[u8], o: Occurrence, counts: Counts) -> Option<CheckFault>
     requires { length source.now < 2 ^ 32 - 1 }
-    ensures { result ≡ faults.fault_if (faults.is_too_many o.role counts.shared counts.tasks counts.locals) (fault.TooMany (faults.line_at source.now o)) }
+    ensures { result ≡ faults.fault_if (faults.is_too_many o.role counts.shared counts.functions counts.tasks counts.locals)
+        (fault.TooMany (faults.line_at source.now o)) }
 {
     if is_too_many(o.role, counts) {
         let line = line_from(source, o.span.from);
@@ -272,7 +334,7 @@ pub fn first_limit_fault(
     counts: Counts,
 ) -> Option<CheckFault>
     requires { length source.now < 2 ^ 32 - 1 }
-    ensures { result ≡ option_or first (faults.fault_if (faults.is_too_many o.role counts.shared counts.tasks counts.locals)
+    ensures { result ≡ option_or first (faults.fault_if (faults.is_too_many o.role counts.shared counts.functions counts.tasks counts.locals)
         (fault.TooMany (faults.line_at source.now o))) }
 {
     match first {
@@ -284,15 +346,22 @@ pub fn first_limit_fault(
 /// The counts after one more name.
 pub fn counted(counts: Counts, role: Role) -> Counts
     requires shared { counts.shared < 2 ^ 32 - 1 }
+    requires functions { counts.functions < 2 ^ 32 - 1 }
     requires tasks { counts.tasks < 2 ^ 32 - 1 }
     requires locals { counts.locals < 2 ^ 32 - 1 }
     ensures shared { result.shared ≡ counts.shared + scope.one_shared role }
+    ensures functions { result.functions ≡ counts.functions + scope.one_function role }
     ensures tasks { result.tasks ≡ counts.tasks + scope.one_task role }
     ensures locals { result.locals ≡ scope.locals_after counts.locals role }
 {
     match role {
         Role::Shared(_, _) => Counts {
             shared: counts.shared + 1,
+            ..counts
+        },
+        Role::Function(_, _) => Counts {
+            functions: counts.functions + 1,
+            locals: 0,
             ..counts
         },
         Role::Task => Counts {

@@ -9,6 +9,7 @@ mod judge;
 mod laws;
 mod occurrence;
 mod passes;
+mod placed;
 mod symbol;
 mod table;
 mod text;

@@ -7,25 +7,27 @@ ghost use Rattle.task_lex.specs.Faults.{line_of};
 ghost use Rattle.path_checks.specs.Firsts.{IsFirst};
 ghost use Rattle.path_checks.specs.Loops.{BadLoopAt};
 ghost use Rattle.path_checks.specs.Unassigned.{UnassignedAt};
-ghost use Rattle.path_checks.specs.Transitions.{NoTransitionAt};
+ghost use Rattle.path_checks.specs.Ends.{NoReturnAt, NoTransitionAt};
 ghost use Rattle.task_ast.specs.View.{program_of, task_of};
 ghost use Rattle.task_check.specs.declared.fault.CheckFault.TheVariants as CheckFault;
 ghost use Rattle.task_check.specs.Occurrences as occurrences;
 ghost use Rattle.task_check.specs.LookedUp.{program_back};
 ghost use Rattle.task_check.specs.Faults as faults;
+ghost use Rattle.task_check.specs.Placed.{IsPlaced};
 ghost use Rattle.task_check.specs.Walks.{IsWalked};
 ghost use Rattle.task_check.specs.Answers.{IsAccepted, IsNamed, IsRefusedOrMemory, IsRefusedOnPaths, IsCleanOnPaths, IsLookedUp, limits_fault};
 
-use crate::build::{Names, named};
+use crate::build::{Names, Used, named};
 use crate::checked::Checked;
 use crate::collect::program_names;
 use crate::fault::CheckFault;
 use crate::occurrence::Occurrence;
+use crate::placed::all_stand;
 use crate::text::line_from;
 use crate::walk::{Walk, globals_of, walk_names};
-use path_checks::{first_bad_loop, first_open_task, first_unassigned};
+use path_checks::{first_bad_loop, first_open_function, first_open_task, first_unassigned};
 use std::alloc::{AllocError, Global};
-use task_ast::{CheckedSource, TaskDeclaration, TaskName, Tree, VariableName};
+use task_ast::{CheckedSource, FunctionName, TaskDeclaration, TaskName, Tree, VariableName};
 
 // The first fault of the checks of loops and of paths.
 fn paths_fault(
@@ -33,7 +35,8 @@ fn paths_fault(
     source: &[u8],
     checked: &CheckedSource,
 ) -> Result<Option<CheckFault>, AllocError>
-    requires { length source.now < 2 ^ 32 - 1 }
+    requires short { length source.now < 2 ^ 32 - 1 }
+    requires placed { IsPlaced (program_of checked.now) }
     ensures { IfOk result (λ fault. MatchOption fault (IsCleanOnPaths (program_of checked.now))
         (λ e. IsRefusedOnPaths source.now (program_of checked.now) e)) }
 {
@@ -44,6 +47,10 @@ fn paths_fault(
     if let Some(name) = first_unassigned(alloc, checked)? {
         let line = line_from(source, name.from);
         return Ok(Some(CheckFault::Unassigned { line, name }));
+    }
+    if let Some(name) = first_open_function(checked) {
+        let line = line_from(source, name.from);
+        return Ok(Some(CheckFault::NoReturn { line, name }));
     }
     if let Some(name) = first_open_task(checked) {
         let line = line_from(source, name.from);
@@ -56,7 +63,7 @@ fn paths_fault(
 fn lines_of(
     alloc: Global,
     source: &[u8],
-    tasks: &[TaskDeclaration<VariableName, TaskName>],
+    tasks: &[TaskDeclaration<VariableName, TaskName, FunctionName>],
 ) -> Result<Vec<u32>, AllocError>
     requires { length source.now < 2 ^ 32 - 1 }
     ensures { IfOk result (λ lines. lines.items ≡ map (λ t. line_of source.now t.name.from) tasks.now) }
@@ -76,6 +83,7 @@ fn check_paths(
 ) -> Result<Checked, CheckFault>
     requires short { length source.now < 2 ^ 32 - 1 }
     requires looked_up { IsLookedUp source.now (program_back (program_of checked)) (program_of checked) }
+    requires placed { IsPlaced (program_of checked) }
     requires limits { too_many ≡ limits_fault source.now (program_back (program_of checked)) }
     ensures same { IfOk result (λ c. c.source ≡ checked) }
     ensures fine { IfOk result (λ c. too_many ≡ None) }
@@ -94,6 +102,30 @@ fn check_paths(
         source: checked,
         task_lines,
     })
+}
+
+// The same, of a source with its names looked up. The walk over the names has seen that all of it stands where it may; this is said of the source by
+// looking once more.
+#[tactic(auto, using(crate::proofs::Placed::is_placed))]
+fn check_placed(
+    alloc: Global,
+    source: &[u8],
+    checked: CheckedSource,
+    too_many: Option<CheckFault>,
+) -> Result<Checked, CheckFault>
+    requires short { length source.now < 2 ^ 32 - 1 }
+    requires looked_up { IsLookedUp source.now (program_back (program_of checked)) (program_of checked) }
+    requires limits { too_many ≡ limits_fault source.now (program_back (program_of checked)) }
+    ensures same { IfOk result (λ c. c.source ≡ checked) }
+    ensures fine { IfOk result (λ c. too_many ≡ None) }
+    ensures refused { IfErr result (λ e. (e ≡ CheckFault.Memory) ⊎ (IsPlaced (program_of checked)
+        × (IsRefusedOnPaths source.now (program_of checked) e ⊎ (IsCleanOnPaths (program_of checked) × (too_many ≡ Some e))))) }
+    ensures lines { IfOk result (λ c. c.task_lines.items ≡ map (λ t. line_of source.now t.name.from) c.source.tasks.items) }
+{
+    if !all_stand(&checked) {
+        return Err(CheckFault::Memory);
+    }
+    check_paths(alloc, source, checked, too_many)
 }
 
 // The checks behind those of names, of which the walk tells. The names are let go before the source is built.
@@ -116,12 +148,16 @@ fn check_named(
     match wrong_use {
         Some(fault) => Err(fault),
         None => {
-            let found = Names {
+            let used = Used {
                 variables: &walk.variables,
+                calls: &walk.calls,
+            };
+            let found = Names {
+                used,
                 targets: &walk.targets,
             };
             let checked = named(alloc, tree, found)?;
-            check_paths(alloc, source, checked, too_many)
+            check_placed(alloc, source, checked, too_many)
         }
     }
 }

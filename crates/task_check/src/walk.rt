@@ -14,7 +14,7 @@ ghost use Rattle.task_check.specs.Walks.{HasGlobals, IsWalked, IsOneOn, counts_i
 use crate::fault::CheckFault;
 use crate::judge;
 use crate::occurrence::{Occurrence, Role};
-use crate::symbol::{Counts, Global, Local, Symbol, TypedVariable};
+use crate::symbol::{Counts, Global, Local, Symbol, TypedFunction, TypedVariable};
 use crate::table::{Table, empty, get, set, set_first};
 use crate::text::text_of;
 use std::alloc::{AllocError, Global as Memory};
@@ -28,6 +28,8 @@ pub struct Walk<'a> {
     pub counts: Counts,
     /// What the names of variables stand for, in the text's order.
     pub variables: Vec<TypedVariable>,
+    /// What the names of called functions stand for.
+    pub calls: Vec<TypedFunction>,
     /// What the names behind transitions and the entry stand for.
     pub targets: Vec<u32>,
     /// The first wrong use or empty array.
@@ -70,7 +72,7 @@ fn add_variable_of(variables: &mut Vec<TypedVariable>, symbol: Symbol) -> Result
             })?;
             Ok(())
         }
-        Symbol::Task { .. } => Ok(()),
+        Symbol::Function { .. } | Symbol::Task { .. } => Ok(()),
     }
 }
 
@@ -82,8 +84,34 @@ fn add_variable(
     ensures { IfOk result (λ _. variables.new.items ≡ variables.old.items ++ looked_up.variable_by role symbol) }
 {
     match (role, symbol) {
-        (Role::Target, _) | (_, None) => Ok(()),
+        (Role::Target | Role::Call(_), _) | (_, None) => Ok(()),
         (_, Some(symbol)) => add_variable_of(variables, symbol),
+    }
+}
+
+fn add_call(
+    calls: &mut Vec<TypedFunction>,
+    role: Role,
+    symbol: Option<Symbol>,
+) -> Result<(), AllocError>
+    ensures { IfOk result (λ _. calls.new.items ≡ calls.old.items ++ looked_up.call_by role symbol) }
+{
+    match (role, symbol) {
+        (
+            Role::Call(_),
+            Some(Symbol::Function {
+                number,
+                word_type,
+                ..
+            }),
+        ) => {
+            calls.push(TypedFunction {
+                function: number,
+                word_type,
+            })?;
+            Ok(())
+        }
+        _ => Ok(()),
     }
 }
 
@@ -108,6 +136,7 @@ fn go_on<'a>(
 ) -> Result<(), AllocError>
     requires short { length source.now < 2 ^ 32 - 1 }
     requires shared { walk.old.counts.shared < 2 ^ 32 - 1 }
+    requires functions { walk.old.counts.functions < 2 ^ 32 - 1 }
     requires tasks { walk.old.counts.tasks < 2 ^ 32 - 1 }
     requires locals { walk.old.counts.locals < 2 ^ 32 - 1 }
     ensures { IfOk result (λ _. IsOneOn source.now o symbol walk.old walk.new) }
@@ -117,6 +146,7 @@ fn go_on<'a>(
     walk.too_many = judge::first_limit_fault(walk.too_many, source, o, counts);
     walk.counts = judge::counted(counts, o.role);
     add_variable(&mut walk.variables, o.role, symbol)?;
+    add_call(&mut walk.calls, o.role, symbol)?;
     add_target(&mut walk.targets, o.role, symbol)?;
     let local = judge::local_by(o.role, counts);
     set_local(&mut walk.locals, text_of(source, o.span), local)
@@ -134,6 +164,7 @@ fn step<'a>(
 ) -> Result<(), CheckFault>
     requires short { length source.now < 2 ^ 32 - 1 }
     requires shared { walk.old.counts.shared < 2 ^ 32 - 1 }
+    requires functions { walk.old.counts.functions < 2 ^ 32 - 1 }
     requires tasks { walk.old.counts.tasks < 2 ^ 32 - 1 }
     requires locals { walk.old.counts.locals < 2 ^ 32 - 1 }
     ensures ok { IfOk result (λ _. IsOneOn source.now o.now (symbol_of source.now globals.now walk.old o.now behind) walk.old walk.new) }
@@ -143,10 +174,11 @@ fn step<'a>(
     let name = text_of(source, o.span);
     let global = get(globals, name);
     let local = get(&walk.locals, name);
-    let found = judge::meaning(behind, local, global);
+    let known = judge::known_functions(walk.counts);
+    let found = judge::meaning(known, behind, local, global);
     let symbol = judge::symbol_by(o.role, walk.counts.locals, found);
     let in_front = judge::stands_in_front(front, global);
-    let repeated = judge::is_repeated(o.role, in_front, walk.counts.tasks, local);
+    let repeated = judge::is_repeated(o.role, in_front, walk.counts, local);
     let unknown = judge::is_unknown(o.role, symbol);
     if let Some(fault) = judge::name_fault(source, *o, repeated, unknown) {
         return Err(fault);
@@ -160,12 +192,14 @@ fn start<'a>(alloc: Memory) -> Walk<'a>
     ensures locals { (q : List ℕ) → found result.locals q ≡ None }
     ensures counts { result.counts ≡ counts_in [] }
     ensures variables { result.variables.items ≡ [] }
+    ensures calls { result.calls.items ≡ [] }
     ensures targets { result.targets.items ≡ [] }
     ensures wrong_use { result.wrong_use ≡ None }
     ensures too_many { result.too_many ≡ None }
 {
     let counts = Counts {
         shared: 0,
+        functions: 0,
         tasks: 0,
         locals: 0,
     };
@@ -173,6 +207,7 @@ fn start<'a>(alloc: Memory) -> Walk<'a>
         locals: empty(alloc),
         counts,
         variables: Vec::new(alloc),
+        calls: Vec::new(alloc),
         targets: Vec::new(alloc),
         wrong_use: None,
         too_many: None,
@@ -220,7 +255,7 @@ fn set_global<'a>(
     }
 }
 
-/// The first shared variable or task of each name.
+/// The first shared variable, function or task of each name.
 pub fn globals_of<'a>(
     alloc: Memory,
     source: &'a [u8],
@@ -232,6 +267,7 @@ pub fn globals_of<'a>(
     let mut globals = empty(alloc);
     let mut counts = Counts {
         shared: 0,
+        functions: 0,
         tasks: 0,
         locals: 0,
     };

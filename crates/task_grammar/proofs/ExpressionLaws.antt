@@ -8,16 +8,17 @@ use Rattle.task_grammar.specs.declared.operators.Infix.{Infix}
 use Rattle.task_grammar.specs.declared.operators.Infix.TheVariants.{Binary, Shift, ShortCircuit}
 use Rattle.task_grammar.specs.Parsed.{Expression}
 use Rattle.task_ast.specs.Tree as node
-use Rattle.task_grammar.specs.Grammar.{prefix_of, infix_of, weakest, placed, long_worth, literal_of, IsExpression, number, long_number, name, element, sense}
-use Rattle.task_grammar.specs.Grammar.{next_event, brackets, prefixed, tighter}
+use Rattle.task_grammar.specs.Grammar.{prefix_of, infix_of, weakest, placed, long_worth, literal_of, IsExpression, IsValues, number, long_number, name, element, sense}
+use Rattle.task_grammar.specs.Grammar.{next_event, call, brackets, prefixed, tighter}
 use Rattle.task_grammar.specs.Grammar.{joined, short_circuited, shifted}
 use Rattle.task_grammar.specs.Expressions as reading
 use Rattle.task_grammar.specs.Reading.{Parser, pure, again, over}
-use Rattle.task_grammar.specs.Expressions.{of_precedence, infix_at, joined_with, climb_on, climb_turn, climb, up_to, element_by, named, bracketed, primary_by}
+use Rattle.task_grammar.specs.Expressions.{of_precedence, infix_at, joined_with, climb_on, climb_turn, climb, up_to, values, named_by, named, bracketed, primary_by}
 use Rattle.task_grammar.specs.Expressions.{primary}
 use Rattle.task_grammar.specs.Expressions.{unary_within}
 use Rattle.task_grammar.proofs.ParserLaws.{Law, Sentence, law_pure, law_refuse, law_bind, law_by, law_accept, law_accept_at, law_take, law_map, law_weaken}
 use Rattle.task_grammar.proofs.Turns.{Leads, Shrinks, law_shrinks, law_repeat}
+use Rattle.task_grammar.proofs.Values.{law_values}
 
 zero_token : Token
 zero_token = record { kind = k.Number; span = record { from = 0; to = 0 }; value = 0; high = 0 }
@@ -105,15 +106,18 @@ law_next_event = law_take k.NextEvent _ (IsExpression 0) (λ e is. law_take k.Op
     (λ o is_o. law_take k.Close _ _ (λ c is_c. law_pure node.next_event _ (next_event e o c is is_o is_c))))
 
 module _ (p : Parser Expression) (law : Law p (IsExpression weakest)) where
-  law_element_by : (t : Token) → t.kind ≡ k.Name → (kind : Option Kind) → Law (element_by p t kind) (λ ys a. IsExpression 0 (t ∷ ys) a)
-  law_element_by t is (Some k.OpenSquare) = law_take k.OpenSquare _ _
+  law_named_by : (t : Token) → t.kind ≡ k.Name → (kind : Option Kind) → Law (named_by p t kind) (λ ys a. IsExpression 0 (t ∷ ys) a)
+  law_named_by t is (Some k.OpenSquare) = law_take k.OpenSquare _ _
       (λ o is_o. law_bind _ (IsExpression weakest) _
       (λ xs index is_index. law_take k.CloseSquare _ _ (λ c is_c. law_pure (node.element t.span index) _ (element t o c xs index is is_o is_index is_c))) p law)
-  law_element_by t is _ = law_pure (node.name t.span) _ (name t is)
+  law_named_by t is (Some k.Open) = law_take k.Open _ _ (λ o is_o. law_bind _ IsValues _
+      (λ xs given is_given. law_take k.Close _ _ (λ c is_c. law_pure (node.call t.span given) _ (call t o c xs given is is_o is_given is_c)))
+      (values p) (law_values p law))
+  law_named_by t is _ = law_pure (node.name t.span) _ (name t is)
 
   law_named : Law (named p) (IsExpression 0)
   unfolding named
-  law_named = law_take k.Name _ _ (λ t is. law_by (element_by p t) _ (law_element_by t is))
+  law_named = law_take k.Name _ _ (λ t is. law_by (named_by p t) _ (law_named_by t is))
 
   law_bracketed : Law (bracketed p) (IsExpression 0)
   unfolding bracketed

@@ -10,12 +10,13 @@ use Rattle.task_grammar.specs.declared.operators.Infix.{Infix}
 use Rattle.task_grammar.specs.declared.operators.Infix.TheVariants.{Binary, Shift, ShortCircuit}
 use Rattle.task_grammar.specs.Grammar.{prefix_of, weakest, placed, IsExpression}
 use Rattle.task_grammar.specs.Reading.{Parser, and_then, pure, kind_of, again, over, turned}
-use Rattle.task_grammar.specs.Expressions.{infix_at, joined_with, climb_on, climb_turn, climb, up_to, element_by, named, bracketed, primary_by, primary}
+use Rattle.task_grammar.specs.Expressions.{more_by, more_values, infix_at, joined_with, climb_on, climb_turn, climb, up_to, values, named_by, named, bracketed, primary_by, primary}
 use Rattle.task_grammar.specs.Expressions.{prefixed}
 use Rattle.task_grammar.specs.Expressions.{unary_within, unary, expression}
 use Rattle.task_grammar.proofs.ParserLaws.{Law}
 use Rattle.task_grammar.proofs.SameLaws.{Same, Shortens, law_shortens, same_bind, same_take, same_accept, same_accept_at}
 use Rattle.task_grammar.proofs.Turns.{law_enough, same_repeat, repeat_is}
+use Rattle.task_grammar.proofs.Values as called
 use Rattle.task_grammar.proofs.ExpressionLaws.{law_up_to, law_within, shrinks_climb}
 
 same_joined_with : (m : ℕ) (lower lower' : Parser Expression) → Same m lower lower' → (left : Expression) (place : Span) (op : Infix)
@@ -46,15 +47,20 @@ same_up_to m u u' same law (suc j) =
 
 -- ---- inside brackets
 
-module _ (m : ℕ) (x x' : Parser Expression) (same : Same m x x') (shorter : Shortens x) where
-  same_element_by : (t : Token) (kind : Option Kind) → Same m (element_by x t kind) (element_by x' t kind)
-  same_element_by t (Some k.OpenSquare) = λ ts fits. same_take m k.OpenSquare _ _ (λ o. same_bind m x x' _ _ same (λ index rest le. refl) shorter) ts
+module _ (m : ℕ) (x x' : Parser Expression) (same : Same m x x') (law : Law x (IsExpression weakest)) where
+  shorter : Shortens x
+  shorter = law_shortens x (IsExpression weakest) law
+
+  same_named_by : (t : Token) (kind : Option Kind) → Same m (named_by x t kind) (named_by x' t kind)
+  same_named_by t (Some k.OpenSquare) = λ ts fits. same_take m k.OpenSquare _ _ (λ o. same_bind m x x' _ _ same (λ index rest le. refl) shorter) ts
       (omega arith)
-  same_element_by t _ = λ ts fits. refl
+  same_named_by t (Some k.Open) = λ ts fits. same_take m k.Open _ _ (λ o. same_bind m (values x) (values x') _ _
+      (called.same_values m x x' same shorter) (λ given rest le. refl) (called.shorter_values x law)) ts (omega arith)
+  same_named_by t _ = λ ts fits. refl
 
   same_named : Same (suc m) (named x) (named x')
   unfolding named
-  same_named = same_take m k.Name _ _ (λ t ts fits. same_element_by t (kind_of ts) ts fits)
+  same_named = same_take m k.Name _ _ (λ t ts fits. same_named_by t (kind_of ts) ts fits)
 
   same_bracketed : Same (suc m) (bracketed x) (bracketed x')
   unfolding bracketed
@@ -78,7 +84,7 @@ same_step : (m n : ℕ) (u : Parser Expression) → Same m (unary_within n) u
     → Same (suc m) (prefixed (up_to (unary_within n) weakest) (unary_within n)) (prefixed (up_to u weakest) u)
 same_step m n u same =
     same_prefixed m (up_to (unary_within n) weakest) (up_to u weakest) (same_up_to m (unary_within n) u same (law_within n) weakest)
-    (law_shortens (up_to (unary_within n) weakest) (IsExpression weakest) (law_up_to (unary_within n) (law_within n) weakest))
+    (law_up_to (unary_within n) (law_within n) weakest)
     (unary_within n) u same (law_shortens (unary_within n) (IsExpression 0) (law_within n))
 
 one_more : (n : ℕ) → Same n (unary_within n) (unary_within (suc n))
@@ -122,5 +128,8 @@ climb_is zero left ts some = absurd (omega arith)
 climb_is (suc j) left ts some = let back : j ≡ suc j - 1 = omega arith in
     subst (λ i. climb (up_to unary i) (suc j) left ts ≡ and_then (climb_turn (up_to unary i) (suc j) left ts) (turned (climb (up_to unary i) (suc j)))) back
     (climb_suc j left ts)
+
+pub more_values_is : (ts : List Token) → more_values expression ts ≡ more_by expression (more_values expression) (kind_of ts) ts
+more_values_is = called.more_values_is expression (law_up_to unary law_unary weakest)
 
 pub ruleset up_to_is = (up_to_zero, up_to_above, climb_is)

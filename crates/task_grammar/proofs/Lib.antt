@@ -1,6 +1,7 @@
 mod ParserLaws
 mod Turns
 mod SameLaws
+mod Values
 mod ExpressionLaws
 mod ExpressionSame
 mod ExpressionComplete

@@ -9,14 +9,16 @@ use Rattle.task_ast.specs.declared.WordType.TheVariants as word
 use Rattle.task_ast.specs.declared.Extent.{Extent}
 use Rattle.task_ast.specs.declared.Extent.TheVariants as extent
 use Rattle.task_ast.specs.declared.SharedDeclaration.{SharedDeclaration}
-use Rattle.task_grammar.specs.Parsed.{Task, Program}
+use Rattle.task_grammar.specs.Parsed.{Parameter, Function, Task, Program}
 use Rattle.task_grammar.specs.Grammar as grammar
-use Rattle.task_grammar.specs.Grammar.{type_of, shared_from, task_from, program_from, negated, long_negated, long_worth, Row, IsBlock, IsExtent, IsWorth}
-use Rattle.task_grammar.specs.Grammar.{IsLongExtent, IsShared, IsTask, IsProgram}
+use Rattle.task_grammar.specs.Grammar.{type_of, shared_from, parameter_from, function_from, task_from, program_from, negated, long_negated, long_worth, Row}
+use Rattle.task_grammar.specs.Grammar.{IsBlock, IsExtent, IsWorth}
+use Rattle.task_grammar.specs.Grammar.{IsLongExtent, IsShared, IsParameter, IsFurther, IsParameters, IsFunction, IsTask, IsProgram}
 use Rattle.task_grammar.specs.Reading.{done, fault, and_then, pure, kind_of, turned}
 use Rattle.task_grammar.specs.Statements.{block}
 use Rattle.task_grammar.specs.Programs.{many, many_turn, valued_by, extent_by, extents, worth_by, worth, long_valued_by, long_extent_by, long_extents, named_of}
-use Rattle.task_grammar.specs.Programs.{long_behind, shared_by, shared, task, tasks, is_shared, is_task, ending, program}
+use Rattle.task_grammar.specs.Programs.{long_behind, shared_by, shared, parameter, further, some_parameters, parameters_by, parameters, function, task, tasks}
+use Rattle.task_grammar.specs.Programs.{is_shared, is_comma, is_function, is_task, ending, program}
 use Rattle.task_grammar.proofs.ParserLaws.{Law, Good, Sentence, rest_of, with_rest, law_pure, law_refuse, law_bind, law_by, law_take, law_map, law_weaken}
 use Rattle.task_grammar.proofs.ExpressionComplete.{takes}
 use Rattle.task_grammar.proofs.StatementLaws.{law_type}
@@ -101,6 +103,39 @@ unfolding shared
 law_shared = law_take k.Shared _ _ (λ h is_h. law_type _ _
     (λ t of is. law_by (λ kind. shared_by kind of) _ (law_shared_by h t is_h of is)))
 
+law_parameter : Law parameter IsParameter
+unfolding parameter
+law_parameter = law_type _ _ (λ t of is. law_take k.Name _ _ (λ n is_n. law_pure (parameter_from of n) _ (grammar.parameter t n of is is_n)))
+
+law_further : Law further IsFurther
+unfolding further
+law_further = law_take k.Comma _ _ (λ c is_c. law_weaken parameter IsParameter _
+    (λ ys found is_found. grammar.further c ys found is_c is_found) law_parameter)
+
+further_some : (xs : List Token) (x : Parameter) → IsFurther xs x → 0 < length xs
+further_some xs x (grammar.further c ts found is_c is_found) = omega arith
+
+law_some_parameters : Law some_parameters IsParameters
+unfolding some_parameters
+law_some_parameters = law_bind _ IsParameter IsParameters (λ xs first is_first. law_weaken (many is_comma further (first ∷ []))
+    (After IsFurther is_comma further law_further further_some (first ∷ [])) (λ ys all. IsParameters (xs ++ ys) all)
+    (λ ys all rest. subst (IsParameters (xs ++ ys)) (sym rest.1) (grammar.parameters xs ys first rest.0 is_first rest.2))
+    (law_many IsFurther is_comma further law_further further_some (first ∷ []))) parameter law_parameter
+
+law_parameters_by : (kind : Option Kind) → Law (parameters_by kind) IsParameters
+law_parameters_by (Some k.Close) = law_pure [] IsParameters grammar.no_parameter
+law_parameters_by _ = law_some_parameters
+
+law_parameters : Law parameters IsParameters
+unfolding parameters
+law_parameters = law_by parameters_by IsParameters law_parameters_by
+
+law_function : Law function IsFunction
+unfolding function
+law_function = law_type _ _ (λ t of is. law_take k.Name _ _ (λ n is_n. law_take k.Open _ _ (λ o is_o. law_bind _ IsParameters _
+    (λ ps found is_found. law_take k.Close _ _ (λ c is_c. law_map block (function_from of n found) IsBlock _ law_block
+    (λ ts body is_body. grammar.function t n o c of ps ts found body is is_n is_o is_found is_c is_body))) parameters law_parameters)))
+
 law_task : Law task IsTask
 unfolding task
 law_task = law_take k.Task _ _ (λ h is_h. law_take k.Name _ _
@@ -122,12 +157,23 @@ shared_some : (xs : List Token) (x : SharedDeclaration) → IsShared xs x → 0 
 shared_some xs x (grammar.shared h t n z of ts init is_h is is_n is_init is_z) = omega arith
 shared_some xs x (grammar.long h t l n z ts init is_h is_t is_l is_n is_init is_z) = omega arith
 
+function_some : (xs : List Token) (x : Function) → IsFunction xs x → 0 < length xs
+function_some xs x (grammar.function t n o c of ps ts found body is is_n is_o is_found is_c is_body) = omega arith
+
 task_some : (xs : List Token) (x : Task) → IsTask xs x → 0 < length xs
 task_some xs x (grammar.task h n ts body is_h is_n is_body) = omega arith
 
 pub shareds_is : (found : List SharedDeclaration) (ts : List Token) → many is_shared shared found ts
     ≡ and_then (many_turn is_shared shared found ts) (turned (many is_shared shared))
 shareds_is = many_is IsShared is_shared shared law_shared shared_some
+
+pub further_is : (found : List Parameter) (ts : List Token) → many is_comma further found ts
+    ≡ and_then (many_turn is_comma further found ts) (turned (many is_comma further))
+further_is = many_is IsFurther is_comma further law_further further_some
+
+pub functions_is : (found : List Function) (ts : List Token) → many is_function function found ts
+    ≡ and_then (many_turn is_function function found ts) (turned (many is_function function))
+functions_is = many_is IsFunction is_function function law_function function_some
 
 pub tasks_is : (found : List Task) (ts : List Token) → many is_task task found ts ≡ and_then (many_turn is_task task found ts) (turned (many is_task task))
 tasks_is = many_is IsTask is_task task law_task task_some
@@ -143,22 +189,32 @@ law_tasks = law_bind _ IsTask IsTasks (λ xs first is_first. law_weaken (many is
     (After IsTask is_task task law_task task_some (first ∷ [])) (λ ys all. IsTasks (xs ++ ys) all)
     (λ ys all rest. (xs, ys, first, rest.0, refl, rest.1, is_first, rest.2)) (law_many IsTask is_task task law_task task_some (first ∷ []))) task law_task
 
-whole : (xs ys : List Token) (h n z : Token) (shareds : List SharedDeclaration) (all : List Task) → Row IsShared xs shareds → IsTasks ys all
-    → h.kind ≡ k.Entry → n.kind ≡ k.Name → z.kind ≡ k.Semicolon
-    → IsProgram (xs ++ (ys ++ (h ∷ n ∷ z ∷ []))) (program_from shareds all n)
-whole xs ys h n z shareds all is_shareds (vs, ws, first, others, cut, same, is_first, is_others) is_h is_n is_z =
+-- `entry name ;`
+abbrev pub IsEnd : Token → Token → Token → Type 0
+IsEnd h n z = (h.kind ≡ k.Entry) × (n.kind ≡ k.Name) × (z.kind ≡ k.Semicolon)
+
+whole : (xs fs ys : List Token) (h n z : Token) (shareds : List SharedDeclaration) (functions : List Function) (all : List Task)
+    → Row IsShared xs shareds → Row IsFunction fs functions → IsTasks ys all → IsEnd h n z
+    → IsProgram (xs ++ (fs ++ (ys ++ (h ∷ n ∷ z ∷ [])))) (program_from shareds functions all n)
+whole xs fs ys h n z shareds functions all is_shareds is_functions (vs, ws, first, others, cut, same, is_first, is_others) is_end =
     let end = h ∷ n ∷ z ∷ [] in
-    let made : IsProgram (xs ++ (vs ++ (ws ++ end))) (program_from shareds (first ∷ others) n) =
-    grammar.program xs vs ws h n z shareds first others is_shareds is_first is_others is_h is_n is_z in
-    let tokens : xs ++ (vs ++ (ws ++ end)) ≡ xs ++ (ys ++ end) = ap (λ x. xs ++ x) (sym (append_assoc vs ws end) ∙ ap (λ x. x ++ end) (sym cut)) in
-    subst (λ x. IsProgram x (program_from shareds all n)) tokens (subst (λ x. IsProgram (xs ++ (vs ++ (ws ++ end))) (program_from shareds x n)) (sym same) made)
+    let made : IsProgram (xs ++ (fs ++ (vs ++ (ws ++ end)))) (program_from shareds functions (first ∷ others) n) =
+    grammar.program xs fs vs ws h n z shareds functions first others is_shareds is_functions is_first is_others is_end.0 is_end.1 is_end.2 in
+    let tokens : xs ++ (fs ++ (vs ++ (ws ++ end))) ≡ xs ++ (fs ++ (ys ++ end)) =
+    ap (λ x. xs ++ (fs ++ x)) (sym (append_assoc vs ws end) ∙ ap (λ x. x ++ end) (sym cut)) in
+    subst (λ x. IsProgram x (program_from shareds functions all n)) tokens
+    (subst (λ x. IsProgram (xs ++ (fs ++ (vs ++ (ws ++ end)))) (program_from shareds functions x n)) (sym same) made)
 
 pub law_program : Law program IsProgram
 unfolding program
-law_program = law_bind _ (After IsShared is_shared shared law_shared shared_some []) IsProgram (λ xs shareds after. law_bind _ IsTasks _ (λ ys all is_all.
-    law_take k.Entry _ _ (λ h is_h. law_take k.Name _ _ (λ n is_n. law_take k.Semicolon _ _ (λ z is_z. law_ending (program_from shareds all n) _
-    (whole xs ys h n z shareds all (subst (Row IsShared xs) (sym after.1) after.2) is_all is_h is_n is_z)))))
-    tasks law_tasks) (many is_shared shared []) (law_many IsShared is_shared shared law_shared shared_some [])
+law_program = law_bind _ (After IsShared is_shared shared law_shared shared_some []) IsProgram (λ xs shareds after.
+    law_bind _ (After IsFunction is_function function law_function function_some []) _ (λ fs functions behind. law_bind _ IsTasks _ (λ ys all is_all.
+    law_take k.Entry _ _ (λ h is_h. law_take k.Name _ _ (λ n is_n. law_take k.Semicolon _ _ (λ z is_z.
+    law_ending (program_from shareds functions all n) _
+    (whole xs fs ys h n z shareds functions all (subst (Row IsShared xs) (sym after.1) after.2) (subst (Row IsFunction fs) (sym behind.1) behind.2) is_all
+    (is_h, is_n, is_z))))))
+    tasks law_tasks) (many is_function function []) (law_many IsFunction is_function function law_function function_some []))
+    (many is_shared shared []) (law_many IsShared is_shared shared law_shared shared_some [])
 
 -- ---- what is related is read
 
@@ -210,6 +266,60 @@ reads_shared xs x (grammar.long h t l n z ts init is_h is_t is_l is_n is_init is
     ∙ takes k.Long l (n ∷ ts ++ z ∷ rest) _ is_l ∙ takes k.Name n (ts ++ z ∷ rest) _ is_n
     ∙ goes (long_extents (ts ++ z ∷ rest)) init (z ∷ rest) _ (reads_long ts init z rest is_init is_z) ∙ takes k.Semicolon z rest _ is_z
 
+reads_parameter : (xs : List Token) (x : Parameter) → IsParameter xs x → (rest : List Token) → parameter (xs ++ rest) ≡ done x rest
+unfolding parameter
+reads_parameter xs x (grammar.parameter t n of is is_n) rest = takes_type t of (n ∷ rest) _ is ∙ takes k.Name n rest _ is_n
+
+reads_further : (xs : List Token) (x : Parameter) → IsFurther xs x → (rest : List Token) → further (xs ++ rest) ≡ done x rest
+unfolding further
+reads_further xs x (grammar.further c ts found is_c is_found) rest = takes k.Comma c (ts ++ rest) _ is_c ∙ reads_parameter ts found is_found rest
+
+further_begun : (xs : List Token) (x : Parameter) → IsFurther xs x → (rest : List Token) → is_comma (kind_of (xs ++ rest)) ≡ true
+further_begun xs x (grammar.further c ts found is_c is_found) rest = ap (λ kd. is_comma (Some kd)) is_c
+
+-- no type is a closing bracket
+type_open : (kind : Kind) (of : WordType) (ts : List Token) → type_of kind ≡ Some of → parameters_by (Some kind) ts ≡ some_parameters ts
+type_open k.Close of ts h = absurd (cc)
+type_open _ of ts h = refl
+
+parameter_open : (xs : List Token) (x : Parameter) → IsParameter xs x → (rest : List Token)
+    → parameters_by (kind_of (xs ++ rest)) (xs ++ rest) ≡ some_parameters (xs ++ rest)
+parameter_open xs x (grammar.parameter t n of is is_n) rest = type_open t.kind of (t ∷ n ∷ rest) is
+
+reads_parameters : (ps : List Token) (found : List Parameter) → IsParameters ps found → (c : Token) (rest : List Token) → c.kind ≡ k.Close
+    → parameters (ps ++ c ∷ rest) ≡ done found (c ∷ rest)
+unfolding parameters some_parameters
+reads_parameters ps found grammar.no_parameter c rest is_c = ap (λ kd. parameters_by (Some kd) (c ∷ rest)) is_c
+reads_parameters ps found (grammar.parameters xs ys first more is_first are_more) c rest is_c =
+    let behind = ys ++ c ∷ rest in
+    ap parameters (append_assoc xs ys (c ∷ rest)) ∙ parameter_open xs first is_first behind
+    ∙ goes (parameter (xs ++ behind)) first behind _ (reads_parameter xs first is_first behind)
+    ∙ reads_many IsFurther is_comma further law_further further_some further_begun reads_further more ys are_more (first ∷ []) (c ∷ rest)
+    (ap (λ kd. is_comma (Some kd)) is_c)
+
+reads_function : (xs : List Token) (x : Function) → IsFunction xs x → (rest : List Token) → function (xs ++ rest) ≡ done x rest
+unfolding function
+reads_function xs x (grammar.function t n o c of ps ts found body is is_n is_o is_found is_c is_body) rest =
+    ap (λ y. function (t ∷ n ∷ o ∷ y)) (append_assoc ps (c ∷ ts) rest) ∙ takes_type t of (n ∷ o ∷ ps ++ (c ∷ ts ++ rest)) _ is
+    ∙ takes k.Name n (o ∷ ps ++ (c ∷ ts ++ rest)) _ is_n ∙ takes k.Open o (ps ++ (c ∷ ts ++ rest)) _ is_o
+    ∙ goes (parameters (ps ++ (c ∷ ts ++ rest))) found (c ∷ ts ++ rest) _ (reads_parameters ps found is_found c (ts ++ rest) is_c)
+    ∙ takes k.Close c (ts ++ rest) _ is_c ∙ goes (block (ts ++ rest)) body rest _ (reads_block is_body rest)
+
+type_begins_function : (kind : Kind) (of : WordType) → type_of kind ≡ Some of → is_function (Some kind) ≡ true
+type_begins_function k.Unsigned of h = refl
+type_begins_function k.Int of h = refl
+type_begins_function _ of h = absurd (cc)
+
+function_begun : (xs : List Token) (x : Function) → IsFunction xs x → (rest : List Token) → is_function (kind_of (xs ++ rest)) ≡ true
+function_begun xs x (grammar.function t n o c of ps ts found body is is_n is_o is_found is_c is_body) rest = type_begins_function t.kind of is
+
+type_not_shared : (kind : Kind) (of : WordType) → type_of kind ≡ Some of → is_shared (Some kind) ≡ false
+type_not_shared k.Shared of h = absurd (cc)
+type_not_shared _ of h = refl
+
+function_not_shared : (xs : List Token) (x : Function) → IsFunction xs x → (rest : List Token) → is_shared (kind_of (xs ++ rest)) ≡ false
+function_not_shared xs x (grammar.function t n o c of ps ts found body is is_n is_o is_found is_c is_body) rest = type_not_shared t.kind of is
+
 reads_task : (xs : List Token) (x : Task) → IsTask xs x → (rest : List Token) → task (xs ++ rest) ≡ done x rest
 unfolding task
 reads_task xs x (grammar.task h n ts body is_h is_n is_body) rest = takes k.Task h _ _ is_h ∙ takes k.Name n (ts ++ rest) _ is_n
@@ -222,8 +332,18 @@ shared_begun xs x (grammar.long h t l n z ts init is_h is_t is_l is_n is_init is
 task_begun : (xs : List Token) (x : Task) → IsTask xs x → (rest : List Token) → is_task (kind_of (xs ++ rest)) ≡ true
 task_begun xs x (grammar.task h n ts body is_h is_n is_body) rest = ap (λ kd. is_task (Some kd)) is_h
 
+task_no_function : (xs : List Token) (x : Task) → IsTask xs x → (rest : List Token) → is_function (kind_of (xs ++ rest)) ≡ false
+task_no_function xs x (grammar.task h n ts body is_h is_n is_body) rest = ap (λ kd. is_function (Some kd)) is_h
+
 task_not_shared : (xs : List Token) (x : Task) → IsTask xs x → (rest : List Token) → is_shared (kind_of (xs ++ rest)) ≡ false
 task_not_shared xs x (grammar.task h n ts body is_h is_n is_body) rest = ap (λ kd. is_shared (Some kd)) is_h
+
+functions_not_shared : (functions : List Function) (fs : List Token) → Row IsFunction fs functions → (rest : List Token)
+    → is_shared (kind_of rest) ≡ false → is_shared (kind_of (fs ++ rest)) ≡ false
+functions_not_shared [] fs row rest h = ap (λ ts. is_shared (kind_of (ts ++ rest))) row ∙ h
+functions_not_shared (x ∷ more) fs row rest h =
+    ap (λ ts. is_shared (kind_of (ts ++ rest))) row.2 ∙ ap (λ ts. is_shared (kind_of ts)) (append_assoc row.0 row.1 rest)
+    ∙ function_not_shared row.0 x row.3 (row.1 ++ rest)
 
 reads_tasks : (xs ys rest : List Token) (first : Task) (others : List Task) → IsTask xs first → Row IsTask ys others → is_task (kind_of rest) ≡ false
     → tasks (xs ++ (ys ++ rest)) ≡ done (first ∷ others) rest
@@ -234,10 +354,14 @@ reads_tasks xs ys rest first others is_first is_others ends =
 
 pub reads_program : (ts : List Token) (tree : Program) → IsProgram ts tree → program ts ≡ done tree []
 unfolding program
-reads_program ts tree (grammar.program xs ys zs h n z shareds first others is_shareds is_first is_others is_h is_n is_z) =
+reads_program ts tree (grammar.program xs fs ys zs h n z shareds functions first others is_shareds is_functions is_first is_others is_h is_n is_z) =
     let end = h ∷ n ∷ z ∷ [] in
-    goes (many is_shared shared [] (xs ++ (ys ++ (zs ++ end)))) shareds (ys ++ (zs ++ end)) _
-    (reads_many IsShared is_shared shared law_shared shared_some shared_begun reads_shared shareds xs is_shareds [] (ys ++ (zs ++ end))
-    (task_not_shared ys first is_first (zs ++ end)))
+    let behind = ys ++ (zs ++ end) in
+    goes (many is_shared shared [] (xs ++ (fs ++ behind))) shareds (fs ++ behind) _
+    (reads_many IsShared is_shared shared law_shared shared_some shared_begun reads_shared shareds xs is_shareds [] (fs ++ behind)
+    (functions_not_shared functions fs is_functions behind (task_not_shared ys first is_first (zs ++ end))))
+    ∙ goes (many is_function function [] (fs ++ behind)) functions behind _
+    (reads_many IsFunction is_function function law_function function_some function_begun reads_function functions fs is_functions [] behind
+    (task_no_function ys first is_first (zs ++ end)))
     ∙ goes (tasks (ys ++ (zs ++ end))) (first ∷ others) end _ (reads_tasks ys zs end first others is_first is_others (ap (λ kd. is_task (Some kd)) is_h))
     ∙ takes k.Entry h _ _ is_h ∙ takes k.Name n (z ∷ []) _ is_n ∙ takes k.Semicolon z [] _ is_z

@@ -9,7 +9,7 @@ use Rattle.task_grammar.specs.Grammar as grammar
 use Rattle.task_grammar.specs.Grammar.{weakest, IsExpression, arm_from, IsGiven, IsStatement, IsElses, IsArm, IsBlock, IsStatements, type_of}
 use Rattle.task_grammar.specs.Reading.{Outcome, done, Parser, and_then, pure, kind_of, token, again, over, turned, chosen, refuse}
 use Rattle.task_grammar.specs.Expressions.{expression}
-use Rattle.task_grammar.specs.Statements.{given, assigned_by, assigned, emitted, transition, begins, arm, after_else, else_by, else_turn, elses, choice, looped}
+use Rattle.task_grammar.specs.Statements.{given, assigned_by, assigned, emitted, returned, transition, begins, arm, after_else, else_by, else_turn, elses, choice, looped}
 use Rattle.task_grammar.specs.Statements.{statement_by, statement, statement_if, statement_turn, statements, braced, block_within, block, typed, declared_by}
 use Rattle.task_grammar.specs.Statements.{declared}
 use Rattle.task_grammar.proofs.ParserLaws.{Law}
@@ -90,6 +90,7 @@ begun (grammar.declare_as t n of ts value is is_n is_given) rest = type_begins t
 begun (grammar.assign n ts value is is_given) rest = ap (λ kd. begins (Some kd)) is
 begun (grammar.store n o c xs ts index value is is_o is_index is_c is_given) rest = ap (λ kd. begins (Some kd)) is
 begun (grammar.emit t o c z ts value is is_o is_value is_c is_z) rest = ap (λ kd. begins (Some kd)) is
+begun (grammar.give t z ts value is is_value is_z) rest = ap (λ kd. begins (Some kd)) is
 begun (grammar.transition t o n c z is is_o is_n is_c is_z) rest = ap (λ kd. begins (Some kd)) is
 begun (grammar.choice xs ys a arms last is_arm is_rest) rest = arm_begun ys is_arm rest
   where
@@ -124,7 +125,7 @@ reads_given (grammar.given q z ts value is_q is_value is_z) rest =
     ∙ goes (expression (ts ++ z ∷ rest)) value (z ∷ rest) _ (reads_to ts rest value z k.Semicolon is_value is_z refl) ∙ takes k.Semicolon z rest _ is_z
 
 mutual
-  unfolding declared assigned emitted transition choice looped else_turn arm braced statement_turn
+  unfolding declared assigned emitted returned transition choice looped else_turn arm braced statement_turn
 
   pub reads_statement : {xs : List Token} {x : Statement} → IsStatement xs x → (rest : List Token) → is_else (kind_of rest) ≡ false
       → statement block (xs ++ rest) ≡ done x rest
@@ -148,6 +149,10 @@ mutual
       ∙ takes k.Emit t (o ∷ ts ++ c ∷ z ∷ rest) _ is ∙ takes k.Open o (ts ++ c ∷ z ∷ rest) _ is_o
       ∙ goes (expression (ts ++ c ∷ z ∷ rest)) value (c ∷ z ∷ rest) _ (reads_to ts (z ∷ rest) value c k.Close is_value is_c refl)
       ∙ takes k.Close c (z ∷ rest) _ is_c ∙ takes k.Semicolon z rest _ is_z
+  reads_statement (grammar.give t z ts value is is_value is_z) rest h =
+      ap (λ x. statement block (t ∷ x)) (append_assoc ts (z ∷ []) rest) ∙ statement_is (t ∷ ts ++ z ∷ rest) (Some k.Return) (ap Some is)
+      ∙ takes k.Return t (ts ++ z ∷ rest) _ is
+      ∙ goes (expression (ts ++ z ∷ rest)) value (z ∷ rest) _ (reads_to ts rest value z k.Semicolon is_value is_z refl) ∙ takes k.Semicolon z rest _ is_z
   reads_statement (grammar.transition t o n c z is is_o is_n is_c is_z) rest h =
       statement_is (t ∷ o ∷ n ∷ c ∷ z ∷ rest) (Some k.TransitionTo) (ap Some is) ∙ takes k.TransitionTo t (o ∷ n ∷ c ∷ z ∷ rest) _ is
       ∙ takes k.Open o (n ∷ c ∷ z ∷ rest) _ is_o ∙ takes k.Name n (c ∷ z ∷ rest) _ is_n ∙ takes k.Close c (z ∷ rest) _ is_c ∙ takes k.Semicolon z rest _ is_z

@@ -13,7 +13,7 @@ use Rattle.task_grammar.specs.Grammar as grammar
 use Rattle.task_grammar.specs.Grammar.{weakest, IsExpression, arm_from, IsGiven, IsStatement, IsElses, IsArm, IsBlock, IsStatements, type_of}
 use Rattle.task_grammar.specs.Reading.{Parser, again, over, refuse, pure, ◌>>=◌}
 use Rattle.task_grammar.specs.Expressions.{expression, unary}
-use Rattle.task_grammar.specs.Statements.{given, assigned_by, assigned, emitted, transition, begins, arm, after_else, else_by, else_turn, elses, choice, looped}
+use Rattle.task_grammar.specs.Statements.{given, assigned_by, assigned, emitted, returned, transition, begins, arm, after_else, else_by, else_turn, elses, choice, looped}
 use Rattle.task_grammar.specs.Statements.{statement_by, statement, statement_if, statement_turn, statements, braced, block_within, typed, declared_by, declared}
 use Rattle.task_grammar.proofs.ParserLaws.{Law, Sentence, law_pure, law_refuse, law_bind, law_by, law_take, law_map, law_accept}
 use Rattle.task_grammar.proofs.ExpressionLaws.{law_up_to}
@@ -30,8 +30,8 @@ some_statement : Sentence IsStatement
 unfolding token_of
 some_statement = (
   token_of k.TransitionTo ∷ token_of k.Open ∷ token_of k.Name ∷ token_of k.Close ∷ token_of k.Semicolon ∷ [],
-  node.transition (record { from = 0; to = 0 }),
-  grammar.transition _ _ (token_of k.Name) _ _ refl refl refl refl refl,
+  node.transition (record { from = 0; to = 0 }) (record { from = 0; to = 0 }),
+  grammar.transition (token_of k.TransitionTo) _ (token_of k.Name) _ _ refl refl refl refl refl,
 )
 
 some_block : Sentence IsBlock
@@ -47,6 +47,7 @@ some_token (grammar.declare_as t n of ts value is is_n is_given) = omega arith
 some_token (grammar.assign n ts value is is_given) = omega arith
 some_token (grammar.store n o c is ts index value h is_o is_index is_c is_given) = omega arith
 some_token (grammar.emit t o c z ts value is is_o is_value is_c is_z) = omega arith
+some_token (grammar.give t z ts value is is_value is_z) = omega arith
 some_token (grammar.transition t o n c z is is_o is_n is_c is_z) = omega arith
 some_token (grammar.choice xs ys arm arms last is rest) = arm_token ys is
 some_token (grammar.loop f o n q a y m l b z w p c ts body is is_o is_n is_q is_a is_y is_m is_l is_b is_z is_w is_p is_c is_body) = omega arith
@@ -84,11 +85,16 @@ law_emitted = law_take k.Emit _ _ (λ t is. law_take k.Open _ _
     (λ o is_o. law_bind _ (IsExpression weakest) _ (λ xs value is_value. law_take k.Close _ _ (λ c is_c. law_take k.Semicolon _ _ (λ z is_z.
     law_pure (node.emit value) _ (grammar.emit t o c z xs value is is_o is_value is_c is_z)))) expression law_expression))
 
+law_returned : Law returned IsStatement
+unfolding returned
+law_returned = law_take k.Return _ _ (λ t is. law_bind _ (IsExpression weakest) _ (λ xs value is_value. law_take k.Semicolon _ _ (λ z is_z.
+    law_pure (node.give t.span value) _ (grammar.give t z xs value is is_value is_z))) expression law_expression)
+
 law_moved : Law transition IsStatement
 unfolding transition
 law_moved = law_take k.TransitionTo _ _ (λ t is. law_take k.Open _ _
     (λ o is_o. law_take k.Name _ _ (λ n is_n. law_take k.Close _ _
-    (λ c is_c. law_take k.Semicolon _ _ (λ z is_z. law_pure (node.transition n.span) _ (grammar.transition t o n c z is is_o is_n is_c is_z))))))
+    (λ c is_c. law_take k.Semicolon _ _ (λ z is_z. law_pure (node.transition t.span n.span) _ (grammar.transition t o n c z is is_o is_n is_c is_z))))))
 
 law_assigned_by : (n : Token) → n.kind ≡ k.Name → (kind : Option Kind) → Law (assigned_by n kind) (λ ys a. IsStatement (n ∷ ys) a)
 law_assigned_by n is (Some k.OpenSquare) = law_take k.OpenSquare _ _
@@ -168,6 +174,7 @@ module _ (b : Parser Block) (law : Law b IsBlock) where
   law_statement_by (Some k.If) = law_choice
   law_statement_by (Some k.For) = law_loop
   law_statement_by (Some k.Emit) = law_emitted
+  law_statement_by (Some k.Return) = law_returned
   law_statement_by (Some k.TransitionTo) = law_moved
   law_statement_by _ = law_refuse IsStatement some_statement
 

@@ -7,7 +7,7 @@ use Rattle.task_grammar.specs.Parsed.{Program}
 use Rattle.task_lex.specs.declared.token.Kind.TheVariants as k
 use Rattle.task_grammar.specs.Grammar.{IsProgram, program_from}
 use Rattle.task_grammar.specs.Reading.{Outcome, done, fault, Parser, ◌>>=◌, and_then, token}
-use Rattle.task_grammar.specs.Programs.{many, is_shared, shared, tasks, ending, program}
+use Rattle.task_grammar.specs.Programs.{many, is_shared, shared, is_function, function, tasks, ending, program}
 use Rattle.task_grammar.specs.Stops.{StopsAt}
 use Rattle.task_grammar.proofs.ParserLaws.{Good, rest_of, with_rest}
 use Rattle.task_grammar.proofs.ProgramComplete.{law_program, reads_program}
@@ -33,8 +33,8 @@ ends_ending {A = A} a = record { at = go }
 ends_program : Ends program
 unfolding program
 ends_program = ends_bind (many is_shared shared []) _
-    (λ shareds. ends_bind tasks _ (λ all. ends_bind (token k.Entry) _
-    (λ h. ends_bind (token k.Name) _ (λ n. ends_bind (token k.Semicolon) _ (λ z. ends_ending (program_from shareds all n))))))
+    (λ shareds. ends_bind (many is_function function []) _ (λ functions. ends_bind tasks _ (λ all. ends_bind (token k.Entry) _
+    (λ h. ends_bind (token k.Name) _ (λ n. ends_bind (token k.Semicolon) _ (λ z. ends_ending (program_from shareds functions all n)))))))
 
 program_ends : (ts rest : List Token) (tree : Program) → program ts ≡ done tree rest → rest ≡ []
 program_ends = ends_program.at

@@ -4,7 +4,7 @@ use Rattle.alp_text.specs.declared.lines.Span.{Span}
 use Rattle.task_lex.specs.declared.token.Token.{Token}
 use Rattle.task_lex.specs.declared.token.Kind.{Kind}
 use Rattle.task_lex.specs.declared.token.Kind.TheVariants as k
-use Rattle.task_grammar.specs.Parsed.{Expression}
+use Rattle.task_grammar.specs.Parsed.{Expression, Values}
 use Rattle.task_ast.specs.Tree as node
 use Rattle.task_grammar.specs.declared.operators.Infix.{Infix}
 use Rattle.task_grammar.specs.declared.operators.Infix.TheVariants.{Binary, Shift, ShortCircuit}
@@ -60,15 +60,39 @@ up_to unary zero = unary
 up_to unary (suc j) = up_to unary j >>= climb (up_to unary j) (suc j)
 
 module _ (expression : Parser Expression) where
-  -- behind a name
-  abbrev pub element_by : Token → Option Kind → Parser Expression
-  element_by n (Some k.OpenSquare) = token k.OpenSquare >>= λ o. expression >>= λ index. token k.CloseSquare >>= λ c.
-      pure (node.element n.span index)
-  element_by n _ = pure (node.name n.span)
+  -- a further value of a call behind its comma, and those behind it
+  abbrev pub more_by : Parser Values → Option Kind → Parser Values
+  more_by more (Some k.Comma) = token k.Comma >>= λ c. expression >>= λ next. more >>= λ behind. pure (node.value next behind)
+  more_by more _ = pure node.no_value
 
-  -- a name, with or without an index
+  -- fewer of them than the number
+  unfoldable pub more_within : ℕ → Parser Values
+  more_within zero = refuse
+  more_within (suc n) = by (more_by (more_within n))
+
+  -- each takes a token, so the number of tokens is enough
+  unfoldable pub more_values : Parser Values
+  more_values ts = more_within (suc (length ts)) ts
+
+  -- by the token behind the opening bracket of a call
+  abbrev pub values_by : Option Kind → Parser Values
+  values_by (Some k.Close) = pure node.no_value
+  values_by _ = expression >>= λ first. more_values >>= λ more. pure (node.value first more)
+
+  -- the values of a call
+  unfoldable pub values : Parser Values
+  values = by values_by
+
+  -- behind a name
+  abbrev pub named_by : Token → Option Kind → Parser Expression
+  named_by n (Some k.OpenSquare) = token k.OpenSquare >>= λ o. expression >>= λ index. token k.CloseSquare >>= λ c.
+      pure (node.element n.span index)
+  named_by n (Some k.Open) = token k.Open >>= λ o. values >>= λ given. token k.Close >>= λ c. pure (node.call n.span given)
+  named_by n _ = pure (node.name n.span)
+
+  -- a name, with an index, with values or alone
   unfoldable pub named : Parser Expression
-  named = token k.Name >>= λ n. by (element_by n)
+  named = token k.Name >>= λ n. by (named_by n)
 
   -- an expression in brackets
   unfoldable pub bracketed : Parser Expression

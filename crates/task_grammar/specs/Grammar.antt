@@ -22,7 +22,7 @@ use Rattle.task_ast.specs.declared.Extent.{Extent}
 use Rattle.task_ast.specs.declared.Extent.TheVariants as extent
 use Rattle.task_ast.specs.declared.SharedDeclaration.{SharedDeclaration}
 use Rattle.task_ast.specs.Tree.{block_of, choice_of}
-use Rattle.task_grammar.specs.Parsed.{Expression, Statement, Block, Tested, Task, Program}
+use Rattle.task_grammar.specs.Parsed.{Expression, Values, Statement, Block, Tested, Parameter, Function, Task, Program}
 use Rattle.task_ast.specs.Tree as node
 use Rattle.task_grammar.specs.declared.operators.Infix.{Infix}
 use Rattle.task_grammar.specs.declared.operators.Infix.TheVariants.{Binary, Shift, ShortCircuit}
@@ -72,45 +72,65 @@ long_worth n = n.value + 65536 * n.high
 abbrev pub literal_of : Token → Literal
 literal_of n = record { value = n.value; span = n.span }
 
--- The tokens spell the expression, and no operator outside brackets binds more weakly than the precedence; at 0 there
--- is none between two sides. Operators associate to the left. Brackets make no node.
-pub data IsExpression : ℕ → List Token → Expression → Type 0 where
-  -- a number
-  number : (n : Token) → n.kind ≡ k.Number → IsExpression 0 (n ∷ []) (node.number n.value)
-  -- a long number
-  long_number : (n : Token) → n.kind ≡ k.LongNumber → IsExpression 0 (n ∷ []) (node.long_number (long_worth n))
-  -- a name
-  name : (n : Token) → n.kind ≡ k.Name → IsExpression 0 (n ∷ []) (node.name n.span)
-  -- `name [ index ]`
-  element : (n o c : Token) (ts : List Token) (index : Expression) → n.kind ≡ k.Name → o.kind ≡ k.OpenSquare
-      → IsExpression weakest ts index → c.kind ≡ k.CloseSquare
-      → IsExpression 0 (n ∷ o ∷ ts ++ c ∷ []) (node.element n.span index)
-  -- `sense ( )`
-  sense : (s o c : Token) → s.kind ≡ k.Sense → o.kind ≡ k.Open → c.kind ≡ k.Close
-      → IsExpression 0 (s ∷ o ∷ c ∷ []) node.sense
-  -- `next_event ( )`
-  next_event : (e o c : Token) → e.kind ≡ k.NextEvent → o.kind ≡ k.Open → c.kind ≡ k.Close
-      → IsExpression 0 (e ∷ o ∷ c ∷ []) node.next_event
-  -- `( inner )`
-  brackets : (o c : Token) (ts : List Token) (inner : Expression) → o.kind ≡ k.Open → IsExpression weakest ts inner
-      → c.kind ≡ k.Close → IsExpression 0 (o ∷ ts ++ c ∷ []) inner
-  -- an operator in front of its operand
-  prefixed : (t : Token) (op : UnaryOperator) (ts : List Token) (inner : Expression) → prefix_of t.kind ≡ Some op
-      → IsExpression 0 ts inner → IsExpression 0 (t ∷ ts) (node.unary op inner)
-  -- an expression of a tighter precedence is one of the next
-  tighter : (j : ℕ) (ts : List Token) (inner : Expression) → IsExpression j ts inner → IsExpression (suc j) ts inner
-  -- an operator between two sides: the left one of its precedence, the right one tighter
-  joined : (j : ℕ) (t : Token) (op : BinaryOperator) (xs ys : List Token) (a b : Expression) → IsExpression (suc j) xs a
-      → infix_of t.kind ≡ Some (suc j, Binary op) → IsExpression j ys b
-      → IsExpression (suc j) (xs ++ t ∷ ys) (node.binary (placed op t.span) a b)
-  -- `&&` or `||` between two sides, in the same way
-  short_circuited : (j : ℕ) (t : Token) (op : ShortCircuitOperator) (xs ys : List Token) (a b : Expression)
-      → IsExpression (suc j) xs a → infix_of t.kind ≡ Some (suc j, ShortCircuit op) → IsExpression j ys b
-      → IsExpression (suc j) (xs ++ t ∷ ys) (node.short_circuit op a b)
-  -- a shift: its right side is a number
-  shifted : (j : ℕ) (t n : Token) (op : ShiftOperator) (xs : List Token) (a : Expression) → IsExpression (suc j) xs a
-      → infix_of t.kind ≡ Some (suc j, Shift op) → n.kind ≡ k.Number
-      → IsExpression (suc j) (xs ++ t ∷ n ∷ []) (node.shift op a (literal_of n))
+mutual
+  -- The tokens spell the expression, and no operator outside brackets binds more weakly than the precedence; at 0 there
+  -- is none between two sides. Operators associate to the left. Brackets make no node.
+  pub data IsExpression : ℕ → List Token → Expression → Type 0 where
+    -- a number
+    number : (n : Token) → n.kind ≡ k.Number → IsExpression 0 (n ∷ []) (node.number n.value)
+    -- a long number
+    long_number : (n : Token) → n.kind ≡ k.LongNumber → IsExpression 0 (n ∷ []) (node.long_number (long_worth n))
+    -- a name
+    name : (n : Token) → n.kind ≡ k.Name → IsExpression 0 (n ∷ []) (node.name n.span)
+    -- `name [ index ]`
+    element : (n o c : Token) (ts : List Token) (index : Expression) → n.kind ≡ k.Name → o.kind ≡ k.OpenSquare
+        → IsExpression weakest ts index → c.kind ≡ k.CloseSquare
+        → IsExpression 0 (n ∷ o ∷ ts ++ c ∷ []) (node.element n.span index)
+    -- `sense ( )`
+    sense : (s o c : Token) → s.kind ≡ k.Sense → o.kind ≡ k.Open → c.kind ≡ k.Close
+        → IsExpression 0 (s ∷ o ∷ c ∷ []) node.sense
+    -- `next_event ( )`
+    next_event : (e o c : Token) → e.kind ≡ k.NextEvent → o.kind ≡ k.Open → c.kind ≡ k.Close
+        → IsExpression 0 (e ∷ o ∷ c ∷ []) node.next_event
+    -- `name ( values )`
+    call : (n o c : Token) (ts : List Token) (values : Values) → n.kind ≡ k.Name → o.kind ≡ k.Open → IsValues ts values
+        → c.kind ≡ k.Close → IsExpression 0 (n ∷ o ∷ ts ++ c ∷ []) (node.call n.span values)
+    -- `( inner )`
+    brackets : (o c : Token) (ts : List Token) (inner : Expression) → o.kind ≡ k.Open → IsExpression weakest ts inner
+        → c.kind ≡ k.Close → IsExpression 0 (o ∷ ts ++ c ∷ []) inner
+    -- an operator in front of its operand
+    prefixed : (t : Token) (op : UnaryOperator) (ts : List Token) (inner : Expression) → prefix_of t.kind ≡ Some op
+        → IsExpression 0 ts inner → IsExpression 0 (t ∷ ts) (node.unary op inner)
+    -- an expression of a tighter precedence is one of the next
+    tighter : (j : ℕ) (ts : List Token) (inner : Expression) → IsExpression j ts inner → IsExpression (suc j) ts inner
+    -- an operator between two sides: the left one of its precedence, the right one tighter
+    joined : (j : ℕ) (t : Token) (op : BinaryOperator) (xs ys : List Token) (a b : Expression) → IsExpression (suc j) xs a
+        → infix_of t.kind ≡ Some (suc j, Binary op) → IsExpression j ys b
+        → IsExpression (suc j) (xs ++ t ∷ ys) (node.binary (placed op t.span) a b)
+    -- `&&` or `||` between two sides, in the same way
+    short_circuited : (j : ℕ) (t : Token) (op : ShortCircuitOperator) (xs ys : List Token) (a b : Expression)
+        → IsExpression (suc j) xs a → infix_of t.kind ≡ Some (suc j, ShortCircuit op) → IsExpression j ys b
+        → IsExpression (suc j) (xs ++ t ∷ ys) (node.short_circuit op a b)
+    -- a shift: its right side is a number
+    shifted : (j : ℕ) (t n : Token) (op : ShiftOperator) (xs : List Token) (a : Expression) → IsExpression (suc j) xs a
+        → infix_of t.kind ≡ Some (suc j, Shift op) → n.kind ≡ k.Number
+        → IsExpression (suc j) (xs ++ t ∷ n ∷ []) (node.shift op a (literal_of n))
+
+  -- what stands between the brackets of a call: nothing, or expressions with commas between them
+  pub data IsValues : List Token → Values → Type 0 where
+    -- nothing
+    no_values : IsValues [] node.no_value
+    -- a first one, then further ones
+    values : (xs ys : List Token) (first : Expression) (more : Values) → IsExpression weakest xs first → IsMoreValues ys more
+        → IsValues (xs ++ ys) (node.value first more)
+
+  -- further values of a call
+  pub data IsMoreValues : List Token → Values → Type 0 where
+    -- no more
+    no_more : IsMoreValues [] node.no_value
+    -- `, value`, then further ones
+    another_value : (c : Token) (xs ys : List Token) (next : Expression) (more : Values) → c.kind ≡ k.Comma
+        → IsExpression weakest xs next → IsMoreValues ys more → IsMoreValues (c ∷ xs ++ ys) (node.value next more)
 
 -- the type that a keyword names
 abbrev pub type_of : Kind → Option WordType
@@ -147,9 +167,12 @@ mutual
     emit : (t o c z : Token) (ts : List Token) (value : Expression) → t.kind ≡ k.Emit → o.kind ≡ k.Open
         → IsExpression weakest ts value → c.kind ≡ k.Close → z.kind ≡ k.Semicolon
         → IsStatement (t ∷ o ∷ ts ++ c ∷ z ∷ []) (node.emit value)
+    -- `return value ;`
+    give : (t z : Token) (ts : List Token) (value : Expression) → t.kind ≡ k.Return → IsExpression weakest ts value
+        → z.kind ≡ k.Semicolon → IsStatement (t ∷ ts ++ z ∷ []) (node.give t.span value)
     -- `transition_to ( name ) ;`
     transition : (t o n c z : Token) → t.kind ≡ k.TransitionTo → o.kind ≡ k.Open → n.kind ≡ k.Name → c.kind ≡ k.Close
-        → z.kind ≡ k.Semicolon → IsStatement (t ∷ o ∷ n ∷ c ∷ z ∷ []) (node.transition n.span)
+        → z.kind ≡ k.Semicolon → IsStatement (t ∷ o ∷ n ∷ c ∷ z ∷ []) (node.transition t.span n.span)
     -- an `if` with its block, then what its `else`s add
     choice : (xs ys : List Token) (arm : Tested) (arms : List Tested) (last : Option Block) → IsArm xs arm
         → IsElses ys arms last → IsStatement (xs ++ ys) (node.choose (choice_of (arm ∷ arms) last))
@@ -245,6 +268,34 @@ pub data IsShared : List Token → SharedDeclaration → Type 0 where
       → n.kind ≡ k.Name → IsLongExtent ts found → z.kind ≡ k.Semicolon
       → IsShared (h ∷ t ∷ l ∷ n ∷ ts ++ z ∷ []) (shared_from word.Long n found)
 
+-- a parameter
+abbrev pub parameter_from : WordType → Token → Parameter
+parameter_from of n = record { word_type = of; name = n.span }
+
+-- `type name`
+pub data IsParameter : List Token → Parameter → Type 0 where
+  parameter : (t n : Token) (of : WordType) → type_of t.kind ≡ Some of → n.kind ≡ k.Name → IsParameter (t ∷ n ∷ []) (parameter_from of n)
+
+-- `, type name`
+pub data IsFurther : List Token → Parameter → Type 0 where
+  further : (c : Token) (xs : List Token) (found : Parameter) → c.kind ≡ k.Comma → IsParameter xs found → IsFurther (c ∷ xs) found
+
+-- what stands between the brackets of a function: nothing, or parameters with commas between them
+pub data IsParameters : List Token → List Parameter → Type 0 where
+  no_parameter : IsParameters [] []
+  parameters : (xs ys : List Token) (first : Parameter) (more : List Parameter) → IsParameter xs first → Row IsFurther ys more
+      → IsParameters (xs ++ ys) (first ∷ more)
+
+-- a function
+abbrev pub function_from : WordType → Token → List Parameter → Block → Function
+function_from of n found body = record { word_type = of; name = n.span; parameters = found; body = body }
+
+-- `type name ( parameters ) block`
+pub data IsFunction : List Token → Function → Type 0 where
+  function : (t n o c : Token) (of : WordType) (ps ts : List Token) (parameters : List Parameter) (body : Block)
+      → type_of t.kind ≡ Some of → n.kind ≡ k.Name → o.kind ≡ k.Open → IsParameters ps parameters → c.kind ≡ k.Close → IsBlock ts body
+      → IsFunction (t ∷ n ∷ o ∷ ps ++ (c ∷ ts)) (function_from of n parameters body)
+
 -- a task
 abbrev pub task_from : Token → Block → Task
 task_from n body = record { name = n.span; body = body }
@@ -255,13 +306,13 @@ pub data IsTask : List Token → Task → Type 0 where
       → IsTask (h ∷ n ∷ ts) (task_from n body)
 
 -- a program
-abbrev pub program_from : List SharedDeclaration → List Task → Token → Program
-program_from shareds tasks n = record { shared = shareds; tasks = tasks; entry = n.span }
+abbrev pub program_from : List SharedDeclaration → List Function → List Task → Token → Program
+program_from shareds functions tasks n = record { shared = shareds; functions = functions; tasks = tasks; entry = n.span }
 
--- shared declarations, one task or more, then `entry name ;`
+-- shared declarations, functions, one task or more, then `entry name ;`
 pub data IsProgram : List Token → Program → Type 0 where
-  program : (xs ys zs : List Token) (h n z : Token) (shareds : List SharedDeclaration) (first : Task)
+  program : (xs fs ys zs : List Token) (h n z : Token) (shareds : List SharedDeclaration) (functions : List Function) (first : Task)
       (others : List Task)
-      → Row IsShared xs shareds → IsTask ys first → Row IsTask zs others → h.kind ≡ k.Entry → n.kind ≡ k.Name
-      → z.kind ≡ k.Semicolon
-      → IsProgram (xs ++ (ys ++ (zs ++ (h ∷ n ∷ z ∷ [])))) (program_from shareds (first ∷ others) n)
+      → Row IsShared xs shareds → Row IsFunction fs functions → IsTask ys first → Row IsTask zs others → h.kind ≡ k.Entry
+      → n.kind ≡ k.Name → z.kind ≡ k.Semicolon
+      → IsProgram (xs ++ (fs ++ (ys ++ (zs ++ (h ∷ n ∷ z ∷ []))))) (program_from shareds functions (first ∷ others) n)

@@ -7,8 +7,8 @@ use Rattle.task_ast.specs.declared.WordType.TheVariants as word
 use Rattle.task_ast.specs.declared.Extent.{Extent}
 use Rattle.task_ast.specs.declared.Extent.TheVariants as extent
 use Rattle.task_ast.specs.declared.SharedDeclaration.{SharedDeclaration}
-use Rattle.task_grammar.specs.Parsed.{Task, Program}
-use Rattle.task_grammar.specs.Grammar.{shared_from, task_from, program_from, negated, long_negated, long_worth}
+use Rattle.task_grammar.specs.Parsed.{Parameter, Function, Task, Program}
+use Rattle.task_grammar.specs.Grammar.{shared_from, parameter_from, function_from, task_from, program_from, negated, long_negated, long_worth}
 use Rattle.task_grammar.specs.Reading.{done, fault, Parser, ◌>>=◌, pure, refuse, token, by, Turn, again, over, repeat}
 use Rattle.task_grammar.specs.Statements.{typed, block}
 
@@ -82,6 +82,37 @@ shared_by _ of = named_of of extents
 unfoldable pub shared : Parser SharedDeclaration
 shared = token k.Shared >>= λ h. typed >>= λ of. by (λ kind. shared_by kind of)
 
+-- a parameter
+unfoldable pub parameter : Parser Parameter
+parameter = typed >>= λ of. token k.Name >>= λ n. pure (parameter_from of n)
+
+-- a further parameter, behind its comma
+unfoldable pub further : Parser Parameter
+further = token k.Comma >>= λ c. parameter
+
+-- begins a further parameter
+abbrev pub is_comma : Option Kind → Bool
+is_comma (Some k.Comma) = true
+is_comma _ = false
+
+-- one parameter or more
+unfoldable pub some_parameters : Parser (List Parameter)
+some_parameters = parameter >>= λ first. many is_comma further (first ∷ [])
+
+-- by the token behind the opening bracket of a function
+abbrev pub parameters_by : Option Kind → Parser (List Parameter)
+parameters_by (Some k.Close) = pure []
+parameters_by _ = some_parameters
+
+-- the parameters of a function
+unfoldable pub parameters : Parser (List Parameter)
+parameters = by parameters_by
+
+-- a function
+unfoldable pub function : Parser Function
+function = typed >>= λ of. token k.Name >>= λ n. token k.Open >>= λ o. parameters >>= λ found. token k.Close >>= λ c.
+    block >>= λ body. pure (function_from of n found body)
+
 -- a task
 unfoldable pub task : Parser Task
 task = token k.Task >>= λ h. token k.Name >>= λ n. block >>= λ body. pure (task_from n body)
@@ -90,6 +121,12 @@ task = token k.Task >>= λ h. token k.Name >>= λ n. block >>= λ body. pure (ta
 abbrev pub is_shared : Option Kind → Bool
 is_shared (Some k.Shared) = true
 is_shared _ = false
+
+-- begins a function
+abbrev pub is_function : Option Kind → Bool
+is_function (Some k.Unsigned) = true
+is_function (Some k.Int) = true
+is_function _ = false
 
 -- begins a task
 abbrev pub is_task : Option Kind → Bool
@@ -107,5 +144,5 @@ ending a (t ∷ ts) = fault (t ∷ ts)
 
 -- a whole program
 unfoldable pub program : Parser Program
-program = many is_shared shared [] >>= λ shareds. tasks >>= λ all. token k.Entry >>= λ h. token k.Name >>= λ n.
-    token k.Semicolon >>= λ z. ending (program_from shareds all n)
+program = many is_shared shared [] >>= λ shareds. many is_function function [] >>= λ functions. tasks >>= λ all.
+    token k.Entry >>= λ h. token k.Name >>= λ n. token k.Semicolon >>= λ z. ending (program_from shareds functions all n)

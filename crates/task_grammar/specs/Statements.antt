@@ -30,10 +30,14 @@ unfoldable pub emitted : Parser Statement
 emitted = token k.Emit >>= λ t. token k.Open >>= λ o. expression >>= λ value. token k.Close >>= λ c.
     token k.Semicolon >>= λ z. pure (node.emit value)
 
+-- `return value ;`
+unfoldable pub returned : Parser Statement
+returned = token k.Return >>= λ t. expression >>= λ value. token k.Semicolon >>= λ z. pure (node.give t.span value)
+
 -- `transition_to (name) ;`
 unfoldable pub transition : Parser Statement
 transition = token k.TransitionTo >>= λ t. token k.Open >>= λ o. token k.Name >>= λ n. token k.Close >>= λ c.
-    token k.Semicolon >>= λ z. pure (node.transition n.span)
+    token k.Semicolon >>= λ z. pure (node.transition t.span n.span)
 
 -- a type
 unfoldable pub typed : Parser WordType
@@ -56,6 +60,7 @@ begins (Some k.Name) = true
 begins (Some k.If) = true
 begins (Some k.For) = true
 begins (Some k.Emit) = true
+begins (Some k.Return) = true
 begins (Some k.TransitionTo) = true
 begins _ = false
 
@@ -103,6 +108,7 @@ module _ (block : Parser Block) where
   statement_by (Some k.If) = choice
   statement_by (Some k.For) = looped
   statement_by (Some k.Emit) = emitted
+  statement_by (Some k.Return) = returned
   statement_by (Some k.TransitionTo) = transition
   statement_by _ = refuse
 

@@ -2,7 +2,7 @@
 
 ghost use Rattle.std.specs.Prelude.{◌≡◌, ◌+◌, ◌-◌, ◌≤◌, ◌<◌, length, drop, IfOk, IfSome};
 ghost use Rattle.task_ast.specs.Tree as node;
-ghost use Rattle.task_ast.specs.View.{expression_of};
+ghost use Rattle.task_ast.specs.View.{expression_of, values_of};
 ghost use Rattle.task_grammar.specs.Grammar as grammar;
 ghost use Rattle.task_grammar.specs.Reading as reading;
 ghost use Rattle.task_grammar.specs.Expressions as spec;
@@ -14,19 +14,30 @@ use crate::operators::{Infix, infix_at, prefix_of};
 use crate::tokens::{after, kind_of, long_worth, place_of, take};
 use alp_text::Span;
 use std::alloc::{AllocError, Global};
-use task_ast::{Expr, Literal, PlacedOperator, ShiftOperator, ShortCircuitOperator, UnaryOperator};
+use task_ast::{Args, Expr, Literal, PlacedOperator, ShiftOperator, ShortCircuitOperator, UnaryOperator};
 use task_lex::{Kind, Token};
 
 // The precedence of the operators that bind least.
 const WEAKEST: u8 = 10;
 
-fn element_node(alloc: Global, name: Token, index: Expr<Span>) -> Result<Expr<Span>, AllocError>
+fn element_node(alloc: Global, name: Token, index: Expr<Span, Span>) -> Result<Expr<Span, Span>, AllocError>
     ensures { IfOk result (λ e. expression_of e ≡ node.element name.span (expression_of index)) }
 {
     Ok(Expr::Element(name.span, Box::new(alloc, index)?))
 }
 
-fn unary_node(alloc: Global, op: UnaryOperator, inner: Expr<Span>) -> Result<Expr<Span>, AllocError>
+// A value in front of further ones.
+fn value_node(
+    alloc: Global,
+    first: Expr<Span, Span>,
+    more: Args<Span, Span>,
+) -> Result<Args<Span, Span>, AllocError>
+    ensures { IfOk result (λ v. values_of v ≡ node.value (expression_of first) (values_of more)) }
+{
+    Ok(Args::Value(Box::new(alloc, first)?, Box::new(alloc, more)?))
+}
+
+fn unary_node(alloc: Global, op: UnaryOperator, inner: Expr<Span, Span>) -> Result<Expr<Span, Span>, AllocError>
     ensures { IfOk result (λ e. expression_of e ≡ node.unary op (expression_of inner)) }
 {
     Ok(Expr::Unary(op, Box::new(alloc, inner)?))
@@ -35,9 +46,9 @@ fn unary_node(alloc: Global, op: UnaryOperator, inner: Expr<Span>) -> Result<Exp
 fn binary_node(
     alloc: Global,
     op: PlacedOperator,
-    left: Expr<Span>,
-    right: Expr<Span>,
-) -> Result<Expr<Span>, AllocError>
+    left: Expr<Span, Span>,
+    right: Expr<Span, Span>,
+) -> Result<Expr<Span, Span>, AllocError>
     ensures { IfOk result (λ e. expression_of e ≡ node.binary op (expression_of left) (expression_of right)) }
 {
     Ok(Expr::Binary(op, Box::new(alloc, left)?, Box::new(alloc, right)?))
@@ -46,9 +57,9 @@ fn binary_node(
 fn short_circuit_node(
     alloc: Global,
     op: ShortCircuitOperator,
-    left: Expr<Span>,
-    right: Expr<Span>,
-) -> Result<Expr<Span>, AllocError>
+    left: Expr<Span, Span>,
+    right: Expr<Span, Span>,
+) -> Result<Expr<Span, Span>, AllocError>
     ensures { IfOk result (λ e. expression_of e ≡ node.short_circuit op (expression_of left) (expression_of right)) }
 {
     Ok(Expr::ShortCircuit(op, Box::new(alloc, left)?, Box::new(alloc, right)?))
@@ -57,9 +68,9 @@ fn short_circuit_node(
 fn shift_node(
     alloc: Global,
     op: ShiftOperator,
-    left: Expr<Span>,
+    left: Expr<Span, Span>,
     count: Literal,
-) -> Result<Expr<Span>, AllocError>
+) -> Result<Expr<Span, Span>, AllocError>
     ensures { IfOk result (λ e. expression_of e ≡ node.shift op (expression_of left) count) }
 {
     Ok(Expr::Shift(op, Box::new(alloc, left)?, count))
@@ -80,7 +91,7 @@ fn prefix_in_front(tokens: &[Token]) -> Option<UnaryOperator>
 // An operand with the operators in front of it.
 #[cycle(expression)]
 #[tactic(auto, using(crate::proofs::ExpressionSame::unary_is), unfolding(crate::specs::Expressions::prefixed))]
-fn unary<'a>(alloc: Global, tokens: &'a [Token]) -> Result<(Expr<Span>, &'a [Token]), Stop<'a>>
+fn unary<'a>(alloc: Global, tokens: &'a [Token]) -> Result<(Expr<Span, Span>, &'a [Token]), Stop<'a>>
     ensures value { Gives (λ x. reading.done (expression_of x.0) x.1.now) (spec.unary tokens.now) result }
     ensures shorter { IfOk result (λ x. length x.1.now < length tokens.now) }
     ensures nests { IfOk result (λ x. nesting x.1.now ≤ nesting tokens.now) }
@@ -97,7 +108,7 @@ fn unary<'a>(alloc: Global, tokens: &'a [Token]) -> Result<(Expr<Span>, &'a [Tok
 
 // A number.
 #[tactic(auto, unfolding(crate::specs::Expressions::number))]
-fn number<'a>(tokens: &'a [Token]) -> Result<(Expr<Span>, &'a [Token]), Stop<'a>>
+fn number<'a>(tokens: &'a [Token]) -> Result<(Expr<Span, Span>, &'a [Token]), Stop<'a>>
     ensures value { Gives (λ x. reading.done (expression_of x.0) x.1.now) (spec.number tokens.now) result }
     ensures shorter { IfOk result (λ x. length x.1.now < length tokens.now) }
     ensures nests { IfOk result (λ x. nesting x.1.now ≤ nesting tokens.now) }
@@ -109,7 +120,7 @@ fn number<'a>(tokens: &'a [Token]) -> Result<(Expr<Span>, &'a [Token]), Stop<'a>
 
 // A number of two words.
 #[tactic(auto, unfolding(crate::specs::Expressions::long_number))]
-fn long_number<'a>(tokens: &'a [Token]) -> Result<(Expr<Span>, &'a [Token]), Stop<'a>>
+fn long_number<'a>(tokens: &'a [Token]) -> Result<(Expr<Span, Span>, &'a [Token]), Stop<'a>>
     ensures value { Gives (λ x. reading.done (expression_of x.0) x.1.now) (spec.long_number tokens.now) result }
     ensures shorter { IfOk result (λ x. length x.1.now < length tokens.now) }
     ensures nests { IfOk result (λ x. nesting x.1.now ≤ nesting tokens.now) }
@@ -121,7 +132,7 @@ fn long_number<'a>(tokens: &'a [Token]) -> Result<(Expr<Span>, &'a [Token]), Sto
 
 // `sense()`
 #[tactic(auto, unfolding(crate::specs::Expressions::sense))]
-fn sensed<'a>(tokens: &'a [Token]) -> Result<(Expr<Span>, &'a [Token]), Stop<'a>>
+fn sensed<'a>(tokens: &'a [Token]) -> Result<(Expr<Span, Span>, &'a [Token]), Stop<'a>>
     ensures value { Gives (λ x. reading.done (expression_of x.0) x.1.now) (spec.sense tokens.now) result }
     ensures shorter { IfOk result (λ x. length x.1.now < length tokens.now) }
     ensures nests { IfOk result (λ x. nesting x.1.now ≤ nesting tokens.now) }
@@ -135,7 +146,7 @@ fn sensed<'a>(tokens: &'a [Token]) -> Result<(Expr<Span>, &'a [Token]), Stop<'a>
 
 // `next_event()`
 #[tactic(auto, unfolding(crate::specs::Expressions::next_event))]
-fn next_event<'a>(tokens: &'a [Token]) -> Result<(Expr<Span>, &'a [Token]), Stop<'a>>
+fn next_event<'a>(tokens: &'a [Token]) -> Result<(Expr<Span, Span>, &'a [Token]), Stop<'a>>
     ensures value { Gives (λ x. reading.done (expression_of x.0) x.1.now) (spec.next_event tokens.now) result }
     ensures shorter { IfOk result (λ x. length x.1.now < length tokens.now) }
     ensures nests { IfOk result (λ x. nesting x.1.now ≤ nesting tokens.now) }
@@ -147,10 +158,10 @@ fn next_event<'a>(tokens: &'a [Token]) -> Result<(Expr<Span>, &'a [Token]), Stop
     Ok((Expr::NextEvent, rest))
 }
 
-// A number, a name with or without an index, `sense()`, `next_event()`, or an expression in brackets.
+// A number, a name with an index, with values or alone, `sense()`, `next_event()`, or an expression in brackets.
 #[cycle(expression)]
 #[tactic(auto, unfolding(crate::specs::Expressions::primary, crate::specs::Expressions::bracketed))]
-fn primary<'a>(alloc: Global, tokens: &'a [Token]) -> Result<(Expr<Span>, &'a [Token]), Stop<'a>>
+fn primary<'a>(alloc: Global, tokens: &'a [Token]) -> Result<(Expr<Span, Span>, &'a [Token]), Stop<'a>>
     ensures value { Gives (λ x. reading.done (expression_of x.0) x.1.now)
         (spec.primary spec.expression tokens.now) result }
     ensures shorter { IfOk result (λ x. length x.1.now < length tokens.now) }
@@ -175,7 +186,7 @@ fn primary<'a>(alloc: Global, tokens: &'a [Token]) -> Result<(Expr<Span>, &'a [T
 
 #[cycle(expression)]
 #[tactic(auto, unfolding(crate::specs::Expressions::named))]
-fn named<'a>(alloc: Global, tokens: &'a [Token]) -> Result<(Expr<Span>, &'a [Token]), Stop<'a>>
+fn named<'a>(alloc: Global, tokens: &'a [Token]) -> Result<(Expr<Span, Span>, &'a [Token]), Stop<'a>>
     ensures value { Gives (λ x. reading.done (expression_of x.0) x.1.now)
         (spec.named spec.expression tokens.now) result }
     ensures shorter { IfOk result (λ x. length x.1.now < length tokens.now) }
@@ -190,7 +201,60 @@ fn named<'a>(alloc: Global, tokens: &'a [Token]) -> Result<(Expr<Span>, &'a [Tok
             let (_, rest) = take(Kind::CloseSquare, rest)?;
             Ok((element_node(alloc, name, index)?, rest))
         }
+        Some(Kind::Open) => {
+            let (_, rest) = take(Kind::Open, rest)?;
+            let (given, rest) = values(alloc, rest)?;
+            let (_, rest) = take(Kind::Close, rest)?;
+            Ok((Expr::Call(name.span, given), rest))
+        }
         _ => Ok((Expr::Name(name.span), rest)),
+    }
+}
+
+// What stands between the brackets of a call.
+#[cycle(expression)]
+#[tactic(auto, unfolding(crate::specs::Expressions::values))]
+fn values<'a>(
+    alloc: Global,
+    tokens: &'a [Token],
+) -> Result<(Args<Span, Span>, &'a [Token]), Stop<'a>>
+    ensures value { Gives (λ x. reading.done (values_of x.0) x.1.now)
+        (spec.values spec.expression tokens.now) result }
+    ensures shorter { IfOk result (λ x. length x.1.now ≤ length tokens.now) }
+    ensures nests { IfOk result (λ x. nesting x.1.now ≤ nesting tokens.now) }
+    ensures row { IfOk result (λ x. row_length x.1.now ≤ row_length tokens.now) }
+{
+    match kind_of(tokens) {
+        Some(Kind::Close) => Ok((Args::End, tokens)),
+        _ => {
+            let (first, rest) = up_to(alloc, WEAKEST, tokens)?;
+            let (more, rest) = more_values(alloc, rest)?;
+            Ok((value_node(alloc, first, more)?, rest))
+        }
+    }
+}
+
+// Further values of a call, each behind a comma.
+#[cycle(expression)]
+#[tactic(auto, using(crate::proofs::ExpressionSame::more_values_is))]
+fn more_values<'a>(
+    alloc: Global,
+    tokens: &'a [Token],
+) -> Result<(Args<Span, Span>, &'a [Token]), Stop<'a>>
+    ensures value { Gives (λ x. reading.done (values_of x.0) x.1.now)
+        (spec.more_values spec.expression tokens.now) result }
+    ensures shorter { IfOk result (λ x. length x.1.now ≤ length tokens.now) }
+    ensures nests { IfOk result (λ x. nesting x.1.now ≤ nesting tokens.now) }
+    ensures row { IfOk result (λ x. row_length x.1.now ≤ row_length tokens.now) }
+{
+    match kind_of(tokens) {
+        Some(Kind::Comma) => {
+            let (_, rest) = take(Kind::Comma, tokens)?;
+            let (next, rest) = up_to(alloc, WEAKEST, rest)?;
+            let (more, rest) = more_values(alloc, rest)?;
+            Ok((value_node(alloc, next, more)?, rest))
+        }
+        _ => Ok((Args::End, tokens)),
     }
 }
 
@@ -201,7 +265,7 @@ fn up_to<'a>(
     alloc: Global,
     precedence: u8,
     tokens: &'a [Token],
-) -> Result<(Expr<Span>, &'a [Token]), Stop<'a>>
+) -> Result<(Expr<Span, Span>, &'a [Token]), Stop<'a>>
     requires { precedence ≤ 10 }
     ensures value { Gives (λ x. reading.done (expression_of x.0) x.1.now)
         (spec.up_to spec.unary precedence tokens.now) result }
@@ -238,11 +302,11 @@ fn operator_in_front(precedence: u8, tokens: &[Token]) -> Option<Infix>
 fn joined<'a>(
     alloc: Global,
     precedence: u8,
-    left: Expr<Span>,
+    left: Expr<Span, Span>,
     place: Span,
     op: Infix,
     tokens: &'a [Token],
-) -> Result<(Expr<Span>, &'a [Token]), Stop<'a>>
+) -> Result<(Expr<Span, Span>, &'a [Token]), Stop<'a>>
     requires some { 0 < precedence }
     requires most { precedence ≤ 10 }
     ensures value { Gives (λ x. reading.done (expression_of x.0) x.1.now)
@@ -279,7 +343,7 @@ fn joined<'a>(
 pub fn expression<'a>(
     alloc: Global,
     tokens: &'a [Token],
-) -> Result<(Expr<Span>, &'a [Token]), Stop<'a>>
+) -> Result<(Expr<Span, Span>, &'a [Token]), Stop<'a>>
     ensures value { Gives (λ x. reading.done (expression_of x.0) x.1.now) (spec.expression tokens.now) result }
     ensures shorter { IfOk result (λ x. length x.1.now < length tokens.now) }
     ensures nests { IfOk result (λ x. nesting x.1.now ≤ nesting tokens.now) }

@@ -1,7 +1,7 @@
 //! Declarations and whole programs.
 
 ghost use Rattle.std.specs.Prelude.{◌≡◌, ◌≤◌, ◌<◌, [], length, map, IfOk};
-ghost use Rattle.task_ast.specs.View.{task_of, program_of};
+ghost use Rattle.task_ast.specs.View.{function_of, task_of, program_of};
 ghost use Rattle.task_grammar.specs.Grammar as grammar;
 ghost use Rattle.task_grammar.specs.Reading as reading;
 ghost use Rattle.task_grammar.specs.Programs as spec;
@@ -12,7 +12,9 @@ use crate::statement::{block, typed};
 use crate::tokens::{kind_of, long_worth, take};
 use alp_text::Span;
 use std::alloc::Global;
-use task_ast::{Extent, SharedDeclaration, TaskDeclaration, Tree, WordType};
+use task_ast::{
+    Extent, FunctionDeclaration, Parameter, SharedDeclaration, TaskDeclaration, Tree, WordType,
+};
 use task_lex::{Kind, Token};
 
 fn negated(n: u16) -> u16
@@ -179,11 +181,94 @@ fn shared_one<'a>(tokens: &'a [Token]) -> Result<(SharedDeclaration, &'a [Token]
     shared_behind(word_type, rest)
 }
 
+// `type name`
+#[tactic(auto, unfolding(crate::specs::Programs::parameter))]
+fn parameter<'a>(tokens: &'a [Token]) -> Result<(Parameter<Span>, &'a [Token]), Stop<'a>>
+    ensures value { Gives (λ x. reading.done x.0 x.1.now) (spec.parameter tokens.now) result }
+    ensures shorter { IfOk result (λ x. length x.1.now < length tokens.now) }
+{
+    let (word_type, rest) = typed(tokens)?;
+    let (name, rest) = take(Kind::Name, rest)?;
+    let parameter = Parameter {
+        word_type,
+        name: name.span,
+    };
+    Ok((parameter, rest))
+}
+
+// `, type name`
+#[tactic(auto, unfolding(crate::specs::Programs::further))]
+fn further<'a>(tokens: &'a [Token]) -> Result<(Parameter<Span>, &'a [Token]), Stop<'a>>
+    ensures value { Gives (λ x. reading.done x.0 x.1.now) (spec.further tokens.now) result }
+    ensures shorter { IfOk result (λ x. length x.1.now < length tokens.now) }
+{
+    let (_, rest) = take(Kind::Comma, tokens)?;
+    parameter(rest)
+}
+
+// One parameter or more.
+#[tactic(auto, using(crate::proofs::ProgramComplete::further_is), unfolding(crate::specs::Programs::some_parameters))]
+fn some_parameters<'a>(
+    alloc: Global,
+    tokens: &'a [Token],
+) -> Result<(Vec<Parameter<Span>>, &'a [Token]), Stop<'a>>
+    ensures value { Gives (λ x. reading.done x.0.items x.1.now) (spec.some_parameters tokens.now) result }
+    ensures shorter { IfOk result (λ x. length x.1.now ≤ length tokens.now) }
+{
+    let (first, mut rest) = parameter(tokens)?;
+    let mut found = Vec::new(alloc);
+    found.push(first)?;
+    'parameters: while matches!(kind_of(rest), Some(Kind::Comma)) {
+        let (item, next) = further(rest)?;
+        found.push(item)?;
+        rest = next;
+    }
+    Ok((found, rest))
+}
+
+// What stands between the brackets of a function.
+#[tactic(auto, unfolding(crate::specs::Programs::parameters))]
+fn parameters<'a>(
+    alloc: Global,
+    tokens: &'a [Token],
+) -> Result<(Vec<Parameter<Span>>, &'a [Token]), Stop<'a>>
+    ensures value { Gives (λ x. reading.done x.0.items x.1.now) (spec.parameters tokens.now) result }
+    ensures shorter { IfOk result (λ x. length x.1.now ≤ length tokens.now) }
+{
+    match kind_of(tokens) {
+        Some(Kind::Close) => Ok((Vec::new(alloc), tokens)),
+        _ => some_parameters(alloc, tokens),
+    }
+}
+
+#[tactic(auto, unfolding(crate::specs::Programs::function))]
+fn function_one<'a>(
+    alloc: Global,
+    tokens: &'a [Token],
+) -> Result<(FunctionDeclaration<Span, Span, Span>, &'a [Token]), Stop<'a>>
+    ensures value { Gives (λ x. reading.done (function_of x.0) x.1.now) (spec.function tokens.now) result }
+    ensures shorter { IfOk result (λ x. length x.1.now < length tokens.now) }
+{
+    let (word_type, rest) = typed(tokens)?;
+    let (name, rest) = take(Kind::Name, rest)?;
+    let (_, rest) = take(Kind::Open, rest)?;
+    let (parameters, rest) = parameters(alloc, rest)?;
+    let (_, rest) = take(Kind::Close, rest)?;
+    let (body, rest) = block(alloc, rest)?;
+    let declaration = FunctionDeclaration {
+        word_type,
+        name: name.span,
+        parameters,
+        body,
+    };
+    Ok((declaration, rest))
+}
+
 #[tactic(auto, unfolding(crate::specs::Programs::task))]
 fn task_one<'a>(
     alloc: Global,
     tokens: &'a [Token],
-) -> Result<(TaskDeclaration<Span, Span>, &'a [Token]), Stop<'a>>
+) -> Result<(TaskDeclaration<Span, Span, Span>, &'a [Token]), Stop<'a>>
     ensures value { Gives (λ x. reading.done (task_of x.0) x.1.now) (spec.task tokens.now) result }
     ensures shorter { IfOk result (λ x. length x.1.now < length tokens.now) }
 {
@@ -215,12 +300,30 @@ fn shareds<'a>(
     Ok((found, rest))
 }
 
+#[tactic(auto, using(crate::proofs::ProgramComplete::functions_is, crate::proofs::Views::function_push))]
+fn functions<'a>(
+    alloc: Global,
+    tokens: &'a [Token],
+) -> Result<(Vec<FunctionDeclaration<Span, Span, Span>>, &'a [Token]), Stop<'a>>
+    ensures { Gives (λ x. reading.done (map function_of x.0.items) x.1.now)
+        (spec.many spec.is_function spec.function [] tokens.now) result }
+{
+    let mut found = Vec::new(alloc);
+    let mut rest = tokens;
+    'functions: while matches!(kind_of(rest), Some(Kind::Unsigned | Kind::Int)) {
+        let (item, next) = function_one(alloc, rest)?;
+        found.push(item)?;
+        rest = next;
+    }
+    Ok((found, rest))
+}
+
 // One task or more.
 #[tactic(auto, using(crate::proofs::ProgramComplete::tasks_is, crate::proofs::Views::task_push), unfolding(crate::specs::Programs::tasks))]
 fn tasks<'a>(
     alloc: Global,
     tokens: &'a [Token],
-) -> Result<(Vec<TaskDeclaration<Span, Span>>, &'a [Token]), Stop<'a>>
+) -> Result<(Vec<TaskDeclaration<Span, Span, Span>>, &'a [Token]), Stop<'a>>
     ensures { Gives (λ x. reading.done (map task_of x.0.items) x.1.now) (spec.tasks tokens.now) result }
 {
     let (first, mut rest) = task_one(alloc, tokens)?;
@@ -240,6 +343,7 @@ pub fn program<'a>(alloc: Global, tokens: &'a [Token]) -> Result<Tree, Stop<'a>>
     ensures { Gives (λ tree. reading.done (program_of tree) []) (spec.program tokens.now) result }
 {
     let (shared, rest) = shareds(alloc, tokens)?;
+    let (functions, rest) = functions(alloc, rest)?;
     let (tasks, rest) = tasks(alloc, rest)?;
     let (_, rest) = take(Kind::Entry, rest)?;
     let (name, rest) = take(Kind::Name, rest)?;
@@ -248,6 +352,7 @@ pub fn program<'a>(alloc: Global, tokens: &'a [Token]) -> Result<Tree, Stop<'a>>
         Some(_) => Err(Stop::Syntax(rest)),
         None => Ok(Tree {
             shared,
+            functions,
             tasks,
             entry: name.span,
         }),

@@ -19,7 +19,7 @@ use task_lex::{Kind, Token};
 
 // `= value ;`
 #[tactic(auto, unfolding(crate::specs::Statements::given))]
-fn given<'a>(alloc: Global, tokens: &'a [Token]) -> Result<(Expr<Span>, &'a [Token]), Stop<'a>>
+fn given<'a>(alloc: Global, tokens: &'a [Token]) -> Result<(Expr<Span, Span>, &'a [Token]), Stop<'a>>
     ensures value { Gives (λ x. reading.done (expression_of x.0) x.1.now) (spec.given tokens.now) result }
     ensures shorter { IfOk result (λ x. length x.1.now < length tokens.now) }
     ensures nests { IfOk result (λ x. nesting x.1.now ≤ nesting tokens.now) }
@@ -34,7 +34,7 @@ fn given<'a>(alloc: Global, tokens: &'a [Token]) -> Result<(Expr<Span>, &'a [Tok
 fn assigned<'a>(
     alloc: Global,
     tokens: &'a [Token],
-) -> Result<(Stmt<Span, Span>, &'a [Token]), Stop<'a>>
+) -> Result<(Stmt<Span, Span, Span>, &'a [Token]), Stop<'a>>
     ensures value { Gives (λ x. reading.done (statement_of x.0) x.1.now) (spec.assigned tokens.now) result }
     ensures shorter { IfOk result (λ x. length x.1.now < length tokens.now) }
     ensures nests { IfOk result (λ x. nesting x.1.now ≤ nesting tokens.now) }
@@ -59,7 +59,7 @@ fn assigned<'a>(
 fn emitted<'a>(
     alloc: Global,
     tokens: &'a [Token],
-) -> Result<(Stmt<Span, Span>, &'a [Token]), Stop<'a>>
+) -> Result<(Stmt<Span, Span, Span>, &'a [Token]), Stop<'a>>
     ensures value { Gives (λ x. reading.done (statement_of x.0) x.1.now) (spec.emitted tokens.now) result }
     ensures shorter { IfOk result (λ x. length x.1.now < length tokens.now) }
     ensures nests { IfOk result (λ x. nesting x.1.now ≤ nesting tokens.now) }
@@ -72,18 +72,34 @@ fn emitted<'a>(
     Ok((Stmt::Emit(value), rest))
 }
 
+// `return value ;`
+#[tactic(auto, unfolding(crate::specs::Statements::returned))]
+fn returned<'a>(
+    alloc: Global,
+    tokens: &'a [Token],
+) -> Result<(Stmt<Span, Span, Span>, &'a [Token]), Stop<'a>>
+    ensures value { Gives (λ x. reading.done (statement_of x.0) x.1.now) (spec.returned tokens.now) result }
+    ensures shorter { IfOk result (λ x. length x.1.now < length tokens.now) }
+    ensures nests { IfOk result (λ x. nesting x.1.now ≤ nesting tokens.now) }
+{
+    let (keyword, rest) = take(Kind::Return, tokens)?;
+    let (value, rest) = expression(alloc, rest)?;
+    let (_, rest) = take(Kind::Semicolon, rest)?;
+    Ok((Stmt::Return(keyword.span, value), rest))
+}
+
 #[tactic(auto, unfolding(crate::specs::Statements::transition))]
-fn transition<'a>(tokens: &'a [Token]) -> Result<(Stmt<Span, Span>, &'a [Token]), Stop<'a>>
+fn transition<'a>(tokens: &'a [Token]) -> Result<(Stmt<Span, Span, Span>, &'a [Token]), Stop<'a>>
     ensures value { Gives (λ x. reading.done (statement_of x.0) x.1.now) (spec.transition tokens.now) result }
     ensures shorter { IfOk result (λ x. length x.1.now < length tokens.now) }
     ensures nests { IfOk result (λ x. nesting x.1.now ≤ nesting tokens.now) }
 {
-    let (_, rest) = take(Kind::TransitionTo, tokens)?;
+    let (keyword, rest) = take(Kind::TransitionTo, tokens)?;
     let (_, rest) = take(Kind::Open, rest)?;
     let (name, rest) = take(Kind::Name, rest)?;
     let (_, rest) = take(Kind::Close, rest)?;
     let (_, rest) = take(Kind::Semicolon, rest)?;
-    Ok((Stmt::TransitionTo(name.span), rest))
+    Ok((Stmt::TransitionTo(keyword.span, name.span), rest))
 }
 
 #[tactic(auto, using(crate::proofs::Nesting::nests_behind_type))]
@@ -114,7 +130,7 @@ pub fn typed<'a>(tokens: &'a [Token]) -> Result<(WordType, &'a [Token]), Stop<'a
 fn declared<'a>(
     alloc: Global,
     tokens: &'a [Token],
-) -> Result<(Stmt<Span, Span>, &'a [Token]), Stop<'a>>
+) -> Result<(Stmt<Span, Span, Span>, &'a [Token]), Stop<'a>>
     ensures value { Gives (λ x. reading.done (statement_of x.0) x.1.now) (spec.declared tokens.now) result }
     ensures shorter { IfOk result (λ x. length x.1.now < length tokens.now) }
     ensures nests { IfOk result (λ x. nesting x.1.now ≤ nesting tokens.now) }
@@ -146,6 +162,7 @@ fn begins(kind: Option<Kind>) -> bool
                 | Kind::If
                 | Kind::For
                 | Kind::Emit
+                | Kind::Return
                 | Kind::TransitionTo
         )
     )
@@ -154,7 +171,7 @@ fn begins(kind: Option<Kind>) -> bool
 // `if (condition) block`
 #[cycle(block)]
 #[tactic(auto, unfolding(crate::specs::Statements::arm))]
-fn arm<'a>(alloc: Global, tokens: &'a [Token]) -> Result<(Arm<Span, Span>, &'a [Token]), Stop<'a>>
+fn arm<'a>(alloc: Global, tokens: &'a [Token]) -> Result<(Arm<Span, Span, Span>, &'a [Token]), Stop<'a>>
     ensures value { Gives (λ x. reading.done (tested_of x.0) x.1.now) (spec.arm spec.block tokens.now) result }
     ensures shorter { IfOk result (λ x. length x.1.now < length tokens.now) }
     ensures nests { IfOk result (λ x. nesting x.1.now ≤ nesting tokens.now) }
@@ -172,12 +189,12 @@ fn arm<'a>(alloc: Global, tokens: &'a [Token]) -> Result<(Arm<Span, Span>, &'a [
 #[tactic(auto, using(crate::proofs::StatementComplete::elses_is, crate::proofs::Views::tested_push), unfolding(crate::specs::Statements::else_turn))]
 fn elses<'a>(
     alloc: Global,
-    first: Arm<Span, Span>,
+    first: Arm<Span, Span, Span>,
     tokens: &'a [Token],
 ) -> Result<
     (
-        Vec<Arm<Span, Span>>,
-        Option<Vec<Stmt<Span, Span>>>,
+        Vec<Arm<Span, Span, Span>>,
+        Option<Vec<Stmt<Span, Span, Span>>>,
         &'a [Token],
     ),
     Stop<'a>,
@@ -214,7 +231,7 @@ fn elses<'a>(
 fn choice<'a>(
     alloc: Global,
     tokens: &'a [Token],
-) -> Result<(Stmt<Span, Span>, &'a [Token]), Stop<'a>>
+) -> Result<(Stmt<Span, Span, Span>, &'a [Token]), Stop<'a>>
     ensures value { Gives (λ x. reading.done (statement_of x.0) x.1.now) (spec.choice spec.block tokens.now) result }
     ensures shorter { IfOk result (λ x. length x.1.now < length tokens.now) }
     ensures nests { IfOk result (λ x. nesting x.1.now ≤ nesting tokens.now) }
@@ -229,7 +246,7 @@ fn choice<'a>(
 fn looped<'a>(
     alloc: Global,
     tokens: &'a [Token],
-) -> Result<(Stmt<Span, Span>, &'a [Token]), Stop<'a>>
+) -> Result<(Stmt<Span, Span, Span>, &'a [Token]), Stop<'a>>
     ensures value { Gives (λ x. reading.done (statement_of x.0) x.1.now) (spec.looped spec.block tokens.now) result }
     ensures shorter { IfOk result (λ x. length x.1.now < length tokens.now) }
     ensures nests { IfOk result (λ x. nesting x.1.now ≤ nesting tokens.now) }
@@ -264,7 +281,7 @@ fn looped<'a>(
 fn statement<'a>(
     alloc: Global,
     tokens: &'a [Token],
-) -> Result<(Stmt<Span, Span>, &'a [Token]), Stop<'a>>
+) -> Result<(Stmt<Span, Span, Span>, &'a [Token]), Stop<'a>>
     ensures value { Gives (λ x. reading.done (statement_of x.0) x.1.now) (spec.statement spec.block tokens.now) result }
     ensures shorter { IfOk result (λ x. length x.1.now < length tokens.now) }
     ensures nests { IfOk result (λ x. nesting x.1.now ≤ nesting tokens.now) }
@@ -275,6 +292,7 @@ fn statement<'a>(
         Some(Kind::If) => choice(alloc, tokens),
         Some(Kind::For) => looped(alloc, tokens),
         Some(Kind::Emit) => emitted(alloc, tokens),
+        Some(Kind::Return) => returned(alloc, tokens),
         Some(Kind::TransitionTo) => transition(tokens),
         _ => Err(Stop::Syntax(tokens)),
     }
@@ -285,7 +303,7 @@ fn statement<'a>(
 fn statements<'a>(
     alloc: Global,
     tokens: &'a [Token],
-) -> Result<(Vec<Stmt<Span, Span>>, &'a [Token]), Stop<'a>>
+) -> Result<(Vec<Stmt<Span, Span, Span>>, &'a [Token]), Stop<'a>>
     ensures value { Gives (λ x. reading.done (map statement_of x.0.items) x.1.now)
         (spec.statements spec.block [] tokens.now) result }
     ensures shorter { IfOk result (λ x. length x.1.now ≤ length tokens.now) }
@@ -308,7 +326,7 @@ fn statements<'a>(
 pub fn block<'a>(
     alloc: Global,
     tokens: &'a [Token],
-) -> Result<(Vec<Stmt<Span, Span>>, &'a [Token]), Stop<'a>>
+) -> Result<(Vec<Stmt<Span, Span, Span>>, &'a [Token]), Stop<'a>>
     ensures value { Gives (λ x. reading.done (block_view x.0.items) x.1.now) (spec.block tokens.now) result }
     ensures shorter { IfOk result (λ x. length x.1.now < length tokens.now) }
     ensures nests { IfOk result (λ x. nesting x.1.now ≤ nesting tokens.now) }

@@ -1,5 +1,6 @@
 -- What the code of a task spends, and that its need has all of it.
 use Rattle.std.specs.Prelude.{ℕ, ◌+◌, ◌<◌, ◌≤◌, true, List, length, get_or}
+use Rattle.cost_bound.specs.Summaries.{summaries}
 use Rattle.alp_words.specs.Words.{HoldsWords}
 use Rattle.machine_effects.specs.Inputs.{Inputs, InputsAreWords}
 use Rattle.code_forms.specs.Forms.{Core}
@@ -40,11 +41,11 @@ TasksKeepToTheirWays = (l : MemoryMap) (programs : List Program) → CodeFits l 
 abbrev pub attempt_cycles : Logging → CheckedProgram → MemoryMap → ℕ → ℕ → ℕ
 attempt_cycles Redo p l t spent =
     with_events l.runtime.events 3 + 6 + start_cycles l.runtime.events true l.versions.words (length (privates_in (task_entries l) t)) + spent
-    + commit_cycles l.runtime.events (own_entries p l t) (own_words p l t) (emits_of (task_body p t))
+    + commit_cycles l.runtime.events (own_entries p l t) (own_words p l t) (emits_of (summaries p) (task_body p t))
 attempt_cycles Undo p l t spent =
-    with_events l.runtime.events 3 + 6 + recovery_cycles (list_of p.shared (task_body p t))
+    with_events l.runtime.events 3 + 6 + recovery_cycles (list_of (summaries p) p.shared (task_body p t))
     + logged_start l.runtime.events true l.versions.words (length (private_homes l t)) + spent
-    + logged_commit l.runtime.events (emits_of (task_body p t))
+    + logged_commit l.runtime.events (emits_of (summaries p) (task_body p t))
 
 -- a need has these cycles, as far as its path goes
 abbrev pub AttemptsAreCounted : Type 0
@@ -53,8 +54,8 @@ AttemptsAreCounted = (logging : Logging) (p : CheckedProgram) (l : MemoryMap) (t
 
 -- a commit that a task decided, under a runtime
 abbrev pub decided_cycles : Logging → CheckedProgram → MemoryMap → ℕ → ℕ
-decided_cycles Redo p l t = commit_cycles l.runtime.events (own_entries p l t) (own_words p l t) (emits_of (task_body p t))
-decided_cycles Undo p l t = logged_commit l.runtime.events (emits_of (task_body p t))
+decided_cycles Redo p l t = commit_cycles l.runtime.events (own_entries p l t) (own_words p l t) (emits_of (summaries p) (task_body p t))
+decided_cycles Undo p l t = logged_commit l.runtime.events (emits_of (summaries p) (task_body p t))
 
 -- and those of a boot that finds this commit pending
 abbrev pub OwnCommitsAreCounted : Type 0

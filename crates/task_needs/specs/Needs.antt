@@ -1,6 +1,8 @@
 -- What each task of a source needs of a charge under a runtime: the cycles that its linked code takes at most, from a power-up or from the end of a commit on
 -- up to the end of its own commit, on every path, whatever an attempt before left to be put back.
 use Rattle.std.specs.Prelude.{ℕ, ◌+◌, ◌-◌, min, Bool, true, List, [], length, Option, Some, None, slice_get}
+use Rattle.cost_bound.specs.Summary.{Summary}
+use Rattle.cost_bound.specs.Summaries.{summaries}
 use Rattle.task_ast.specs.declared.SharedDeclaration.{SharedDeclaration}
 use Rattle.cost_bound.specs.Allowance.{list_of, list_part, shared_sum}
 use Rattle.cost_bound.specs.Counts.{CheckedBlock, emits_of, stores_of}
@@ -29,16 +31,16 @@ abbrev pub own_privates : MemoryMap → ℕ → List PrivateScalar
 own_privates l t = privates_of (slice_get l.tasks t)
 
 -- how many elements statements list: of each array the counted stores, but no more than it has elements
-abbrev pub elements_of : List SharedDeclaration → CheckedBlock → ℕ
-elements_of shared code = shared_sum (λ i extent. list_part (stores_of i code) extent) shared
+abbrev pub elements_of : List Summary → List SharedDeclaration → CheckedBlock → ℕ
+elements_of known shared code = shared_sum (λ i extent. list_part (stores_of known i code) extent) shared
 
 -- the entries of a task's commit list: one for each run of private scalars that stand side by side, and one for each element
 abbrev pub own_entries : CheckedProgram → MemoryMap → ℕ → ℕ
-own_entries p l t = length (runs_of (own_privates l t)) + elements_of p.shared (task_body p t)
+own_entries p l t = length (runs_of (own_privates l t)) + elements_of (summaries p) p.shared (task_body p t)
 
 -- and the words that they name
 abbrev pub own_words : CheckedProgram → MemoryMap → ℕ → ℕ
-own_words p l t = private_words (own_privates l t) + elements_of p.shared (task_body p t)
+own_words p l t = private_words (own_privates l t) + elements_of (summaries p) p.shared (task_body p t)
 
 -- ---- what a runtime takes
 
@@ -68,9 +70,9 @@ pub record Beside : Type 0 where
 
 abbrev pub beside_parts : Logging → CheckedProgram → MemoryMap → ℕ → Beside
 beside_parts logging p l t = record {
-  boot = boot_time logging l.runtime.events (list_of p.shared (task_body p t));
+  boot = boot_time logging l.runtime.events (list_of (summaries p) p.shared (task_body p t));
   start = start_time logging l.runtime.events l.versions.words (private_words (own_privates l t));
-  commit = commit_time logging l.runtime.events (own_entries p l t) (own_words p l t) (emits_of (task_body p t));
+  commit = commit_time logging l.runtime.events (own_entries p l t) (own_words p l t) (emits_of (summaries p) (task_body p t));
 }
 
 -- in all

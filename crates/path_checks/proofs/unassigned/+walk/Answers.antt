@@ -8,7 +8,7 @@ use Rattle.task_ast.specs.declared.Stmt.{the_lemmas}
 use Rattle.path_sums.specs.Sums.{turns_sum, block_sum}
 use Rattle.path_checks.specs.Assignments.{assignment, assignment_one, assignment_seq}
 use Rattle.path_checks.specs.Walks.{Does}
-use Rattle.path_checks.proofs.Walks.{does_nothing, does_gone, then_ok, declared_ok, statement_ok, statement_as}
+use Rattle.path_checks.proofs.Walks.{does_nothing, does_both, does_gone, then_ok, declared_ok, statement_ok, statement_as}
 use Rattle.path_checks.proofs.Turns.{no_turn, one_turn, two_turns, settled_turn}
 use Rattle.path_checks.proofs.Choices.{choice_ok, one_way, all_ways}
 use Rattle.path_checks.proofs.Parts.{block_step, block_done}
@@ -26,7 +26,7 @@ walk_arms-loop-arm-preserved t c =
       falls = c.read.ensures.falls_through;
       assigned = c.read.ensures.assigned;
       turned = c.read.ensures.turned;
-      block = subst (λ xs. Does c.read.new.walk c.walk_block.new.walk (λ x p. block_sum (assignment x p) (block_view xs))) c.deref.ensures.value
+      block = subst (λ xs. Does c.read.new.walk c.walk_block.new.walk (λ x p. block_sum [] (assignment x p) (block_view xs))) c.deref.ensures.value
           c.in_ok-walk_block.ensures;
       end = c.in_ok-ends.ensures;
     }) c.loop-arm.invariant
@@ -82,9 +82,9 @@ walk_statement-returns-in_ok-set-in-For t c =
     let f = c.in-For in
     let body = block_view c.deref-in-For.result.now in
     let turns : IfOk c.walk_turns.result (λ _. Does c.set.new.walk c.walk_turns.new.walk (λ x p. turns_sum (assignment x p) (f.below - f.from)
-    (assignment_seq (block_sum (assignment x p) body) (assignment_one x p (write f.variable))))) =
+    (assignment_seq (block_sum [] (assignment x p) body) (assignment_one x p (write f.variable))))) =
     subst (λ n. IfOk c.walk_turns.result (λ _. Does c.set.new.walk c.walk_turns.new.walk (λ x p. turns_sum (assignment x p) n
-    (assignment_seq (block_sum (assignment x p) body) (assignment_one x p (write f.variable)))))) c.saturating_sub.ensures c.walk_turns.ensures in
+    (assignment_seq (block_sum [] (assignment x p) body) (assignment_one x p (write f.variable)))))) c.saturating_sub.ensures c.walk_turns.ensures in
     statement_ok c.walk_turns.result c.args.walk.now c.walk_turns.new.walk (statement_of c.args.statement.now)
     (tree.loop f.variable f.from f.tested f.below f.stepped body) (search (rules, the_lemmas))
     (then_ok c.walk_turns.result c.args.walk.now c.set.new.walk c.walk_turns.new.walk _ _ c.in_ok-set-in-For.ensures turns)
@@ -96,8 +96,13 @@ walk_statement-returns-in-Emit t c =
 
 pub walk_statement-returns-in-TransitionTo : goal.walk_statement-returns-in-TransitionTo
 walk_statement-returns-in-TransitionTo t c =
-    statement_as c.args.walk.now _ (statement_of c.args.statement.now) (tree.transition c.in-TransitionTo.field-0) (search (rules, the_lemmas))
+    statement_as c.args.walk.now _ (statement_of c.args.statement.now) (tree.transition c.in-TransitionTo.field-0 c.in-TransitionTo.field-1) (search (rules, the_lemmas))
     (does_gone c.args.walk.now _ refl refl refl refl)
+
+pub walk_statement-returns-in-Return : goal.walk_statement-returns-in-Return
+walk_statement-returns-in-Return t c =
+    statement_as c.args.walk.now _ (statement_of c.args.statement.now) (tree.give c.in-Return.field-0 (expression_of c.in-Return.value))
+    (search (rules, the_lemmas)) (does_both c.read-in-Return.ensures.does (does_gone c.read-in-Return.new.walk _ refl refl refl refl))
 
 pub walk_statement-returns-in-Assign : goal.walk_statement-returns-in-Assign
 walk_statement-returns-in-Assign t c =

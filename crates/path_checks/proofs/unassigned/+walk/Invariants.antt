@@ -13,5 +13,5 @@ invariant-walk_arms-loop-arm l = Passed l.fn.walk l.walk l.ends l.arms l.arm-ind
 -- what the rest of the block does then, the whole of it does from the start on
 abbrev pub invariant-walk_block-loop-statement : goal.invariant-walk_block-loop-statement
 invariant-walk_block-loop-statement l = (end : Walk)
-    → Does l.walk end (λ x p. block_sum (assignment x p) (block_view (drop l.statement-index l.body)))
-    → Does l.fn.walk end (λ x p. block_sum (assignment x p) (block_view l.body))
+    → Does l.walk end (λ x p. block_sum [] (assignment x p) (block_view (drop l.statement-index l.body)))
+    → Does l.fn.walk end (λ x p. block_sum [] (assignment x p) (block_view l.body))

@@ -1,5 +1,7 @@
+use Rattle.task_ast.specs.View.{block_view}
 use Rattle.path_sums.proofs.AccessMeaning.{private_exact}
 use Rattle.path_sums.proofs.access.is_private.Goals as goal
 
 pub returns : goal.returns
-returns c = private_exact c.args.v _ _ _ c.access_summary.ensures c.private_of.ensures
+returns c = λ fs is calls.
+    private_exact c.args.v c.args.known.now (block_view c.args.body.now) _ c.access_summary.ensures fs is calls _ c.private_of.ensures

@@ -21,7 +21,7 @@ returns c =
     let lines : c.deref.result.now ≡ if_lines text = c.deref.ensures.value ∙ c.in_ok-lines.ensures ∙ ap if_lines c.source.ensures in
     IfOk-weaker c.tasks_need.result (λ needs. map row_of needs.items ≡ rows_from text p l c.deref.result.now 0 p.tasks)
     (λ needs. AreNeedsOf text p allow (map row_of needs.items))
-    (λ needs is. needs_are text p allow plans l (map row_of needs.items) (c.one_plan.ensures p) (c.one_layout.ensures p allow c.requires.allowed)
-    (c.one_logged_layout.ensures p allow c.requires.allowed) c.layouts_are_logged.ensures planned laid
+    (λ needs is. needs_are text p allow plans l (map row_of needs.items) (c.one_plan.ensures p) (c.one_layout.ensures p allow c.requires.accepted.allowed)
+    (c.one_logged_layout.ensures p allow c.requires.accepted.allowed) c.layouts_are_logged.ensures planned laid
     (is ∙ ap (λ ls. rows_from text p l ls 0 p.tasks) lines))
     c.tasks_need.ensures

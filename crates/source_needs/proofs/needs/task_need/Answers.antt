@@ -5,6 +5,7 @@ use Rattle.memory_map.specs.declared.runtime.Logging.TheVariants.{Redo}
 use Rattle.memory_map.specs.MemoryMap.{logged_map}
 use Rattle.compiled_model.specs.Parts.{program_parts}
 use Rattle.task_needs.specs.Needs.{need_parts}
+use Rattle.cost_bound.specs.Summaries.{summaries}
 use Rattle.cost_bound.specs.Allowance.{task_words}
 use Rattle.source_needs.specs.Needs.{parts_in, undo_need}
 use Rattle.source_needs.proofs.Rows.{task_at}
@@ -28,7 +29,7 @@ returns c = λ task there.
     let path = ap (λ n. n.path) parts in
     let commit = ap (λ n. n.commit) parts in
     let bound : priced.bound ≡ (program_parts p l).cost k = c.price_task-priced.ensures.bound in
-    let words : priced.words ≡ task_words p.shared task.body = c.price_task-priced.ensures.words task there in
+    let words : priced.words ≡ task_words (summaries p) p.shared task.body = c.price_task-priced.ensures.words task there in
     let undo : c.args.undo ≡ undo_need p (logged_map l) k = c.requires.undo in
     λ i. record {
       name = name i;

@@ -5,8 +5,8 @@ use Rattle.task_ast.specs.Tree as node
 use Rattle.task_ast.specs.View.{statement_of, tested_of}
 use Rattle.task_check.specs.LookedUp as spec
 use Rattle.task_check.specs.Parts as parts
-use Rattle.task_check.proofs.Parts.{read_on, block_back_list, block_variables_list, block_targets_list, push_variables, push_targets}
-use Rattle.task_check.proofs.Parts.{push_arm_variables, push_arm_targets, all_read}
+use Rattle.task_check.proofs.Parts.{read_on, block_back_list, block_variables_list, block_calls_list, block_targets_list, push_variables, push_calls}
+use Rattle.task_check.proofs.Parts.{push_targets, push_arm_variables, push_arm_calls, push_arm_targets, all_read}
 use Rattle.task_check.proofs.build.+build.Goals as goal
 
 pub block-returns-clause-place : goal.block-returns-clause-place
@@ -20,7 +20,8 @@ block-loop-s-preserved t c = (
   read_on statement_of spec.statement_back statement_of c.loop-s.found.items _ c.in_ok-s.s c.loop-s.yielded _ c.in_ok-push.ensures.items
       c.loop-s.invariant.0 c.in_ok-s.ensures.place,
   push_variables c.loop-s.found.items _ c.in_ok-s.s _ _ _ c.in_ok-push.ensures.items c.loop-s.invariant.1 c.in_ok-s.ensures.variables,
-  push_targets c.loop-s.found.items _ c.in_ok-s.s _ _ _ c.in_ok-push.ensures.items c.loop-s.invariant.2 c.in_ok-s.ensures.targets,
+  push_calls c.loop-s.found.items _ c.in_ok-s.s _ _ _ c.in_ok-push.ensures.items c.loop-s.invariant.2 c.in_ok-s.ensures.calls,
+  push_targets c.loop-s.found.items _ c.in_ok-s.s _ _ _ c.in_ok-push.ensures.items c.loop-s.invariant.3 c.in_ok-s.ensures.targets,
 )
 
 pub arms-loop-test-preserved : goal.arms-loop-test-preserved
@@ -28,7 +29,8 @@ arms-loop-test-preserved t c = (
   read_on tested_of parts.tested_back tested_of c.loop-test.found.items _ c.in_ok-test.test c.loop-test.yielded _ c.in_ok-push.ensures.items
       c.loop-test.invariant.0 c.in_ok-test.ensures.place,
   push_arm_variables c.loop-test.found.items _ c.in_ok-test.test _ _ _ c.in_ok-push.ensures.items c.loop-test.invariant.1 c.in_ok-test.ensures.variables,
-  push_arm_targets c.loop-test.found.items _ c.in_ok-test.test _ _ _ c.in_ok-push.ensures.items c.loop-test.invariant.2 c.in_ok-test.ensures.targets,
+  push_arm_calls c.loop-test.found.items _ c.in_ok-test.test _ _ _ c.in_ok-push.ensures.items c.loop-test.invariant.2 c.in_ok-test.ensures.calls,
+  push_arm_targets c.loop-test.found.items _ c.in_ok-test.test _ _ _ c.in_ok-push.ensures.items c.loop-test.invariant.3 c.in_ok-test.ensures.targets,
 )
 
 pub arms-returns-clause-place : goal.arms-returns-clause-place
@@ -39,8 +41,12 @@ arms-returns-clause-place t c =
 
 pub block-returns-clause-variables : goal.block-returns-clause-variables
 block-returns-clause-variables t c =
-    c.loop-s.invariant.1 ∙ sym (block_variables_list (map statement_of c.loop-s.found.items) c.loop-s.rest.variables.now)
+    c.loop-s.invariant.1 ∙ sym (block_variables_list (map statement_of c.loop-s.found.items) c.loop-s.rest.used.variables.now)
+
+pub block-returns-clause-calls : goal.block-returns-clause-calls
+block-returns-clause-calls t c =
+    c.loop-s.invariant.2 ∙ sym (block_calls_list (map statement_of c.loop-s.found.items) c.loop-s.rest.used.calls.now)
 
 pub block-returns-clause-targets : goal.block-returns-clause-targets
 block-returns-clause-targets t c =
-    c.loop-s.invariant.2 ∙ sym (block_targets_list (map statement_of c.loop-s.found.items) c.loop-s.rest.targets.now)
+    c.loop-s.invariant.3 ∙ sym (block_targets_list (map statement_of c.loop-s.found.items) c.loop-s.rest.targets.now)

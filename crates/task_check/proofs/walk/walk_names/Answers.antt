@@ -8,16 +8,19 @@ use Rattle.task_check.proofs.walk.walk_names.Goals as goal
 pub loop-i-init : goal.loop-i-init
 loop-i-init c = subst (λ xs. IsWalked c.args.source.now c.args.names.now xs c.start-walk.result) (sym (drop-length c.args.names.now))
     (walked_none c.args.source.now c.args.names.now c.start-walk.result c.start-walk.ensures.locals c.start-walk.ensures.counts c.start-walk.ensures.variables
-    c.start-walk.ensures.targets c.start-walk.ensures.wrong_use c.start-walk.ensures.too_many)
+    c.start-walk.ensures.calls c.start-walk.ensures.targets c.start-walk.ensures.wrong_use c.start-walk.ensures.too_many)
 
 pub step-requires-clause-shared : goal.step-requires-clause-shared
 step-requires-clause-shared c = (few_counts c.loop-i.walk.counts c.args.names.now c.loop-i.i c.loop-i.invariant.counts c.requires.few).0
 
+pub step-requires-clause-functions : goal.step-requires-clause-functions
+step-requires-clause-functions c = (few_counts c.loop-i.walk.counts c.args.names.now c.loop-i.i c.loop-i.invariant.counts c.requires.few).1
+
 pub step-requires-clause-tasks : goal.step-requires-clause-tasks
-step-requires-clause-tasks c = (few_counts c.loop-i.walk.counts c.args.names.now c.loop-i.i c.loop-i.invariant.counts c.requires.few).1
+step-requires-clause-tasks c = (few_counts c.loop-i.walk.counts c.args.names.now c.loop-i.i c.loop-i.invariant.counts c.requires.few).2
 
 pub step-requires-clause-locals : goal.step-requires-clause-locals
-step-requires-clause-locals c = (few_counts c.loop-i.walk.counts c.args.names.now c.loop-i.i c.loop-i.invariant.counts c.requires.few).2
+step-requires-clause-locals c = (few_counts c.loop-i.walk.counts c.args.names.now c.loop-i.i c.loop-i.invariant.counts c.requires.few).3
 
 pub loop-i-preserved : goal.loop-i-preserved
 loop-i-preserved c =

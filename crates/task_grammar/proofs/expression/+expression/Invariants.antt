@@ -14,6 +14,12 @@ decreases-primary l = 16 * row_length l.tokens.now + 2
 abbrev pub decreases-named : goal.decreases-named
 decreases-named l = 16 * row_length l.tokens.now + 1
 
+abbrev pub decreases-values : goal.decreases-values
+decreases-values l = 16 * row_length l.tokens.now + 15
+
+abbrev pub decreases-more_values : goal.decreases-more_values
+decreases-more_values l = 16 * row_length l.tokens.now
+
 abbrev pub decreases-up_to : goal.decreases-up_to
 decreases-up_to l = 16 * row_length l.tokens.now + l.precedence + 4
 
