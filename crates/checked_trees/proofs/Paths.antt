@@ -1,5 +1,6 @@
 -- Paths: each part of a task has one, and what a path leaves unassigned.
-use Rattle.std.proofs.Common.{◌≡◌, ℕ, zero, suc, ◌-◌, Bool, true, false, List, [], ◌∷◌, ◌++◌, Some, None, refl, sym, ap, subst, ◌∙◌, if◌then◌else◌}
+use Rattle.std.proofs.Common.{◌≡◌, ◌<◌, ℕ, zero, suc, ◌-◌, Bool, true, false, not, nat_lt, ltb-true, List, [], ◌∷◌, ◌++◌, Some, None, refl, sym, ap, subst}
+use Rattle.std.proofs.Common.{◌∙◌, arith, if◌then◌else◌}
 use Rattle.alp_text.specs.declared.lines.Span.{Span}
 use Rattle.task_ast.specs.Tree as t
 use Rattle.task_ast.specs.Paths.{CheckedFunction, CheckedExpression, CheckedStatement, CheckedChoice, CheckedBlock, Access, read, write, unset}
@@ -196,6 +197,14 @@ safe_of u (read n ∷ xs) none = (here n.variable refl, safe_of u xs (λ before 
 safe_of u (write n ∷ xs) none = safe_of (written u n) xs (λ before m more x e. none (write n ∷ before) m more x (ap (λ ys. write n ∷ ys) e))
 safe_of u (unset n ∷ xs) none = safe_of (forgotten u n) xs (λ before m more x e. none (unset n ∷ before) m more x (ap (λ ys. unset n ∷ ys) e))
 
+-- no local of a task is given
+none_given : (x : ℕ) → not (nat_lt x 0) ≡ true
+none_given x = by (nat_lt x 0) refl
+  where
+    by : (b : Bool) → nat_lt x 0 ≡ b → not b ≡ true
+    by true e = let low : x < 0 = ltb-true x 0 e in let none : ⊥ = omega (arith, low) in absurd none
+    by false e = refl
+
 -- no path of a task reads an unassigned local
 pub safe_paths : (b : CheckedBlock) → ((s : Span) → ReadsUnassigned [] 0 b s → ⊥) → (xs : List Access) (end : End) → BlockPath [] b xs end
     → Safe (λ x. true) xs
@@ -208,5 +217,5 @@ safe_paths b none xs end q = safe_of (λ x. true) xs (λ before n more x cut is 
   after = more;
   end = end;
   path = subst (λ ys. BlockPath [] b ys end) cut q;
-  unassigned = sym (behind_is (λ x. true) before x) ∙ unassigned;
+  unassigned = subst (λ b. is_unassigned b x before ≡ true) (sym (none_given x)) (sym (behind_is (λ x. true) before x) ∙ unassigned);
 }))

@@ -203,8 +203,8 @@ module _ (shared : List SharedDeclaration) (types : Span → WordType) where
         let rest = choice_names types true (choice_back more) behind in
         let others = block_variables b (choice_variables more vs) in
         let x = expression_split e (names_up_to types true (length rest) (block_back b) rest) others c.0 f.0.0 h in
-        let y = block_split (length rest) b rest (choice_variables more vs) c.1 f.1 (λ s i. none s (inl i)) x.2 in
-        let z = choice_split more behind vs c.2 f.2 (λ s i. none s (inr i)) y.1 in
+        let y = block_split (length rest) b rest (choice_variables more vs) c.1.0 f.1 (λ s i. none s (inl i)) x.2 in
+        let z = choice_split more behind vs c.1.1 f.2 (λ s i. none s (inr i)) y.1 in
         ((x.0, y.0, z.0, has_room 0 e f.0.1), z.1)
 
     block_split : (end : ℕ) (b : CheckedBlock) (behind : List Occurrence) (vs : List TypedVariable) → BlockCallsBelow 0 b → BlockFits (block_back b)

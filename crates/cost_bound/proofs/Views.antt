@@ -8,13 +8,13 @@ use Rattle.task_ast.specs.declared.Stmt.{Stmt, the_lemmas}
 use Rattle.task_ast.specs.declared.Stmt.TheVariants.{If, For}
 use Rattle.task_ast.specs.declared.Arm.{Arm, out-Arm}
 
-pub statement_of-For : {V T : Type 0} (variable : V) (from : ℕ) (tested : V) (below : ℕ) (stepped : V) (body : Vec (Stmt V T) Global)
+pub statement_of-For : {V T F : Type 0} (variable : V) (from : ℕ) (tested : V) (below : ℕ) (stepped : V) (body : Vec (Stmt V T F) Global)
     → statement_of (For variable from tested below stepped body) ≡ loop variable from tested below stepped (block_view body.items)
 statement_of-For variable from tested below stepped body = search (rules, the_lemmas)
 
-pub statement_of-If : {V T : Type 0} (arms : Vec (Arm V T) Global) (last : Option (Vec (Stmt V T) Global))
+pub statement_of-If : {V T F : Type 0} (arms : Vec (Arm V T F) Global) (last : Option (Vec (Stmt V T F) Global))
     → statement_of (If arms last) ≡ choose (choice_view arms.items last)
 statement_of-If arms last = search (rules, the_lemmas)
 
-pub tested_of-block : {V T : Type 0} (arm : Arm V T) → (tested_of arm).block ≡ block_view (out-Arm V T arm).block.items
+pub tested_of-block : {V T F : Type 0} (arm : Arm V T F) → (tested_of arm).block ≡ block_view (out-Arm V T F arm).block.items
 tested_of-block arm = search (rules, the_lemmas)

@@ -20,7 +20,7 @@ use crate::marks::add_marks;
 use crate::prices::{CYCLES, EMITS, EVENTS, block_price, plus, times, words_column};
 use crate::shared::{array_entries, places, scalars, versions};
 use crate::stores::store_counts;
-use crate::summaries::{FunctionSummary, summaries};
+use crate::function_summaries::{FunctionSummary, summaries};
 use task_ast::{
     CheckedSource, FunctionDeclaration, FunctionName, SharedDeclaration, Stmt, TaskDeclaration,
     TaskName, VariableName,

@@ -10,7 +10,7 @@ ghost use Rattle.cost_bound.specs.Machine.{known_of};
 use crate::SHARED;
 use crate::calls::called_functions;
 use crate::marks::mark_what_calls_assign;
-use crate::summaries::FunctionSummary;
+use crate::function_summaries::FunctionSummary;
 use task_ast::{Arm, FunctionName, Stmt, TaskName, Variable, VariableName};
 
 fn mark(name: &VariableName, marks: &mut [bool; SHARED])

@@ -9,7 +9,7 @@ ghost use Rattle.cost_bound.specs.Rooms.{AreMarked};
 
 use crate::SHARED;
 use crate::marks::mark_what_calls_reach;
-use crate::summaries::FunctionSummary;
+use crate::function_summaries::FunctionSummary;
 use task_ast::{Args, Arm, Expr, FunctionName, Stmt, TaskName, VariableName};
 
 fn mark(name: &FunctionName, marks: &mut [bool; SHARED])

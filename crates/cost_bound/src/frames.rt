@@ -12,7 +12,7 @@ ghost use Rattle.cost_bound.specs.Machine.{known_of};
 use crate::SHARED;
 use crate::calls::called_functions;
 use crate::prices::{NODES, expression_price, plus, times};
-use crate::summaries::FunctionSummary;
+use crate::function_summaries::FunctionSummary;
 use task_ast::{Arm, Expr, FunctionName, Stmt, TaskName, VariableName};
 
 fn expression_nodes(e: &Expr<VariableName, FunctionName>) -> u64

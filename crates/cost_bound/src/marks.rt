@@ -5,7 +5,7 @@ ghost use Rattle.cost_bound.specs.Rooms.{AreMarked};
 ghost use Rattle.cost_bound.specs.Machine.{known_of};
 
 use crate::SHARED;
-use crate::summaries::FunctionSummary;
+use crate::function_summaries::FunctionSummary;
 
 /// Sets the marks that others have.
 pub fn add_marks(marks: &mut [bool; SHARED], more: &[bool; SHARED])

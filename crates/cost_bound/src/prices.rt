@@ -8,7 +8,7 @@ ghost use Rattle.cost_bound.specs.Table.{capped, body_price, called_price, opera
 ghost use Rattle.cost_bound.specs.Table.{conditions_price, blocks_price, blocks_together, turns_together, words_column};
 ghost use Rattle.cost_bound.specs.Machine.{summary_of, known_of};
 
-use crate::summaries::FunctionSummary;
+use crate::function_summaries::FunctionSummary;
 use task_ast::types::{binary_type, joined_type, literal_type, unary_type};
 use task_ast::{
     Args, Arm, BinaryOperator, Expr, FunctionName, Stmt, TaskName, VariableName, WordType,
@@ -328,7 +328,7 @@ pub fn block_price(functions: &[FunctionSummary], column: &Column, body: &[Stmt<
 {
     let mut n = 0;
     for i in (0..body.len()).rev() {
-        n = plus(statement_price(column, &body[i]), n);
+        n = plus(statement_price(functions, column, &body[i]), n);
     }
     n
 }

@@ -9,7 +9,7 @@ ghost use Rattle.cost_bound.specs.Rooms.{AreCapped, HaveGrown};
 ghost use Rattle.cost_bound.specs.Machine.{known_of};
 
 use crate::SHARED;
-use crate::summaries::FunctionSummary;
+use crate::function_summaries::FunctionSummary;
 use task_ast::{Args, Arm, Expr, FunctionName, Stmt, TaskName, Variable, VariableName};
 
 fn count_store(name: &VariableName, counts: &mut [u64; SHARED])

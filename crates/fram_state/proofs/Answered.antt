@@ -15,6 +15,7 @@ use Rattle.task_ast.specs.declared.names.FunctionName.{FunctionName}
 use Rattle.task_ast.specs.declared.names.TaskName.{TaskName}
 use Rattle.task_ast.specs.View.{task_of, program_of}
 use Rattle.task_ast.specs.Calls.{BlockCallsBelow}
+use Rattle.task_check.proofs.Interface.{is_placed}
 use Rattle.task_check.specs.path_checks.Firsts.{CheckedTask}
 use Rattle.war_analysis.specs.PlanValue.{TaskPlanValue}
 use Rattle.war_analysis.specs.Plans.{IsPlan}
@@ -139,7 +140,8 @@ pub calls_none_at : (a : Accepted) (source : Source VariableName TaskName Functi
     → (program_of a.checked.source).functions ≡ [] → CallsNone (program_of source)
 calls_none_at a source is plain = subst (λ x. CallsNone (program_of x)) (sym is) (record {
   functions = plain;
-  calls = subst (λ (n : ℕ). All (λ task. BlockCallsBelow n task.body) (program_of a.checked.source).tasks) (ap length plain) a.checked.placed.calls.tasks;
+  calls = subst (λ (n : ℕ). All (λ task. BlockCallsBelow n task.body) (program_of a.checked.source).tasks) (ap length plain)
+      (is_placed (program_of a.checked.source) a.checked.placed).calls.tasks;
 })
 
 -- a task of a program without functions calls none

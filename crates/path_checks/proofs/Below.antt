@@ -1,5 +1,6 @@
 -- Functions that stand in front of a place stand in front of each later one, too.
 use Rattle.std.proofs.Common.{ℕ, suc, ◌+◌, ◌<◌, ◌≤◌, List, [], ◌∷◌, length, Option, Some, None, All, arith}
+use Rattle.std.proofs.lemmas.List.Elements.{All-cons}
 use Rattle.task_ast.specs.Tree as t
 use Rattle.task_ast.specs.Paths.{CheckedExpression, CheckedValues, CheckedStatement, CheckedChoice, CheckedBlock, CheckedFunction, CheckedProgram}
 use Rattle.task_ast.specs.Calls.{CallsAreBelow, ValuesCallBelow, InitialCallsBelow, StatementCallsBelow, ChoiceCallsBelow, BlockCallsBelow}
@@ -49,8 +50,9 @@ module _ (n m : ℕ) (more : n ≤ m) where
     block_below (t.step s others) h = (statement_below s h.0, block_below others h.1)
 
 functions_below : (n m : ℕ) (fs : List CheckedFunction) → FunctionsCallBelow n fs → n + length fs ≤ m → All (λ f. BlockCallsBelow m f.body) fs
-functions_below n m [] h le = tt
-functions_below n m (f ∷ fs) h le = (block_below n m (omega arith) f.body h.0, functions_below (n + 1) m fs h.1 (omega arith))
+functions_below n m [] h le = λ k d l. absurd (omega arith)
+functions_below n m (f ∷ fs) h le =
+    All-cons (λ f. BlockCallsBelow m f.body) f fs (block_below n m (omega arith) f.body h.0) (functions_below (n + 1) m fs h.1 (omega arith))
 
 -- each function of a source calls functions of it
 pub functions_known : (p : CheckedProgram) → CallsAreKnown p → All (λ f. BlockCallsBelow (length p.functions) f.body) p.functions

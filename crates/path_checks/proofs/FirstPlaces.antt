@@ -1,7 +1,8 @@
 -- The first of two places is the first at which either is so.
-use Rattle.std.proofs.Common.{◌≡◌, ℕ, zero, suc, ◌-◌, ◌<◌, ◌≤◌, Bool, true, false, List, [], ◌∷◌, All, length, get_or, drop, map, Option, Some, None, ◌⊎◌, inl, inr, sym, subst, refl}
+use Rattle.std.proofs.Common.{◌≡◌, ℕ, ◌-◌, ◌<◌, ◌≤◌, Bool, true, false, List, All, length, get_or, drop, map, Option, Some, None, ◌⊎◌, inl, inr, sym, subst, ap, ◌∙◌, refl}
 use Rattle.std.proofs.Common.{arith, if◌then◌else◌, nat_le}
 use Rattle.std.proofs.lemmas.Bool.Decides.{nat_tests}
+use Rattle.std.proofs.lemmas.List.{length-map, get_or-map}
 use Rattle.alp_text.specs.declared.lines.Span.{Span}
 use Rattle.task_ast.proofs.Interface.{drop_back}
 use Rattle.path_checks.specs.Firsts.{IsFirst, SomeOf, first_of}
@@ -47,6 +48,11 @@ first_whole view P xs i r z h = subst (λ j. IsFirst r (λ s. SomeOf (map view (
 -- what holds of each holds of one of them
 pub one_of_all : {A D : Type 0} (view : D → A) (Q : A → Type 0) (xs : List D) (i : ℕ) (x : D) → 0 < i → i ≤ length xs → x ≡ get_or xs (i - 1) x
     → All Q (map view xs) → Q (view x)
-one_of_all view Q [] i x pos le at all = absurd (omega arith)
-one_of_all view Q (y ∷ xs) (suc zero) x pos le at all = subst (λ z. Q (view z)) (sym at) all.0
-one_of_all view Q (y ∷ xs) (suc (suc i)) x pos le at all = one_of_all view Q xs (suc i) x (omega arith) (omega arith) at all.1
+one_of_all view Q xs i x pos le at all =
+    let here = all (i - 1) (view x) (omega (arith, pos, le, length-map xs view)) in
+    let same : get_or (map view xs) (i - 1) (view x) ≡ view x = get_or-map view xs (i - 1) x (view x) (omega arith) ∙ ap view (sym at) in
+    subst Q same here
+
+-- what follows of a list follows of the same list
+pub of_same : {X : Type 0} (Q P : List X → Type 0) (xs ys : List X) → xs ≡ ys → Q ys → (Q xs → P xs) → P ys
+of_same Q P xs ys e q h = subst P e (h (subst Q (sym e) q))

@@ -1,5 +1,5 @@
 -- Parts that are walked one after another.
-use Rattle.std.proofs.Common.{◌≡◌, ◌==◌, ◌+◌, ◌-◌, ◌<◌, ◌≤◌, ℕ, Bool, List, ◌∷◌, length, drop, drop-cons, get_or, ap, sym, ◌∙◌, if◌then◌else◌, arith, add-one}
+use Rattle.std.proofs.Common.{◌≡◌, ◌==◌, ◌+◌, ◌-◌, ◌<◌, ◌≤◌, ℕ, Bool, List, [], ◌∷◌, length, drop, drop-cons, get_or, ap, sym, ◌∙◌, if◌then◌else◌, arith, add-one}
 use Rattle.std.proofs.lemmas.List.{drop_all, get_or_default}
 use Rattle.task_ast.specs.declared.names.FunctionName.{FunctionName}
 use Rattle.task_ast.specs.declared.names.VariableName.{VariableName}

@@ -1,7 +1,8 @@
 -- Steps of a walk.
 use Rattle.std.proofs.Common.{◌≡◌, ◌==◌, ℕ, Bool, true, false, ◌&&◌, ◌||◌, not, List, [], ◌∷◌, ◌++◌, take, drop, length, refl, ap, ap₂, sym, ◌∙◌, subst}
-use Rattle.std.proofs.Common.{if◌then◌else◌, Option, None, Some, Result, Ok, Err, IfOk, append-nil, append_assoc, ◌⊎◌, inl, inr, get_or, zero, suc, nat_lt, replicate}
-use Rattle.std.proofs.lemmas.Bool.{and_parts, and_from, or_cases, or_left, or_right}
+use Rattle.std.proofs.Common.{if◌then◌else◌, Option, None, Some, Result, Ok, Err, IfOk, append-nil, append_assoc, ◌⊎◌, inl, inr, get_or, nat_lt, replicate, arith}
+use Rattle.std.proofs.lemmas.Bool.{and_parts, and_from, or_cases, or_left, or_right, ltb-true, ltb-false}
+use Rattle.std.proofs.lemmas.List.{get_or-replicate, get_or_past, length-replicate}
 use Rattle.std.specs.declared.alloc.AllocError.{AllocError}
 use Rattle.alp_text.specs.declared.lines.Span.{Span}
 use Rattle.task_ast.specs.declared.names.Variable.{Variable}
@@ -382,9 +383,11 @@ does_read w v e o on first falls assigned turned fault = record {
 
 -- the first locals have values
 given_first : (n x : ℕ) → get_or (replicate n true) x false ≡ nat_lt x n
-given_first zero x = refl
-given_first (suc n) zero = refl
-given_first (suc n) (suc x) = given_first n x
+given_first n x = by (nat_lt x n) refl
+  where
+    by : (b : Bool) → nat_lt x n ≡ b → get_or (replicate n true) x false ≡ b
+    by true h = get_or-replicate n x true false (ltb-true x n h)
+    by false h = get_or_past (replicate n true) x false (omega (arith, length-replicate n true, ltb-false x n h))
 
 pub tells_begun : (w : Walk) (given : ℕ) → w.falls_through ≡ true → w.assigned.items ≡ replicate given true → w.fault ≡ None
     → Tells w (λ x p. begun given x)

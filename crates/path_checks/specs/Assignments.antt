@@ -64,8 +64,14 @@ assignment_join s t =
 
 -- a call does nothing to its caller's locals
 abbrev pub assignment : ℕ → Span → Algebra Assignment
-assignment x p = record { unit = assignment_unit; gone = assignment_gone; one = assignment_one x p; seq = assignment_seq; join = assignment_join;
-  called = λ _. assignment_unit }
+assignment x p = record {
+  unit = assignment_unit;
+  gone = assignment_gone;
+  one = assignment_one x p;
+  seq = assignment_seq;
+  join = assignment_join;
+  called = λ _. assignment_unit;
+}
 
 -- before any access: so many locals have values that are given, and the others are unassigned
 abbrev pub begun : ℕ → ℕ → Assignment

@@ -15,11 +15,7 @@ fn open_name(name: Span, body: &[Stmt<VariableName, TaskName, FunctionName>]) ->
     ensures { (functions : List CheckedFunction) → BlockCallsBelow (length functions) (block_view body.now) → IsFirst result
         (OpenAt functions name (block_view body.now)) }
 {
-    if reaches_end(body) {
-        Some(name)
-    } else {
-        None
-    }
+    if reaches_end(body) { Some(name) } else { None }
 }
 
 /// The first function of a source that some path leaves without a return, by its name in its declaration.

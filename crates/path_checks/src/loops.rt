@@ -11,8 +11,8 @@ ghost use Rattle.path_checks.specs.FirstLoops.{bad_head, bad_in_statement, bad_i
 use crate::firsts::first_of;
 use alp_text::Span;
 use task_ast::{
-    Arm, CheckedSource, FunctionDeclaration, FunctionName, Stmt, TaskDeclaration, TaskName, Variable,
-    VariableName,
+    Arm, CheckedSource, FunctionDeclaration, FunctionName, Stmt, TaskDeclaration, TaskName,
+    Variable, VariableName,
 };
 
 fn same_local(a: Variable, b: Variable) -> bool
@@ -25,7 +25,10 @@ fn same_local(a: Variable, b: Variable) -> bool
 }
 
 #[cycle(assigns)]
-fn statement_assigns(variable: Variable, statement: &Stmt<VariableName, TaskName, FunctionName>) -> bool
+fn statement_assigns(
+    variable: Variable,
+    statement: &Stmt<VariableName, TaskName, FunctionName>,
+) -> bool
     ensures { result ≡ statement_assigns variable (statement_of statement.now) }
 {
     match statement {
@@ -54,7 +57,11 @@ fn statement_assigns(variable: Variable, statement: &Stmt<VariableName, TaskName
 }
 
 #[cycle(assigns)]
-fn arms_assign(variable: Variable, arms: &[Arm<VariableName, TaskName, FunctionName>], in_last: bool) -> bool
+fn arms_assign(
+    variable: Variable,
+    arms: &[Arm<VariableName, TaskName, FunctionName>],
+    in_last: bool,
+) -> bool
     ensures { (last : Option CheckedBlock) → in_last ≡ choice_assigns variable (choice_of [] last) →
         result ≡ choice_assigns variable (choice_of (map tested_of arms.now) last) }
 {
@@ -137,7 +144,10 @@ fn bad_in_statement(statement: &Stmt<VariableName, TaskName, FunctionName>) -> O
 }
 
 #[cycle(loops)]
-fn bad_in_arms(arms: &[Arm<VariableName, TaskName, FunctionName>], in_last: Option<Span>) -> Option<Span>
+fn bad_in_arms(
+    arms: &[Arm<VariableName, TaskName, FunctionName>],
+    in_last: Option<Span>,
+) -> Option<Span>
     ensures { (last : Option CheckedBlock) → in_last ≡ bad_in_choice (choice_of [] last) →
         result ≡ bad_in_choice (choice_of (map tested_of arms.now) last) }
 {

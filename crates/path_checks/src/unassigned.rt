@@ -127,7 +127,10 @@ fn walk_arms(
 }
 
 #[cycle(walk)]
-fn walk_block(walk: &mut Walk, body: &[Stmt<VariableName, TaskName, FunctionName>]) -> Result<(), AllocError>
+fn walk_block(
+    walk: &mut Walk,
+    body: &[Stmt<VariableName, TaskName, FunctionName>],
+) -> Result<(), AllocError>
     ensures { IfOk result (λ _. Does walk.old walk.new (λ x p. block_sum [] (assignment x p) (block_view body.now))) }
 {
     for statement in body {

@@ -8,5 +8,5 @@ mod Refusals
 mod Unique
 mod OneAnswer
 mod FirstEvent
-mod Plain
+mod Uncompiled
 pub mod Interface

@@ -161,9 +161,9 @@ module _ (functions : List CheckedFunction) (n : ℕ) (few : n ≤ length functi
           on_value (ThroughChoice (t.test e b more)) e a (λ w s. if holds w then run_block known b s else run_choice known more s)
           (λ w s. on_if (ThroughChoice (t.test e b more)) (holds w) (run_block known b s) (run_choice known more s)
           (on_map (Through b) (ThroughChoice (t.test e b more)) (λ ys. p.0 ++ ys)
-          (λ ys q. path.taken e b more p.0 ys path.goes_on p.1 q) (run_block known b s) (block_path b calls.1 s))
+          (λ ys q. path.taken e b more p.0 ys path.goes_on p.1 q) (run_block known b s) (block_path b calls.1.0 s))
           (on_map (ThroughChoice more) (ThroughChoice (t.test e b more)) (λ ys. p.0 ++ ys)
-          (λ ys q. path.passed e b more p.0 ys path.goes_on p.1 q) (run_choice known more s) (choice_path more calls.2 s)))
+          (λ ys q. path.passed e b more p.0 ys path.goes_on p.1 q) (run_choice known more s) (choice_path more calls.1.1 s)))
 
       pub block_path : (b : CheckedBlock) → BlockCallsBelow n b → (a : Attempt) → OnPath (Through b) (run_block known b a)
       block_path t.end calls a = ([], path.finished)

@@ -26,9 +26,9 @@ abbrev pub FunctionMay : CheckedBlock → Type 0
 FunctionMay b = BlockMay NoTarget (Unit {0}) b
 
 -- what may be done, and what stands behind it
-record MayAndRest (k : ℕ) (May : Type 0) (more : List ℕ) : Type 0 where
-  may : May
-  rest : below k more ≡ true
+pub record MayAndRest (k : ℕ) (May : Type 0) (more : List ℕ) : Type 0 where
+  pub may : May
+  pub rest : below k more ≡ true
 
 module _ (k : ℕ) where
   mutual

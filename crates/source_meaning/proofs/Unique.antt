@@ -25,7 +25,7 @@ one_tree text words tree lexes only other x =
 named_once : (text : List ℕ) (tree : Program Span Span Span) (p q : CheckedProgram) → IsNamed text tree p → IsNamed text tree q → p ≡ q
 named_once text tree p q x y =
     one_source p q (x.looked_up.places ∙ sym y.looked_up.places) (x.looked_up.variables ∙ sym y.looked_up.variables)
-    (x.looked_up.targets ∙ sym y.looked_up.targets)
+    (x.looked_up.calls ∙ sym y.looked_up.calls) (x.looked_up.targets ∙ sym y.looked_up.targets)
 
 pub one_checked : (text : List ℕ) (tree : Program Span Span Span) (p : CheckedProgram)
     → ((other : Program Span Span Span) → Parses text other → other ≡ tree) → IsAccepted text tree p

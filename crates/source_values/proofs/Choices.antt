@@ -59,7 +59,7 @@ pub arm_short : (known : List Meaning) (arms : List (Arm VariableName TaskName F
 arm_short known arms i arm last s h is e =
     ap (λ choice. run_choice known choice s) (choice_at arms i arm last h is)
     ∙ ap (λ o. if_value o (λ w s. if holds w then run_block known (block_view arm.block.items) s
-        else run_choice known (choice_of (map tested_of (drop (i + 1) arms)) last) s)) (sym e)
+    else run_choice known (choice_of (map tested_of (drop (i + 1) arms)) last) s)) (sym e)
 
 pub arm_passed : (known : List Meaning) (arms : List (Arm VariableName TaskName FunctionName)) (i : ℕ) (arm : Arm VariableName TaskName FunctionName)
     (last : Option CheckedBlock) (s : Attempt) (x : Evaluated)

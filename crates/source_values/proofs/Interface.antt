@@ -10,6 +10,6 @@ pub use Rattle.source_values.proofs.Kept.{IsBehind, value_keeps, made_behind, fo
 -- An attempt emits no more words than its block counts, however it ends.
 pub use Rattle.source_values.proofs.Emitted.{EmitsUpTo, FunctionUpTo, KnownUpTo, more_turns, statement_up_to, block_up_to, meanings_up_to, attempt_up_to}
 -- What holds of each function, by those in front of it.
-pub use Rattle.source_values.proofs.Functions.{each_answer, both_answers}
+pub use Rattle.source_values.proofs.Functions.{Every, each_answer, pushed, both_answers}
 -- Where no operand is long, values are those of the operators on words.
 pub use Rattle.source_values.proofs.Words.{scalar_word, converted_word, assigned_word, word_as_it_is}

@@ -1,7 +1,7 @@
 -- Where no functions are known, evaluating changes no variable and emits nothing.
 use Rattle.std.proofs.Common.{◌≡◌, ℕ, List, [], ◌∷◌, Bool, true, false, refl, ap, ◌∙◌, subst, Option, Some, None, drop, if◌then◌else◌}
 use Rattle.task_ast.specs.Tree.{number, long_number, name, element, sense, next_event, call, unary, binary, shift, short_circuit}
-use Rattle.source_values.specs.Values.{◌>>?◌, CheckedExpression, CheckedValues, Attempt, Evaluated, EvaluatedWords, meaning_in, word_at}
+use Rattle.source_values.specs.Values.{◌>>?◌, CheckedExpression, Attempt, Evaluated, EvaluatedWords, meaning_in, word_at}
 use Rattle.source_values.specs.Values.{type_of, unary_result, binary_result, shift_result, gives, made_of, reading_of, truth_word, is_settled}
 use Rattle.source_values.specs.Values.{value_of, words_of}
 use Rattle.source_values.specs.Statements.{Outcome, short, with_value}

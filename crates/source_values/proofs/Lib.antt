@@ -1,3 +1,4 @@
+mod Blocks
 mod Called
 mod Choices
 mod Completions
@@ -10,7 +11,6 @@ mod Rows
 mod Sizes
 mod Takes
 mod Tasks
-mod Statements
 mod Turns
 mod Uses
 mod Views

@@ -1,5 +1,5 @@
 -- The locals of a function that is called with some words.
-use Rattle.std.proofs.Common.{◌≡◌, ◌≤◌, ◌<◌, ◌+◌, ℕ, zero, suc, List, [], ◌∷◌, ◌++◌, length, take, replicate, slice_set, refl, ap, ◌∙◌, sym, arith}
+use Rattle.std.proofs.Common.{◌≡◌, ◌≤◌, ◌+◌, ℕ, zero, suc, List, [], ◌∷◌, ◌++◌, length, take, replicate, slice_set, refl, ap, ◌∙◌, sym, arith}
 use Rattle.std.proofs.lemmas.List.{length-replicate}
 use Rattle.source_values.specs.Values.{new_locals}
 use Rattle.source_values.specs.View.{placed}
@@ -14,11 +14,11 @@ set_past (v ∷ words) (suc k) w h = ap (λ ws. v ∷ ws) (set_past words k w (o
 pub placed_past : (k : ℕ) (words : List ℕ) → 256 ≤ k → placed k words ≡ new_locals
 placed_past k [] h = refl
 placed_past k (w ∷ words) h =
-    let long : length new_locals ≡ 256 = length-replicate 256 0 in
+    let long : length new_locals ≡ 256 = length-replicate {A = ℕ} 256 0 in
     ap (λ ws. slice_set ws k w) (placed_past (k + 1) words (omega arith)) ∙ set_past new_locals k w (omega (arith, long))
 
 -- zeros in front of zeros
-zeros : (n k m : ℕ) → n ≤ k + m → take n (replicate k 0 ++ replicate m 0) ≡ replicate n 0
+zeros : (n k m : ℕ) → n ≤ k + m → take {A = ℕ} n (replicate k 0 ++ replicate m 0) ≡ replicate n 0
 zeros zero k m h = refl
 zeros (suc n) zero zero h = absurd (omega arith)
 zeros (suc n) zero (suc m) h = ap (λ ws. 0 ∷ ws) (zeros n zero m (omega arith))

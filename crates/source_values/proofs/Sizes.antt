@@ -1,5 +1,5 @@
 -- How large trees are. A part is smaller than its tree, and a function with all in front of it is smaller than those that it stands among.
-use Rattle.std.proofs.Common.{◌≡◌, ◌≤◌, ◌<◌, ◌+◌, ℕ, zero, suc, List, [], ◌∷◌, Option, Some, None, length, map, take, drop, get_or, arith, ap, ◌∙◌, sym}
+use Rattle.std.proofs.Common.{◌≤◌, ◌<◌, ◌+◌, ℕ, zero, suc, [], ◌∷◌, Some, None, length, take, get_or, arith}
 use Rattle.task_ast.specs.Tree as t
 use Rattle.task_ast.specs.Tree.{choice_of, Tested}
 use Rattle.task_ast.specs.Paths.{CheckedExpression, CheckedValues, CheckedStatement, CheckedChoice, CheckedBlock}

@@ -1,7 +1,7 @@
 -- The value of an expression depends on the readings and the answers that it takes, and on no others, where the functions do that it calls.
 -- Where none are known, all else stays as it was.
 use Rattle.std.proofs.Common.{◌≡◌, ℕ, List, [], ◌∷◌, ◌++◌, Bool, true, false, refl, ap, sym, ◌∙◌, subst, Option, Some, None, append_assoc, drop}
-use Rattle.std.proofs.Common.{slice_index, length, zero, suc, All}
+use Rattle.std.proofs.Common.{slice_index, length, zero, suc}
 use Rattle.std.proofs.Common.{if◌then◌else◌, ◌<◌, arith, length-append}
 use Rattle.task_ast.specs.Tree.{number, long_number, name, element, sense, next_event, call, unary, binary, shift, short_circuit}
 use Rattle.task_ast.specs.Tree as t
@@ -9,6 +9,7 @@ use Rattle.source_values.specs.Values.{◌>>?◌, CheckedExpression, CheckedValu
 use Rattle.source_values.specs.Values.{word_at, scalar_value, type_of, unary_result, binary_result, shift_result, word_of}
 use Rattle.source_values.specs.Values.{gives, made_of, reading_of, next_reading, next_answer, AreTaken, truth_word, is_settled, value_of, words_of}
 use Rattle.source_values.specs.Statements.{Outcome, short, if_value, with_value}
+use Rattle.source_values.proofs.Functions.{Every}
 
 pub bind_some : {A B : Type 0} (o : Option A) (f : A → Option B) (y : B) → (o >>? f) ≡ Some y → (x : A) × (o ≡ Some x) × (f x ≡ Some y)
 bind_some None f y e = cc
@@ -144,12 +145,12 @@ FunctionTakes m = (words : List ℕ) → TakesItsOwn (m words)
 
 -- each of these functions does
 abbrev pub KnownTake : List Meaning → Type 0
-KnownTake = All FunctionTakes
+KnownTake = Every FunctionTakes
 
 known_takes : (known : List Meaning) → KnownTake known → (k : ℕ) (words : List ℕ) → TakesItsOwn (meaning_in known k words)
 known_takes [] h k words s x e = absurd (cc e)
-known_takes (m ∷ known) h zero words = h.0 words
-known_takes (m ∷ known) h (suc k) words = known_takes known h.1 k words
+known_takes (m ∷ known) h zero words s x e = h.0 words s x e
+known_takes (m ∷ known) h (suc k) words s x e = known_takes known h.1 k words s x e
 
 -- what is done with the words behind one
 with_words : (w : ℕ) (o : Option EvaluatedWords) (next : List ℕ → Attempt → Option Evaluated)

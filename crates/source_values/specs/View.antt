@@ -1,5 +1,5 @@
 -- What the values of the code stand for.
-use Rattle.std.specs.Prelude.{◌≡◌, ◌≤◌, ◌+◌, ℕ, Bool, true, false, List, [], ◌∷◌, map, Option, Some, None, slice_index_or, slice_set}
+use Rattle.std.specs.Prelude.{◌≤◌, ◌+◌, ℕ, Bool, true, false, List, [], ◌∷◌, map, Option, Some, None, slice_index_or, slice_set}
 use denote.Bor.{Bor}
 pub use Rattle.source_values.specs.Rows.{rows_of}
 use Rattle.task_ast.specs.Answers.{answers}
@@ -71,6 +71,18 @@ abbrev pub leaves : End → Bool
 leaves GoesOn = false
 leaves (ToTask t) = true
 leaves (Returns w) = true
+
+-- the task of a transition
+abbrev pub task_of_end : End → Option ℕ
+task_of_end GoesOn = None
+task_of_end (ToTask t) = Some t
+task_of_end (Returns w) = None
+
+-- the word of a `return`
+abbrev pub word_of_end : End → Option ℕ
+word_of_end GoesOn = None
+word_of_end (ToTask t) = None
+word_of_end (Returns w) = Some w
 
 -- the outcome of statements that left this
 abbrev pub outcome_of : Option Ran → Scratch → Outcome

@@ -13,7 +13,7 @@ ghost use Rattle.source_values.specs.View.{rows_of, attempt_in};
 use crate::frame::Frame;
 use crate::marks::Marks;
 use crate::scratch::Scratch;
-use crate::statements::{End, run_block};
+use crate::statements::run_block;
 use crate::tracked::{Tracked, row_word};
 use arrayvec::ArrayVec;
 use std::alloc::{AllocError, Global};
@@ -153,10 +153,8 @@ fn run_task<'r>(
         frames,
         readings,
     )?;
-    match ran.end {
-        End::ToTask(next) => Some((next as u16, ran.left)),
-        End::GoesOn | End::Returns(_) => None,
-    }
+    let next = ran.end.task()?;
+    Some((next as u16, ran.left))
 }
 
 impl SourceRun {

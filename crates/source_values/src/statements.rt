@@ -11,7 +11,7 @@ ghost use Rattle.source_values.specs.Numbers.{number_type};
 ghost use Rattle.source_values.specs.Statements.{run_statement, run_choice, run_block, expression_emits, values_emits, statement_emits, conditions_emit};
 ghost use Rattle.source_values.specs.Statements.{choice_emits, block_emits};
 ghost use Rattle.source_values.specs.declared.statements.End.TheVariants as end;
-ghost use Rattle.source_values.specs.View.{attempt_in, evaluated_in, meanings_of, counts_of, waiting_in, placed, placed_words, given_in, leaves};
+ghost use Rattle.source_values.specs.View.{attempt_in, evaluated_in, meanings_of, counts_of, waiting_in, placed, placed_words, given_in, leaves, task_of_end, word_of_end};
 ghost use Rattle.source_values.specs.View.{outcome_of, chosen_outcome, ChosenEmits};
 
 use crate::frame::Frame;
@@ -38,6 +38,26 @@ impl End {
         match self {
             End::GoesOn => false,
             End::ToTask(_) | End::Returns(_) => true,
+        }
+    }
+
+    /// The task of a transition.
+    pub fn task(self) -> Option<u32>
+        ensures { result ≡ task_of_end self }
+    {
+        match self {
+            End::ToTask(task) => Some(task),
+            End::GoesOn | End::Returns(_) => None,
+        }
+    }
+
+    // The word of a `return`.
+    fn word(self) -> Option<u16>
+        ensures { result ≡ word_of_end self }
+    {
+        match self {
+            End::Returns(word) => Some(word),
+            End::GoesOn | End::ToTask(_) => None,
         }
     }
 }
@@ -233,19 +253,11 @@ fn run_function<'r>(
 {
     let (own, rest) = frames.split_first_mut()?;
     mem::swap(&mut scratch.locals, own);
-    let ran = run_block(
-        &functions[..k],
-        &functions[k].body,
-        scratch,
-        rest,
-        readings,
-    );
+    let ran = run_block(&functions[..k], &functions[k].body, scratch, rest, readings);
     mem::swap(own, &mut scratch.locals);
     let ran = ran?;
-    match ran.end {
-        End::Returns(word) => Some((word, ran.left)),
-        End::GoesOn | End::ToTask(_) => None,
-    }
+    let word = ran.end.word()?;
+    Some((word, ran.left))
 }
 
 // Runs one statement. None where the readings run out.

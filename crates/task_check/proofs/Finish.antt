@@ -19,6 +19,7 @@ use Rattle.task_check.specs.LookedUp.{program_back, program_variables, program_c
 use Rattle.task_check.specs.Placed.{IsPlaced}
 use Rattle.task_check.specs.Faults.{first_fault, name_fault, use_fault, limit_fault}
 use Rattle.task_check.specs.Walks.{IsWalked}
+use Rattle.task_check.proofs.Standing.{is_placed}
 use Rattle.task_check.specs.Answers.{IsLookedUp, IsNamed, IsAccepted, IsCleanOnPaths, IsRefusedOnPaths, on_paths, at_limits, IsRefusedOrMemory, limits_fault}
 
 module _ (source : List ℕ) (tree : Program Span Span Span) (names : List Occurrence) (w : Walk) (same : names ≡ program_names source tree)
@@ -63,7 +64,7 @@ module _ (source : List ℕ) (tree : Program Span Span Span) (names : List Occur
       × (IsRefusedOnPaths source (program_of checked) e ⊎ (IsCleanOnPaths (program_of checked) × (w.too_many ≡ Some e)))))
       → MatchResult r (λ c. IsAccepted source tree (program_of c.source)) (λ e. IsRefusedOrMemory source tree e)
   finished (Ok c) checked built is none err = record {
-    named = named_is (program_of c.source) (subst (λ s. IsBuilt (program_of s)) (sym is) built) c.placed;
+    named = named_is (program_of c.source) (subst (λ s. IsBuilt (program_of s)) (sym is) built) (is_placed (program_of c.source) c.placed);
     paths = record { loops = c.loops; assigned = c.assigned; returns = c.returns; transitions = c.transitions };
     limits = limits_are None none;
   }

@@ -3,11 +3,11 @@ mod Operands
 mod Walks
 mod Fronts
 mod Parts
+mod Standing
 mod Finish
 mod Fill
 mod Counted
 mod Ranges
-mod Placed
 mod OneAnswer
 pub mod Interface
 pub use Rattle.task_lex.proofs as task_lex

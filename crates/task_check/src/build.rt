@@ -258,7 +258,9 @@ fn returned<'a>(
 }
 
 // An `if` without a last block.
-fn tests_only(tests: Vec<Arm<VariableName, TaskName, FunctionName>>) -> Stmt<VariableName, TaskName, FunctionName>
+fn tests_only(
+    tests: Vec<Arm<VariableName, TaskName, FunctionName>>,
+) -> Stmt<VariableName, TaskName, FunctionName>
     ensures { statement_of result ≡ node.choose (node.choice_of (map tested_of tests.items) None) }
 {
     Stmt::If(tests, None)
@@ -274,7 +276,9 @@ fn tests_else(
     Stmt::If(tests, Some(last))
 }
 
-fn if_only(tests: Vec<Arm<VariableName, TaskName, FunctionName>>) -> Stmt<VariableName, TaskName, FunctionName>
+fn if_only(
+    tests: Vec<Arm<VariableName, TaskName, FunctionName>>,
+) -> Stmt<VariableName, TaskName, FunctionName>
     ensures tree { statement_of result ≡ node.choose (node.choice_of (map tested_of tests.items) None) }
     ensures place { (arms : List (node.Tested Span Span Span)) → map parts.tested_back (map tested_of tests.items) ≡ arms
         → spec.statement_back (statement_of result) ≡ node.choose (node.choice_of arms None) }
@@ -423,7 +427,13 @@ fn task<'a>(
     alloc: Global,
     of: TaskDeclaration<Span, Span, Span>,
     names: Names<'a>,
-) -> Result<(TaskDeclaration<VariableName, TaskName, FunctionName>, Names<'a>), AllocError>
+) -> Result<
+    (
+        TaskDeclaration<VariableName, TaskName, FunctionName>,
+        Names<'a>,
+    ),
+    AllocError,
+>
     ensures place { IfOk result (λ x. spec.task_back (task_of x.0) ≡ task_of of) }
     ensures variables { IfOk result (λ x. names.entry.used.variables.now ≡ spec.block_variables (task_of x.0).body x.1.used.variables.now) }
     ensures calls { IfOk result (λ x. names.entry.used.calls.now ≡ spec.block_calls (task_of x.0).body x.1.used.calls.now) }
@@ -438,7 +448,13 @@ fn tasks<'a>(
     alloc: Global,
     all: Vec<TaskDeclaration<Span, Span, Span>>,
     names: Names<'a>,
-) -> Result<(Vec<TaskDeclaration<VariableName, TaskName, FunctionName>>, Names<'a>), AllocError>
+) -> Result<
+    (
+        Vec<TaskDeclaration<VariableName, TaskName, FunctionName>>,
+        Names<'a>,
+    ),
+    AllocError,
+>
     ensures place { IfOk result (λ x. map spec.task_back (map task_of x.0.items) ≡ map task_of all.items) }
     ensures variables { IfOk result (λ x. names.entry.used.variables.now ≡ spec.task_variables (map task_of x.0.items) x.1.used.variables.now) }
     ensures calls { IfOk result (λ x. names.entry.used.calls.now ≡ spec.task_calls (map task_of x.0.items) x.1.used.calls.now) }
@@ -478,7 +494,13 @@ fn function<'a>(
     alloc: Global,
     of: FunctionDeclaration<Span, Span, Span>,
     names: Names<'a>,
-) -> Result<(FunctionDeclaration<VariableName, TaskName, FunctionName>, Names<'a>), AllocError>
+) -> Result<
+    (
+        FunctionDeclaration<VariableName, TaskName, FunctionName>,
+        Names<'a>,
+    ),
+    AllocError,
+>
     ensures place { IfOk result (λ x. spec.function_back (function_of x.0) ≡ function_of of) }
     ensures variables { IfOk result (λ x. names.entry.used.variables.now ≡ spec.inner_variables (function_of x.0) x.1.used.variables.now) }
     ensures calls { IfOk result (λ x. names.entry.used.calls.now ≡ spec.block_calls (function_of x.0).body x.1.used.calls.now) }
@@ -508,7 +530,13 @@ fn functions<'a>(
     alloc: Global,
     all: Vec<FunctionDeclaration<Span, Span, Span>>,
     names: Names<'a>,
-) -> Result<(Vec<FunctionDeclaration<VariableName, TaskName, FunctionName>>, Names<'a>), AllocError>
+) -> Result<
+    (
+        Vec<FunctionDeclaration<VariableName, TaskName, FunctionName>>,
+        Names<'a>,
+    ),
+    AllocError,
+>
     ensures place { IfOk result (λ x. map spec.function_back (map function_of x.0.items) ≡ map function_of all.items) }
     ensures variables { IfOk result (λ x. names.entry.used.variables.now ≡ spec.function_variables (map function_of x.0.items) x.1.used.variables.now) }
     ensures calls { IfOk result (λ x. names.entry.used.calls.now ≡ spec.function_calls (map function_of x.0.items) x.1.used.calls.now) }

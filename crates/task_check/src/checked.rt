@@ -7,7 +7,7 @@ ghost use Rattle.path_checks.specs.Loops.{BadLoopAt};
 ghost use Rattle.path_checks.specs.Unassigned.{UnassignedAt};
 ghost use Rattle.path_checks.specs.Ends.{NoReturnAt, NoTransitionAt};
 ghost use Rattle.task_check.specs.Limits.{are_numbered};
-ghost use Rattle.task_check.specs.Placed.{IsPlaced};
+ghost use Rattle.task_check.specs.Placed.{all_stand};
 
 use task_ast::CheckedSource;
 
@@ -22,7 +22,7 @@ pub struct Checked {
     pub ghost few_functions: { length source.functions.items ≤ 64 },
     pub ghost few_shared: { length source.shared.items ≤ 256 },
     pub ghost numbered: { are_numbered (program_of source) ≡ true },
-    pub ghost placed: { IsPlaced (program_of source) },
+    pub ghost placed: { all_stand (program_of source) ≡ true },
     pub ghost loops: { IsFirst None (BadLoopAt (program_of source)) },
     pub ghost assigned: { IsFirst None (UnassignedAt (program_of source)) },
     pub ghost returns: { IsFirst None (NoReturnAt (program_of source)) },

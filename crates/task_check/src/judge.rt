@@ -88,17 +88,9 @@ fn known_symbol(known: u32, symbol: Symbol) -> Option<Symbol>
     ensures { result ≡ scope.known_symbol known symbol }
 {
     match symbol {
-        Symbol::Function { number, .. } => {
-            if number < known {
-                Some(symbol)
-            } else {
-                None
-            }
-        }
-        Symbol::Scalar { .. }
-        | Symbol::Array { .. }
-        | Symbol::Task { .. }
-        | Symbol::Local { .. } => Some(symbol),
+        Symbol::Function { number, .. } => { if number < known { Some(symbol) } else { None } }
+        Symbol::Scalar { .. } | Symbol::Array { .. } | Symbol::Task { .. } | Symbol::Local { .. } =>
+            Some(symbol),
     }
 }
 

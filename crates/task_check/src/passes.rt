@@ -14,6 +14,7 @@ ghost use Rattle.task_check.specs.Occurrences as occurrences;
 ghost use Rattle.task_check.specs.LookedUp.{program_back};
 ghost use Rattle.task_check.specs.Faults as faults;
 ghost use Rattle.task_check.specs.Placed.{IsPlaced};
+ghost use Rattle.task_check.specs.Placed as spec;
 ghost use Rattle.task_check.specs.Walks.{IsWalked};
 ghost use Rattle.task_check.specs.Answers.{IsAccepted, IsNamed, IsRefusedOrMemory, IsRefusedOnPaths, IsCleanOnPaths, IsLookedUp, limits_fault};
 
@@ -30,13 +31,14 @@ use std::alloc::{AllocError, Global};
 use task_ast::{CheckedSource, FunctionName, TaskDeclaration, TaskName, Tree, VariableName};
 
 // The first fault of the checks of loops and of paths.
+#[tactic(auto, using(crate::proofs::Standing::calls_known))]
 fn paths_fault(
     alloc: Global,
     source: &[u8],
     checked: &CheckedSource,
 ) -> Result<Option<CheckFault>, AllocError>
     requires short { length source.now < 2 ^ 32 - 1 }
-    requires placed { IsPlaced (program_of checked.now) }
+    requires placed { spec.all_stand (program_of checked.now) ≡ true }
     ensures { IfOk result (λ fault. MatchOption fault (IsCleanOnPaths (program_of checked.now))
         (λ e. IsRefusedOnPaths source.now (program_of checked.now) e)) }
 {
@@ -83,7 +85,7 @@ fn check_paths(
 ) -> Result<Checked, CheckFault>
     requires short { length source.now < 2 ^ 32 - 1 }
     requires looked_up { IsLookedUp source.now (program_back (program_of checked)) (program_of checked) }
-    requires placed { IsPlaced (program_of checked) }
+    requires placed { spec.all_stand (program_of checked) ≡ true }
     requires limits { too_many ≡ limits_fault source.now (program_back (program_of checked)) }
     ensures same { IfOk result (λ c. c.source ≡ checked) }
     ensures fine { IfOk result (λ c. too_many ≡ None) }
@@ -106,7 +108,7 @@ fn check_paths(
 
 // The same, of a source with its names looked up. The walk over the names has seen that all of it stands where it may; this is said of the source by
 // looking once more.
-#[tactic(auto, using(crate::proofs::Placed::is_placed))]
+#[tactic(auto, using(crate::proofs::Standing::is_placed))]
 fn check_placed(
     alloc: Global,
     source: &[u8],

@@ -17,11 +17,8 @@ fn expression_stands(known: usize, e: &Expr<VariableName, FunctionName>) -> bool
     ensures { result ≡ spec.expression_stands known (expression_of e.now) }
 {
     match e {
-        Expr::Number(_)
-        | Expr::LongNumber(_)
-        | Expr::Name(_)
-        | Expr::Sense
-        | Expr::NextEvent => true,
+        Expr::Number(_) | Expr::LongNumber(_) | Expr::Name(_) | Expr::Sense | Expr::NextEvent =>
+            true,
         Expr::Element(_, a) | Expr::Unary(_, a) | Expr::Shift(_, a, _) => {
             expression_stands(known, a)
         }

@@ -6,16 +6,27 @@ use task_ast::{Variable, WordType};
 /// function or task.
 #[derive(Clone, Copy)]
 pub enum Symbol {
-    Scalar { number: u32, word_type: WordType },
-    Array { number: u32, word_type: WordType },
+    Scalar {
+        number: u32,
+        word_type: WordType,
+    },
+    Array {
+        number: u32,
+        word_type: WordType,
+    },
     /// A function that gives words of a type, with so many parameters.
     Function {
         number: u32,
         word_type: WordType,
         parameters: usize,
     },
-    Task { number: u32 },
-    Local { number: u32, word_type: WordType },
+    Task {
+        number: u32,
+    },
+    Local {
+        number: u32,
+        word_type: WordType,
+    },
 }
 
 /// A shared variable, a function or a task, and how many names stand in front of its declaration.

@@ -99,11 +99,13 @@ fn add_call(
     match (role, symbol) {
         (
             Role::Call(_),
-            Some(Symbol::Function {
-                number,
-                word_type,
-                ..
-            }),
+            Some(
+                Symbol::Function {
+                    number,
+                    word_type,
+                    ..
+                },
+            ),
         ) => {
             calls.push(TypedFunction {
                 function: number,

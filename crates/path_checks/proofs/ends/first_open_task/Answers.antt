@@ -1,8 +1,9 @@
 use Rattle.std.proofs.Common.{arith, length, map}
 use Rattle.task_ast.specs.View.{block_view, function_of, task_of, program_of}
 use Rattle.task_ast.specs.Calls.{BlockCallsBelow}
+use Rattle.path_checks.specs.Firsts.{IsFirst}
 use Rattle.path_checks.specs.Ends.{OpenAt}
-use Rattle.path_checks.proofs.FirstPlaces.{first_back, first_whole, one_of_all}
+use Rattle.path_checks.proofs.FirstPlaces.{first_back, first_whole, one_of_all, of_same}
 use Rattle.path_checks.proofs.ends.first_open_task.Goals as goal
 
 pub loop-i-preserved : goal.loop-i-preserved
@@ -11,7 +12,9 @@ loop-i-preserved c = λ calls.
     let known = one_of_all task_of (λ task. BlockCallsBelow (length all) task.body) c.args.source.now.tasks.items c.loop-i.i c.index-task.result.now
     c.loop-i-test.true (omega arith) c.index-task.ensures calls.tasks in
     first_back task_of (λ task. OpenAt all task.name task.body) c.args.source.now.tasks.items c.loop-i.i c.index-task.result.now _ _ _ c.loop-i-test.true
-    (omega arith) c.index-task.ensures c.first_of-first.ensures (c.open_name.ensures all known) (c.loop-i.invariant calls)
+    (omega arith) c.index-task.ensures c.first_of-first.ensures (of_same (λ xs. BlockCallsBelow (length all) (block_view xs))
+    (λ xs. IsFirst c.open_name.result (OpenAt all c.index-task.result.now.name (block_view xs))) _ _ c.deref.ensures.value known (c.open_name.ensures all))
+    (c.loop-i.invariant calls)
 
 pub returns : goal.returns
 returns c = λ calls. first_whole task_of (λ task. OpenAt (map function_of c.args.source.now.functions.items) task.name task.body) c.args.source.now.tasks.items c.loop-i.i _ (omega arith)

@@ -1,4 +1,4 @@
-use Rattle.std.proofs.Common.{rules, None, Some, arith, subst, IfOk, map, refl, ◌-◌}
+use Rattle.std.proofs.Common.{[], rules, None, Some, arith, subst, IfOk, map, refl, ◌-◌}
 use Rattle.std.specs.Option.{option_map}
 use Rattle.task_ast.specs.Tree as tree
 use Rattle.task_ast.specs.Tree.{choice_of}

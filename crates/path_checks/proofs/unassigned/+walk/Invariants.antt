@@ -1,4 +1,4 @@
-use Rattle.std.proofs.Common.{drop}
+use Rattle.std.proofs.Common.{[], drop}
 use Rattle.task_ast.specs.View.{block_view}
 use Rattle.path_sums.specs.Sums.{block_sum}
 use Rattle.path_checks.specs.Assignments.{assignment}

@@ -1,8 +1,9 @@
-use Rattle.std.proofs.Common.{arith, length, map}
+use Rattle.std.proofs.Common.{◌≡◌, arith, length, map, subst}
 use Rattle.task_ast.specs.View.{block_view, function_of, program_of}
 use Rattle.task_ast.specs.Calls.{BlockCallsBelow}
+use Rattle.path_checks.specs.Firsts.{IsFirst}
 use Rattle.path_checks.specs.Unassigned.{ReadsUnassigned}
-use Rattle.path_checks.proofs.FirstPlaces.{first_back, first_whole, one_of_all}
+use Rattle.path_checks.proofs.FirstPlaces.{first_back, first_whole, one_of_all, of_same}
 use Rattle.path_checks.proofs.Below.{functions_known}
 use Rattle.path_checks.proofs.unassigned.first_in_functions.Goals as goal
 
@@ -11,8 +12,13 @@ loop-i-preserved c = λ calls.
     let all = map function_of c.args.source.now.functions.items in
     let known = one_of_all function_of (λ f. BlockCallsBelow (length all) f.body) c.args.source.now.functions.items c.loop-i.i c.index-function.result.now
     c.loop-i-test.true (omega arith) c.index-function.ensures (functions_known (program_of c.args.source.now) calls) in
+    let given : c.len.result ≡ length c.index-function.result.now.parameters.items =
+    omega (arith, c.len.ensures, c.index-function.result.now.parameters.ok.0) in
     first_back function_of (λ f. ReadsUnassigned all (length f.parameters) f.body) c.args.source.now.functions.items c.loop-i.i c.index-function.result.now _ _ _
-    c.loop-i-test.true (omega arith) c.index-function.ensures c.first_of-first.ensures (c.in_ok-here.ensures all known) (c.loop-i.invariant calls)
+    c.loop-i-test.true (omega arith) c.index-function.ensures c.first_of-first.ensures (subst (λ n. IsFirst c.in_ok-here.here (ReadsUnassigned all n (block_view c.index-function.result.now.body.items))) given
+    (of_same (λ xs. BlockCallsBelow (length all) (block_view xs)) (λ xs. IsFirst c.in_ok-here.here (ReadsUnassigned all c.len.result (block_view xs))) _ _
+    c.deref.ensures.value known (c.in_ok-here.ensures all)))
+    (c.loop-i.invariant calls)
 
 pub returns : goal.returns
 returns c = λ calls. first_whole function_of (λ f. ReadsUnassigned (map function_of c.args.source.now.functions.items) (length f.parameters) f.body)

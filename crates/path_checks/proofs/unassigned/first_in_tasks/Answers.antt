@@ -1,8 +1,9 @@
 use Rattle.std.proofs.Common.{arith, length, map}
 use Rattle.task_ast.specs.View.{block_view, function_of, task_of, program_of}
 use Rattle.task_ast.specs.Calls.{BlockCallsBelow}
+use Rattle.path_checks.specs.Firsts.{IsFirst}
 use Rattle.path_checks.specs.Unassigned.{ReadsUnassigned}
-use Rattle.path_checks.proofs.FirstPlaces.{first_back, first_whole, one_of_all}
+use Rattle.path_checks.proofs.FirstPlaces.{first_back, first_whole, one_of_all, of_same}
 use Rattle.path_checks.proofs.unassigned.first_in_tasks.Goals as goal
 
 pub loop-i-preserved : goal.loop-i-preserved
@@ -11,7 +12,9 @@ loop-i-preserved c = λ calls.
     let known = one_of_all task_of (λ task. BlockCallsBelow (length all) task.body) c.args.source.now.tasks.items c.loop-i.i c.index.result.now
     c.loop-i-test.true (omega arith) c.index.ensures calls.tasks in
     first_back task_of (λ task. ReadsUnassigned all 0 task.body) c.args.source.now.tasks.items c.loop-i.i c.index.result.now _ _ _
-    c.loop-i-test.true (omega arith) c.index.ensures c.first_of-first.ensures (c.in_ok-here.ensures all known) (c.loop-i.invariant calls)
+    c.loop-i-test.true (omega arith) c.index.ensures c.first_of-first.ensures (of_same (λ xs. BlockCallsBelow (length all) (block_view xs))
+    (λ xs. IsFirst c.in_ok-here.here (ReadsUnassigned all 0 (block_view xs))) _ _ c.deref.ensures.value known (c.in_ok-here.ensures all))
+    (c.loop-i.invariant calls)
 
 pub returns : goal.returns
 returns c = λ calls. first_whole task_of (λ task. ReadsUnassigned (map function_of c.args.source.now.functions.items) 0 task.body)

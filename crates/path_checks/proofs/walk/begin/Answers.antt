@@ -1,3 +1,4 @@
+use Rattle.std.proofs.Common.{refl, rules}
 use Rattle.path_checks.proofs.Walks.{tells_begun}
 use Rattle.path_checks.proofs.walk.begin.Goals as goal
 

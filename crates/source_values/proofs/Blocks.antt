@@ -1,12 +1,11 @@
 -- The statements of a block, one after another.
-use Rattle.std.proofs.Common.{◌≡◌, ◌≤◌, ◌<◌, ◌+◌, ℕ, zero, suc, List, [], ◌∷◌, map, length, drop, get_or, drop-cons, ap, ◌∙◌, sym, arith}
+use Rattle.std.proofs.Common.{◌≡◌, ◌≤◌, ◌<◌, ◌+◌, ℕ, zero, suc, List, [], ◌∷◌, length, drop, get_or, drop-cons, ap, ◌∙◌, sym, arith}
 use Rattle.task_ast.specs.Tree.{step}
 use Rattle.task_ast.specs.View.{statement_of, block_view}
 use Rattle.task_ast.specs.declared.Stmt.{Stmt}
 use Rattle.task_ast.specs.declared.names.VariableName.{VariableName}
 use Rattle.task_ast.specs.declared.names.TaskName.{TaskName}
 use Rattle.task_ast.specs.declared.names.FunctionName.{FunctionName}
-use Rattle.source_values.specs.Statements.{statement_emits, block_emits}
 use Rattle.source_values.proofs.Sizes.{statement_size, block_size}
 
 -- the statements from number i on

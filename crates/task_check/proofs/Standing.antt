@@ -2,10 +2,11 @@
 use Rattle.std.proofs.Common.{◌≡◌, ℕ, suc, ◌+◌, ◌<◌, Bool, true, false, not, ◌&&◌, nat_lt, List, [], ◌∷◌, length, All, Option, Some, None, refl, subst, arith}
 use Rattle.std.proofs.lemmas.Bool.{and_parts}
 use Rattle.std.proofs.lemmas.Bool.Decides.{nat_tests}
+use Rattle.std.proofs.lemmas.List.Elements.{All-cons}
 use Rattle.task_ast.specs.Tree as t
 use Rattle.task_ast.specs.Paths.{CheckedExpression, CheckedValues, CheckedStatement, CheckedChoice, CheckedBlock, CheckedFunction, CheckedTask, CheckedProgram}
 use Rattle.task_ast.specs.Calls.{CallsAreBelow, ValuesCallBelow, InitialCallsBelow, StatementCallsBelow, ChoiceCallsBelow, BlockCallsBelow}
-use Rattle.task_ast.specs.Calls.{FunctionsCallBelow}
+use Rattle.task_ast.specs.Calls.{FunctionsCallBelow, CallsAreKnown}
 use Rattle.task_check.specs.Placed.{statement_ends, choice_ends, block_ends, IsPlaced, expression_stands, values_stand, value_stands, statement_stands}
 use Rattle.task_check.specs.Placed.{choice_stands, block_stands, functions_stand, tasks_stand, all_stand}
 
@@ -74,22 +75,34 @@ module _ (n : ℕ) where
           ((here.0, rest.0), both_true (statement_ends in_task s) (block_ends in_task more) here.1 rest.1)
 
 functions_are : (n : ℕ) (fs : List CheckedFunction) → functions_stand n fs ≡ true → FunctionsCallBelow n fs × All (λ f. block_ends false f.body ≡ true) fs
-functions_are n [] h = (tt, tt)
+functions_are n [] h = (tt, λ k d l. absurd (omega arith))
 functions_are n (f ∷ more) h =
     let parts = and_parts (block_stands n false f.body) (functions_stand (suc n) more) h in
     let here = block_is n false f.body parts.0 in
     let rest = functions_are (suc n) more parts.1 in
     let next : suc n ≡ n + 1 = omega arith in
-    ((here.0, subst (λ m. FunctionsCallBelow m more) next rest.0), (here.1, rest.1))
+    ((here.0, subst (λ m. FunctionsCallBelow m more) next rest.0), All-cons (λ f. block_ends false f.body ≡ true) f more here.1 rest.1)
 
 tasks_are : (n : ℕ) (ks : List CheckedTask) → tasks_stand n ks ≡ true
     → All (λ k. BlockCallsBelow n k.body) ks × All (λ k. block_ends true k.body ≡ true) ks
-tasks_are n [] h = (tt, tt)
+tasks_are n [] h = (λ k d l. absurd (omega arith), λ k d l. absurd (omega arith))
 tasks_are n (k ∷ more) h =
     let parts = and_parts (block_stands n true k.body) (tasks_stand n more) h in
     let here = block_is n true k.body parts.0 in
     let rest = tasks_are n more parts.1 in
-    ((here.0, rest.0), (here.1, rest.1))
+    (
+      All-cons (λ k. BlockCallsBelow n k.body) k more here.0 rest.0,
+      All-cons (λ k. block_ends true k.body ≡ true) k more here.1 rest.1,
+    )
+
+-- so each call is known
+pub calls_known : (p : CheckedProgram) → all_stand p ≡ true → CallsAreKnown p
+calls_known p h =
+    let parts = and_parts (functions_stand 0 p.functions) (tasks_stand (length p.functions) p.tasks) h in
+    record {
+      functions = (functions_are 0 p.functions parts.0).0;
+      tasks = (tasks_are (length p.functions) p.tasks parts.1).0;
+    }
 
 pub is_placed : (p : CheckedProgram) → all_stand p ≡ true → IsPlaced p
 is_placed p h =
