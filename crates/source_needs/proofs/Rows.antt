@@ -1,8 +1,7 @@
 -- What one task of an accepted source needs, from what its table and its layout say.
 use Rattle.std.proofs.Common.{◌≡◌, ◌∙◌, ℕ, zero, suc, ◌+◌, ◌-◌, ◌^◌, ◌<◌, ◌≤◌}
 use Rattle.std.proofs.Common.{◌++◌, ◌∷◌, [], min, List, length, map, drop, get_or, add-one}
-use Rattle.std.proofs.Common.{Some, append_assoc, append-nil, refl, sym, ap, subst, ⊎_elim, arith}
-use Rattle.std.proofs.lemmas.Bool.{cases_lt}
+use Rattle.std.proofs.Common.{Some, append_assoc, append-nil, refl, sym, ap, subst, arith}
 use Rattle.std.proofs.lemmas.List.{drop_all}
 use Rattle.std.proofs.Math.ListN.{get_or-map}
 use Rattle.std.specs.Prelude.{slice_get}
@@ -22,7 +21,7 @@ use Rattle.war_analysis.specs.Plans.{IsPlan}
 use Rattle.war_analysis.specs.Laws.{OnePlan}
 use Rattle.privatise.specs.Layouts.{IsLayoutFor, IsLayout}
 use Rattle.privatise.specs.Laws.{OneLayoutFor, OneLayout, LayoutsAreLogged}
-use Rattle.memory_map.specs.declared.runtime.Logging.TheVariants.{Redo, Undo}
+use Rattle.memory_map.specs.declared.runtime.Logging.TheVariants.{Undo}
 use Rattle.war_analysis.proofs.Interface.{element}
 use Rattle.memory_map.specs.MemoryMap.{MemoryMap, TaskPlace, logged_map}
 use Rattle.memory_map.specs.Spots.{places_of, private_words}
@@ -31,14 +30,13 @@ use Rattle.array_versions.specs.Cost.{words_of}
 use Rattle.lower.specs.Seen.{map_seen, task_seen}
 use Rattle.lower.specs.Lowered.{lowered_block, lowered_tasks}
 use Rattle.lower.proofs.Interface.{seen_words, blocks_keep_to_words, program_at}
-use Rattle.source_meaning.specs.Acceptance.{IsAcceptedText}
 use Rattle.whole_programs.specs.Laws.{IsLaidOutText, TasksAreWhole, PrivatesAreFew}
 use Rattle.compiled_model.specs.Parts.{task_program}
 use Rattle.dearest_ways.proofs.Interface.{program_few}
 use Rattle.condition_lines.specs.Conditions.{block_conditions, block_ifs}
 use Rattle.need_lines.specs.Rows.{NeedRow}
 use Rattle.need_lines.specs.declared.needs.UndoNeed.{UndoNeed}
-use Rattle.source_needs.specs.Needs.{AreNeedsOf, AreUndoNeeds, IsPlannedText, need_row, need_rows, rows_from, undo_need, ways_gone}
+use Rattle.source_needs.specs.Needs.{AreNeedsOf, AreUndoNeeds, need_row, need_rows, rows_from, ways_gone}
 use Rattle.source_needs.proofs.Conditions.{block_few}
 use Rattle.source_needs.proofs.Tables.{at_most_greatest, at_most_total}
 
@@ -158,41 +156,9 @@ needs_are text p allow plans l rows one_plan one_layout one_logged logged planne
 
 -- ---- in place
 
--- an accepted text with its plan and its layout
-pub planned_text : (text : List ℕ) (p : CheckedProgram) (allow : Allow) (plans : List TaskPlanValue) (l : MemoryMap) → IsAcceptedText text p allow
-    → IsPlan p plans → IsLayout p allow plans l → IsPlannedText text p allow l
-planned_text text p allow plans l accepted planned laid = (plans, record { accepted = accepted; plan = planned; logging = Redo; layout = laid })
-
--- and with that of its image in place
-pub planned_in_place : LayoutsAreLogged → (text : List ℕ) (p : CheckedProgram) (allow : Allow) (plans : List TaskPlanValue) (l : MemoryMap)
-    → IsAcceptedText text p allow → IsPlan p plans → IsLayout p allow plans l → IsPlannedText text p allow (logged_map l)
-planned_in_place law text p allow plans l accepted planned laid =
-    (plans, record { accepted = accepted; plan = planned; logging = Undo; layout = law p allow plans l laid })
-
 -- what is needed in place by one layout is by the other
 pub needs_by_layout : (p : CheckedProgram) (allow : Allow) (plans : List TaskPlanValue) (l : MemoryMap) (needs : List UndoNeed) → OneLayout p allow
     → IsPlan p plans → IsLayout p allow plans l → AreUndoNeeds p (logged_map l) needs
     → (m : MemoryMap) → IsLayout p allow plans m → AreUndoNeeds p (logged_map m) needs
 needs_by_layout p allow plans l needs one planned laid are m is =
     subst (λ k. AreUndoNeeds p (logged_map k) needs) (one plans l m planned laid is) are
-
--- one task more
-pub undo_more : (p : CheckedProgram) (l : MemoryMap) (needs : List UndoNeed) (one : UndoNeed) (i : ℕ) → length needs ≡ i → one ≡ undo_need p l i
-    → ((k : ℕ) (other : UndoNeed) → k < i → get_or needs k other ≡ undo_need p l k)
-    → (k : ℕ) (other : UndoNeed) → k < i + 1 → get_or (needs ++ one ∷ []) k other ≡ undo_need p l k
-undo_more p l needs one i count is each k other below =
-    ⊎_elim {C = get_or (needs ++ one ∷ []) k other ≡ undo_need p l k}
-    (λ before. get_front needs (one ∷ []) k other (omega (arith, before, count)) ∙ each k other before)
-    (λ last.
-    let at : k ≡ length needs = omega (arith, last, below, count) in
-    ap (λ j. get_or (needs ++ one ∷ []) j other) at ∙ get_seam needs one other ∙ is ∙ ap (undo_need p l) (sym count ∙ sym at))
-    (cases_lt k i)
-  where
-    get_front : (xs ys : List UndoNeed) (k : ℕ) (other : UndoNeed) → k < length xs → get_or (xs ++ ys) k other ≡ get_or xs k other
-    get_front [] ys k other below = absurd (omega (arith, below))
-    get_front (x ∷ xs) ys zero other below = refl
-    get_front (x ∷ xs) ys (suc k) other below = get_front xs ys k other (omega (arith, below))
-
-    get_seam : (xs : List UndoNeed) (y other : UndoNeed) → get_or (xs ++ y ∷ []) (length xs) other ≡ y
-    get_seam [] y other = refl
-    get_seam (x ∷ xs) y other = get_seam xs y other

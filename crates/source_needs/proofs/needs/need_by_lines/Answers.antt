@@ -31,7 +31,7 @@ dearest_way-requires-clause-whole c =
 
 pub task_need-requires-clause-most : goal.task_need-requires-clause-most
 task_need-requires-clause-most c =
-    let at_runtime = ap (λ r. r.events) c.runtime-events.ensures in
+    let at_runtime = ap (λ r. r.events) c.runtime.ensures in
     rw (at_runtime, c.requires.program) at c.in_ok-way.ensures.cycles
 
 pub returns : goal.returns
@@ -43,7 +43,7 @@ returns c = λ task there.
     let program = task_program p l k in
     let n = program_choices program in
     let taken = (dearest_way l.runtime.events program).taken in
-    let at_runtime = ap (λ r. r.events) c.runtime-events.ensures in
+    let at_runtime = ap (λ r. r.events) c.runtime.ensures in
     let way = rw (at_runtime, c.requires.program) at c.in_ok-way.ensures.way in
     let held = c.deref.ensures.value ∙ way.held in
     let failed = c.deref-2.ensures.value ∙ way.failed in

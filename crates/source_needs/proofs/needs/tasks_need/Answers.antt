@@ -27,6 +27,23 @@ need_by_lines-requires-clause-task c =
 pub need_by_lines-requires-clause-ifs : goal.need_by_lines-requires-clause-ifs
 need_by_lines-requires-clause-ifs c = rw c.deref.ensures.value c.in_ok-numbers.ensures
 
+pub bounds-undo-i : goal.bounds-undo-i
+bounds-undo-i c =
+    let p = program_of c.args.accepted.now.checked.source in
+    let l = c.args.layout.now in
+    let made = as_many l p.tasks l.tasks c.requires.laid_out.1.layout.tasks.count in
+    let count = length-map c.args.programs.now word_program.program_of in
+    omega (arith, c.loop-i-test.true, made, count, ap length c.requires.programs, c.requires.undo.count)
+
+pub need_by_lines-requires-clause-undo : goal.need_by_lines-requires-clause-undo
+need_by_lines-requires-clause-undo c =
+    let p = program_of c.args.accepted.now.checked.source in
+    let l = c.args.layout.now in
+    let made = as_many l p.tasks l.tasks c.requires.laid_out.1.layout.tasks.count in
+    let count = length-map c.args.programs.now word_program.program_of in
+    c.requires.undo.each c.loop-i.i (record { boot = 0; start = 0; path = 0; commit = 0 })
+    (omega (arith, c.loop-i-test.true, made, count, ap length c.requires.programs))
+
 pub loop-i-preserved : goal.loop-i-preserved
 loop-i-preserved c =
     let text = c.args.accepted.now.text.items in
