@@ -10,7 +10,8 @@ use Rattle.task_ast.specs.declared.WordType.TheVariants.{Unsigned, Int, Long}
 use Rattle.task_ast.specs.Types.{by_width, joined_type, type_of}
 use Rattle.cost_bound.specs.Summary.{Summary}
 use Rattle.cost_bound.specs.Table.{expression_price, values_price, operator_price, statement_price, conditions_price, blocks_price, block_price}
-use Rattle.cost_bound.specs.Counts.{is_emit, called_emits, expression_count, values_count, statement_count, conditions_count, choice_count, block_count, emits_of}
+use Rattle.cost_bound.specs.Counts.{is_emit, called_emits, expression_count, values_count, statement_count, conditions_count, choice_count, block_count}
+use Rattle.cost_bound.specs.Counts.{emits_of}
 use Rattle.cost_bound.specs.declared.prices.Column.{Column}
 use Rattle.cost_bound.specs.declared.prices.Body.TheVariants.{Emits}
 

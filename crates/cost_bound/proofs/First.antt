@@ -23,7 +23,8 @@ Declared = TaskDeclaration VariableName TaskName FunctionName
 module _ (known : List Summary) where
   pub few_more : (ts : List Declared) (i count : ℕ) (t : Declared) (items : List (Stmt VariableName TaskName FunctionName)) → i < length ts
       → items ≡ (get_or ts i t).body.items
-      → All (FewEmits known) (take i (map task_of ts)) → count ≡ capped (emits_of known (block_view items)) → count ≤ 256 → All (FewEmits known) (take (i + 1) (map task_of ts))
+      → All (FewEmits known) (take i (map task_of ts)) → count ≡ capped (emits_of known (block_view items)) → count ≤ 256
+      → All (FewEmits known) (take (i + 1) (map task_of ts))
   few_more ts i count t items lt e all is low =
       let few : emits_of known (block_view items) ≤ 256 = omega arith in
       All-more (FewEmits known) (map task_of ts) i (task_of t) (subst (λ n. i < n) (sym (length-map ts task_of)) lt) all
@@ -32,7 +33,8 @@ module _ (known : List Summary) where
   pub few_all : (ts : List Declared) (i : ℕ) → length ts ≤ i → All (FewEmits known) (take i (map task_of ts)) → All (FewEmits known) (map task_of ts)
   few_all ts i h all = subst (All (FewEmits known)) (take_all i (map task_of ts) (subst (λ n. n ≤ i) (sym (length-map ts task_of)) h)) all
 
-  pub over_at : (ts : List Declared) (i count : ℕ) (t : Declared) (items : List (Stmt VariableName TaskName FunctionName)) → i < length ts → items ≡ (get_or ts i t).body.items
+  pub over_at : (ts : List Declared) (i count : ℕ) (t : Declared) (items : List (Stmt VariableName TaskName FunctionName)) → i < length ts
+      → items ≡ (get_or ts i t).body.items
       → All (FewEmits known) (take i (map task_of ts)) → count ≡ capped (emits_of known (block_view items)) → 256 < count → IsFirstOver known (map task_of ts) i
   over_at ts i count t items lt e all is high = record {
     task = task_of (get_or ts i t);

@@ -1,22 +1,22 @@
 -- The summaries that a loop over the functions has made.
 use Rattle.std.proofs.Common.{◌≡◌, ℕ, zero, suc, ◌+◌, ◌<◌, ◌≤◌, List, [], ◌∷◌, ◌++◌, length, take, map, get_or, Some, None, refl, ap, sym, ◌∙◌, subst, arith}
 use Rattle.std.specs.Prelude.{slice_get, All}
-use Rattle.std.proofs.lemmas.List.{map-append, take_more, take_all, length_push}
+use Rattle.std.proofs.lemmas.List.{map-append, take_more, take_all, length_push, length-map}
 use Rattle.std.proofs.lemmas.Option.{same_Some}
 use Rattle.task_ast.specs.declared.FunctionDeclaration.{FunctionDeclaration}
+use Rattle.task_ast.specs.declared.TaskDeclaration.{TaskDeclaration}
 use Rattle.task_ast.specs.declared.names.VariableName.{VariableName}
 use Rattle.task_ast.specs.declared.names.TaskName.{TaskName}
 use Rattle.task_ast.specs.declared.names.FunctionName.{FunctionName}
-use Rattle.task_ast.specs.Answers.{answers}
-use Rattle.task_ast.specs.Paths.{CheckedTask}
-use Rattle.task_ast.specs.View.{function_of}
-use Rattle.task_ast.proofs.Interface.{answers_append}
+use Rattle.task_ast.specs.View.{function_of, task_of}
+use Rattle.task_ast.proofs.Interface.{answers_append, answers_length}
 use Rattle.cost_bound.specs.Summary.{Summary}
 use Rattle.cost_bound.specs.Summaries.{function_summary, function_summaries}
 use Rattle.cost_bound.specs.Machine.{summary_of, known_of, IsSame, AreSame}
 use Rattle.cost_bound.specs.declared.function_summaries.FunctionSummary.{FunctionSummary}
 use Rattle.cost_bound.proofs.Called.{known_length}
-use Rattle.cost_bound.proofs.Same.{function_same}
+use Rattle.cost_bound.specs.Allowance.{FewEmits}
+use Rattle.cost_bound.proofs.Same.{function_same, few_same}
 
 abbrev Declared : Type 0
 Declared = FunctionDeclaration VariableName TaskName FunctionName
@@ -73,3 +73,18 @@ one_known fs i f kept more next lt at few h is e =
 pub all_known : (fs : List Declared) (i : ℕ) (kept : List FunctionSummary) → length fs ≤ i
     → AreSame (known_of kept) (function_summaries (map function_of (take i fs))) → AreSame (known_of kept) (function_summaries (map function_of fs))
 all_known fs i kept past h = subst (λ gs. AreSame (known_of kept) (function_summaries (map function_of gs))) (take_all i fs past) h
+
+abbrev DeclaredTask : Type 0
+DeclaredTask = TaskDeclaration VariableName TaskName FunctionName
+
+module _ (fs given : List Declared) (ts slice : List DeclaredTask) (kept items : List FunctionSummary) where
+  -- no task counts too many emits, as the summaries that were made tell
+  pub few_emits_known : length fs ≤ 64 → given ≡ fs → slice ≡ ts → items ≡ kept → AreSame (known_of kept) (function_summaries (map function_of given))
+      → All (FewEmits (known_of items)) (map task_of slice) → All (FewEmits (function_summaries (map function_of fs))) (map task_of ts)
+  few_emits_known few e f g same all =
+      let here : AreSame (known_of kept) (function_summaries (map function_of fs)) =
+      subst (λ gs. AreSame (known_of kept) (function_summaries (map function_of gs))) e same in
+      let count : length (function_summaries (map function_of fs)) ≡ length fs =
+      answers_length function_summary [] (map function_of fs) ∙ (let n = length-map fs function_of in omega (arith, n)) in
+      few_same (known_of kept) (function_summaries (map function_of fs)) (let c = here.count in omega (arith, c, count, few)) here (map task_of ts)
+      (subst (λ us. All (FewEmits (known_of kept)) (map task_of us)) f (subst (λ is. All (FewEmits (known_of is)) (map task_of slice)) g all))

@@ -1,7 +1,8 @@
 -- What 64 bits keep of a source depends on what they keep of its functions.
-use Rattle.std.proofs.Common.{◌≡◌, ℕ, zero, suc, ◌+◌, ◌-◌, ◌*◌, ◌^◌, ◌<◌, ◌≤◌, ◌||◌, Bool, true, false, List, [], ◌∷◌, length, map, max, min, refl, ap, sym, ◌∙◌}
-use Rattle.std.proofs.Common.{subst, if◌then◌else◌, arith, Some, None, slice_index}
-use Rattle.std.specs.Prelude.{slice_get, All}
+use Rattle.std.proofs.Common.{◌≡◌, ℕ, zero, suc, ◌+◌, ◌-◌, ◌*◌, ◌<◌, ◌≤◌, ◌||◌, Bool, true, false, List, [], ◌∷◌, length, map, max, refl, ap, sym}
+use Rattle.std.proofs.Common.{◌∙◌}
+use Rattle.std.proofs.Common.{if◌then◌else◌, arith, Some, None, slice_index, get_or, take}
+use Rattle.std.specs.Prelude.{All}
 use Rattle.task_ast.specs.Tree.{number, long_number, name, element, sense, next_event, call, unary, binary, shift, short_circuit, no_value, value}
 use Rattle.task_ast.specs.Tree.{declare, assign, store, choose, loop, emit, give, transition, nothing, otherwise, test, end, step}
 use Rattle.task_ast.specs.Paths.{CheckedExpression, CheckedValues, CheckedStatement, CheckedChoice, CheckedBlock, CheckedFunction, CheckedTask}
@@ -12,9 +13,12 @@ use Rattle.cost_bound.specs.Table.{cycles_column, words_column, blocks_together,
 use Rattle.cost_bound.specs.Counts.{expression_count, values_count, statement_count, conditions_count, choice_count, block_count, called_emits, called_stores}
 use Rattle.cost_bound.specs.Counts.{is_emit, is_store_to, emits_of, stores_of, block_calls, block_assigns, assigns_of, reaches_of, routine_words}
 use Rattle.cost_bound.specs.Counts.{some_called_from, most_called_from, all_called_from}
-use Rattle.cost_bound.specs.Frames.{deepest, stack_of, frame_of}
+use Rattle.cost_bound.specs.Frames.{deepest, stack_of}
 use Rattle.cost_bound.specs.Summaries.{function_summary}
 use Rattle.cost_bound.specs.Machine.{IsSame, AreSame}
+use Rattle.cost_bound.specs.Needs.{AreNeeds}
+use Rattle.cost_bound.specs.declared.allowance.Needs.{Needs}
+use Rattle.cost_bound.specs.Allowance.{FewEmits, IsFirstOver}
 use Rattle.cost_bound.specs.Allowance.{scalar_part, scalars_of, list_part, list_of, is_written, task_bound, own_words, task_words, greatest, total}
 use Rattle.cost_bound.specs.declared.prices.Column.{Column}
 use Rattle.cost_bound.specs.declared.prices.Body.{Body}
@@ -206,7 +210,8 @@ module _ (as' bs : List Summary) (few : length as' ≤ 64) (same : AreSame as' b
 
   pub stores_same : (i : ℕ) → i < 256 → (b : CheckedBlock) → capped (stores_of as' i b) ≡ capped (stores_of bs i b)
   unfolding stores_of
-  stores_same i l b = block_counted (called_stores as' i) (called_stores bs i) (number_same (λ s. s.stores i) (λ s t h. h.stores i l) as' bs same) (is_store_to i) b
+  stores_same i l b = block_counted (called_stores as' i) (called_stores bs i) (number_same (λ s. s.stores i) (λ s t h. h.stores i l) as' bs same)
+      (is_store_to i) b
 
   pub assigns_same : (i : ℕ) → i < 256 → (b : CheckedBlock) → assigns_of as' i b ≡ assigns_of bs i b
   assigns_same i l b = ap (λ x. x || block_assigns i b) (some_is_same (λ k. block_calls k b) (λ s. s.assigns i) (λ s t h. h.assigns i l) 0 as' bs same)
@@ -272,3 +277,31 @@ pub total_same : (f g : CheckedBlock → ℕ) → ((b : CheckedBlock) → capped
     → capped (total f ts) ≡ capped (total g ts)
 total_same f g each [] = refl
 total_same f g each (t ∷ ts) = let x = each t.body in let y = total_same f g each ts in omega (arith, x, y)
+
+module _ (as' bs : List Summary) (few : length as' ≤ 64) (same : AreSame as' bs) where
+  few_one : (t : CheckedTask) → FewEmits as' t → FewEmits bs t
+  few_one t h = let e = emits_same as' bs few same t.body in omega (arith, e, h)
+
+  -- no task counts too many emits by the one or by the other
+  pub few_same : (ts : List CheckedTask) → All (FewEmits as') ts → All (FewEmits bs) ts
+  few_same ts all = λ k d l. few_one (get_or ts k d) (all k d l)
+
+  pub over_same : (ts : List CheckedTask) (n : ℕ) → IsFirstOver as' ts n → IsFirstOver bs ts n
+  over_same ts n h = record {
+    task = h.task;
+    at = h.at;
+    over = (let e = emits_same as' bs few same h.task.body in let over = h.over in omega (arith, e, over));
+    first = few_same (take n ts) h.first;
+  }
+
+  -- what all tasks need
+  pub needs_same : (events : Bool) (versions : ℕ) (shared : List SharedDeclaration) → length shared ≤ 256 → (ts : List CheckedTask) (needs : Needs)
+      → AreNeeds as' events versions shared ts needs → AreNeeds bs events versions shared ts needs
+  needs_same events versions shared low ts needs h = record {
+    bound = h.bound ∙ greatest_same (task_bound as' events versions shared) (task_bound bs events versions shared)
+        (bound_same as' bs few same shared low events versions) ts;
+    words = h.words ∙ total_same (task_words as' shared) (task_words bs shared) (words_same as' bs few same shared low) ts;
+    list = h.list ∙ greatest_same (list_of as' shared) (list_of bs shared) (list_same as' bs few same shared low) ts;
+    emits = h.emits ∙ greatest_same (emits_of as') (emits_of bs) (emits_same as' bs few same) ts;
+    stack = h.stack ∙ greatest_same (stack_of as') (stack_of bs) (stack_same as' bs few same) ts;
+  }

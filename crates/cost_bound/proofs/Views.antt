@@ -3,7 +3,7 @@ use Rattle.std.proofs.Common.{◌≡◌, ℕ, rules, Option}
 use Rattle.std.specs.declared.alloc.Global.{Global}
 use Rattle.std.specs.declared.vec.Vec.{Vec}
 use Rattle.task_ast.specs.Tree.{loop, choose}
-use Rattle.task_ast.specs.View.{statement_of, tested_of, block_view, choice_view}
+use Rattle.task_ast.specs.View.{expression_of, statement_of, tested_of, block_view, choice_view}
 use Rattle.task_ast.specs.declared.Stmt.{Stmt, the_lemmas}
 use Rattle.task_ast.specs.declared.Stmt.TheVariants.{If, For}
 use Rattle.task_ast.specs.declared.Arm.{Arm, out-Arm}
@@ -18,3 +18,6 @@ statement_of-If arms last = search (rules, the_lemmas)
 
 pub tested_of-block : {V T F : Type 0} (arm : Arm V T F) → (tested_of arm).block ≡ block_view (out-Arm V T F arm).block.items
 tested_of-block arm = search (rules, the_lemmas)
+
+pub tested_of-condition : {V T F : Type 0} (arm : Arm V T F) → (tested_of arm).condition ≡ expression_of (out-Arm V T F arm).condition
+tested_of-condition arm = search (rules, the_lemmas)

@@ -22,8 +22,8 @@ pub use allowance::{
 };
 pub use assigned::assigned_variables;
 pub use fault::Over;
-pub use laws::{allowance_rows, allowed_is_small, long_price_rows, one_answer, price_rows};
 pub use function_summaries::{FunctionSummary, Summaries, summaries};
+pub use laws::{allowance_rows, allowed_is_small, long_price_rows, one_answer, price_rows};
 use task_check::Checked;
 
 /// How many shared variables a source has at most.

@@ -18,10 +18,12 @@ use Rattle.path_sums.specs.Access.{is_same, writes, SomePath, IsPrivate, summary
 use Rattle.path_sums.specs.Access.{private_of}
 use Rattle.path_sums.specs.declared.access.AccessSummary.{AccessSummary}
 use Rattle.path_sums.proofs.Interface.{no_calls, writes_some, private_is}
-use Rattle.source_values.specs.Values.{Variables, Attempt, Evaluated, EvaluatedWords, word_at, with_word, two_words, scalar_value, by_width, converted, value_of, holds}
+use Rattle.source_values.specs.Values.{Variables, Attempt, Evaluated, EvaluatedWords, word_at, with_word, two_words, scalar_value, by_width, converted}
+use Rattle.source_values.specs.Values.{value_of, holds}
 use Rattle.source_values.specs.Values.{meaning_in, words_of}
 use Rattle.source_values.specs.Values.{evaluated, gives, made_of, reading_of, truth_word, is_settled, unary_result, binary_result, shift_result, type_of, ◌>>?◌}
-use Rattle.source_values.specs.Statements.{Outcome, goes_on, to_task, returns, short, and_then, if_value, with_value, assigned, assigned_to, assigned_value, word_of}
+use Rattle.source_values.specs.Statements.{Outcome, goes_on, to_task, returns, short, and_then, if_value, with_value, assigned, assigned_to, assigned_value}
+use Rattle.source_values.specs.Statements.{word_of}
 use Rattle.source_values.specs.Statements.{turns, run_statement}
 use Rattle.source_values.specs.Statements.{run_choice, run_block}
 use Rattle.path_runs.specs.Laws.{HasWords, IsScalarInStatement, IsScalarInChoice, IsScalarIn, FirstWritesForget}
@@ -576,7 +578,8 @@ module _ (b : CheckedBlock) (calls : BlockCallsBelow 0 b) (v : ℕ) (written : S
   forgotten : (n i w : ℕ) (s : Attempt) → IsScalarIn v n b → i < n → run_block [] b (assigned s (Shared v) i w) ≡ run_block [] b s
   forgotten n i w s plain l = by (block_alike v n i w l b plain clean s)
     where
-      by : Alike v n i w l sum.untouched (run_block [] b s) (run_block [] b (assigned s (Shared v) i w)) → run_block [] b (assigned s (Shared v) i w) ≡ run_block [] b s
+      by : Alike v n i w l sum.untouched (run_block [] b s) (run_block [] b (assigned s (Shared v) i w))
+          → run_block [] b (assigned s (Shared v) i w) ≡ run_block [] b s
       by (same e) = sym e
       by (apart a e f g) = absurd (differs sum.untouched e touched)
 

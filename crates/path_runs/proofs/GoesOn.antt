@@ -83,7 +83,8 @@ module _ (known : List Meaning) where
     choice_goes (t.test e b more) a =
         with_any (block_falls_through b || choice_falls_through more) known e a
         (λ w s. if holds w then run_block known b s else run_choice known more s)
-        (λ w s. either (block_falls_through b) (choice_falls_through more) (holds w) (run_block known b s) (run_choice known more s) (block_goes b s) (choice_goes more s))
+        (λ w s. either (block_falls_through b) (choice_falls_through more) (holds w) (run_block known b s) (run_choice known more s) (block_goes b s)
+        (choice_goes more s))
 
     block_goes : (b : CheckedBlock) (a : Attempt) → GoesOnIf (block_falls_through b) (run_block known b a)
     block_goes t.end a = refl

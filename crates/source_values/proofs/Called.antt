@@ -1,5 +1,6 @@
 -- What the steps of a call come to.
-use Rattle.std.proofs.Common.{◌≡◌, ◌≤◌, ◌<◌, ℕ, List, [], ◌∷◌, ◌++◌, map, length, take, get_or, refl, ap, ◌∙◌, sym, subst, arith, Option, Some, None, zero, suc, slice_get}
+use Rattle.std.proofs.Common.{◌≡◌, ◌≤◌, ◌<◌, ℕ, List, [], ◌∷◌, ◌++◌, map, length, take, get_or, refl, ap, ◌∙◌, sym, subst, arith, Option, Some, None, zero}
+use Rattle.std.proofs.Common.{suc, slice_get}
 use Rattle.std.proofs.Common.{slice_index}
 use Rattle.std.specs.Option.{option_map}
 use Rattle.std.proofs.lemmas.List.{length-map}
@@ -65,7 +66,8 @@ pub known_at : (fs : FunctionsInFront) (k : ℕ) (d : FunctionDeclaration Variab
     → meaning_in (meanings_of fs) k words s ≡ left_with s.variables.locals o
 known_at fs k d body words s o h is e =
     ap (λ m. m >>? λ m. m words s) (answer_of meaning_of (map function_of fs) k (function_of (get_or fs k d)) (found fs k d h))
-    ∙ ap (λ front. left_with s.variables.locals (run_block (answers meaning_of front) (block_view (get_or fs k d).body.items) (entered words s))) (take_map fs k)
+    ∙ ap (λ front. left_with s.variables.locals (run_block (answers meaning_of front) (block_view (get_or fs k d).body.items) (entered words s)))
+    (take_map fs k)
     ∙ ap (λ b. left_with s.variables.locals (run_block (meanings_of (take k fs)) (block_view b) (entered words s))) (sym is)
     ∙ ap (left_with s.variables.locals) e
 

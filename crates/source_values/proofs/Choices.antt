@@ -20,7 +20,8 @@ use Rattle.source_values.specs.Statements.{Attempt, short, if_value, run_choice,
 use Rattle.source_values.proofs.Sizes.{expression_size, choice_size, block_size}
 
 -- an arm's condition and block
-arm_view : (arm : Arm VariableName TaskName FunctionName) → tested_of arm ≡ record { condition = expression_of arm.condition; block = block_view arm.block.items }
+arm_view : (arm : Arm VariableName TaskName FunctionName)
+    → tested_of arm ≡ record { condition = expression_of arm.condition; block = block_view arm.block.items }
 arm_view arm =
     fold_out-Arm VariableName TaskName FunctionName CheckedStatement (Tested VariableName TaskName FunctionName) statement_step tested_step arm
 

@@ -48,7 +48,8 @@ module _ (source : Source VariableName TaskName FunctionName) (functions : Funct
   inside = omega (arith, reached.inside, length-map source.tasks.items task_of)
 
   -- as the task is run
-  pub task_runs : (s : Attempt) → run_block (meanings (program_of source)) (task_body (program_of source) i) s ≡ run_block (meanings_of functions) (block_view body) s
+  pub task_runs : (s : Attempt)
+      → run_block (meanings (program_of source)) (task_body (program_of source) i) s ≡ run_block (meanings_of functions) (block_view body) s
   task_runs s =
       let found : task_body (program_of source) i ≡ block_view body =
       ap body_of (slice_get-map task_of source.tasks.items i ∙ ap (option_map task_of) (slice_get-get_or source.tasks.items i t inside))

@@ -208,7 +208,8 @@ mutual
   statement_uses known k (choose choice) = choice_uses known k choice
   statement_uses known k (loop x from tested below stepped body) =
       uses_turns (below - from) from x.variable (run_block known body) (block_uses known k body)
-  statement_uses known k (emit e) = uses_value known k e (λ w s. goes_on (record s { emitted = s.emitted ++ word_of e w ∷ [] })) (λ w. uses_emitted (word_of e w))
+  statement_uses known k (emit e) =
+      uses_value known k e (λ w s. goes_on (record s { emitted = s.emitted ++ word_of e w ∷ [] })) (λ w. uses_emitted (word_of e w))
   statement_uses known k (give at e) = uses_value known k e (λ w s. returns (word_of e w) s) (λ w. uses_returns (word_of e w))
   statement_uses known k (transition at t) = uses_to_task t.task
 

@@ -9,7 +9,8 @@ use Rattle.task_ast.specs.declared.names.FunctionName.{FunctionName}
 use Rattle.task_ast.specs.declared.Stmt.{Stmt, If, For, the_lemmas}
 use Rattle.task_ast.specs.declared.Arm.{Arm}
 
-pub for_view : (x : VariableName) (from : ℕ) (tested : VariableName) (below : ℕ) (stepped : VariableName) (body : Vec (Stmt VariableName TaskName FunctionName) Global)
+pub for_view : (x : VariableName) (from : ℕ) (tested : VariableName) (below : ℕ) (stepped : VariableName)
+    (body : Vec (Stmt VariableName TaskName FunctionName) Global)
     → statement_of (For x from tested below stepped body) ≡ loop x from tested below stepped (block_view body.items)
 for_view x from tested below stepped body = search (rules, the_lemmas)
 

@@ -10,7 +10,8 @@ use Rattle.task_ast.specs.Paths.{CheckedStatement, CheckedChoice, CheckedBlock, 
 use Rattle.task_ast.specs.declared.names.Variable.{Variable}
 use Rattle.task_ast.specs.declared.names.VariableName.{VariableName}
 pub use Rattle.source_values.specs.Values.{Attempt, word_of}
-use Rattle.source_values.specs.Values.{CheckedExpression, CheckedValues, Evaluated, Meaning, new_locals, with_word, by_width, type_of, converted, gives, value_of, holds}
+use Rattle.source_values.specs.Values.{CheckedExpression, CheckedValues, Evaluated, Meaning, new_locals, with_word, by_width, type_of, converted, gives}
+use Rattle.source_values.specs.Values.{value_of, holds}
 
 -- how statements end: behind the last one, at a transition to a task, at a `return` with a word, or where the readings run out
 pub data Outcome : Type 0 where

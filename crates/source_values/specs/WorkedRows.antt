@@ -90,9 +90,11 @@ pub record WorkedRows : Type 0 where
   pub index_at_the_length_writes_nothing : run_statement [] (store a (number 2) (number 1)) (attempt words [] []) ≡ goes_on (attempt words [] [])
   pub index_before_value : run_statement [] (store a sense sense) (attempt words [] (1 ∷ 9 ∷ []))
       ≡ goes_on (attempt (record { shared = (65533 ∷ []) ∷ (5 ∷ 9 ∷ []) ∷ []; locals = 7 ∷ [] }) [] [])
-  pub turns_of_a_loop : run_statement [] (loop i 1 i 4 i (step (emit (name i)) end)) (attempt words [] []) ≡ goes_on (attempt (locals_are 4) (1 ∷ 2 ∷ 3 ∷ []) [])
+  pub turns_of_a_loop : run_statement [] (loop i 1 i 4 i (step (emit (name i)) end)) (attempt words [] [])
+      ≡ goes_on (attempt (locals_are 4) (1 ∷ 2 ∷ 3 ∷ []) [])
   pub no_turns : run_statement [] (loop i 4 i 1 i (step (emit (name i)) end)) (attempt words [] []) ≡ goes_on (attempt (locals_are 4) [] [])
-  pub nothing_behind_a_transition : run_block [] (step (transition nowhere (record { span = nowhere; task = 2 })) (step (emit (number 1)) end)) (attempt words [] [])
+  pub nothing_behind_a_transition :
+      run_block [] (step (transition nowhere (record { span = nowhere; task = 2 })) (step (emit (number 1)) end)) (attempt words [] [])
       ≡ to_task 2 (attempt words [] [])
   pub short_of_a_reading : run_block [] (step (emit sense) end) (attempt words [] []) ≡ short
   pub zero_behind_the_last_answer : run_block [] (step (emit next_event) (step (emit next_event) (step (emit next_event) end))) (answered [] (9 ∷ 4 ∷ []))

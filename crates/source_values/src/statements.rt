@@ -11,7 +11,8 @@ ghost use Rattle.source_values.specs.Numbers.{number_type};
 ghost use Rattle.source_values.specs.Statements.{run_statement, run_choice, run_block, expression_emits, values_emits, statement_emits, conditions_emit};
 ghost use Rattle.source_values.specs.Statements.{choice_emits, block_emits};
 ghost use Rattle.source_values.specs.declared.statements.End.TheVariants as end;
-ghost use Rattle.source_values.specs.View.{attempt_in, evaluated_in, meanings_of, counts_of, waiting_in, placed, placed_words, given_in, leaves, task_of_end, word_of_end};
+ghost use Rattle.source_values.specs.View.{attempt_in, evaluated_in, meanings_of, counts_of, waiting_in, placed, placed_words, given_in, leaves, task_of_end};
+ghost use Rattle.source_values.specs.View.{word_of_end};
 ghost use Rattle.source_values.specs.View.{outcome_of, chosen_outcome, ChosenEmits};
 
 use crate::frame::Frame;

@@ -31,7 +31,6 @@ use std::alloc::{AllocError, Global};
 use task_ast::{CheckedSource, FunctionName, TaskDeclaration, TaskName, Tree, VariableName};
 
 // The first fault of the checks of loops and of paths.
-#[tactic(auto, using(crate::proofs::Standing::calls_known))]
 fn paths_fault(
     alloc: Global,
     source: &[u8],

@@ -1,5 +1,5 @@
 -- An attempt takes no more readings than its text has, where its functions don't.
-use Rattle.std.proofs.Common.{◌≡◌, ℕ, zero, suc, ◌+◌, ◌-◌, ◌*◌, ◌/◌, ◌%◌, ◌<◌, ◌≤◌, max, [], ◌∷◌, ◌++◌, List, length, arith, Bool, true, false, slice_index}
+use Rattle.std.proofs.Common.{ℕ, zero, suc, ◌+◌, ◌-◌, ◌*◌, ◌/◌, ◌%◌, ◌<◌, ◌≤◌, max, [], ◌∷◌, ◌++◌, List, length, arith, Bool, true, false, slice_index}
 use Rattle.std.proofs.Common.{if◌then◌else◌, Option, Some, None}
 use Rattle.std.specs.List.{AllZip}
 use Rattle.std.proofs.Math.Nat.{suc-mul}
@@ -10,7 +10,8 @@ use Rattle.task_ast.specs.declared.WordType.{WordType}
 use Rattle.task_ast.specs.declared.WordType.TheVariants.{Unsigned, Int, Long}
 use Rattle.task_ast.specs.declared.names.Variable.{Variable}
 use Rattle.task_ast.specs.declared.names.VariableName.{VariableName}
-use Rattle.source_values.specs.Values.{◌>>?◌, Evaluated, EvaluatedWords, Meaning, meaning_in, word_before, by_width, type_of, converted, holds, value_of, words_of}
+use Rattle.source_values.specs.Values.{◌>>?◌, Evaluated, EvaluatedWords, Meaning, meaning_in, word_before, by_width, type_of, converted, holds, value_of}
+use Rattle.source_values.specs.Values.{words_of}
 use Rattle.source_values.specs.Values.{gives, made_of, reading_of, truth_word, is_settled, word_at, unary_result, binary_result, shift_result}
 use Rattle.source_values.specs.Statements.{Attempt, Outcome, goes_on, to_task, returns, short, and_then, if_value, with_value, assigned, assigned_to}
 use Rattle.source_values.specs.Statements.{assigned_value, word_of, turns, run_statement, run_choice, run_block, entered, left_with, meaning_of}

@@ -1,9 +1,8 @@
 -- The functions of a source take no more readings than their texts have.
-use Rattle.std.proofs.Common.{◌≡◌, ℕ, zero, suc, ◌+◌, ◌<◌, ◌≤◌, List, [], ◌∷◌, ◌++◌, length, take, get_or, arith, sym, ap, ◌∙◌, subst, Some}
+use Rattle.std.proofs.Common.{◌≡◌, ℕ, zero, suc, ◌+◌, ◌<◌, ◌≤◌, List, [], ◌∷◌, ◌++◌, length, take, get_or, arith, sym, subst}
 use Rattle.std.proofs.lemmas.List.{length-take-le}
 use Rattle.std.proofs.Math.Seq.{take-length}
 use Rattle.std.proofs.lemmas.Option.{slice_get-get_or}
-use Rattle.std.specs.List.{AllZip}
 use Rattle.task_ast.specs.Tree.{end}
 use Rattle.task_ast.specs.Worked.{nowhere}
 use Rattle.task_ast.specs.declared.WordType.TheVariants.{Unsigned}
@@ -33,10 +32,10 @@ calls_at n (suc k) (f ∷ fs) h l =
     subst (λ j. BlockCallsBelow j (get_or fs k no_function).body) same (calls_at (n + 1) k fs h.1 (omega (arith, l)))
 
 module _ (p : CheckedProgram) (h : FunctionsReturn p) where
-  known_to : ℕ → List Meaning
+  abbrev known_to : ℕ → List Meaning
   known_to k = answers meaning_of (take k p.functions)
 
-  counts_to : ℕ → List ℕ
+  abbrev counts_to : ℕ → List ℕ
   counts_to k = answers function_readings (take k p.functions)
 
   -- the function behind those of the first k
@@ -44,9 +43,12 @@ module _ (p : CheckedProgram) (h : FunctionsReturn p) where
       → FunctionTakes (meaning_of (known_to k) (get_or p.functions k no_function)) (function_readings (counts_to k) (get_or p.functions k no_function))
   next_takes k l before =
       let f : CheckedFunction = get_or p.functions k no_function in
-      let count : length (known_to k) ≡ k = answers_length meaning_of [] (take k p.functions) ∙ length-take-le k p.functions (omega (arith, l)) in
+      let answered = answers_length meaning_of [] (take k p.functions) in
+      let front = length-take-le k p.functions (omega (arith, l)) in
+      let count : length (known_to k) ≡ k = omega (arith, answered, front) in
       let calls : BlockCallsBelow (length (known_to k)) f.body =
-      subst (λ j. BlockCallsBelow j f.body) (sym count) (calls_at 0 k p.functions h.calls.functions l) in
+      let same : 0 + k ≡ length (known_to k) = omega (arith, count) in
+      subst (λ j. BlockCallsBelow j f.body) same (calls_at 0 k p.functions h.calls.functions l) in
       let come : (s : Attempt) → EndsReturning (run_block (known_to k) f.body s) =
       λ s. subst (λ known. EndsReturning (run_block known f.body s)) (answers_take meaning_of p.functions k)
       (h.come k f (slice_get-get_or p.functions k no_function l) s) in
@@ -59,16 +61,20 @@ module _ (p : CheckedProgram) (h : FunctionsReturn p) where
       let before = functions_take k (omega (arith, l)) in
       let f : CheckedFunction = get_or p.functions k no_function in
       let next : k + 1 ≡ suc k = omega arith in
-      let more : KnownTake (known_to k ++ meaning_of (known_to k) f ∷ []) (counts_to k ++ function_readings (counts_to k) f ∷ []) =
-      pushed FunctionTakes (known_to k) (counts_to k) (meaning_of (known_to k) f) (function_readings (counts_to k) f) before (next_takes k inside before) in
-      subst (λ j. KnownTake (known_to j) (counts_to j)) next
-      (subst (KnownTake (known_to (k + 1))) (sym (answers_more function_readings p.functions k no_function inside))
-      (subst (λ known. KnownTake known (counts_to k ++ function_readings (counts_to k) f ∷ [])) (sym (answers_more meaning_of p.functions k no_function inside)) more))
+      let m = meaning_of (known_to k) f in
+      let n = function_readings (counts_to k) f in
+      let more : KnownTake (known_to k ++ m ∷ []) (counts_to k ++ n ∷ []) =
+      pushed FunctionTakes (known_to k) (counts_to k) m n before (next_takes k inside before) in
+      let known_more = answers_more meaning_of p.functions k no_function inside in
+      let counts_more = answers_more function_readings p.functions k no_function inside in
+      subst (λ j. KnownTake (known_to j) (counts_to j)) next (subst (KnownTake (known_to (k + 1))) (sym counts_more)
+      (subst (λ known. KnownTake known (counts_to k ++ function_readings (counts_to k) f ∷ [])) (sym known_more) more))
 
   pub meanings_take : KnownTake (meanings p) (reading_counts p)
   meanings_take =
-      subst (λ fs. KnownTake (answers meaning_of fs) (answers function_readings fs)) (take-length p.functions) (functions_take (length p.functions) (omega arith))
+      subst (λ fs. KnownTake (answers meaning_of fs) (answers function_readings fs)) (take-length p.functions)
+      (functions_take (length p.functions) (omega arith))
 
   -- so many functions are known
   pub all_known : length (meanings p) ≡ length p.functions
-  all_known = answers_length meaning_of [] p.functions
+  all_known = let answered = answers_length meaning_of [] p.functions in omega (arith, answered)

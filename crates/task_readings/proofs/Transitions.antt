@@ -36,7 +36,8 @@ attempts_take_few p h task shared given =
 
 -- with no readings left over, all that were given were taken
 exact_within : (p : CheckedProgram) (s : State) (given : TaskInputs) (c : Completion) (t : Transition)
-    → length given.readings ≤ length c.left + block_readings (reading_counts p) (task_body p s.task) → length c.emitted ≤ block_emits (emit_counts p) (task_body p s.task)
+    → length given.readings ≤ length c.left + block_readings (reading_counts p) (task_body p s.task)
+    → length c.emitted ≤ block_emits (emit_counts p) (task_body p s.task)
     → exactly s c ≡ Some t → IsWithinText p s.task given t
 exact_within p s given c t taken few e = by_left c.left c.answers taken e
   where
@@ -49,7 +50,8 @@ exact_within p s given c t taken few e = by_left c.left c.answers taken e
     by_left (w ∷ ws) answers h e = absurd (cc e)
 
 within : (p : CheckedProgram) (s : State) (given : TaskInputs) (t : Transition) (o : Outcome)
-    → TakesUpTo (length given.readings) (block_readings (reading_counts p) (task_body p s.task)) o → EmitsUpTo (block_emits (emit_counts p) (task_body p s.task)) o
+    → TakesUpTo (length given.readings) (block_readings (reading_counts p) (task_body p s.task)) o
+    → EmitsUpTo (block_emits (emit_counts p) (task_body p s.task)) o
     → (completion_of o >>? exactly s) ≡ Some t → IsWithinText p s.task given t
 within p s given t (goes_on m) h k e = absurd (cc e)
 within p s given t (to_task task m) h k e =

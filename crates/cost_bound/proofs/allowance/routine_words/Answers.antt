@@ -4,4 +4,4 @@ use Rattle.cost_bound.proofs.allowance.routine_words.Goals as goal
 
 pub returns : goal.returns
 returns c = routines_are c.args.functions.now (block_view c.args.body.now) c.reached_functions.result c.marked_words.result
-    c.requires c.reached_functions.ensures c.marked_words.ensures
+    c.requires.few c.reached_functions.ensures c.marked_words.ensures

@@ -11,5 +11,6 @@ abbrev pub invariant-store_counts-loop-i : goal.invariant-store_counts-loop-i
 invariant-store_counts-loop-i l = AreCapped l.counts (λ k. block_count (called_stores (known_of l.functions) k) (is_store_to k) (block_view (drop l.i l.body)))
 
 abbrev pub invariant-count_in_choice-loop-i : goal.invariant-count_in_choice-loop-i
-invariant-count_in_choice-loop-i l = (b : Option CheckedBlock) → AreCapped l.fn.last (λ k. choice_count (called_stores (known_of l.functions) k) (is_store_to k) (choice_of [] b))
+invariant-count_in_choice-loop-i l = (b : Option CheckedBlock)
+    → AreCapped l.fn.last (λ k. choice_count (called_stores (known_of l.functions) k) (is_store_to k) (choice_of [] b))
     → AreCapped l.greatest (λ k. choice_count (called_stores (known_of l.functions) k) (is_store_to k) (choice_of (map tested_of (drop l.i l.arms)) b))

@@ -26,7 +26,8 @@ use Rattle.source_values.proofs.statements.+run.Goals as goal
 pub call-returns-then-functions-k-clause-value : goal.call-returns-then-functions-k-clause-value
 call-returns-then-functions-k-clause-value t c =
     unknown_call c.args.functions.now c.args.f.now.function
-    (words_of (meanings_of c.args.functions.now) (values_of c.args.values.now) (attempt_in c.args.scratch.now c.args.readings.now)) (omega (arith, c.if-functions-k.true))
+    (words_of (meanings_of c.args.functions.now) (values_of c.args.values.now) (attempt_in c.args.scratch.now c.args.readings.now))
+    (omega (arith, c.if-functions-k.true))
 
 pub call-returns-in_err-word-clause-value : goal.call-returns-in_err-word-clause-value
 call-returns-in_err-word-clause-value t c =
@@ -276,7 +277,8 @@ run_statement-loop-k-preserved t c = record {
       sym (step ∙ ended_goes_on c.in_ok-ran-in-For.ran.end behind more (sym c.if-leaves.ensures)) ∙ c.loop-k.invariant.rest;
   emits =
       let counts = counts_of c.args.functions.now in
-      let turn = turn_emits (c.in-For.below - c.loop-k.k) (c.in-For.below - (c.loop-k.k + 1)) (block_emits counts (block_view c.in-For.body.items)) (omega arith) in
+      let turn = turn_emits (c.in-For.below - c.loop-k.k) (c.in-For.below - (c.loop-k.k + 1)) (block_emits counts (block_view c.in-For.body.items))
+      (omega arith) in
       let same = ap (λ b. block_emits counts (block_view b)) c.deref-in-loop-k.ensures.value in
       let kept = ap (λ e. length e.items) c.set-in-loop-k.ensures.emitted in
       omega (arith, turn, same, kept, c.in_ok-ran-in-For.ensures.emitted, c.loop-k.invariant.emits);

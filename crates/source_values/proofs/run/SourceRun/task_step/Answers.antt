@@ -18,6 +18,7 @@ returns-in-Some-clause-done c =
     }) in
     let done = ap (run_block (meanings p) (task_body p c.args.self.now.task)) fresh
     ∙ ap (λ i. run_block (meanings p) (task_body p i) (attempt_in c.restart.new.scratch c.args.readings.now)) (sym h) ∙ c.in-Some.ensures.done in
-    let rest = (task_leaves (meanings p) (meanings_take p) (task_body p c.self.inside.task) (attempt_in c.restart.new.scratch c.args.readings.now) c.in-Some.next
-    (attempt_in c.run_task.new.scratch c.in-Some.left.now) c.in-Some.ensures.done).rest in
-    ap completion_of done ∙ same_completion c.in-Some.next (ap (λ t. t.base) (sym c.settle.ensures.value)) (ap (λ v. v.items) (sym c.swap.ensures.x_after)) (sym rest)
+    let rest = (task_leaves (meanings p) (meanings_take p) (task_body p c.self.inside.task) (attempt_in c.restart.new.scratch c.args.readings.now)
+    c.in-Some.next (attempt_in c.run_task.new.scratch c.in-Some.left.now) c.in-Some.ensures.done).rest in
+    ap completion_of done ∙ same_completion c.in-Some.next (ap (λ t. t.base) (sym c.settle.ensures.value))
+    (ap (λ v. v.items) (sym c.swap.ensures.x_after)) (sym rest)
