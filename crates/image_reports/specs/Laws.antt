@@ -21,7 +21,7 @@ use Rattle.memory_map.specs.declared.runtime.Logging.{Logging}
 use Rattle.compiled_bounds.specs.Capacities.{KeepsCapacities}
 use Rattle.source_maps.specs.Maps.{map_of}
 use Rattle.task_needs.specs.Needs.{need_of}
-use Rattle.image_laws.specs.Compiled.{IsCompiledFor, IsCompiled}
+use Rattle.image_laws.specs.Compiled.{IsCompiledFor}
 
 -- on any trace of words, the report of the one run of its fresh board is told by the source
 abbrev pub ImagesAreTold : Type 0

@@ -31,7 +31,8 @@ impl UndoNeed {
     pub fn need(self) -> u64
         ensures { result ≡ undo_in self }
     {
-        self.boot as u64 + self.start as u64 + self.path as u64 + self.commit as u64
+        let begun = self.boot as u64 + self.start as u64;
+        begun + self.path as u64 + self.commit as u64
     }
 }
 
