@@ -4,4 +4,6 @@ mod Takes
 mod Models
 mod Lowered
 mod Scripts
+mod InPlace
+mod Both
 pub mod Interface

@@ -2,7 +2,7 @@
 use Rattle.std.proofs.Common.{◌≡◌, ℕ, zero, suc, ◌+◌, ◌-◌, ◌*◌, ◌≤◌, Bool, true, false, List, [], ◌∷◌, Option, Some, None, refl, arith, slice_get, get_or}
 use Rattle.task_ast.specs.Tree as t
 use Rattle.task_ast.specs.Types.{by_width, type_of, joined_type}
-use Rattle.task_ast.specs.Paths.{CheckedExpression, CheckedStatement, CheckedChoice, CheckedBlock}
+use Rattle.task_ast.specs.Paths.{CheckedExpression, CheckedStatement, CheckedChoice, CheckedBlock, CheckedTask}
 use Rattle.task_ast.specs.declared.WordType.{WordType}
 use Rattle.task_ast.specs.declared.WordType.TheVariants.{Unsigned, Int, Long}
 use Rattle.task_ast.specs.declared.UnaryOperator.{UnaryOperator}
@@ -12,8 +12,6 @@ use Rattle.task_ast.specs.declared.ShortCircuitOperator.{ShortCircuitOperator}
 use Rattle.task_ast.specs.declared.ShortCircuitOperator.TheVariants.{And as BothHold, Or as OneHolds}
 use Rattle.task_ast.specs.declared.names.Variable.{Variable}
 use Rattle.task_ast.specs.declared.names.Variable.TheVariants.{Shared, Local}
-use Rattle.task_ast.specs.declared.names.VariableName.{VariableName}
-use Rattle.task_ast.specs.declared.names.TaskName.{TaskName}
 use Rattle.source_values.specs.Runs.{CheckedProgram, body_of, task_body}
 use Rattle.array_versions.specs.declared.operations.PlainOperation.{PlainOperation}
 use Rattle.array_versions.specs.Program.{Step, Test, Program, nothing, step, joined, behind, store_number, move_word, jump}
@@ -44,7 +42,7 @@ use Rattle.lower.specs.Lowered.{widened_type, lowering, lowered_expression, lowe
 use Rattle.lower.specs.Lowered.{assignment, index_and_value, element_setting, element_updating, element_sides_set, element_assignment}
 use Rattle.lower.specs.Lowered.{entries, freezing, lowered_transition, lowered_statement, lowered_choice, lowered_block, lowered_tasks}
 use Rattle.compiled_model.specs.Parts.{task_program}
-use Rattle.task_readings.specs.Readings.{expression_readings, statement_readings, choice_readings, block_readings}
+use Rattle.task_readings.specs.Readings.{expression_readings, statement_readings, choice_readings, block_readings, reading_counts}
 use Rattle.charge_limits.proofs.Senses.{step_senses, test_senses, senses, senses_joined, senses_behind}
 
 -- of what an expression comes to
@@ -183,170 +181,180 @@ sides_test_few : (op : ShortCircuitOperator) (a b : ℕ) (c d : Test) → test_s
 sides_test_few BothHold a b c d h k = omega (arith, h, k)
 sides_test_few OneHolds a b c d h k = omega (arith, h, k)
 
--- ---- expressions
+-- ---- expressions, where functions take so many
 
-expression_few : (p : Places) (e : CheckedExpression) → lowering_senses (lowering p e) ≤ expression_readings e
-expression_few p (t.number w) = omega arith
-expression_few p (t.long_number w) = omega arith
-expression_few p (t.name x) =
-    let none = read_none p x.variable in
-    lowering_by x.word_type (as_word (one (read_step p x.variable))) (as_long (read_long p x.variable)) 0 (omega (arith, none)) (read_long_none p x.variable)
-expression_few p (t.element x index) =
-    behind_few (expression_readings index) (word_program (lowering p index)) (element_step p x.variable) (element_step_none p x.variable)
-    (word_few (lowering p index) (expression_readings index) (expression_few p index))
-expression_few p t.sense = omega arith
-expression_few p t.next_event = omega arith
-expression_few p (t.unary op e) =
-    let n = expression_readings e in
-    let l = lowering p e in
-    lowering_by (type_of e) (unary_lowering op l) (long_unary_lowering op l) n (unary_few op l n (expression_few p e))
-    (long_unary_few op l n (expression_few p e))
-expression_few p (t.binary op a b) =
-    let n = expression_readings a in let m = expression_readings b in
-    let left = lowering p a in let right = lowering p b in
-    let s = widened_type a in let u = widened_type b in
-    let of = operand_type op.operator (joined_type (type_of a) (type_of b)) in
-    let words = joined (word_program left) (word_program right) in
-    let longs = joined (long_program s left) (long_program u right) in
-    lowering_by of (binary_lowering (binary_meaning op.operator of) words) (long_binary_lowering (long_meaning op.operator) longs) (n + m)
-    (binary_few (binary_meaning op.operator of) words (n + m)
-    (joined_few n m (word_program left) (word_program right) (word_few left n (expression_few p a)) (word_few right m (expression_few p b))))
-    (long_binary_few (long_meaning op.operator) longs (n + m)
-    (joined_few n m (long_program s left) (long_program u right) (long_few s left n (expression_few p a)) (long_few u right m (expression_few p b))))
-expression_few p (t.shift op e count) =
-    let n = expression_readings e in
-    let l = lowering p e in
-    lowering_by (type_of e) (as_word (behind (word_program l) _)) (as_long (behind (long_words l) _)) n
-    (behind_few n (word_program l) _ refl (word_few l n (expression_few p e))) (behind_few n (long_words l) _ refl (longs_few l n (expression_few p e)))
-expression_few p (t.short_circuit op a b) =
-    sides_test_few op (expression_readings a) (expression_readings b) (value_test (lowering p a)) (value_test (lowering p b))
-    (test_few (lowering p a) (expression_readings a) (expression_few p a)) (test_few (lowering p b) (expression_readings b) (expression_few p b))
+module _ (counts : List ℕ) where
+  expression_few : (p : Places) (e : CheckedExpression) → lowering_senses (lowering p e) ≤ expression_readings counts e
+  expression_few p (t.number w) = omega arith
+  expression_few p (t.long_number w) = omega arith
+  expression_few p (t.name x) =
+      let none = read_none p x.variable in
+      lowering_by x.word_type (as_word (one (read_step p x.variable))) (as_long (read_long p x.variable)) 0 (omega (arith, none)) (read_long_none p x.variable)
+  expression_few p (t.element x index) =
+      behind_few (expression_readings counts index) (word_program (lowering p index)) (element_step p x.variable) (element_step_none p x.variable)
+      (word_few (lowering p index) (expression_readings counts index) (expression_few p index))
+  expression_few p t.sense = omega arith
+  expression_few p t.next_event = omega arith
+  expression_few p (t.call f values) = omega arith
+  expression_few p (t.unary op e) =
+      let n = expression_readings counts e in
+      let l = lowering p e in
+      lowering_by (type_of e) (unary_lowering op l) (long_unary_lowering op l) n (unary_few op l n (expression_few p e))
+      (long_unary_few op l n (expression_few p e))
+  expression_few p (t.binary op a b) =
+      let n = expression_readings counts a in let m = expression_readings counts b in
+      let left = lowering p a in let right = lowering p b in
+      let s = widened_type a in let u = widened_type b in
+      let of = operand_type op.operator (joined_type (type_of a) (type_of b)) in
+      let words = joined (word_program left) (word_program right) in
+      let longs = joined (long_program s left) (long_program u right) in
+      lowering_by of (binary_lowering (binary_meaning op.operator of) words) (long_binary_lowering (long_meaning op.operator) longs) (n + m)
+      (binary_few (binary_meaning op.operator of) words (n + m)
+      (joined_few n m (word_program left) (word_program right) (word_few left n (expression_few p a)) (word_few right m (expression_few p b))))
+      (long_binary_few (long_meaning op.operator) longs (n + m)
+      (joined_few n m (long_program s left) (long_program u right) (long_few s left n (expression_few p a)) (long_few u right m (expression_few p b))))
+  expression_few p (t.shift op e count) =
+      let n = expression_readings counts e in
+      let l = lowering p e in
+      lowering_by (type_of e) (as_word (behind (word_program l) _)) (as_long (behind (long_words l) _)) n
+      (behind_few n (word_program l) _ refl (word_few l n (expression_few p e))) (behind_few n (long_words l) _ refl (longs_few l n (expression_few p e)))
+  expression_few p (t.short_circuit op a b) =
+      sides_test_few op (expression_readings counts a) (expression_readings counts b) (value_test (lowering p a)) (value_test (lowering p b))
+      (test_few (lowering p a) (expression_readings counts a) (expression_few p a))
+      (test_few (lowering p b) (expression_readings counts b) (expression_few p b))
 
-value_few : (p : Places) (e : CheckedExpression) → senses (lowered_expression p e) ≤ expression_readings e
-value_few p e = word_few (lowering p e) (expression_readings e) (expression_few p e)
+  value_few : (p : Places) (e : CheckedExpression) → senses (lowered_expression p e) ≤ expression_readings counts e
+  value_few p e = word_few (lowering p e) (expression_readings counts e) (expression_few p e)
 
--- ---- statements
+  -- ---- statements
 
-setting_few : (p : Places) (x : Variable) (e : CheckedExpression) → senses (setting p x e) ≤ expression_readings e
-setting_few p x e = behind_few (expression_readings e) (lowered_expression p e) (write_step p x) (write_none p x) (value_few p e)
+  setting_few : (p : Places) (x : Variable) (e : CheckedExpression) → senses (setting p x e) ≤ expression_readings counts e
+  setting_few p x e = behind_few (expression_readings counts e) (lowered_expression p e) (write_step p x) (write_none p x) (value_few p e)
 
-long_setting_few : (p : Places) (x : Variable) (e : CheckedExpression) → senses (long_setting p x e) ≤ expression_readings e
-long_setting_few p x e =
-    let none = write_long_none p x in
-    let value = long_few (widened_type e) (lowering p e) (expression_readings e) (expression_few p e) in
-    let all = senses_joined (lowered_long p e) (write_long p x) in
-    omega (arith, none, value, all)
+  long_setting_few : (p : Places) (x : Variable) (e : CheckedExpression) → senses (long_setting p x e) ≤ expression_readings counts e
+  long_setting_few p x e =
+      let none = write_long_none p x in
+      let value = long_few (widened_type e) (lowering p e) (expression_readings counts e) (expression_few p e) in
+      let all = senses_joined (lowered_long p e) (write_long p x) in
+      omega (arith, none, value, all)
 
-sides_few : (p : Places) (x : Variable) (op : PlacedOperator) (a b : CheckedExpression) (o : Option PlainOperation)
-    → senses (sides_set p x op a b o) ≤ expression_readings a + expression_readings b
-sides_few p x op a b None = setting_few p x (t.binary op a b)
-sides_few p x op a b (Some o) =
-    behind_few (expression_readings a + expression_readings b) (lowered_expression p b) (update_step p o x) (update_none p o x)
-    (let value = value_few p b in omega (arith, value))
+  sides_few : (p : Places) (x : Variable) (op : PlacedOperator) (a b : CheckedExpression) (o : Option PlainOperation)
+      → senses (sides_set p x op a b o) ≤ expression_readings counts a + expression_readings counts b
+  sides_few p x op a b None = setting_few p x (t.binary op a b)
+  sides_few p x op a b (Some o) =
+      behind_few (expression_readings counts a + expression_readings counts b) (lowered_expression p b) (update_step p o x) (update_none p o x)
+      (let value = value_few p b in omega (arith, value))
 
-assignment_few : (p : Places) (x : Variable) (e : CheckedExpression) → senses (assignment p x e) ≤ expression_readings e
-assignment_few p x (t.binary op a b) = sides_few p x op a b (of_words (joined_type (type_of a) (type_of b)) (updating x op.operator a))
-assignment_few p x (t.number w) = setting_few p x (t.number w)
-assignment_few p x (t.long_number w) = setting_few p x (t.long_number w)
-assignment_few p x (t.name y) = setting_few p x (t.name y)
-assignment_few p x (t.element y index) = setting_few p x (t.element y index)
-assignment_few p x t.sense = setting_few p x t.sense
-assignment_few p x t.next_event = setting_few p x t.next_event
-assignment_few p x (t.unary op e) = setting_few p x (t.unary op e)
-assignment_few p x (t.shift op e count) = setting_few p x (t.shift op e count)
-assignment_few p x (t.short_circuit op a b) = setting_few p x (t.short_circuit op a b)
+  assignment_few : (p : Places) (x : Variable) (e : CheckedExpression) → senses (assignment p x e) ≤ expression_readings counts e
+  assignment_few p x (t.binary op a b) = sides_few p x op a b (of_words (joined_type (type_of a) (type_of b)) (updating x op.operator a))
+  assignment_few p x (t.number w) = setting_few p x (t.number w)
+  assignment_few p x (t.long_number w) = setting_few p x (t.long_number w)
+  assignment_few p x (t.name y) = setting_few p x (t.name y)
+  assignment_few p x (t.element y index) = setting_few p x (t.element y index)
+  assignment_few p x t.sense = setting_few p x t.sense
+  assignment_few p x t.next_event = setting_few p x t.next_event
+  assignment_few p x (t.call f values) = setting_few p x (t.call f values)
+  assignment_few p x (t.unary op e) = setting_few p x (t.unary op e)
+  assignment_few p x (t.shift op e count) = setting_few p x (t.shift op e count)
+  assignment_few p x (t.short_circuit op a b) = setting_few p x (t.short_circuit op a b)
 
-sides_of_few : (p : Places) (index e : CheckedExpression) → senses (index_and_value p index e) ≤ expression_readings index + expression_readings e
-sides_of_few p index e =
-    joined_few (expression_readings index) (expression_readings e) (lowered_expression p index) (lowered_expression p e) (value_few p index) (value_few p e)
+  sides_of_few : (p : Places) (index e : CheckedExpression)
+      → senses (index_and_value p index e) ≤ expression_readings counts index + expression_readings counts e
+  sides_of_few p index e =
+      joined_few (expression_readings counts index) (expression_readings counts e) (lowered_expression p index) (lowered_expression p e) (value_few p index)
+      (value_few p e)
 
-element_setting_few : (p : Places) (x : Variable) (index e : CheckedExpression)
-    → senses (element_setting p x index e) ≤ expression_readings index + expression_readings e
-element_setting_few p x index e =
-    behind_few (expression_readings index + expression_readings e) (index_and_value p index e) (store_step p x)
-    (own_write_none p.map.runtime.logging (stored_array p x) (list_place p)) (sides_of_few p index e)
+  element_setting_few : (p : Places) (x : Variable) (index e : CheckedExpression)
+      → senses (element_setting p x index e) ≤ expression_readings counts index + expression_readings counts e
+  element_setting_few p x index e =
+      behind_few (expression_readings counts index + expression_readings counts e) (index_and_value p index e) (store_step p x)
+      (own_write_none p.map.runtime.logging (stored_array p x) (list_place p)) (sides_of_few p index e)
 
-element_sides_few : (p : Places) (x : Variable) (index : CheckedExpression) (op : PlacedOperator) (a b : CheckedExpression) (o : Option PlainOperation)
-    → senses (element_sides_set p x index op a b o) ≤ expression_readings index + (expression_readings a + expression_readings b)
-element_sides_few p x index op a b None = element_setting_few p x index (t.binary op a b)
-element_sides_few p x index op a b (Some o) =
-    behind_few (expression_readings index + (expression_readings a + expression_readings b)) (index_and_value p index b) (update_element_step p o x)
-    (own_update_none p.map.runtime.logging o (stored_array p x) (list_place p))
-    (let sides = sides_of_few p index b in omega (arith, sides))
+  element_sides_few : (p : Places) (x : Variable) (index : CheckedExpression) (op : PlacedOperator) (a b : CheckedExpression) (o : Option PlainOperation)
+      → senses (element_sides_set p x index op a b o) ≤ expression_readings counts index + (expression_readings counts a + expression_readings counts b)
+  element_sides_few p x index op a b None = element_setting_few p x index (t.binary op a b)
+  element_sides_few p x index op a b (Some o) =
+      behind_few (expression_readings counts index + (expression_readings counts a + expression_readings counts b)) (index_and_value p index b)
+      (update_element_step p o x)
+      (own_update_none p.map.runtime.logging o (stored_array p x) (list_place p))
+      (let sides = sides_of_few p index b in omega (arith, sides))
 
-element_few : (p : Places) (x : Variable) (index e : CheckedExpression)
-    → senses (element_assignment p x index e) ≤ expression_readings index + expression_readings e
-element_few p x index (t.binary op a b) =
-    element_sides_few p x index op a b (of_words (joined_type (type_of a) (type_of b)) (element_updating x index op.operator a))
-element_few p x index (t.number w) = element_setting_few p x index (t.number w)
-element_few p x index (t.long_number w) = element_setting_few p x index (t.long_number w)
-element_few p x index (t.name y) = element_setting_few p x index (t.name y)
-element_few p x index (t.element y other) = element_setting_few p x index (t.element y other)
-element_few p x index t.sense = element_setting_few p x index t.sense
-element_few p x index t.next_event = element_setting_few p x index t.next_event
-element_few p x index (t.unary op e) = element_setting_few p x index (t.unary op e)
-element_few p x index (t.shift op e count) = element_setting_few p x index (t.shift op e count)
-element_few p x index (t.short_circuit op a b) = element_setting_few p x index (t.short_circuit op a b)
+  element_few : (p : Places) (x : Variable) (index e : CheckedExpression)
+      → senses (element_assignment p x index e) ≤ expression_readings counts index + expression_readings counts e
+  element_few p x index (t.binary op a b) =
+      element_sides_few p x index op a b (of_words (joined_type (type_of a) (type_of b)) (element_updating x index op.operator a))
+  element_few p x index (t.number w) = element_setting_few p x index (t.number w)
+  element_few p x index (t.long_number w) = element_setting_few p x index (t.long_number w)
+  element_few p x index (t.name y) = element_setting_few p x index (t.name y)
+  element_few p x index (t.element y other) = element_setting_few p x index (t.element y other)
+  element_few p x index t.sense = element_setting_few p x index t.sense
+  element_few p x index t.next_event = element_setting_few p x index t.next_event
+  element_few p x index (t.call f values) = element_setting_few p x index (t.call f values)
+  element_few p x index (t.unary op e) = element_setting_few p x index (t.unary op e)
+  element_few p x index (t.shift op e count) = element_setting_few p x index (t.shift op e count)
+  element_few p x index (t.short_circuit op a b) = element_setting_few p x index (t.short_circuit op a b)
 
-entries_none : (count list : ℕ) (rs : List Run) → senses (entries count list rs) ≤ 0
-entries_none count list [] = omega arith
-entries_none count list (r ∷ more) = let rest = entries_none count list more in omega (arith, rest)
+  entries_none : (count list : ℕ) (rs : List Run) → senses (entries count list rs) ≤ 0
+  entries_none count list [] = omega arith
+  entries_none count list (r ∷ more) = let rest = entries_none count list more in omega (arith, rest)
 
-freezing_none : (p : Places) → senses (freezing p) ≤ 0
-freezing_none p = by p.map.runtime.events refl
-  where
-    by : (events : Bool) → p.map.runtime.events ≡ events → senses (freezing p) ≤ 0
-    by true e = rw e (omega arith)
-    by false e = rw e (omega arith)
-
-transition_none : (p : Places) (task : ℕ) → senses (lowered_transition p task) ≤ 0
-transition_none p task =
-    let listed = entries_none (word_place p.map ListLength) p.map.list.address (runs_of p.privates) in
-    let frozen = freezing_none p in
-    let close = step (store_number (word_place p.map Gate) 1) (one (jump p.map.commit.address)) in
-    let behind_freezing = senses_joined (freezing p) close in
-    let behind_entries = senses_joined (entries (word_place p.map ListLength) p.map.list.address (runs_of p.privates))
-    (step (move_word (word_place p.map Base) (word_place p.map SentBase)) (joined (freezing p) close)) in
-    omega (arith, listed, frozen, behind_freezing, behind_entries)
-
-mutual
-  statement_few : (p : Places) (s : CheckedStatement) → senses (lowered_statement p s) ≤ statement_readings s
-  statement_few p (t.declare of x None) = omega arith
-  statement_few p (t.declare of x (Some e)) = assignment_few p x.variable e
-  statement_few p (t.assign x e) =
-      program_by x.word_type (assignment p x.variable e) (long_setting p x.variable e) (expression_readings e) (assignment_few p x.variable e)
-      (long_setting_few p x.variable e)
-  statement_few p (t.store x index e) = element_few p x.variable index e
-  statement_few p (t.choose choice) = choice_few p choice
-  statement_few p (t.loop x from tested below stepped body) = let rest = block_few p body in
-      more (below - from) (senses (lowered_block p body)) (block_readings body) rest
+  freezing_none : (p : Places) → senses (freezing p) ≤ 0
+  freezing_none p = by p.map.runtime.events refl
     where
-      more : (k a b : ℕ) → a ≤ b → k * a + 0 ≤ k * b
-      more zero a b h = omega arith
-      more (suc k) a b h = let rest = more k a b h in omega (arith, h, rest)
-  statement_few p (t.emit e) = behind_few (expression_readings e) (lowered_expression p e) _ refl (value_few p e)
-  statement_few p (t.transition task) = transition_none p task.task
+      by : (events : Bool) → p.map.runtime.events ≡ events → senses (freezing p) ≤ 0
+      by true e = rw e (omega arith)
+      by false e = rw e (omega arith)
 
-  choice_few : (p : Places) (c : CheckedChoice) → senses (lowered_choice p c) ≤ choice_readings c
-  choice_few p t.nothing = omega arith
-  choice_few p (t.otherwise block) = block_few p block
-  choice_few p (t.test e block more) =
-      let asked = test_few (lowering p e) (expression_readings e) (expression_few p e) in
-      let first = block_few p block in let rest = choice_few p more in omega (arith, asked, first, rest)
+  transition_none : (p : Places) (task : ℕ) → senses (lowered_transition p task) ≤ 0
+  transition_none p task =
+      let listed = entries_none (word_place p.map ListLength) p.map.list.address (runs_of p.privates) in
+      let frozen = freezing_none p in
+      let close = step (store_number (word_place p.map Gate) 1) (one (jump p.map.commit.address)) in
+      let behind_freezing = senses_joined (freezing p) close in
+      let behind_entries = senses_joined (entries (word_place p.map ListLength) p.map.list.address (runs_of p.privates))
+      (step (move_word (word_place p.map Base) (word_place p.map SentBase)) (joined (freezing p) close)) in
+      omega (arith, listed, frozen, behind_freezing, behind_entries)
 
-  block_few : (p : Places) (b : CheckedBlock) → senses (lowered_block p b) ≤ block_readings b
-  block_few p t.end = omega arith
-  block_few p (t.step s more) =
-      joined_few (statement_readings s) (block_readings more) (lowered_statement p s) (lowered_block p more) (statement_few p s) (block_few p more)
+  mutual
+    statement_few : (p : Places) (s : CheckedStatement) → senses (lowered_statement p s) ≤ statement_readings counts s
+    statement_few p (t.declare of x None) = omega arith
+    statement_few p (t.declare of x (Some e)) = assignment_few p x.variable e
+    statement_few p (t.assign x e) =
+        program_by x.word_type (assignment p x.variable e) (long_setting p x.variable e) (expression_readings counts e) (assignment_few p x.variable e)
+        (long_setting_few p x.variable e)
+    statement_few p (t.store x index e) = element_few p x.variable index e
+    statement_few p (t.choose choice) = choice_few p choice
+    statement_few p (t.loop x from tested below stepped body) = let rest = block_few p body in
+        more (below - from) (senses (lowered_block p body)) (block_readings counts body) rest
+      where
+        more : (k a b : ℕ) → a ≤ b → k * a + 0 ≤ k * b
+        more zero a b h = omega arith
+        more (suc k) a b h = let rest = more k a b h in omega (arith, h, rest)
+    statement_few p (t.emit e) = behind_few (expression_readings counts e) (lowered_expression p e) _ refl (value_few p e)
+    statement_few p (t.give at e) = omega arith
+    statement_few p (t.transition at task) = transition_none p task.task
+
+    choice_few : (p : Places) (c : CheckedChoice) → senses (lowered_choice p c) ≤ choice_readings counts c
+    choice_few p t.nothing = omega arith
+    choice_few p (t.otherwise block) = block_few p block
+    choice_few p (t.test e block more) =
+        let asked = test_few (lowering p e) (expression_readings counts e) (expression_few p e) in
+        let first = block_few p block in let rest = choice_few p more in omega (arith, asked, first, rest)
+
+    block_few : (p : Places) (b : CheckedBlock) → senses (lowered_block p b) ≤ block_readings counts b
+    block_few p t.end = omega arith
+    block_few p (t.step s more) =
+        joined_few (statement_readings counts s) (block_readings counts more) (lowered_statement p s) (lowered_block p more) (statement_few p s)
+        (block_few p more)
 
 -- ---- tasks
 
-tasks_few : (l : MemoryMap) (tasks : List (t.Task VariableName TaskName)) (ts : List TaskPlace) (k : ℕ)
-    → senses (get_or (lowered_tasks l tasks ts) k nothing) ≤ block_readings (body_of (slice_get tasks k))
-tasks_few l [] ts k = omega arith
-tasks_few l (task ∷ tasks) [] k = omega arith
-tasks_few l (task ∷ tasks) (own ∷ ts) zero = block_few (places_of (map_seen task.body l) (task_seen l.runtime.logging own)) task.body
-tasks_few l (task ∷ tasks) (own ∷ ts) (suc k) = tasks_few l tasks ts k
+tasks_few : (counts : List ℕ) (l : MemoryMap) (tasks : List CheckedTask) (ts : List TaskPlace) (k : ℕ)
+    → senses (get_or (lowered_tasks l tasks ts) k nothing) ≤ block_readings counts (body_of (slice_get tasks k))
+tasks_few counts l [] ts k = omega arith
+tasks_few counts l (task ∷ tasks) [] k = omega arith
+tasks_few counts l (task ∷ tasks) (own ∷ ts) zero = block_few counts (places_of (map_seen task.body l) (task_seen l.runtime.logging own)) task.body
+tasks_few counts l (task ∷ tasks) (own ∷ ts) (suc k) = tasks_few counts l tasks ts k
 
-pub task_few : (p : CheckedProgram) (l : MemoryMap) (k : ℕ) → senses (task_program p l k) ≤ block_readings (task_body p k)
-task_few p l k = tasks_few l p.tasks l.tasks k
+pub task_few : (p : CheckedProgram) (l : MemoryMap) (k : ℕ) → senses (task_program p l k) ≤ block_readings (reading_counts p) (task_body p k)
+task_few p l k = tasks_few (reading_counts p) l p.tasks l.tasks k

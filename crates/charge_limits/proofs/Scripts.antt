@@ -1,9 +1,10 @@
--- What a run follows from a power-up or a done on takes no more readings, and offers no more words, than a task's text has.
+-- What a run follows under redo from a power-up or a done on takes no more readings, and offers no more words, than a task's text has.
 use Rattle.std.proofs.Common.{◌≡◌, ℕ, zero, suc, ◌+◌, ◌%◌, ◌≤◌, ◌==◌, Bool, true, false, if◌then◌else◌, List, [], ◌∷◌, ◌++◌, length, refl, sym, ap, subst}
 use Rattle.std.proofs.Common.{arith}
 use Rattle.machine_effects.specs.fram_board.Effects.{Effect}
 use Rattle.machine_effects.specs.World.{World, fram_after, readings_taken, looks_taken}
 use Rattle.machine_effects.specs.Inputs.{Inputs}
+use Rattle.cost_bound.specs.Summaries.{summaries}
 use Rattle.cost_bound.specs.Counts.{emits_of}
 use Rattle.source_values.specs.Runs.{CheckedProgram, State, task_body}
 use Rattle.array_versions.specs.Behaviour.{started}
@@ -18,9 +19,8 @@ use Rattle.crash_rules.specs.Model.{Model, ModelLaws, ProgramEffects, program_ef
 use Rattle.crash_rules.specs.History.{Done, History, inputs_from}
 use Rattle.crash_rules.specs.Laws.{Origin, Resting, Pending, StandsFor, FollowsScript}
 use Rattle.compiled_model.specs.Parts.{redo_model, task_program}
-use Rattle.compiled_model.proofs.Interface.{is_redo}
-use Rattle.task_readings.specs.Readings.{block_readings}
-use Rattle.charge_limits.specs.Laws.{readings_from, ReadingsAreFew, words_from, WordsAreFew}
+use Rattle.task_readings.specs.Readings.{block_readings, reading_counts}
+use Rattle.charge_limits.specs.Laws.{readings_from, words_from}
 use Rattle.charge_limits.proofs.Weights.{weighed, weighed-append, readings_weigh, words_weigh, none_offered}
 use Rattle.charge_limits.proofs.Takes.{program_takes}
 use Rattle.charge_limits.proofs.Models.{offered, Offers, offered_from, words_follow}
@@ -29,13 +29,13 @@ use Rattle.charge_limits.proofs.Lowered.{task_few}
 -- ---- the runtime takes no reading, and its starts offer no word
 
 module _ (weight : ℕ) where
-  abbrev Weighs : ℕ → List Effect → Type 0
+  abbrev pub Weighs : ℕ → List Effect → Type 0
   Weighs n es = weighed weight es ≤ n
 
-  two_weigh : (n : ℕ) (a b : List Effect) → Weighs 0 a → Weighs n b → Weighs n (a ++ b)
+  pub two_weigh : (n : ℕ) (a b : List Effect) → Weighs 0 a → Weighs n b → Weighs n (a ++ b)
   two_weigh n a b h k = let all = weighed-append weight a b in omega (arith, all, h, k)
 
-  where_none : (events : Bool) (es : List Effect) → Weighs 0 es → Weighs 0 (where_events events es)
+  pub where_none : (events : Bool) (es : List Effect) → Weighs 0 es → Weighs 0 (where_events events es)
   where_none true es h = h
   where_none false es h = omega arith
 
@@ -57,7 +57,7 @@ module _ (weight : ℕ) where
   cleared_none zero p = omega arith
   cleared_none (suc n) p = cleared_none n (p + 2)
 
-  clearing_none : (l : MemoryMap) (comes : Bool) → Weighs 0 (clearing_if l comes)
+  pub clearing_none : (l : MemoryMap) (comes : Bool) → Weighs 0 (clearing_if l comes)
   clearing_none l true = two_weigh 0 (cleared l.versions.words l.versions.address) _ (cleared_none l.versions.words l.versions.address) (omega arith)
   clearing_none l false = omega arith
 
@@ -76,17 +76,17 @@ module _ (weight : ℕ) where
 
   -- an attempt weighs no more than its task's text has readings, whatever a word weighs
   attempt_weighs : (p : CheckedProgram) (l : MemoryMap) (f : ℕ → ℕ) (inputs : Inputs)
-      → Weighs (block_readings (task_body p (f (word_place l CurrentTask)))) ((redo_model p l).attempt f inputs).effects
+      → Weighs (block_readings (reading_counts p) (task_body p (f (word_place l CurrentTask)))) ((redo_model p l).attempt f inputs).effects
   attempt_weighs p l f inputs =
       let k = f (word_place l CurrentTask) in
       let es = start_effects l (privates_in (task_entries l)) f in
       let own = program_takes weight (task_program p l k) (started (fram_after es f) inputs) in
       let text = task_few p l k in
-      two_weigh (block_readings (task_body p k)) es _ (start_none l (privates_in (task_entries l)) f) (omega (arith, own, text))
+      two_weigh (block_readings (reading_counts p) (task_body p k)) es _ (start_none l (privates_in (task_entries l)) f) (omega (arith, own, text))
 
 -- ---- readings
 
-sends_no_reading : (n number p : ℕ) (f : ℕ → ℕ) → weighed 0 (sends n number p f) ≤ 0
+pub sends_no_reading : (n number p : ℕ) (f : ℕ → ℕ) → weighed 0 (sends n number p f) ≤ 0
 sends_no_reading zero number p f = omega arith
 sends_no_reading (suc n) number p f = let rest = sends_no_reading n ((number + 1) % 0x10000) (p + 2) f in omega (arith, rest)
 
@@ -95,14 +95,14 @@ commit_none l f = commit_weighs 0 l 0 f (sends_no_reading (f (word_place l EmitC
 
 -- ---- words
 
-sends_few : (n number p : ℕ) (f : ℕ → ℕ) → weighed 1 (sends n number p f) ≤ n
+pub sends_few : (n number p : ℕ) (f : ℕ → ℕ) → weighed 1 (sends n number p f) ≤ n
 sends_few zero number p f = omega arith
 sends_few (suc n) number p f = let rest = sends_few n ((number + 1) % 0x10000) (p + 2) f in omega (arith, rest)
 
 -- ---- scripts
 
 -- the commit, or an attempt
-either_few : (count : List Effect → ℕ) (pending : Bool) (a b : ProgramEffects) (n : ℕ) → count a.effects ≤ 0 → count b.effects ≤ n
+pub either_few : (count : List Effect → ℕ) (pending : Bool) (a b : ProgramEffects) (n : ℕ) → count a.effects ≤ 0 → count b.effects ≤ n
     → count (if pending then a else b).effects ≤ (if pending then 0 else n)
 either_few count true a b n h k = h
 either_few count false a b n h k = k
@@ -112,7 +112,7 @@ module _ (p : CheckedProgram) (l : MemoryMap) where
   m = redo_model p l
 
   abbrev text_of : (ℕ → ℕ) → ℕ
-  text_of f = block_readings (task_body p (f (word_place l CurrentTask)))
+  text_of f = block_readings (reading_counts p) (task_body p (f (word_place l CurrentTask)))
 
   -- ---- readings
 
@@ -136,7 +136,7 @@ module _ (p : CheckedProgram) (l : MemoryMap) where
       either_few (weighed 0) (f (word_place l Gate) == 1) (program_effects (m.commit f inputs) true) (with_commit m f inputs (attempt_from m booted f inputs))
       (text_of f) (commit_none l f) (booted_few booted f inputs)
 
-  follows_few : (readings : List ℕ) (h : History) → FollowsScript m readings h → length (readings_taken h.effects) ≤ readings_from p l h.start.fram
+  pub follows_few : (readings : List ℕ) (h : History) → FollowsScript m readings h → length (readings_taken h.effects) ≤ readings_from p l h.start.fram
   follows_few readings h follows =
       let inputs = inputs_from readings h.since (looks_taken h.effects ++ follows.left) in
       let all = weighed-append 0 h.effects follows.follows.rest in
@@ -162,7 +162,7 @@ module _ (p : CheckedProgram) (l : MemoryMap) where
       omega (arith, weight, words)
 
   -- and as many as a task emits at most, where the world was decided from its state
-  decided_offers_few : (s next : State) (x : World) → m.Decided s next x → offered (commit_effects l x.fram) ≤ emits_of (task_body p s.task)
+  decided_offers_few : (s next : State) (x : World) → m.Decided s next x → offered (commit_effects l x.fram) ≤ emits_of (summaries p) (task_body p s.task)
   decided_offers_few s next x d =
       let few = commit_offers_few x.fram in
       let count = d.decided.sends.emit_count in
@@ -174,7 +174,7 @@ module _ (p : CheckedProgram) (l : MemoryMap) where
   committing_offers_few to x c = let few = commit_offers_few x.fram in let room = c.pending.emit_count in omega (arith, few, room)
 
   -- as the law of models wants it
-  offers : Offers m (λ s. emits_of (task_body p s.task)) l.emits.words
+  offers : Offers m (λ s. emits_of (summaries p) (task_body p s.task)) l.emits.words
   offers = record {
     recoveries = λ f. refl;
     attempts = attempt_offers_none;
@@ -182,26 +182,19 @@ module _ (p : CheckedProgram) (l : MemoryMap) where
     committing = λ to x inputs c. committing_offers_few to x c;
   }
 
-pub readings_are_few : ReadingsAreFew
-readings_are_few p l logs readings h follows =
-    follows_few p l readings h (subst (λ m. FollowsScript m readings h) (is_redo p l logs) follows)
-
 -- the two say the same of a source
-same_words : (p : CheckedProgram) (l : MemoryMap) (origin : Origin State) (ds : List Done) (s : State)
-    → offered_from (λ t. emits_of (task_body p t.task)) l.emits.words origin ds s ≡ words_from p l origin ds s
+pub same_words : (p : CheckedProgram) (l : MemoryMap) (origin : Origin State) (ds : List Done) (s : State)
+    → offered_from (λ t. emits_of (summaries p) (task_body p t.task)) l.emits.words origin ds s ≡ words_from p l origin ds s
 same_words p l (Resting first) ds s = refl
 same_words p l (Pending to) [] s = refl
 same_words p l (Pending to) (d ∷ ds) s = refl
 
 -- the law for a model
-abbrev WordsFollow : CheckedProgram → MemoryMap → Model State → Type 0
+abbrev pub WordsFollow : CheckedProgram → MemoryMap → Model State → Type 0
 WordsFollow p l m = ModelLaws m → (readings : List ℕ) (origin : Origin State) (h : History) → FollowsScript m readings h
     → (stands : StandsFor m readings origin h) → offered h.effects ≤ words_from p l origin h.completed stands.state
 
-pub words_are_few : WordsAreFew
-words_are_few p l logs = subst (WordsFollow p l) (sym (is_redo p l logs)) under_redo
-  where
-    under_redo : WordsFollow p l (redo_model p l)
-    under_redo laws readings origin h follows stands =
-        subst (λ n. offered h.effects ≤ n) (same_words p l origin h.completed stands.state)
-        (words_follow (redo_model p l) laws (λ s. emits_of (task_body p s.task)) l.emits.words (offers p l) readings origin h follows stands)
+pub words_under_redo : (p : CheckedProgram) (l : MemoryMap) → WordsFollow p l (redo_model p l)
+words_under_redo p l laws readings origin h follows stands =
+    subst (λ n. offered h.effects ≤ n) (same_words p l origin h.completed stands.state)
+    (words_follow (redo_model p l) laws (λ s. emits_of (summaries p) (task_body p s.task)) l.emits.words (offers p l) readings origin h follows stands)

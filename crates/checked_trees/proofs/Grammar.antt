@@ -8,6 +8,7 @@ use Rattle.task_ast.specs.declared.WordType.{WordType}
 use Rattle.task_ast.specs.declared.WordType.TheVariants.{Unsigned, Int, Long}
 use Rattle.task_ast.specs.declared.Extent.{Extent}
 use Rattle.task_ast.specs.declared.SharedDeclaration.{SharedDeclaration}
+use Rattle.task_ast.specs.Tree as t
 use Rattle.task_ast.specs.Tree.{block_of, choice_of}
 use Rattle.task_ast.specs.Types.{IsOneWord, is_long}
 use Rattle.task_lex.specs.declared.token.Token.{Token}
@@ -15,14 +16,14 @@ use Rattle.task_lex.specs.declared.token.Kind.{Kind}
 use Rattle.task_lex.specs.declared.token.Kind.TheVariants as k
 use Rattle.task_lex.specs.Lex.{is_end, width_after}
 use Rattle.task_grammar.specs.declared.operators.Infix.{Infix}
-use Rattle.task_grammar.specs.Parsed.{Expression, Statement, Block, Tested, Task, Program}
-use Rattle.task_grammar.specs.Grammar.{prefix_of, infix_of, weakest, type_of, IsExpression, IsGiven, IsStatement, IsElses, IsArm, IsBlock}
-use Rattle.task_grammar.specs.Grammar.{IsStatements, Row}
-use Rattle.task_grammar.specs.Grammar.{IsExtent, IsWorth, IsLongExtent, IsShared, IsTask, IsProgram}
+use Rattle.task_grammar.specs.Parsed.{Expression, Values, Statement, Block, Tested, Parameter, Function, Task, Program}
+use Rattle.task_grammar.specs.Grammar.{prefix_of, infix_of, weakest, type_of, IsExpression, IsValues, IsMoreValues, IsGiven, IsStatement, IsElses}
+use Rattle.task_grammar.specs.Grammar.{IsArm, IsBlock, IsStatements, Row, IsExtent, IsWorth, IsLongExtent, IsShared, IsParameter, IsFurther}
+use Rattle.task_grammar.specs.Grammar.{IsParameters, IsFunction, IsTask, IsProgram}
 use Rattle.task_grammar.specs.Grammar as grammar
 use Rattle.source_values.specs.Runs.{is_long_extent}
-use Rattle.checked_trees.specs.WellFormed.{enough, HasItsExtent}
-use Rattle.checked_trees.proofs.Fits.{ExpressionFits, StatementFits, ChoiceFits, BlockFits}
+use Rattle.checked_trees.specs.WellFormed.{stack_words, enough, HasItsExtent}
+use Rattle.checked_trees.proofs.Fits.{ExpressionFits, ValuesFit, StatementFits, ChoiceFits, BlockFits}
 use Rattle.checked_trees.proofs.Tokens.{AreSound}
 
 -- ---- tokens that end no row
@@ -101,69 +102,119 @@ IsRoomy w beneath = beneath ≤ 2 * w + 1
 token_room : (w beneath : ℕ) → IsRoomy w beneath → w + 1 ≤ 256 → 2 + beneath ≤ enough
 token_room w beneath l few = omega (arith, l, few)
 
-expression_fits : (j : ℕ) (ts : List Token) (e : Expression) → IsExpression j ts e → (w beneath : ℕ) (rest : List Token) → IsRoomy w beneath
-    → AreSound w (ts ++ rest)
-    → ExpressionFits beneath e × Left (w + 1) rest
-expression_fits j ts e (grammar.number n is) w beneath rest l h =
-    let plain : InRow n.kind = ap is_end is in
-    ((h.1.0, token_room w beneath l (in_row w n rest plain h)), left (w + 1) rest (past w n rest plain h))
-expression_fits j ts e (grammar.long_number n is) w beneath rest l h =
-    let plain : InRow n.kind = ap is_end is in
-    let low = h.1.0 in
-    let high = h.1.1 in
-    ((omega (arith, low, high), token_room w beneath l (in_row w n rest plain h)), left (w + 1) rest (past w n rest plain h))
-expression_fits j ts e (grammar.name n is) w beneath rest l h =
-    let plain : InRow n.kind = ap is_end is in
-    ((tt, token_room w beneath l (in_row w n rest plain h)), left (w + 1) rest (past w n rest plain h))
-expression_fits j ts e (grammar.element n o c xs index is_n is_o inner is_c) w beneath rest l h =
-    let a = past w n (o ∷ ((xs ++ c ∷ []) ++ rest)) (ap is_end is_n) h in
-    let b = apart (w + 1 + 1) xs (c ∷ []) rest (past (w + 1) o ((xs ++ c ∷ []) ++ rest) (ap is_end is_o) a) in
-    let i = expression_fits weakest xs index inner (w + 1 + 1) beneath (c ∷ rest) (omega (arith, l)) b in
-    (i.0, left_past (w + 1) (w + 1 + 1 + 1) c rest (ap is_end is_c) (omega arith) i.1)
-expression_fits j ts e (grammar.sense s o c is_s is_o is_c) w beneath rest l h =
-    let plain : InRow s.kind = ap is_end is_s in
-    let a = past w s (o ∷ c ∷ rest) plain h in
-    let b = past (w + 1) o (c ∷ rest) (ap is_end is_o) a in (
-      (tt, token_room w beneath l (in_row w s (o ∷ c ∷ rest) plain h)),
-      left_since (w + 1) (w + 1 + 1 + 1) rest (omega arith) (left (w + 1 + 1 + 1) rest (past (w + 1 + 1) c rest (ap is_end is_c) b)),
-    )
-expression_fits j ts e (grammar.next_event n o c is_n is_o is_c) w beneath rest l h =
-    let plain : InRow n.kind = ap is_end is_n in
-    let a = past w n (o ∷ c ∷ rest) plain h in
-    let b = past (w + 1) o (c ∷ rest) (ap is_end is_o) a in (
-      (tt, token_room w beneath l (in_row w n (o ∷ c ∷ rest) plain h)),
-      left_since (w + 1) (w + 1 + 1 + 1) rest (omega arith) (left (w + 1 + 1 + 1) rest (past (w + 1 + 1) c rest (ap is_end is_c) b)),
-    )
-expression_fits j ts e (grammar.brackets o c xs inner is_o is_inner is_c) w beneath rest l h =
-    let b = apart (w + 1) xs (c ∷ []) rest (past w o ((xs ++ c ∷ []) ++ rest) (ap is_end is_o) h) in
-    let i = expression_fits weakest xs inner is_inner (w + 1) beneath (c ∷ rest) (omega (arith, l)) b in
-    (i.0, left_past (w + 1) (w + 1 + 1) c rest (ap is_end is_c) (omega arith) i.1)
-expression_fits j ts e (grammar.prefixed t op xs inner is is_inner) w beneath rest l h =
-    let a = past w t (xs ++ rest) (prefix_in_row t.kind op is) h in
-    let i = expression_fits 0 xs inner is_inner (w + 1) (suc (suc beneath)) rest (omega (arith, l)) a in
-    let fits = i.0.1 in
-    ((i.0.0, omega (arith, fits)), left_since (w + 1) (w + 1 + 1) rest (omega arith) i.1)
-expression_fits j ts e (grammar.tighter i xs inner is) w beneath rest l h = expression_fits i xs inner is w beneath rest l h
-expression_fits j ts e (grammar.joined i t op xs ys a b is_a is is_b) w beneath rest l h =
-    let x = expression_fits (suc i) xs a is_a w beneath (t ∷ (ys ++ rest)) l (apart w xs (t ∷ ys) rest h) in
-    let s : Left (w + 1 + 1) (ys ++ rest) = left_past (w + 1 + 1) (w + 1) t (ys ++ rest) (infix_in_row t.kind _ is) (omega arith) x.1 in
-    let later = s.later in
-    let y = expression_fits i ys b is_b s.width (suc (suc beneath)) rest (omega (arith, l, later)) s.sound in
-    let first = x.0.1 in
-    let second = y.0.1 in
-    (((x.0.0, y.0.0), omega (arith, first, second)), left_since (w + 1) (s.width + 1) rest (omega (arith, later)) y.1)
-expression_fits j ts e (grammar.short_circuited i t op xs ys a b is_a is is_b) w beneath rest l h =
-    let x = expression_fits (suc i) xs a is_a w beneath (t ∷ (ys ++ rest)) l (apart w xs (t ∷ ys) rest h) in
-    let s : Left (w + 1 + 1) (ys ++ rest) = left_past (w + 1 + 1) (w + 1) t (ys ++ rest) (infix_in_row t.kind _ is) (omega arith) x.1 in
-    let later = s.later in
-    let y = expression_fits i ys b is_b s.width beneath rest (omega (arith, l, later)) s.sound in
-    let first = x.0.1 in
-    let second = y.0.1 in
-    (((x.0.0, y.0.0), omega (arith, first, second)), left_since (w + 1) (s.width + 1) rest (omega (arith, later)) y.1)
-expression_fits j ts e (grammar.shifted i t n op xs a is_a is is_n) w beneath rest l h =
-    let x = expression_fits (suc i) xs a is_a w beneath (t ∷ n ∷ rest) l (apart w xs (t ∷ n ∷ []) rest h) in
-    let s : Left (w + 1 + 1) (n ∷ rest) = left_past (w + 1 + 1) (w + 1) t (n ∷ rest) (infix_in_row t.kind _ is) (omega arith) x.1 in
-    (((x.0.0, s.sound.1.0), x.0.1), left_past (w + 1) (w + 1 + 1) n rest (ap is_end is_n) (omega arith) s)
+-- an expression leaves a word, or two
+two_needed : (e : Expression) → 2 ≤ stack_words e
+two_needed (t.number w) = omega arith
+two_needed (t.long_number w) = omega arith
+two_needed (t.name x) = omega arith
+two_needed (t.element x index) = two_needed index
+two_needed t.sense = omega arith
+two_needed t.next_event = omega arith
+two_needed (t.call f values) = omega arith
+two_needed (t.unary op e) = omega arith
+two_needed (t.binary op a b) = let few = two_needed a in omega (arith, few)
+two_needed (t.shift op e count) = two_needed e
+two_needed (t.short_circuit op a b) = let few = two_needed a in omega (arith, few)
+
+mutual
+  expression_fits : (j : ℕ) (ts : List Token) (e : Expression) → IsExpression j ts e → (w beneath : ℕ) (rest : List Token) → IsRoomy w beneath
+      → AreSound w (ts ++ rest)
+      → ExpressionFits beneath e × Left (w + 1) rest
+  expression_fits j ts e (grammar.number n is) w beneath rest l h =
+      let plain : InRow n.kind = ap is_end is in
+      ((h.1.0, token_room w beneath l (in_row w n rest plain h)), left (w + 1) rest (past w n rest plain h))
+  expression_fits j ts e (grammar.long_number n is) w beneath rest l h =
+      let plain : InRow n.kind = ap is_end is in
+      let low = h.1.0 in
+      let high = h.1.1 in
+      ((omega (arith, low, high), token_room w beneath l (in_row w n rest plain h)), left (w + 1) rest (past w n rest plain h))
+  expression_fits j ts e (grammar.name n is) w beneath rest l h =
+      let plain : InRow n.kind = ap is_end is in
+      ((tt, token_room w beneath l (in_row w n rest plain h)), left (w + 1) rest (past w n rest plain h))
+  expression_fits j ts e (grammar.element n o c xs index is_n is_o inner is_c) w beneath rest l h =
+      let a = past w n (o ∷ ((xs ++ c ∷ []) ++ rest)) (ap is_end is_n) h in
+      let b = apart (w + 1 + 1) xs (c ∷ []) rest (past (w + 1) o ((xs ++ c ∷ []) ++ rest) (ap is_end is_o) a) in
+      let i = expression_fits weakest xs index inner (w + 1 + 1) beneath (c ∷ rest) (omega (arith, l)) b in
+      (i.0, left_past (w + 1) (w + 1 + 1 + 1) c rest (ap is_end is_c) (omega arith) i.1)
+  expression_fits j ts e (grammar.sense s o c is_s is_o is_c) w beneath rest l h =
+      let plain : InRow s.kind = ap is_end is_s in
+      let a = past w s (o ∷ c ∷ rest) plain h in
+      let b = past (w + 1) o (c ∷ rest) (ap is_end is_o) a in (
+        (tt, token_room w beneath l (in_row w s (o ∷ c ∷ rest) plain h)),
+        left_since (w + 1) (w + 1 + 1 + 1) rest (omega arith) (left (w + 1 + 1 + 1) rest (past (w + 1 + 1) c rest (ap is_end is_c) b)),
+      )
+  expression_fits j ts e (grammar.next_event n o c is_n is_o is_c) w beneath rest l h =
+      let plain : InRow n.kind = ap is_end is_n in
+      let a = past w n (o ∷ c ∷ rest) plain h in
+      let b = past (w + 1) o (c ∷ rest) (ap is_end is_o) a in (
+        (tt, token_room w beneath l (in_row w n (o ∷ c ∷ rest) plain h)),
+        left_since (w + 1) (w + 1 + 1 + 1) rest (omega arith) (left (w + 1 + 1 + 1) rest (past (w + 1 + 1) c rest (ap is_end is_c) b)),
+      )
+  expression_fits j ts e (grammar.call n o c xs values is_n is_o inner is_c) w beneath rest l h =
+      let plain : InRow n.kind = ap is_end is_n in
+      let a = past w n (o ∷ ((xs ++ c ∷ []) ++ rest)) plain h in
+      let b = apart (w + 1 + 1) xs (c ∷ []) rest (past (w + 1) o ((xs ++ c ∷ []) ++ rest) (ap is_end is_o) a) in
+      let own = token_room w beneath l (in_row w n (o ∷ ((xs ++ c ∷ []) ++ rest)) plain h) in
+      let v = values_fit xs values inner (w + 1 + 1) beneath (c ∷ rest) (omega (arith, l)) (omega (arith, own)) b in
+      let room = v.0.1 in
+      ((v.0.0, omega (arith, own, room)), left_past (w + 1) (w + 1 + 1) c rest (ap is_end is_c) (omega arith) v.1)
+  expression_fits j ts e (grammar.brackets o c xs inner is_o is_inner is_c) w beneath rest l h =
+      let b = apart (w + 1) xs (c ∷ []) rest (past w o ((xs ++ c ∷ []) ++ rest) (ap is_end is_o) h) in
+      let i = expression_fits weakest xs inner is_inner (w + 1) beneath (c ∷ rest) (omega (arith, l)) b in
+      (i.0, left_past (w + 1) (w + 1 + 1) c rest (ap is_end is_c) (omega arith) i.1)
+  expression_fits j ts e (grammar.prefixed t op xs inner is is_inner) w beneath rest l h =
+      let a = past w t (xs ++ rest) (prefix_in_row t.kind op is) h in
+      let i = expression_fits 0 xs inner is_inner (w + 1) (suc (suc beneath)) rest (omega (arith, l)) a in
+      let fits = i.0.1 in
+      ((i.0.0, omega (arith, fits)), left_since (w + 1) (w + 1 + 1) rest (omega arith) i.1)
+  expression_fits j ts e (grammar.tighter i xs inner is) w beneath rest l h = expression_fits i xs inner is w beneath rest l h
+  expression_fits j ts e (grammar.joined i t op xs ys a b is_a is is_b) w beneath rest l h =
+      let x = expression_fits (suc i) xs a is_a w beneath (t ∷ (ys ++ rest)) l (apart w xs (t ∷ ys) rest h) in
+      let s : Left (w + 1 + 1) (ys ++ rest) = left_past (w + 1 + 1) (w + 1) t (ys ++ rest) (infix_in_row t.kind _ is) (omega arith) x.1 in
+      let later = s.later in
+      let y = expression_fits i ys b is_b s.width (suc (suc beneath)) rest (omega (arith, l, later)) s.sound in
+      let first = x.0.1 in
+      let second = y.0.1 in
+      (((x.0.0, y.0.0), omega (arith, first, second)), left_since (w + 1) (s.width + 1) rest (omega (arith, later)) y.1)
+  expression_fits j ts e (grammar.short_circuited i t op xs ys a b is_a is is_b) w beneath rest l h =
+      let x = expression_fits (suc i) xs a is_a w beneath (t ∷ (ys ++ rest)) l (apart w xs (t ∷ ys) rest h) in
+      let s : Left (w + 1 + 1) (ys ++ rest) = left_past (w + 1 + 1) (w + 1) t (ys ++ rest) (infix_in_row t.kind _ is) (omega arith) x.1 in
+      let later = s.later in
+      let y = expression_fits i ys b is_b s.width beneath rest (omega (arith, l, later)) s.sound in
+      let first = x.0.1 in
+      let second = y.0.1 in
+      (((x.0.0, y.0.0), omega (arith, first, second)), left_since (w + 1) (s.width + 1) rest (omega (arith, later)) y.1)
+  expression_fits j ts e (grammar.shifted i t n op xs a is_a is is_n) w beneath rest l h =
+      let x = expression_fits (suc i) xs a is_a w beneath (t ∷ n ∷ rest) l (apart w xs (t ∷ n ∷ []) rest h) in
+      let s : Left (w + 1 + 1) (n ∷ rest) = left_past (w + 1 + 1) (w + 1) t (n ∷ rest) (infix_in_row t.kind _ is) (omega arith) x.1 in
+      (((x.0.0, s.sound.1.0), x.0.1), left_past (w + 1) (w + 1 + 1) n rest (ap is_end is_n) (omega arith) s)
+
+  values_fit : (ts : List Token) (values : Values) → IsValues ts values → (w beneath : ℕ) (rest : List Token) → IsRoomy w beneath → beneath ≤ enough
+      → AreSound w (ts ++ rest)
+      → ValuesFit beneath values × Left w rest
+  values_fit ts values grammar.no_values w beneath rest l few h = ((tt, omega (arith, few)), left w rest h)
+  values_fit ts values (grammar.values xs ys first more is is_more) w beneath rest l few h =
+      let e = expression_fits weakest xs first is w beneath (ys ++ rest) l (apart w xs ys rest h) in
+      let later = e.1.later in
+      let room = e.0.1 in
+      let two = two_needed first in
+      let m = more_fit ys more is_more e.1.width (suc beneath) rest (omega (arith, l, later)) (omega (arith, room, two)) e.1.sound in
+      let others = m.0.1 in
+      (((e.0.0, m.0.0), omega (arith, room, others)), left_since w e.1.width rest (omega (arith, later)) m.1)
+
+  more_fit : (ts : List Token) (values : Values) → IsMoreValues ts values → (w beneath : ℕ) (rest : List Token) → IsRoomy w beneath → beneath ≤ enough
+      → AreSound w (ts ++ rest)
+      → ValuesFit beneath values × Left w rest
+  more_fit ts values grammar.no_more w beneath rest l few h = ((tt, omega (arith, few)), left w rest h)
+  more_fit ts values (grammar.another_value c xs ys next more is_c is is_more) w beneath rest l few h =
+      let a = apart (w + 1) xs ys rest (past w c ((xs ++ ys) ++ rest) (ap is_end is_c) h) in
+      let e = expression_fits weakest xs next is (w + 1) beneath (ys ++ rest) (omega (arith, l)) a in
+      let later = e.1.later in
+      let room = e.0.1 in
+      let two = two_needed next in
+      let m = more_fit ys more is_more e.1.width (suc beneath) rest (omega (arith, l, later)) (omega (arith, room, two)) e.1.sound in
+      let others = m.0.1 in
+      (((e.0.0, m.0.0), omega (arith, room, others)), left_since w e.1.width rest (omega (arith, later)) m.1)
 
 -- ---- statements
 
@@ -212,6 +263,10 @@ mutual
       let v = expression_fits weakest xs value is (w + 1 + 1) 0 (c ∷ z ∷ more) (omega arith) b in
       let e = past v.1.width c (z ∷ more) (ap is_end is_c) v.1.sound in
       (v.0, rest 0 more (behind (v.1.width + 1) z more k.Semicolon is_z e))
+  statement_fits ts s (grammar.give t z xs value is_t is is_z) w more h =
+      let a = apart (w + 1) xs (z ∷ []) more (past w t ((xs ++ z ∷ []) ++ more) (ap is_end is_t) h) in
+      let v = expression_fits weakest xs value is (w + 1) 0 (z ∷ more) (omega arith) a in
+      (v.0, rest 0 more (behind v.1.width z more k.Semicolon is_z v.1.sound))
   statement_fits ts s (grammar.transition t o n c z is_t is_o is_n is_c is_z) w more h =
       let a = past w t (o ∷ n ∷ c ∷ z ∷ more) (ap is_end is_t) h in
       let b = past (w + 1 + 1) n (c ∷ z ∷ more) (ap is_end is_n) (past (w + 1) o (n ∷ c ∷ z ∷ more) (ap is_end is_o) a) in
@@ -331,6 +386,39 @@ shareds_pass ts (s ∷ all) (xs, ys, cut, is, row) w more h =
     let a = shared_passes xs s is w (ys ++ more) (apart w xs ys more (subst (λ ts. AreSound w (ts ++ more)) cut h)) in
     shareds_pass ys all row a.width more a.sound
 
+parameter_passes : (ts : List Token) (p : Parameter) → IsParameter ts p → (w : ℕ) (more : List Token) → AreSound w (ts ++ more) → Rest more
+parameter_passes ts p (grammar.parameter t n of is_t is_n) w more h =
+    rest (w + 1 + 1) more (past (w + 1) n more (ap is_end is_n) (past w t (n ∷ more) (type_in_row t.kind of is_t) h))
+
+further_passes : (ts : List Token) (p : Parameter) → IsFurther ts p → (w : ℕ) (more : List Token) → AreSound w (ts ++ more) → Rest more
+further_passes ts p (grammar.further c xs found is_c is) w more h = parameter_passes xs found is (w + 1) more (past w c (xs ++ more) (ap is_end is_c) h)
+
+furthers_pass : (ts : List Token) (all : List Parameter) → Row IsFurther ts all → (w : ℕ) (more : List Token) → AreSound w (ts ++ more) → Rest more
+furthers_pass ts [] row w more h = rest w more (subst (λ ts. AreSound w (ts ++ more)) row h)
+furthers_pass ts (p ∷ all) (xs, ys, cut, is, row) w more h =
+    let a = further_passes xs p is w (ys ++ more) (apart w xs ys more (subst (λ ts. AreSound w (ts ++ more)) cut h)) in
+    furthers_pass ys all row a.width more a.sound
+
+parameters_pass : (ts : List Token) (all : List Parameter) → IsParameters ts all → (w : ℕ) (more : List Token) → AreSound w (ts ++ more) → Rest more
+parameters_pass ts all grammar.no_parameter w more h = rest w more h
+parameters_pass ts all (grammar.parameters xs ys first others is is_more) w more h =
+    let a = parameter_passes xs first is w (ys ++ more) (apart w xs ys more h) in
+    furthers_pass ys others is_more a.width more a.sound
+
+function_passes : (ts : List Token) (f : Function) → IsFunction ts f → (w : ℕ) (more : List Token) → AreSound w (ts ++ more) → Rest more
+function_passes ts f (grammar.function t n o c of ps bs parameters body is_t is_n is_o is_ps is_c is) w more sound =
+    let tail = (ps ++ (c ∷ bs)) ++ more in
+    let a = past (w + 1) n (o ∷ tail) (ap is_end is_n) (past w t (n ∷ o ∷ tail) (type_in_row t.kind of is_t) sound) in
+    let b = apart (w + 1 + 1 + 1) ps (c ∷ bs) more (past (w + 1 + 1) o tail (ap is_end is_o) a) in
+    let p = parameters_pass ps parameters is_ps (w + 1 + 1 + 1) (c ∷ (bs ++ more)) b in
+    (block_fits bs body is (p.width + 1) more (past p.width c (bs ++ more) (ap is_end is_c) p.sound)).1
+
+functions_pass : (ts : List Token) (all : List Function) → Row IsFunction ts all → (w : ℕ) (more : List Token) → AreSound w (ts ++ more) → Rest more
+functions_pass ts [] row w more h = rest w more (subst (λ ts. AreSound w (ts ++ more)) row h)
+functions_pass ts (f ∷ all) (xs, ys, cut, is, row) w more h =
+    let a = function_passes xs f is w (ys ++ more) (apart w xs ys more (subst (λ ts. AreSound w (ts ++ more)) cut h)) in
+    functions_pass ys all row a.width more a.sound
+
 task_fits : (ts : List Token) (task : Task) → IsTask ts task → (w : ℕ) (more : List Token) → AreSound w (ts ++ more)
     → BlockFits task.body × Rest more
 task_fits ts task (grammar.task h n xs body is_h is_n is) w more sound =
@@ -345,10 +433,11 @@ tasks_fit ts (task ∷ all) (xs, ys, cut, is, row) w more h =
 
 -- the tasks of a program fit
 pub program_fits : (ts : List Token) (p : Program) → IsProgram ts p → AreSound 0 ts → All (λ task. BlockFits task.body) p.tasks
-program_fits ts p (grammar.program xs ys zs h n z shareds first others is_shareds is_first is_others is_h is_n is_z) sound =
+program_fits ts p (grammar.program xs fs ys zs h n z shareds functions first others is_shareds is_functions is_first is_others is_h is_n is_z) sound =
     let end = h ∷ n ∷ z ∷ [] in
-    let a = shareds_pass xs shareds is_shareds 0 (ys ++ (zs ++ end)) sound in
-    let b = task_fits ys first is_first a.width (zs ++ end) a.sound in
+    let a = shareds_pass xs shareds is_shareds 0 (fs ++ (ys ++ (zs ++ end))) sound in
+    let f = functions_pass fs functions is_functions a.width (ys ++ (zs ++ end)) a.sound in
+    let b = task_fits ys first is_first f.width (zs ++ end) f.sound in
     All-cons (λ task. BlockFits task.body) first others b.0 (tasks_fit zs others is_others b.1.width end b.1.sound)
 
 -- ---- declarations
@@ -379,4 +468,5 @@ shareds_typed ts (d ∷ all) (xs, ys, cut, is, row) = All-cons HasItsExtent d al
 
 -- the longs of a program are declared as such
 pub program_typed : (ts : List Token) (p : Program) → IsProgram ts p → All HasItsExtent p.shared
-program_typed ts p (grammar.program xs ys zs h n z shareds first others is_shareds is_first is_others is_h is_n is_z) = shareds_typed xs shareds is_shareds
+program_typed ts p (grammar.program xs fs ys zs h n z shareds functions first others is_shareds is_functions is_first is_others is_h is_n is_z) =
+    shareds_typed xs shareds is_shareds

@@ -3,7 +3,7 @@
 -- Each task of a checked source is well-formed.
 pub use Rattle.checked_trees.proofs.Checked.{all_at, task_checked}
 -- Paths through a task, and the locals that are assigned along them.
-pub use Rattle.checked_trees.proofs.Paths.{names_read, is_path, some_turns, some_block, written, forgotten, behind, behind_both, behind_names}
+pub use Rattle.checked_trees.proofs.Paths.{HasPath, names_read, is_path, some_turns, some_block, written, forgotten, behind, behind_both, behind_names}
 pub use Rattle.checked_trees.proofs.Paths.{behind_expression, IsAssigned, Safe, safe_both, safe_expression, safe_paths}
 -- The tokens of a text: no more than 256 of them stand in a row, and each number is a word or two.
 pub use Rattle.checked_trees.proofs.Tokens.{OfWords, AreSound, are_sound}

@@ -20,8 +20,8 @@ use Rattle.task_check.specs.declared.symbol.Symbol.{Symbol}
 use Rattle.task_check.specs.declared.symbol.Symbol.TheVariants as symbol
 use Rattle.task_check.specs.declared.symbol.Global.{Global}
 use Rattle.task_check.specs.declared.symbol.Local.{Local}
-use Rattle.task_check.specs.Scope.{text_of, one_shared, shared_in, tasks_in, shared_symbol, global_with, if_named, global_in}
-use Rattle.task_check.specs.Scope.{local_in, or_global, meaning}
+use Rattle.task_check.specs.Scope.{text_of, one_shared, shared_in, functions_in, tasks_in, shared_symbol, global_with, if_named, global_in, local_in}
+use Rattle.task_check.specs.Scope.{known_functions, known_symbol, or_global, meaning}
 use Rattle.task_check.specs.LookedUp.{symbol_by, behind, symbol_at}
 use Rattle.task_check.specs.SharedTypes.{type_in, shared_type}
 use Rattle.checked_trees.proofs.Declared.{IsDeclaration, DeclaresOf, Declared}
@@ -32,6 +32,7 @@ abbrev TypedBy : Option WordType → Symbol → Type 0
 TypedBy o (symbol.Scalar n of) = o ≡ Some of
 TypedBy o (symbol.Array n of) = o ≡ Some of
 TypedBy o (symbol.Local n of) = Unit {0}
+TypedBy o (symbol.Function n of count) = Unit {0}
 TypedBy o (symbol.Task n) = Unit {0}
 
 abbrev pub Typed : Option WordType → Option Symbol → Type 0
@@ -89,7 +90,15 @@ typed_behind o (Some g) b front n of e h = by g.symbol h
     by (symbol.Scalar m t) h = ap (λ x. option_or x (if_named b (Some of))) h
     by (symbol.Array m t) h = ap (λ x. option_or x (if_named b (Some of))) h
     by (symbol.Local m t) h = tt
+    by (symbol.Function m t count) h = tt
     by (symbol.Task m) h = tt
+
+-- a function comes behind those
+function_behind : (o : Option WordType) (g : Option Global) (b : Bool) (front n : ℕ) (of : WordType) (count : ℕ) → GlobalTyped o g
+    → GlobalTyped o (option_or g (if_named b (Some (record { front = front; symbol = symbol.Function n of count }))))
+function_behind o None true front n of count h = tt
+function_behind o None false front n of count h = h
+function_behind o (Some g) b front n of count h = h
 
 -- a task comes behind those
 task_behind : (o : Option WordType) (g : Option Global) (b : Bool) (front n : ℕ) → GlobalTyped o g
@@ -111,23 +120,27 @@ module _ (source name : List ℕ) (shared : List SharedDeclaration) where
   same_count : (n : ℕ) (g : Option Global) → GlobalTyped (first n) g → GlobalTyped (first (n + 0)) g
   same_count n g h = let e : n ≡ n + 0 = omega arith in subst (λ m. GlobalTyped (first m) g) e h
 
-  one_more : (s : Span) (r : Role) (front n tasks : ℕ) (b : Bool) (g : Option Global) → b ≡ bytes_eq (text_of source s) name → DeclaresOf shared n s r
-      → GlobalTyped (first n) g → GlobalTyped (first (n + one_shared r)) (option_or g (if_named b (global_with r front n tasks)))
-  one_more s (role.Shared of e) front n tasks b g is d h =
+  one_more : (s : Span) (r : Role) (front n functions tasks : ℕ) (b : Bool) (g : Option Global) → b ≡ bytes_eq (text_of source s) name → DeclaresOf shared n s r
+      → GlobalTyped (first n) g → GlobalTyped (first (n + one_shared r)) (option_or g (if_named b (global_with r front n functions tasks)))
+  one_more s (role.Shared of e) front n functions tasks b g is d h =
       subst (λ o. GlobalTyped o (option_or g (if_named b (Some (record { front = front; symbol = shared_symbol n of e })))))
       (ap (λ b. option_or (first n) (if_named b (Some of))) is ∙ sym (type_more source name shared n s of e d)) (typed_behind (first n) g b front n of e h)
-  one_more s role.Task front n tasks b g is d h = same_count n _ (task_behind (first n) g b front tasks h)
-  one_more s (role.Local of begin end) front n tasks b g is d h = same_count n _ (none_behind (first n) g b h)
-  one_more s role.Scalar front n tasks b g is d h = same_count n _ (none_behind (first n) g b h)
-  one_more s role.Element front n tasks b g is d h = same_count n _ (none_behind (first n) g b h)
-  one_more s role.Counter front n tasks b g is d h = same_count n _ (none_behind (first n) g b h)
-  one_more s role.Target front n tasks b g is d h = same_count n _ (none_behind (first n) g b h)
-  one_more s (role.Operand refused kept) front n tasks b g is d h = same_count n _ (none_behind (first n) g b h)
+  one_more s (role.Function of count) front n functions tasks b g is d h =
+      same_count n _ (function_behind (first n) g b front functions of count h)
+  one_more s role.Task front n functions tasks b g is d h = same_count n _ (task_behind (first n) g b front tasks h)
+  one_more s (role.Local of begin end extra) front n functions tasks b g is d h = same_count n _ (none_behind (first n) g b h)
+  one_more s role.Scalar front n functions tasks b g is d h = same_count n _ (none_behind (first n) g b h)
+  one_more s role.Element front n functions tasks b g is d h = same_count n _ (none_behind (first n) g b h)
+  one_more s role.Counter front n functions tasks b g is d h = same_count n _ (none_behind (first n) g b h)
+  one_more s (role.Call count) front n functions tasks b g is d h = same_count n _ (none_behind (first n) g b h)
+  one_more s role.Target front n functions tasks b g is d h = same_count n _ (none_behind (first n) g b h)
+  one_more s (role.Operand refused kept) front n functions tasks b g is d h = same_count n _ (none_behind (first n) g b h)
 
   first_typed : (all : List Occurrence) → Declared shared all → GlobalTyped (first (shared_in all)) (global_in source name all)
   first_typed [] d = refl
   first_typed (o ∷ front) d =
-      one_more o.span o.role (length front) (shared_in front) (tasks_in front) (bytes_eq (text_of source o.span) name) (global_in source name front) refl d.0
+      one_more o.span o.role (length front) (shared_in front) (functions_in front) (tasks_in front) (bytes_eq (text_of source o.span) name)
+      (global_in source name front) refl d.0
       (first_typed front d.1)
 
   -- the type of a prefix's first is that of all
@@ -136,32 +149,40 @@ module _ (source name : List ℕ) (shared : List SharedDeclaration) where
       ap (type_in source name) (sym (take-append-drop n shared)) ∙ type_append source name (take n shared) (drop n shared)
       ∙ ap (λ o. option_or o (type_in source name (drop n shared))) h
 
-  global_typed : (g : Option Global) (n : ℕ) → GlobalTyped (first n) g → Typed (type_in source name shared) (or_global None g)
-  global_typed None n h = tt
-  global_typed (Some g) n h = by g.symbol h
+  global_typed : (known : ℕ) (g : Option Global) (n : ℕ) → GlobalTyped (first n) g → Typed (type_in source name shared) (or_global known None g)
+  global_typed known None n h = tt
+  global_typed known (Some g) n h = by g.symbol h
     where
-      by : (s : Symbol) → TypedBy (first n) s → TypedBy (type_in source name shared) s
+      by_known : (m : ℕ) (of : WordType) (count : ℕ) (b : Bool)
+          → Typed (type_in source name shared) (cond b (Some (symbol.Function m of count)) None)
+      by_known m of count true = tt
+      by_known m of count false = tt
+
+      by : (s : Symbol) → TypedBy (first n) s → Typed (type_in source name shared) (known_symbol known s)
       by (symbol.Scalar m of) h = all_typed n of h
       by (symbol.Array m of) h = all_typed n of h
       by (symbol.Local m of) h = tt
+      by (symbol.Function m of count) h = by_known m of count (nat_lt m known)
       by (symbol.Task m) h = tt
 
-  meaning_typed : (n : ℕ) (l : Option Local) (g : Option Global) → Typed (type_in source name shared) (or_global None g)
-      → Typed (type_in source name shared) (meaning n l g)
-  meaning_typed n None g h = h
-  meaning_typed n (Some l) g h = by (nat_le l.end n && nat_lt n l.begin)
+  meaning_typed : (known n : ℕ) (l : Option Local) (g : Option Global) → Typed (type_in source name shared) (or_global known None g)
+      → Typed (type_in source name shared) (meaning known n l g)
+  meaning_typed known n None g h = h
+  meaning_typed known n (Some l) g h = by (nat_le l.end n && nat_lt n l.begin)
     where
-      by : (b : Bool) → Typed (type_in source name shared) (or_global (cond b (Some (symbol.Local l.number l.word_type)) None) g)
+      by : (b : Bool) → Typed (type_in source name shared) (or_global known (cond b (Some (symbol.Local l.number l.word_type)) None) g)
       by true = tt
       by false = h
 
 typed_by_role : (o : Option WordType) (r : Role) (n : ℕ) (found : Option Symbol) → Typed o found → Typed o (symbol_by r n found)
-typed_by_role o (role.Local of begin end) n found h = tt
+typed_by_role o (role.Local of begin end extra) n found h = tt
 typed_by_role o (role.Shared of x) n found h = tt
+typed_by_role o (role.Function of count) n found h = tt
 typed_by_role o role.Task n found h = tt
 typed_by_role o role.Scalar n found h = h
 typed_by_role o role.Element n found h = h
 typed_by_role o role.Counter n found h = h
+typed_by_role o (role.Call count) n found h = h
 typed_by_role o role.Target n found h = h
 typed_by_role o (role.Operand refused kept) n found h = tt
 
@@ -171,9 +192,10 @@ pub symbol_typed : (source : List ℕ) (shared : List SharedDeclaration) (all : 
 unfolding symbol_at
 symbol_typed source shared all o front d =
     let name = text_of source o.span in
+    let known = known_functions (functions_in front) (tasks_in front) in
     typed_by_role (type_in source name shared) o.role _ _
-    (meaning_typed source name shared (behind all front) (local_in source name front) (global_in source name all)
-    (global_typed source name shared (global_in source name all) (shared_in all) (first_typed source name shared all d)))
+    (meaning_typed source name shared known (behind all front) (local_in source name front) (global_in source name all)
+    (global_typed source name shared known (global_in source name all) (shared_in all) (first_typed source name shared all d)))
 
 -- so its type is as wide as the checks take it to be
 pub as_wide : (source : List ℕ) (shared : List SharedDeclaration) (s : Span) (of : WordType) → type_in source (text_of source s) shared ≡ Some of

@@ -1,19 +1,23 @@
 -- Paths: each part of a task has one, and what a path leaves unassigned.
-use Rattle.std.proofs.Common.{◌≡◌, ℕ, zero, suc, ◌-◌, Bool, true, false, List, [], ◌∷◌, ◌++◌, Some, None, refl, sym, ap, subst, ◌∙◌, if◌then◌else◌}
+use Rattle.std.proofs.Common.{◌≡◌, ◌<◌, ℕ, zero, suc, ◌-◌, Bool, true, false, not, nat_lt, ltb-true, List, [], ◌∷◌, ◌++◌, Some, None, refl, sym, ap, subst}
+use Rattle.std.proofs.Common.{◌∙◌, arith, if◌then◌else◌}
 use Rattle.alp_text.specs.declared.lines.Span.{Span}
 use Rattle.task_ast.specs.Tree as t
-use Rattle.task_ast.specs.Paths.{CheckedExpression, CheckedStatement, CheckedChoice, CheckedBlock, Access, read, write, unset, End, goes_on, goes_to}
+use Rattle.task_ast.specs.Paths.{CheckedFunction, CheckedExpression, CheckedStatement, CheckedChoice, CheckedBlock, Access, read, write, unset}
+use Rattle.task_ast.specs.Paths.{End, goes_on, goes_to, returns}
 use Rattle.task_ast.specs.Paths.{ExpressionPath, StatementPath, ChoicePath, TurnsPath, BlockPath}
 use Rattle.task_ast.specs.Paths as path
+use Rattle.task_ast.specs.declared.SharedDeclaration.{SharedDeclaration}
 use Rattle.task_ast.specs.declared.names.Variable.{Variable}
 use Rattle.task_ast.specs.declared.names.Variable.TheVariants.{Shared, Local}
 use Rattle.task_ast.specs.declared.names.VariableName.{VariableName}
 use Rattle.path_checks.specs.Loops.{is_local}
 use Rattle.path_checks.specs.Unassigned.{is_unassigned, ReadsUnassigned}
+use Rattle.checked_trees.specs.WellFormed.{WellFormedExpression, WellFormedStatement, WellFormedChoice, WellFormedBlock}
 
 -- ---- each part has a path
 
--- the names of an expression, on the path that evaluates both sides of each `&&` and `||`
+-- the names of an expression, on the path that evaluates both sides of each `&&` and `||`; none of what has a call, which isn't well-formed
 abbrev pub names_read : CheckedExpression → List Access
 names_read (t.number w) = []
 names_read (t.long_number w) = []
@@ -21,22 +25,11 @@ names_read (t.name x) = read x ∷ []
 names_read (t.element x index) = names_read index ++ read x ∷ []
 names_read t.sense = []
 names_read t.next_event = []
+names_read (t.call f values) = []
 names_read (t.unary op e) = names_read e
 names_read (t.binary op a b) = names_read a ++ names_read b
 names_read (t.shift op e count) = names_read e
 names_read (t.short_circuit op a b) = names_read a ++ names_read b
-
-pub is_path : (e : CheckedExpression) → ExpressionPath e (names_read e)
-is_path (t.number w) = path.number w
-is_path (t.long_number w) = path.long_number w
-is_path (t.name x) = path.name x
-is_path (t.element x index) = path.element x index (names_read index) (is_path index)
-is_path t.sense = path.sense
-is_path t.next_event = path.next_event
-is_path (t.unary op e) = path.unary op e (names_read e) (is_path e)
-is_path (t.binary op a b) = path.binary op a b (names_read a) (names_read b) (is_path a) (is_path b)
-is_path (t.shift op e count) = path.shift op e count (names_read e) (is_path e)
-is_path (t.short_circuit op a b) = path.both_sides op a b (names_read a) (names_read b) (is_path a) (is_path b)
 
 -- some path, with its end
 pub record HasPath (Path : List Access → End → Type 0) : Type 0 where
@@ -47,49 +40,71 @@ pub record HasPath (Path : List Access → End → Type 0) : Type 0 where
 some : (Path : List Access → End → Type 0) (xs : List Access) (end : End) → Path xs end → HasPath Path
 some Path xs end p = record { accesses = xs; end = end; is = p }
 
-a_turn : (x : VariableName) (n : ℕ) (body : CheckedBlock) (xs : List Access) (end : End) → BlockPath body xs end → HasPath (TurnsPath x n body)
-    → HasPath (TurnsPath x (suc n) body)
-a_turn x n body xs goes_on p more =
-    some (TurnsPath x (suc n) body) (xs ++ write x ∷ more.accesses) more.end (path.turn x n body xs more.accesses more.end p more.is)
-a_turn x n body xs (goes_to k) p more = some (TurnsPath x (suc n) body) xs (goes_to k) (path.cut x n body xs k p)
+module _ (fs : List CheckedFunction) where
+  a_turn : (x : VariableName) (n : ℕ) (body : CheckedBlock) (xs : List Access) (end : End) → BlockPath fs body xs end → HasPath (TurnsPath fs x n body)
+      → HasPath (TurnsPath fs x (suc n) body)
+  a_turn x n body xs goes_on p more =
+      some (TurnsPath fs x (suc n) body) (xs ++ write x ∷ more.accesses) more.end (path.turn x n body xs more.accesses more.end p more.is)
+  a_turn x n body xs (goes_to k) p more = some (TurnsPath fs x (suc n) body) xs (goes_to k) (path.cut x n body xs (goes_to k) tt p)
+  a_turn x n body xs returns p more = some (TurnsPath fs x (suc n) body) xs returns (path.cut x n body xs returns tt p)
 
-pub some_turns : (x : VariableName) (n : ℕ) (body : CheckedBlock) → HasPath (BlockPath body) → HasPath (TurnsPath x n body)
-some_turns x zero body b = some (TurnsPath x zero body) [] goes_on (path.over x body)
-some_turns x (suc n) body b = a_turn x n body b.accesses b.end b.is (some_turns x n body b)
+  pub some_turns : (x : VariableName) (n : ℕ) (body : CheckedBlock) → HasPath (BlockPath fs body) → HasPath (TurnsPath fs x n body)
+  some_turns x zero body b = some (TurnsPath fs x zero body) [] goes_on (path.over x body)
+  some_turns x (suc n) body b = a_turn x n body b.accesses b.end b.is (some_turns x n body b)
 
-a_step : (s : CheckedStatement) (more : CheckedBlock) (xs : List Access) (end : End) → StatementPath s xs end → HasPath (BlockPath more)
-    → HasPath (BlockPath (t.step s more))
-a_step s more xs goes_on p q = some (BlockPath (t.step s more)) (xs ++ q.accesses) q.end (path.step s more xs q.accesses q.end p q.is)
-a_step s more xs (goes_to k) p q = some (BlockPath (t.step s more)) xs (goes_to k) (path.stopped s more xs k p)
+  a_step : (s : CheckedStatement) (more : CheckedBlock) (xs : List Access) (end : End) → StatementPath fs s xs end → HasPath (BlockPath fs more)
+      → HasPath (BlockPath fs (t.step s more))
+  a_step s more xs goes_on p q = some (BlockPath fs (t.step s more)) (xs ++ q.accesses) q.end (path.step s more xs q.accesses q.end p q.is)
+  a_step s more xs (goes_to k) p q = some (BlockPath fs (t.step s more)) xs (goes_to k) (path.stopped s more xs (goes_to k) tt p)
+  a_step s more xs returns p q = some (BlockPath fs (t.step s more)) xs returns (path.stopped s more xs returns tt p)
 
-mutual
-  some_statement : (s : CheckedStatement) → HasPath (StatementPath s)
-  some_statement (t.declare of x None) = some (StatementPath (t.declare of x None)) (unset x ∷ []) goes_on (path.declare_unset of x)
-  some_statement (t.declare of x (Some e)) =
-      some (StatementPath (t.declare of x (Some e))) (names_read e ++ write x ∷ []) goes_on (path.declare_set of x e (names_read e) (is_path e))
-  some_statement (t.assign x e) = some (StatementPath (t.assign x e)) (names_read e ++ write x ∷ []) goes_on (path.assign x e (names_read e) (is_path e))
-  some_statement (t.store x index e) =
-      some (StatementPath (t.store x index e)) (names_read index ++ (names_read e ++ write x ∷ [])) goes_on
-      (path.store x index e (names_read index) (names_read e) (is_path index) (is_path e))
-  some_statement (t.choose c) = let p = some_choice c in some (StatementPath (t.choose c)) p.accesses p.end (path.choose c p.accesses p.end p.is)
-  some_statement (t.loop x from tested below stepped body) =
-      let p = some_turns x (below - from) body (some_block body) in
-      some (StatementPath (t.loop x from tested below stepped body)) (write x ∷ p.accesses) p.end
-      (path.loop x from tested below stepped body p.accesses p.end p.is)
-  some_statement (t.emit e) = some (StatementPath (t.emit e)) (names_read e) goes_on (path.emit e (names_read e) (is_path e))
-  some_statement (t.transition k) = some (StatementPath (t.transition k)) [] (goes_to k) (path.transition k)
+  module _ (shared : List SharedDeclaration) where
+    pub is_path : (e : CheckedExpression) → WellFormedExpression shared e → ExpressionPath fs e (names_read e)
+    is_path (t.number w) is = path.number w
+    is_path (t.long_number w) is = path.long_number w
+    is_path (t.name x) is = path.name x
+    is_path (t.element x index) is = path.element x index (names_read index) (is_path index is.1)
+    is_path t.sense is = path.sense
+    is_path t.next_event is = path.next_event
+    is_path (t.call f values) is = absurd is
+    is_path (t.unary op e) is = path.unary op e (names_read e) (is_path e is)
+    is_path (t.binary op a b) is = path.binary op a b (names_read a) (names_read b) (is_path a is.0) (is_path b is.1)
+    is_path (t.shift op e count) is = path.shift op e count (names_read e) (is_path e is.0)
+    is_path (t.short_circuit op a b) is = path.both_sides op a b (names_read a) (names_read b) (is_path a is.0) (is_path b is.1)
 
-  some_choice : (c : CheckedChoice) → HasPath (ChoicePath c)
-  some_choice t.nothing = some (ChoicePath t.nothing) [] goes_on path.nothing
-  some_choice (t.otherwise b) = let p = some_block b in some (ChoicePath (t.otherwise b)) p.accesses p.end (path.otherwise b p.accesses p.end p.is)
-  some_choice (t.test e b more) =
-      let p = some_block b in
-      some (ChoicePath (t.test e b more)) (names_read e ++ p.accesses) p.end
-      (path.taken e b more (names_read e) p.accesses p.end (is_path e) p.is)
+    mutual
+      some_statement : (s : CheckedStatement) → WellFormedStatement shared s → HasPath (StatementPath fs s)
+      some_statement (t.declare of x None) is = some (StatementPath fs (t.declare of x None)) (unset x ∷ []) goes_on (path.declare_unset of x)
+      some_statement (t.declare of x (Some e)) is =
+          some (StatementPath fs (t.declare of x (Some e))) (names_read e ++ write x ∷ []) goes_on
+          (path.declare_set of x e (names_read e) (is_path e is.1))
+      some_statement (t.assign x e) is =
+          some (StatementPath fs (t.assign x e)) (names_read e ++ write x ∷ []) goes_on (path.assign x e (names_read e) (is_path e is.1))
+      some_statement (t.store x index e) is =
+          some (StatementPath fs (t.store x index e)) (names_read index ++ (names_read e ++ write x ∷ [])) goes_on
+          (path.store x index e (names_read index) (names_read e) (is_path index is.1) (is_path e is.2))
+      some_statement (t.choose c) is =
+          let p = some_choice c is in some (StatementPath fs (t.choose c)) p.accesses p.end (path.choose c p.accesses p.end p.is)
+      some_statement (t.loop x from tested below stepped body) is =
+          let p = some_turns x (below - from) body (some_block body is.1) in
+          some (StatementPath fs (t.loop x from tested below stepped body)) (write x ∷ p.accesses) p.end
+          (path.loop x from tested below stepped body p.accesses p.end p.is)
+      some_statement (t.emit e) is = some (StatementPath fs (t.emit e)) (names_read e) goes_on (path.emit e (names_read e) (is_path e is.0))
+      some_statement (t.give at e) is = absurd is
+      some_statement (t.transition at k) is = some (StatementPath fs (t.transition at k)) [] (goes_to k) (path.transition at k)
 
-  pub some_block : (b : CheckedBlock) → HasPath (BlockPath b)
-  some_block t.end = some (BlockPath t.end) [] goes_on path.finished
-  some_block (t.step s more) = let p = some_statement s in a_step s more p.accesses p.end p.is (some_block more)
+      some_choice : (c : CheckedChoice) → WellFormedChoice shared c → HasPath (ChoicePath fs c)
+      some_choice t.nothing is = some (ChoicePath fs t.nothing) [] goes_on path.nothing
+      some_choice (t.otherwise b) is =
+          let p = some_block b is in some (ChoicePath fs (t.otherwise b)) p.accesses p.end (path.otherwise b p.accesses p.end p.is)
+      some_choice (t.test e b more) is =
+          let p = some_block b is.1 in
+          some (ChoicePath fs (t.test e b more)) (names_read e ++ p.accesses) p.end
+          (path.taken e b more (names_read e) p.accesses p.end (is_path e is.0) p.is)
+
+      pub some_block : (b : CheckedBlock) → WellFormedBlock shared b → HasPath (BlockPath fs b)
+      some_block t.end is = some (BlockPath fs t.end) [] goes_on path.finished
+      some_block (t.step s more) is = let p = some_statement s is.0 in a_step s more p.accesses p.end p.is (some_block more is.1)
 
 -- ---- which locals are unassigned
 
@@ -121,6 +136,7 @@ behind_names u (t.name x) = refl
 behind_names u (t.element x index) = behind_both u (names_read index) (read x ∷ []) ∙ behind_names u index
 behind_names u t.sense = refl
 behind_names u t.next_event = refl
+behind_names u (t.call f values) = refl
 behind_names u (t.unary op e) = behind_names u e
 behind_names u (t.binary op a b) = behind_both u (names_read a) (names_read b) ∙ (ap (λ v. behind v (names_read b)) (behind_names u a) ∙ behind_names u b)
 behind_names u (t.shift op e count) = behind_names u e
@@ -181,8 +197,17 @@ safe_of u (read n ∷ xs) none = (here n.variable refl, safe_of u xs (λ before 
 safe_of u (write n ∷ xs) none = safe_of (written u n) xs (λ before m more x e. none (write n ∷ before) m more x (ap (λ ys. write n ∷ ys) e))
 safe_of u (unset n ∷ xs) none = safe_of (forgotten u n) xs (λ before m more x e. none (unset n ∷ before) m more x (ap (λ ys. unset n ∷ ys) e))
 
+-- no local of a task is given
+none_given : (x : ℕ) → not (nat_lt x 0) ≡ true
+none_given x = by (nat_lt x 0) refl
+  where
+    by : (b : Bool) → nat_lt x 0 ≡ b → not b ≡ true
+    by true e = let low : x < 0 = ltb-true x 0 e in let none : ⊥ = omega (arith, low) in absurd none
+    by false e = refl
+
 -- no path of a task reads an unassigned local
-pub safe_paths : (b : CheckedBlock) → ((s : Span) → ReadsUnassigned b s → ⊥) → (xs : List Access) (end : End) → BlockPath b xs end → Safe (λ x. true) xs
+pub safe_paths : (b : CheckedBlock) → ((s : Span) → ReadsUnassigned [] 0 b s → ⊥) → (xs : List Access) (end : End) → BlockPath [] b xs end
+    → Safe (λ x. true) xs
 safe_paths b none xs end q = safe_of (λ x. true) xs (λ before n more x cut is unassigned. none n.span (record {
   x = x;
   name = n;
@@ -191,6 +216,6 @@ safe_paths b none xs end q = safe_of (λ x. true) xs (λ before n more x cut is 
   before = before;
   after = more;
   end = end;
-  path = subst (λ ys. BlockPath b ys end) cut q;
-  unassigned = sym (behind_is (λ x. true) before x) ∙ unassigned;
+  path = subst (λ ys. BlockPath [] b ys end) cut q;
+  unassigned = subst (λ b. is_unassigned b x before ≡ true) (sym (none_given x)) (sym (behind_is (λ x. true) before x) ∙ unassigned);
 }))

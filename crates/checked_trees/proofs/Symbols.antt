@@ -1,5 +1,6 @@
 -- What the names of a source stand for, where no check finds a fault.
-use Rattle.std.proofs.Common.{◌≡◌, ℕ, ◌<◌, ◌≤◌, ◌==◌, ◌&&◌, nat_le, nat_lt, Bool, true, false, cond, List, [], ◌∷◌, length, Option, Some, None, slice_get, refl}
+use Rattle.std.proofs.Common.{◌≡◌, ℕ, ◌<◌, ◌≤◌, ◌==◌, ◌&&◌, ◌||◌, nat_le, nat_lt, Bool, true, false, cond, List, [], ◌∷◌, length, Option, Some, None}
+use Rattle.std.proofs.Common.{slice_get, refl}
 use Rattle.std.proofs.Common.{arith}
 use Rattle.std.specs.Option.{option_or}
 use Rattle.std.specs.Str.{bytes_eq}
@@ -22,9 +23,8 @@ use Rattle.task_check.specs.declared.occurrence.Occurrence.{Occurrence}
 use Rattle.task_check.specs.declared.symbol.Symbol.{Symbol}
 use Rattle.task_check.specs.declared.symbol.Global.{Global}
 use Rattle.task_check.specs.declared.symbol.Local.{Local}
-use Rattle.task_check.specs.Scope.{text_of, shared_in, tasks_in, locals_in, locals_after, global_with, local_with, if_named, global_in, local_in}
-use Rattle.task_check.specs.Scope.{or_global}
-use Rattle.task_check.specs.Scope.{meaning}
+use Rattle.task_check.specs.Scope.{text_of, shared_in, functions_in, tasks_in, locals_in, locals_after, global_with, local_with, if_named, global_in}
+use Rattle.task_check.specs.Scope.{local_in, known_functions, known_symbol, or_global, meaning}
 use Rattle.task_check.specs.LookedUp.{symbol_by, behind, symbol_at}
 use Rattle.task_check.specs.Faults.{line_at, first_fault, limit_fault, is_too_many}
 use Rattle.checked_trees.specs.WellFormed.{IsOfType}
@@ -35,6 +35,7 @@ abbrev pub IsSound : List SharedDeclaration → Symbol → Type 0
 IsSound shared (symbol.Scalar n of) = IsScalarAt shared n × IsOfType shared of (Shared n)
 IsSound shared (symbol.Array n of) = IsArrayAt shared n × IsOfType shared of (Shared n)
 IsSound shared (symbol.Local n of) = (n < 256) × IsOfType shared of (AsLocal n)
+IsSound shared (symbol.Function n of count) = Unit {0}
 IsSound shared (symbol.Task n) = Unit {0}
 
 abbrev pub AreSound : List SharedDeclaration → Option Symbol → Type 0
@@ -84,28 +85,31 @@ type_there : (shared : List SharedDeclaration) (n : ℕ) (s : Span) (of : WordTy
     → IsOfType shared of (Shared n)
 type_there shared n s of e x = rw (x.at, x.extent_is) x.typed
 
-global_declared : (shared : List SharedDeclaration) (s : Span) (r : Role) (front n tasks : ℕ) → DeclaresOf shared n s r
-    → GlobalSound shared (global_with r front n tasks)
-global_declared shared s (role.Shared of (extent.Scalar w)) front n tasks h =
+global_declared : (shared : List SharedDeclaration) (s : Span) (r : Role) (front n functions tasks : ℕ) → DeclaresOf shared n s r
+    → GlobalSound shared (global_with r front n functions tasks)
+global_declared shared s (role.Shared of (extent.Scalar w)) front n functions tasks h =
     (scalar_there shared n w h.declaration h.at h.extent_is, type_there shared n s of (extent.Scalar w) h)
-global_declared shared s (role.Shared of (extent.Long w)) front n tasks h =
+global_declared shared s (role.Shared of (extent.Long w)) front n functions tasks h =
     (long_there shared n w h.declaration h.at h.extent_is, type_there shared n s of (extent.Long w) h)
-global_declared shared s (role.Shared of (extent.Array w)) front n tasks h =
+global_declared shared s (role.Shared of (extent.Array w)) front n functions tasks h =
     (array_there shared n w h.declaration h.at h.extent_is, type_there shared n s of (extent.Array w) h)
-global_declared shared s role.Task front n tasks h = tt
-global_declared shared s (role.Local of begin end) front n tasks h = tt
-global_declared shared s role.Scalar front n tasks h = tt
-global_declared shared s role.Element front n tasks h = tt
-global_declared shared s role.Counter front n tasks h = tt
-global_declared shared s role.Target front n tasks h = tt
-global_declared shared s (role.Operand refused kept) front n tasks h = tt
+global_declared shared s (role.Function of count) front n functions tasks h = tt
+global_declared shared s role.Task front n functions tasks h = tt
+global_declared shared s (role.Local of begin end extra) front n functions tasks h = tt
+global_declared shared s role.Scalar front n functions tasks h = tt
+global_declared shared s role.Element front n functions tasks h = tt
+global_declared shared s role.Counter front n functions tasks h = tt
+global_declared shared s (role.Call count) front n functions tasks h = tt
+global_declared shared s role.Target front n functions tasks h = tt
+global_declared shared s (role.Operand refused kept) front n functions tasks h = tt
 
 global_sound : (source name : List ℕ) (shared : List SharedDeclaration) (all : List Occurrence) → Declared shared all
     → GlobalSound shared (global_in source name all)
 global_sound source name shared [] h = tt
 global_sound source name shared (o ∷ front) h =
     global_or shared (global_in source name front) _ (global_sound source name shared front h.1)
-    (global_if shared (bytes_eq (text_of source o.span) name) _ (global_declared shared o.span o.role (length front) (shared_in front) (tasks_in front) h.0))
+    (global_if shared (bytes_eq (text_of source o.span) name) _
+    (global_declared shared o.span o.role (length front) (shared_in front) (functions_in front) (tasks_in front) h.0))
 
 -- ---- locals
 
@@ -121,42 +125,48 @@ pub here_clean : (check : Occurrence → List Occurrence → Option CheckFault) 
     → check o front ≡ None
 here_clean check o front e = (both_none (first_fault check front) (check o front) e).1
 
-not_all : (n : ℕ) → n ≤ 256 → (n == 256) ≡ false → n < 256
-not_all n h e = grind (arith, nat_tests)
+not_all : (n : ℕ) (extra : Bool) → n ≤ 256 → (extra || n == 256) ≡ false → n < 256
+not_all n true h e = absurd (let never : true ≡ false = e in cc)
+not_all n false h e = grind (arith, nat_tests)
 
-one_more : (r : Role) (shared tasks n : ℕ) → n ≤ 256 → is_too_many r shared tasks n ≡ false → locals_after n r ≤ 256
-one_more (role.Local of begin end) shared tasks n h e = let l = not_all n h e in omega (arith, l)
-one_more (role.Shared of x) shared tasks n h e = h
-one_more role.Task shared tasks n h e = omega arith
-one_more role.Scalar shared tasks n h e = h
-one_more role.Element shared tasks n h e = h
-one_more role.Counter shared tasks n h e = h
-one_more role.Target shared tasks n h e = h
-one_more (role.Operand refused kept) shared tasks n h e = h
+one_more : (r : Role) (shared functions tasks n : ℕ) → n ≤ 256 → is_too_many r shared functions tasks n ≡ false → locals_after n r ≤ 256
+one_more (role.Local of begin end extra) shared functions tasks n h e = let l = not_all n extra h e in omega (arith, l)
+one_more (role.Shared of x) shared functions tasks n h e = h
+one_more (role.Function of count) shared functions tasks n h e = omega arith
+one_more role.Task shared functions tasks n h e = omega arith
+one_more role.Scalar shared functions tasks n h e = h
+one_more role.Element shared functions tasks n h e = h
+one_more role.Counter shared functions tasks n h e = h
+one_more (role.Call count) shared functions tasks n h e = h
+one_more role.Target shared functions tasks n h e = h
+one_more (role.Operand refused kept) shared functions tasks n h e = h
 
 not_too_many : (source : List ℕ) (o : Occurrence) (front : List Occurrence) → Few source (o ∷ front)
-    → is_too_many o.role (shared_in front) (tasks_in front) (locals_in front) ≡ false
+    → is_too_many o.role (shared_in front) (functions_in front) (tasks_in front) (locals_in front) ≡ false
 unfolding limit_fault
 not_too_many source o front e =
-    no_fault (is_too_many o.role (shared_in front) (tasks_in front) (locals_in front)) (fault.TooMany (line_at source o))
+    no_fault (is_too_many o.role (shared_in front) (functions_in front) (tasks_in front) (locals_in front)) (fault.TooMany (line_at source o))
     (here_clean (limit_fault source) o front e)
 
 few_locals : (source : List ℕ) (front : List Occurrence) → Few source front → locals_in front ≤ 256
 few_locals source [] e = omega arith
 few_locals source (o ∷ front) e =
-    one_more o.role (shared_in front) (tasks_in front) (locals_in front) (few_locals source front (front_clean (limit_fault source) o front e))
+    one_more o.role (shared_in front) (functions_in front) (tasks_in front) (locals_in front)
+    (few_locals source front (front_clean (limit_fault source) o front e))
     (not_too_many source o front e)
 
-local_declared : (all : List SharedDeclaration) (s : Span) (r : Role) (shared tasks n : ℕ) → DeclaresOf all shared s r → n ≤ 256
-    → is_too_many r shared tasks n ≡ false → LocalSound (local_with r tasks n)
-local_declared all s (role.Local of begin end) shared tasks n d h e = (not_all n h e, d)
-local_declared all s (role.Shared of x) shared tasks n d h e = tt
-local_declared all s role.Task shared tasks n d h e = tt
-local_declared all s role.Scalar shared tasks n d h e = tt
-local_declared all s role.Element shared tasks n d h e = tt
-local_declared all s role.Counter shared tasks n d h e = tt
-local_declared all s role.Target shared tasks n d h e = tt
-local_declared all s (role.Operand refused kept) shared tasks n d h e = tt
+local_declared : (all : List SharedDeclaration) (s : Span) (r : Role) (shared functions tasks n : ℕ) → DeclaresOf all shared s r → n ≤ 256
+    → is_too_many r shared functions tasks n ≡ false → LocalSound (local_with r functions tasks n)
+local_declared all s (role.Local of begin end extra) shared functions tasks n d h e = (not_all n extra h e, d)
+local_declared all s (role.Shared of x) shared functions tasks n d h e = tt
+local_declared all s (role.Function of count) shared functions tasks n d h e = tt
+local_declared all s role.Task shared functions tasks n d h e = tt
+local_declared all s role.Scalar shared functions tasks n d h e = tt
+local_declared all s role.Element shared functions tasks n d h e = tt
+local_declared all s role.Counter shared functions tasks n d h e = tt
+local_declared all s (role.Call count) shared functions tasks n d h e = tt
+local_declared all s role.Target shared functions tasks n d h e = tt
+local_declared all s (role.Operand refused kept) shared functions tasks n d h e = tt
 
 local_sound : (source name : List ℕ) (shared : List SharedDeclaration) (front : List Occurrence) → Declared shared front → Few source front
     → LocalSound (local_in source name front)
@@ -165,34 +175,48 @@ local_sound source name shared (o ∷ front) d e =
     let few = front_clean (limit_fault source) o front e in
     local_or _ (local_in source name front)
     (local_if (bytes_eq (text_of source o.span) name) _
-    (local_declared shared o.span o.role (shared_in front) (tasks_in front) (locals_in front) d.0 (few_locals source front few)
-    (not_too_many source o front e)))
+    (local_declared shared o.span o.role (shared_in front) (functions_in front) (tasks_in front) (locals_in front) d.0
+    (few_locals source front few) (not_too_many source o front e)))
     (local_sound source name shared front d.1 few)
 
 -- ---- what a name means
 
-meaning_sound : (shared : List SharedDeclaration) (n : ℕ) (l : Option Local) (g : Option Global) → LocalSound l → GlobalSound shared g
-    → AreSound shared (meaning n l g)
-meaning_sound shared n None None h k = tt
-meaning_sound shared n None (Some g) h k = k
-meaning_sound shared n (Some l) g h k = by (nat_le l.end n && nat_lt n l.begin) g k
+known_sound : (shared : List SharedDeclaration) (known : ℕ) (s : Symbol) → IsSound shared s → AreSound shared (known_symbol known s)
+known_sound shared known (symbol.Scalar n of) h = h
+known_sound shared known (symbol.Array n of) h = h
+known_sound shared known (symbol.Local n of) h = h
+known_sound shared known (symbol.Function n of count) h = by (nat_lt n known)
   where
-    by : (b : Bool) (g : Option Global) → GlobalSound shared g → AreSound shared (or_global (cond b (Some (symbol.Local l.number l.word_type)) None) g)
+    by : (b : Bool) → AreSound shared (cond b (Some (symbol.Function n of count)) None)
+    by true = tt
+    by false = tt
+known_sound shared known (symbol.Task n) h = tt
+
+meaning_sound : (shared : List SharedDeclaration) (known n : ℕ) (l : Option Local) (g : Option Global) → LocalSound l → GlobalSound shared g
+    → AreSound shared (meaning known n l g)
+meaning_sound shared known n None None h k = tt
+meaning_sound shared known n None (Some g) h k = known_sound shared known g.symbol k
+meaning_sound shared known n (Some l) g h k = by (nat_le l.end n && nat_lt n l.begin) g k
+  where
+    by : (b : Bool) (g : Option Global) → GlobalSound shared g
+        → AreSound shared (or_global known (cond b (Some (symbol.Local l.number l.word_type)) None) g)
     by true g k = h
     by false None k = tt
-    by false (Some g) k = k
+    by false (Some g) k = known_sound shared known g.symbol k
 
 -- by its role
-by_role : (shared : List SharedDeclaration) (s : Span) (r : Role) (all tasks n : ℕ) (found : Option Symbol) → DeclaresOf shared all s r → n ≤ 256
-    → is_too_many r all tasks n ≡ false → AreSound shared found → AreSound shared (symbol_by r n found)
-by_role shared s (role.Local of begin end) all tasks n found d h e k = (not_all n h e, d)
-by_role shared s (role.Shared of x) all tasks n found d h e k = tt
-by_role shared s role.Task all tasks n found d h e k = tt
-by_role shared s role.Scalar all tasks n found d h e k = k
-by_role shared s role.Element all tasks n found d h e k = k
-by_role shared s role.Counter all tasks n found d h e k = k
-by_role shared s role.Target all tasks n found d h e k = k
-by_role shared s (role.Operand refused kept) all tasks n found d h e k = tt
+by_role : (shared : List SharedDeclaration) (s : Span) (r : Role) (all functions tasks n : ℕ) (found : Option Symbol) → DeclaresOf shared all s r
+    → n ≤ 256 → is_too_many r all functions tasks n ≡ false → AreSound shared found → AreSound shared (symbol_by r n found)
+by_role shared s (role.Local of begin end extra) all functions tasks n found d h e k = (not_all n extra h e, d)
+by_role shared s (role.Shared of x) all functions tasks n found d h e k = tt
+by_role shared s (role.Function of count) all functions tasks n found d h e k = tt
+by_role shared s role.Task all functions tasks n found d h e k = tt
+by_role shared s role.Scalar all functions tasks n found d h e k = k
+by_role shared s role.Element all functions tasks n found d h e k = k
+by_role shared s role.Counter all functions tasks n found d h e k = k
+by_role shared s (role.Call count) all functions tasks n found d h e k = k
+by_role shared s role.Target all functions tasks n found d h e k = k
+by_role shared s (role.Operand refused kept) all functions tasks n found d h e k = tt
 
 -- each name stands for what was declared
 pub symbol_sound : (source : List ℕ) (shared : List SharedDeclaration) (all : List Occurrence) (o : Occurrence) (front : List Occurrence) → Declared shared all
@@ -201,6 +225,8 @@ pub symbol_sound : (source : List ℕ) (shared : List SharedDeclaration) (all : 
 unfolding symbol_at
 symbol_sound source shared all o front d here e =
     let few = front_clean (limit_fault source) o front e in
-    by_role shared o.span o.role (shared_in front) (tasks_in front) (locals_in front) _ here.0 (few_locals source front few) (not_too_many source o front e)
-    (meaning_sound shared (behind all front) (local_in source (text_of source o.span) front) (global_in source (text_of source o.span) all)
+    by_role shared o.span o.role (shared_in front) (functions_in front) (tasks_in front) (locals_in front) _ here.0 (few_locals source front few)
+    (not_too_many source o front e)
+    (meaning_sound shared (known_functions (functions_in front) (tasks_in front)) (behind all front) (local_in source (text_of source o.span) front)
+    (global_in source (text_of source o.span) all)
     (local_sound source (text_of source o.span) shared front here.1 few) (global_sound source (text_of source o.span) shared all d))

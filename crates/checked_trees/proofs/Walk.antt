@@ -13,7 +13,7 @@ use Rattle.task_check.specs.declared.occurrence.Occurrence.{Occurrence}
 use Rattle.task_check.specs.declared.symbol.Symbol.{Symbol}
 use Rattle.task_check.specs.declared.symbol.Symbol.TheVariants as symbol
 use Rattle.task_check.specs.declared.symbol.TypedVariable.{TypedVariable}
-use Rattle.task_check.specs.Scope.{text_of, tasks_in, locals_in, global_in, local_in, stands_in_front}
+use Rattle.task_check.specs.Scope.{text_of, functions_in, tasks_in, locals_in, global_in, local_in, stands_in_front}
 use Rattle.task_check.specs.LookedUp.{symbol_by, variable_by, symbol_at, variables_in}
 use Rattle.task_check.specs.Faults.{line_at, first_fault, is_repeated, is_unknown, name_fault, is_no_word, is_no_array, use_fault_by, use_fault}
 use Rattle.task_check.specs.Faults.{limit_fault}
@@ -50,8 +50,10 @@ abbrev pub use_of : Span → Role → List Use
 use_of s role.Scalar = named word s ∷ []
 use_of s role.Element = named array s ∷ []
 use_of s role.Counter = named word s ∷ []
-use_of s (role.Local of begin end) = named declared s ∷ []
+use_of s (role.Local of begin end extra) = named declared s ∷ []
 use_of s role.Target = []
+use_of s (role.Function of count) = []
+use_of s (role.Call count) = []
 use_of s role.Task = []
 use_of s (role.Shared of e) = []
 use_of s (role.Operand refused what) = operands refused ∷ []
@@ -92,6 +94,7 @@ module _ (source : List ℕ) (shared : List SharedDeclaration) (s : Span) where
   word_used (Some (symbol.Scalar n of)) e f h t = ((h.0, h.1, as_wide source shared s of t), tt)
   word_used (Some (symbol.Array n of)) e f h t = absurd (cc)
   word_used (Some (symbol.Local n of)) e f h t = ((h.0, h.1, word_is_as_wide of (types s) h.1), tt)
+  word_used (Some (symbol.Function n of count)) e f h t = absurd (cc)
   word_used (Some (symbol.Task n)) e f h t = absurd (cc)
 
   array_used : (x : Option Symbol) → is_no_array x ≡ false → AreSound shared x → Typed first x
@@ -100,6 +103,7 @@ module _ (source : List ℕ) (shared : List SharedDeclaration) (s : Span) where
   array_used (Some (symbol.Scalar n of)) f h t = absurd (cc)
   array_used (Some (symbol.Array n of)) f h t = ((h.0, h.1, as_wide source shared s of t), tt)
   array_used (Some (symbol.Local n of)) f h t = absurd (cc)
+  array_used (Some (symbol.Function n of count)) f h t = absurd (cc)
   array_used (Some (symbol.Task n)) f h t = absurd (cc)
 
   counter_used : (x : Option Symbol) → is_none x ≡ false → is_no_word x ≡ false → AreSound shared x → Typed first x
@@ -108,6 +112,7 @@ module _ (source : List ℕ) (shared : List SharedDeclaration) (s : Span) where
   counter_used (Some (symbol.Scalar n of)) e f h t = ((h.0, h.1, as_wide source shared s of t), tt)
   counter_used (Some (symbol.Array n of)) e f h t = absurd (cc)
   counter_used (Some (symbol.Local n of)) e f h t = ((h.0, h.1, word_is_as_wide of (types s) h.1), tt)
+  counter_used (Some (symbol.Function n of count)) e f h t = absurd (cc)
   counter_used (Some (symbol.Task n)) e f h t = absurd (cc)
 
   one_used : (o : Occurrence) (r : Role) (n : ℕ) (found : Option Symbol) → is_unknown r (symbol_by r n found) ≡ false
@@ -116,8 +121,10 @@ module _ (source : List ℕ) (shared : List SharedDeclaration) (s : Span) where
   one_used o role.Scalar n x e f h t = word_used x e (no_fault (is_no_word x) (fault.WrongUse (line_at source o) (kept.Name o.span)) f) h t
   one_used o role.Element n x e f h t = array_used x (no_fault (is_no_array x) (fault.WrongUse (line_at source o) (kept.Name o.span)) f) h t
   one_used o role.Counter n x e f h t = counter_used x e (no_fault (is_no_word x) (fault.WrongUse (line_at source o) (kept.Name o.span)) f) h t
-  one_used o (role.Local of begin end) n x e f h t = ((h.0, h.1, word_is_as_wide of (types s) h.1), tt)
+  one_used o (role.Local of begin end extra) n x e f h t = ((h.0, h.1, word_is_as_wide of (types s) h.1), tt)
   one_used o role.Target n x e f h t = tt
+  one_used o (role.Function of count) n x e f h t = tt
+  one_used o (role.Call count) n x e f h t = tt
   one_used o role.Task n x e f h t = tt
   one_used o (role.Shared of y) n x e f h t = tt
   one_used o (role.Operand refused what) n x e f h t = (no_fault refused (fault.WrongUse (line_at source o) what) f, tt)
@@ -143,6 +150,7 @@ variables_used source shared all (o ∷ front) d h c =
     (variables_used source shared all front d h.1 more)
     (one_used source shared o.span o o.role (locals_in front) _
     (no_name_fault source o
-    (is_repeated o.role (stands_in_front _ (global_in source (text_of source o.span) all)) (tasks_in front) (local_in source (text_of source o.span) front))
+    (is_repeated o.role (stands_in_front _ (global_in source (text_of source o.span) all)) (functions_in front) (tasks_in front)
+    (local_in source (text_of source o.span) front))
     (is_unknown o.role s) (here_clean (name_fault source all) o front c.names))
     (here_clean (use_fault source all) o front c.uses) (symbol_sound source shared all o front d h c.limits) (symbol_typed source shared all o front d))

@@ -1,6 +1,7 @@
 -- What a checked tree satisfies: the names of a task are used as they were declared, its operators have operands of their types, its numbers are
--- words, its expressions have room on the stack, and its loops count in locals that their bodies leave alone.
-use Rattle.std.specs.Prelude.{◌≡◌, ℕ, ◌+◌, ◌^◌, ◌<◌, ◌≤◌, max, false, List, Some, None, slice_get, IsSomeAnd}
+-- words, its expressions have room on the stack, and its loops count in locals that their bodies leave alone. Nothing is said of calls yet: what
+-- has one isn't well-formed.
+use Rattle.std.specs.Prelude.{◌≡◌, ℕ, ◌+◌, ◌^◌, ◌<◌, ◌≤◌, max, false, List, [], Some, None, slice_get, IsSomeAnd}
 use Rattle.alp_text.specs.declared.lines.Span.{Span}
 use Rattle.alp_words.specs.Words.{IsWord}
 use Rattle.task_ast.specs.declared.Extent.{Extent}
@@ -8,7 +9,7 @@ use Rattle.task_ast.specs.declared.SharedDeclaration.{SharedDeclaration}
 use Rattle.task_ast.specs.declared.WordType.{WordType}
 use Rattle.task_ast.specs.declared.names.Variable.{Variable}
 use Rattle.task_ast.specs.declared.names.Variable.TheVariants.{Shared, Local}
-use Rattle.task_ast.specs.Tree.{Expression}
+use Rattle.task_ast.specs.Tree.{Expression, Values}
 use Rattle.task_ast.specs.Tree as t
 use Rattle.task_ast.specs.Paths.{CheckedExpression, CheckedStatement, CheckedChoice, CheckedBlock, Access, goes_on, BlockPath}
 use Rattle.task_ast.specs.Types.{IsOneWord, is_long, joined_type, type_of}
@@ -49,19 +50,26 @@ IsArrayName shared (Local n) = ⊥
 
 -- ---- expressions
 
--- how many words are on the stack at most while an expression is worked out, as a word or as a long, which has two. The left side of an
--- operator waits beneath the right one, and so does the 0 that `-` subtracts from; the left side of `&&` and `||` doesn't
-abbrev pub stack_words : {V : Type 0} → Expression V → ℕ
-stack_words (t.number w) = 2
-stack_words (t.long_number w) = 2
-stack_words (t.name x) = 2
-stack_words (t.element x index) = stack_words index
-stack_words t.sense = 2
-stack_words t.next_event = 2
-stack_words (t.unary op e) = stack_words e + 2
-stack_words (t.binary op a b) = max (stack_words a) (stack_words b + 2)
-stack_words (t.shift op e count) = stack_words e
-stack_words (t.short_circuit op a b) = max (stack_words a) (stack_words b)
+abbrev mutual
+  -- how many words are on the stack at most while an expression is worked out, as a word or as a long, which has two. The left side of an
+  -- operator waits beneath the right one, and so does the 0 that `-` subtracts from; the left side of `&&` and `||` doesn't
+  pub stack_words : {V F : Type 0} → Expression V F → ℕ
+  stack_words (t.number w) = 2
+  stack_words (t.long_number w) = 2
+  stack_words (t.name x) = 2
+  stack_words (t.element x index) = stack_words index
+  stack_words t.sense = 2
+  stack_words t.next_event = 2
+  stack_words (t.call f values) = max 2 (value_words values)
+  stack_words (t.unary op e) = stack_words e + 2
+  stack_words (t.binary op a b) = max (stack_words a) (stack_words b + 2)
+  stack_words (t.shift op e count) = stack_words e
+  stack_words (t.short_circuit op a b) = max (stack_words a) (stack_words b)
+
+  -- those of a call's values, each of which waits as one word while the ones behind it are worked out
+  pub value_words : {V F : Type 0} → Values V F → ℕ
+  value_words t.no_value = 0
+  value_words (t.value e more) = max (stack_words e) (value_words more + 1)
 
 -- the room that is enough for each expression: two words for each of its tokens, of which no more than 256 stand in a row, and one for
 -- an index
@@ -69,7 +77,7 @@ abbrev pub enough : ℕ
 enough = 513
 
 -- there is room for an expression with so many words beneath it
-abbrev pub HasRoom : {V : Type 0} → ℕ → Expression V → Type 0
+abbrev pub HasRoom : {V F : Type 0} → ℕ → Expression V F → Type 0
 HasRoom beneath e = stack_words e + beneath ≤ enough
 
 -- each name is used as it was declared: an array's where there is an index, a scalar's elsewhere; an index isn't long, no operator is
@@ -82,6 +90,7 @@ WellFormedExpression shared (t.element x index) =
     IsArrayName shared x.variable × WellFormedExpression shared index × IsOfType shared x.word_type x.variable × IsOneWord (type_of index)
 WellFormedExpression shared t.sense = Unit {0}
 WellFormedExpression shared t.next_event = Unit {0}
+WellFormedExpression shared (t.call f values) = ⊥
 WellFormedExpression shared (t.unary op e) = WellFormedExpression shared e
 WellFormedExpression shared (t.binary op a b) =
     WellFormedExpression shared a × WellFormedExpression shared b × (is_refused op.operator (joined_type (type_of a) (type_of b)) ≡ false)
@@ -106,7 +115,8 @@ abbrev mutual
   WellFormedStatement shared (t.loop x from tested below stepped body) =
       IsLocal x.variable × WellFormedBlock shared body × IsWord from × IsWord below × (block_assigns x.variable body ≡ false)
   WellFormedStatement shared (t.emit e) = WellFormedExpression shared e × HasRoom 0 e
-  WellFormedStatement shared (t.transition task) = Unit {0}
+  WellFormedStatement shared (t.give at e) = ⊥
+  WellFormedStatement shared (t.transition at task) = Unit {0}
 
   -- the same of each test and block of an `if`
   pub WellFormedChoice : List SharedDeclaration → CheckedChoice → Type 0
@@ -124,5 +134,5 @@ abbrev mutual
 -- transition
 pub record IsWellFormed (shared : List SharedDeclaration) (body : CheckedBlock) : Type 0 where
   pub statements : WellFormedBlock shared body
-  pub assigned : (at : Span) → ReadsUnassigned body at → ⊥
-  pub ends : (xs : List Access) → BlockPath body xs goes_on → ⊥
+  pub assigned : (at : Span) → ReadsUnassigned [] 0 body at → ⊥
+  pub ends : (xs : List Access) → BlockPath [] body xs goes_on → ⊥

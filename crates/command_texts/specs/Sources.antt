@@ -14,6 +14,7 @@ use Rattle.source_meaning.specs.declared.fault.SourceFault.{SourceFault}
 use Rattle.source_meaning.specs.declared.fault.SourceFault.TheVariants as fault
 use Rattle.source_meaning.specs.Acceptance.{IsAcceptedText, IsRefusedText}
 use Rattle.source_meaning.specs.Events.{HasNoEvent}
+use Rattle.source_meaning.specs.Plain.{IsPlain, IsUncompiled}
 use Rattle.command_answers.specs.Refusals.{Refusal, number, plain, named}
 
 -- the text is accepted as this program
@@ -48,6 +49,7 @@ check_refusal text (check.WrongUse line kept) = Some (use_refusal text line kept
 check_refusal text (check.BadLength line span) = Some (named text line (codes "BadLength") span)
 check_refusal text (check.BadLoop line span) = Some (named text line (codes "BadLoop") span)
 check_refusal text (check.Unassigned line span) = Some (named text line (codes "Unassigned") span)
+check_refusal text (check.NoReturn line span) = Some (named text line (codes "NoReturn") span)
 check_refusal text (check.NoTransition line span) = Some (named text line (codes "NoTransition") span)
 check_refusal text (check.TooMany line) = Some (plain line (codes "TooMany"))
 check_refusal text check.Memory = None
@@ -57,6 +59,7 @@ abbrev pub over_refusal : Over → Refusal
 over_refusal (over.TooManyEmits line span count) = numbered line (codes "TooManyEmits") count
 over_refusal (over.BoundTooLarge n) = numbered 0 (codes "BoundTooLarge") n
 over_refusal (over.TooLarge n) = numbered 0 (codes "TooLarge") n
+over_refusal (over.StackTooLarge n) = numbered 0 (codes "StackTooLarge") n
 
 -- that of each fault, if it is one of the text
 abbrev pub source_refusal : List ℕ → SourceFault → Option Refusal
@@ -64,12 +67,19 @@ source_refusal text (fault.Lex f) = lex_refusal f
 source_refusal text (fault.Syntax line) = Some (plain line (codes "Syntax"))
 source_refusal text (fault.Check f) = check_refusal text f
 source_refusal text (fault.Over f) = Some (over_refusal f)
+source_refusal text (fault.NotYet line) = Some (plain line (codes "NotYet"))
 source_refusal text fault.Memory = None
 
 -- the first pass that refuses the text does so
 pub record RefusesSource (text : List ℕ) (r : Refusal) : Type 0 where
   pub cause : SourceFault
   pub refused : IsRefusedText text cause
+  pub told : source_refusal text cause ≡ Some r
+
+-- the text isn't compiled: the first pass that refuses it does so, or behind all of them `NotYet` at its first function
+pub record RefusesBuild (text : List ℕ) (r : Refusal) : Type 0 where
+  pub cause : SourceFault
+  pub refused : IsUncompiled text cause
   pub told : source_refusal text cause ≡ Some r
 
 -- a text is a source
@@ -79,3 +89,11 @@ SaysSource text = (program : CheckedProgram) × IsSourceText text program
 -- a text is a source without `next_event`: one whose reports are audited
 abbrev pub SaysSourceWithoutEvents : List ℕ → Type 0
 SaysSourceWithoutEvents text = SaysSource text × HasNoEvent text
+
+-- the text is accepted as this program without functions: one that is compiled
+abbrev pub IsPlainText : List ℕ → CheckedProgram → Type 0
+IsPlainText text program = IsSourceText text program × IsPlain program
+
+-- a text is a source without functions
+abbrev pub SaysPlainSource : List ℕ → Type 0
+SaysPlainSource text = (program : CheckedProgram) × IsPlainText text program

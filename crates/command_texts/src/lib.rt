@@ -9,7 +9,7 @@ mod traces;
 
 pub use assemblies::assembly_of;
 pub use images::image_of;
-pub use sources::source_of;
+pub use sources::{compiled_source_of, source_of};
 pub use states::state_of;
 pub use traces::trace_of;
 
@@ -21,5 +21,5 @@ pub use command_answers::{
 pub use energy_trace::{Trace, parse_trace, print_trace};
 pub use image_text::{Image, parse_image, print_image};
 pub use msp_asm::{disassemble, images_have_texts};
-pub use source_meaning::{Accepted, Meaning, accept, accepted_texts_run, one_answer};
+pub use source_meaning::{Accepted, Meaning, accept, accepted_texts_run, one_answer, one_program};
 pub use state_text::{State, print_state};

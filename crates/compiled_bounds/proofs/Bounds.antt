@@ -1,4 +1,5 @@
 -- The greatest of the costs of tasks, by number and by the list.
+use Rattle.cost_bound.specs.Summaries.{summaries}
 use Rattle.cost_bound.specs.Allowance as allowance
 use Rattle.std.proofs.Common.{◌≡◌, ℕ, zero, suc, ◌<◌, ◌≤◌, max, Bool, true, false, cond, nat_lt, refl, ap, ◌∙◌, arith, List, [], ◌∷◌, length}
 use Rattle.std.proofs.lemmas.Bool.Decides.{nat_tests}
@@ -32,4 +33,4 @@ same_greatest price (t ∷ ts) =
     first_apart (λ i. price (body_of (slice_get (t ∷ ts) i))) (length ts) ∙ ap (max (price t.body)) (same_greatest price ts)
 
 pub bound_is_the_sources : BoundIsTheSources
-bound_is_the_sources p l = same_greatest (task_bound (uses_events p) (versions_of p) p.shared) p.tasks
+bound_is_the_sources p l = same_greatest (task_bound (summaries p) (uses_events p) (versions_of p) p.shared) p.tasks

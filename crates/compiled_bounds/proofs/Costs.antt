@@ -4,6 +4,7 @@ use Rattle.std.proofs.lemmas.Option.{slice_get-map, get_or_from_slice_get}
 use Rattle.std.specs.Option.{option_map}
 use Rattle.std.specs.Prelude.{slice_get}
 use Rattle.machine_effects.specs.Inputs.{Inputs}
+use Rattle.cost_bound.specs.Summaries.{summaries}
 use Rattle.cost_bound.specs.Table.{cycles_column, block_price}
 use Rattle.cost_bound.specs.Counts.{emits_of}
 use Rattle.cost_bound.specs.Allowance.{CheckedProgram, CheckedTask, IsAllowed, list_of, scalars_of, task_bound, uses_events, versions_of}
@@ -85,33 +86,35 @@ module _ (logging : Logging) (p : CheckedProgram) (allow : Allow) (plans : List 
   own_privates : length (privates_in (task_entries l) t) ≡ private_words own.privates
   own_privates = ap (λ e. length e.privates) mine ∙ scalar_pairs_count own.privates
 
-  privates_are : length (privates_in (task_entries l) t) ≤ scalars_of p.shared (task_body p t)
+  privates_are : length (privates_in (task_entries l) t) ≤ scalars_of (summaries p) p.shared (task_body p t)
   privates_are =
       let counted = few t task own at_task at_own in
       let mine = own_privates in
-      let same = ap (scalars_of p.shared) body_is in
+      let same = ap (scalars_of (summaries p) p.shared) body_is in
       omega (arith, counted, mine, same)
 
   body_costs : spent (task_program p l t) (started fram inputs)
-      ≤ block_price cycles_column (task_body p t) + 26 * length (privates_in (task_entries l) t)
+      ≤ block_price (summaries p) cycles_column (task_body p t) + 26 * length (privates_in (task_entries l) t)
   body_costs =
       let w : WordState = started fram inputs in
       let q : Program = lowered_task l own task.body in
       let seen = task_seen l.runtime.logging own in
-      let a = blocks_keep_to_cycles (places_of (map_seen task.body l) seen) task.body w in
+      let a = blocks_keep_to_cycles (summaries p) (places_of (map_seen task.body l) seen) task.body w in
       let b = entries_cost (map_seen task.body l) seen (behaviour q w).end in
       let no_more = seen_count l.runtime.logging own in
       let c : spent (task_program p l t) w ≡ spent q w = ap (λ y. spent y w) program_is in
-      let d : block_price cycles_column (task_body p t) ≡ block_price cycles_column task.body = ap (block_price cycles_column) body_is in
+      let d : block_price (summaries p) cycles_column (task_body p t) ≡ block_price (summaries p) cycles_column task.body =
+      ap (block_price (summaries p) cycles_column) body_is in
       let e : length (privates_in (task_entries l) t) ≡ private_words own.privates = own_privates in
       let f = privates_few own.privates in
       omega (arith, a, b, no_more, c, d, e, f)
 
-  within : whole_cycles p l t fram inputs ≤ task_bound (uses_events p) (versions_of p) p.shared (task_body p t)
+  within : whole_cycles p l t fram inputs ≤ task_bound (summaries p) (uses_events p) (versions_of p) p.shared (task_body p t)
   within =
-      let most = all_within l.runtime.events l.versions.words (versions_of p) (length (privates_in (task_entries l) t)) (scalars_of p.shared (task_body p t))
-      (spent (task_program p l t) (started fram inputs)) (block_price cycles_column (task_body p t))
-      (list_of p.shared (task_body p t)) (emits_of (task_body p t)) (layout.versions ∙ allowed.versions) privates_are body_costs in
+      let most = all_within l.runtime.events l.versions.words (versions_of p) (length (privates_in (task_entries l) t))
+      (scalars_of (summaries p) p.shared (task_body p t))
+      (spent (task_program p l t) (started fram inputs)) (block_price (summaries p) cycles_column (task_body p t))
+      (list_of (summaries p) p.shared (task_body p t)) (emits_of (summaries p) (task_body p t)) (layout.versions ∙ allowed.versions) privates_are body_costs in
       omega (arith, most)
 
   -- as many words are listed as private scalars have
@@ -123,12 +126,12 @@ module _ (logging : Logging) (p : CheckedProgram) (allow : Allow) (plans : List 
   same_privates : length (private_homes l t) ≡ length (privates_in (task_entries l) t)
   same_privates = ap (λ e. length e.privates) logged_mine ∙ homes_count own.privates ∙ sym own_privates
 
-  logged_within : logged_cycles p l t fram inputs ≤ task_bound (uses_events p) (versions_of p) p.shared (task_body p t)
+  logged_within : logged_cycles p l t fram inputs ≤ task_bound (summaries p) (uses_events p) (versions_of p) p.shared (task_body p t)
   logged_within =
       let same = same_privates in let few = privates_are in let body = body_costs in
-      let most = all_logged l.runtime.events l.versions.words (versions_of p) (length (private_homes l t)) (scalars_of p.shared (task_body p t))
-      (spent (task_program p l t) (started fram inputs)) (block_price cycles_column (task_body p t))
-      (list_of p.shared (task_body p t)) (emits_of (task_body p t)) (layout.versions ∙ allowed.versions) (omega (arith, same, few))
+      let most = all_logged l.runtime.events l.versions.words (versions_of p) (length (private_homes l t)) (scalars_of (summaries p) p.shared (task_body p t))
+      (spent (task_program p l t) (started fram inputs)) (block_price (summaries p) cycles_column (task_body p t))
+      (list_of (summaries p) p.shared (task_body p t)) (emits_of (summaries p) (task_body p t)) (layout.versions ∙ allowed.versions) (omega (arith, same, few))
       (omega (arith, same, body)) in
       omega (arith, most)
 
@@ -151,5 +154,6 @@ tasks_keep_to_the_bound p allow plans l allowed few layout = record {
       let own = element l.tasks t (omega (arith, below, count)) in
       within Redo p allow plans l allowed few layout t fram inputs task.0 own.0 task.1 own.1;
   commits = λ t below. subst (λ n. boot_cycles l + commit_cycles l.runtime.events l.entries l.entries l.emits.words ≤ n) (sym (bound_is_the_sources p l))
-      (commit_within_bound p l.runtime.events l.entries l.emits.words (omega (arith, below)) (layout.list ∙ allowed.list) (layout.emits ∙ allowed.emits));
+      (commit_within_bound p l.runtime.events l.entries l.emits.words layout.plain (omega (arith, below)) (layout.list ∙ allowed.list)
+      (layout.emits ∙ allowed.emits));
 }

@@ -3,6 +3,7 @@ use Rattle.std.proofs.Common.{◌≡◌, ℕ, zero, suc, ◌+◌, ◌≤◌, ◌
 use Rattle.std.proofs.lemmas.Bool.{cases_lt}
 use Rattle.std.proofs.lemmas.List.Elements.{All-nil}
 use Rattle.machine_effects.specs.Inputs.{Look, Inputs, InputsAreWords, no_inputs}
+use Rattle.cost_bound.specs.Summaries.{summaries}
 use Rattle.cost_bound.specs.Counts.{emits_of}
 use Rattle.crash_rules.specs.Model.{bound, greatest}
 use Rattle.crash_rules.proofs.Interface.{below_greatest}
@@ -13,6 +14,8 @@ use Rattle.war_analysis.specs.PlanValue.{TaskPlanValue}
 use Rattle.source_values.specs.Runs.{body_of, task_body}
 use Rattle.privatise.specs.Layouts.{IsLayout}
 use Rattle.linked_code.specs.Rooms.{PrivatesAreCounted}
+use Rattle.memory_map.specs.declared.runtime.Logging.{Logging}
+use Rattle.memory_map.specs.declared.runtime.Logging.TheVariants.{Redo, Undo}
 use Rattle.memory_map.specs.MemoryMap.{MemoryMap, TaskPlace}
 use Rattle.memory_map.specs.Spots.{private_words}
 use Rattle.memory_map.proofs.Interface.{privates_few}
@@ -24,59 +27,78 @@ use Rattle.commit_runtime.proofs.Interface.{commit_grows}
 use Rattle.stands_for.specs.StandsFor.{HoldsWords}
 use Rattle.array_versions.specs.Behaviour.{started}
 use Rattle.word_code.specs.Code.{code_spent}
-use Rattle.compiled_model.specs.Parts.{program_parts, task_program, compiled_model}
-use Rattle.compiled_model.specs.Needs.{whole_cycles}
-use Rattle.task_needs.specs.Needs.{privates_of, own_privates, own_entries, own_words, start_need, commit_need, beside_path, need_of}
-use Rattle.task_needs.specs.Lists.{pending_need, with_needs}
-use Rattle.task_needs.proofs.Interface.{privates_count, own_cost, pending_cost}
-use Rattle.compiled_bounds.specs.Laws.{NeedsKeepToTheBound, TableCoversNeeds}
+use Rattle.undo_runtime.specs.Listing.{start_cycles as logged_start}
+use Rattle.compiled_model.specs.Parts.{program_parts, task_program, private_homes, compiled_model}
+use Rattle.compiled_model.specs.Needs.{LoggedCostsAreWithin, whole_cycles, logged_cycles}
+use Rattle.task_needs.specs.Needs.{privates_of, own_privates, own_entries, own_words, beside_parts, beside_path, need_of}
+use Rattle.task_needs.specs.Lists.{pending_under, pending_need, with_needs}
+use Rattle.task_needs.proofs.Interface.{privates_count, listed_count, own_cost, pending_cost}
+use Rattle.compiled_bounds.specs.Laws.{CostsFor, NeedsKeepToTheBound, TableCoversNeeds}
 use Rattle.compiled_bounds.proofs.Bounds.{greater, bound_is_the_sources}
-use Rattle.compiled_bounds.proofs.Costs.{tasks_keep_to_the_bound}
+use Rattle.compiled_bounds.proofs.Costs.{tasks_keep_to_the_bound, logged_tasks_keep_to_the_bound}
 
 module _ (p : CheckedProgram) (allow : Allow) (plans : List TaskPlanValue) (l : MemoryMap) (allowed : IsAllowed p allow) (few : PrivatesAreCounted p l)
     (layout : IsLayout p allow plans l) (t : ℕ) (below : t < length p.tasks) where
   -- as many words as the allowance counts
   counted_at : (task : CheckedTask) (own : TaskPlace) → slice_get p.tasks t ≡ Some task → slice_get l.tasks t ≡ Some own
-      → private_words (own_privates l t) ≤ scalars_of p.shared (task_body p t)
+      → private_words (own_privates l t) ≤ scalars_of (summaries p) p.shared (task_body p t)
   counted_at task own at_task at_own =
       let counted = few t task own at_task at_own in
-      let body = ap (λ o. scalars_of p.shared (body_of o)) at_task in
+      let body = ap (λ o. scalars_of (summaries p) p.shared (body_of o)) at_task in
       let words = ap (λ o. private_words (privates_of o)) at_own in
       omega (arith, counted, body, words)
 
-  counted : private_words (own_privates l t) ≤ scalars_of p.shared (task_body p t)
+  counted : private_words (own_privates l t) ≤ scalars_of (summaries p) p.shared (task_body p t)
   counted =
       let task = element p.tasks t below in
       let count = layout.tasks.count in
       let own = element l.tasks t (omega (arith, below, count)) in
       counted_at task.0 own.0 task.1 own.1
 
-  entries_fit : own_entries p l t ≤ list_of p.shared (task_body p t)
+  entries_fit : own_entries p l t ≤ list_of (summaries p) p.shared (task_body p t)
   entries_fit =
       let runs = runs_are_few (own_privates l t) in
       let scalars = privates_few (own_privates l t) in
       let words = counted in
       omega (arith, runs, scalars, words)
 
-  words_fit : own_words p l t ≤ list_of p.shared (task_body p t)
+  words_fit : own_words p l t ≤ list_of (summaries p) p.shared (task_body p t)
   words_fit = let words = counted in omega (arith, words)
 
   covered : (fram : ℕ → ℕ) (inputs : Inputs) → HoldsWords fram → InputsAreWords inputs
-      → beside_path p l t + code_spent (task_program p l t) (started fram inputs) ≤ (program_parts p l).cost t
+      → beside_path Redo p l t + code_spent (task_program p l t) (started fram inputs) ≤ (program_parts p l).cost t
   covered fram inputs words are_words =
-      let whole : whole_cycles p l t fram inputs ≤ task_bound (uses_events p) (versions_of p) p.shared (task_body p t) =
+      let whole : whole_cycles p l t fram inputs ≤ task_bound (summaries p) (uses_events p) (versions_of p) p.shared (task_body p t) =
       (tasks_keep_to_the_bound p allow plans l allowed few layout).within t fram inputs below words are_words in
-      let start : start_need l t ≡ start_cycles l.runtime.events true l.versions.words (length (privates_in (task_entries l) t)) =
+      let start : (beside_parts Redo p l t).start
+      ≡ start_cycles l.runtime.events true l.versions.words (length (privates_in (task_entries l) t)) =
       ap (λ n. start_cycles l.runtime.events true l.versions.words n) (sym (privates_count l t)) in
-      let commit : commit_need p l t
-      ≤ commit_cycles l.runtime.events (list_of p.shared (task_body p t)) (list_of p.shared (task_body p t)) (emits_of (task_body p t)) =
-      commit_grows l.runtime.events (own_entries p l t) (list_of p.shared (task_body p t)) (own_words p l t) (list_of p.shared (task_body p t))
-      (emits_of (task_body p t)) (emits_of (task_body p t)) entries_fit words_fit (omega arith) in
+      let commit : (beside_parts Redo p l t).commit
+      ≤ commit_cycles l.runtime.events (list_of (summaries p) p.shared (task_body p t)) (list_of (summaries p) p.shared (task_body p t))
+      (emits_of (summaries p) (task_body p t)) =
+      commit_grows l.runtime.events (own_entries p l t) (list_of (summaries p) p.shared (task_body p t)) (own_words p l t)
+      (list_of (summaries p) p.shared (task_body p t))
+      (emits_of (summaries p) (task_body p t)) (emits_of (summaries p) (task_body p t)) entries_fit words_fit (omega arith) in
       omega (arith, whole, start, commit)
 
+-- under undo the same parts are those that the table is known to cover
+logged_covered : (p : CheckedProgram) (l : MemoryMap) → LoggedCostsAreWithin p l → (t : ℕ) → t < length p.tasks → (fram : ℕ → ℕ) (inputs : Inputs)
+    → HoldsWords fram → InputsAreWords inputs
+    → beside_path Undo p l t + code_spent (task_program p l t) (started fram inputs) ≤ (program_parts p l).cost t
+logged_covered p l costs t below fram inputs words are_words =
+    let whole : logged_cycles p l t fram inputs ≤ task_bound (summaries p) (uses_events p) (versions_of p) p.shared (task_body p t) =
+    costs.within t fram inputs below words are_words in
+    let start : (beside_parts Undo p l t).start ≡ logged_start l.runtime.events true l.versions.words (length (private_homes l t)) =
+    ap (λ n. logged_start l.runtime.events true l.versions.words n) (sym (listed_count l t)) in
+    omega (arith, whole, start)
+
 pub table_covers_needs : TableCoversNeeds
-table_covers_needs p allow plans l allowed few layout = record {
+table_covers_needs Redo p allow plans l allowed few layout = record {
   within = λ t fram inputs below words are_words. covered p allow plans l allowed few layout t below fram inputs words are_words;
+}
+table_covers_needs Undo p allow plans l allowed few layout = record {
+  within = λ t fram inputs below words are_words.
+      logged_covered p l (logged_tasks_keep_to_the_bound p allow plans l allowed few layout) t below fram inputs words are_words;
 }
 
 -- ---- their greatest
@@ -89,12 +111,18 @@ all_within cost most (suc n) h =
     let is : greatest cost (suc n) ≡ max (greatest cost n) (cost n) = greater (greatest cost n) (cost n) in
     omega (arith, rest, last, is)
 
+-- a commit that was pending at the start
+pending_within : (logging : Logging) (p : CheckedProgram) (l : MemoryMap) → 0 < length p.tasks → CostsFor logging p l
+    → pending_under logging l ≤ bound (compiled_model p l)
+pending_within Redo p l some costs = costs.commits 0 some
+pending_within Undo p l some costs = costs.commits 0 some
+
 pub needs_keep_to_the_bound : NeedsKeepToTheBound
 needs_keep_to_the_bound p l some costs needs =
     let n = with_needs p l (compiled_model p l) in
     let most = bound (compiled_model p l) in
     let is : most ≡ bound_of p = bound_is_the_sources p l in
-    let pending : pending_need l ≤ most = costs.commits 0 some in
+    let pending : pending_need l ≤ most = pending_within l.runtime.logging p l some costs in
     let need : (t : ℕ) → t < length p.tasks → need_of p l t ≤ most = λ t below.
     let beside = needs.within t (λ a. 0) no_inputs below (λ a. omega arith) (record {
       readings = All-nil (λ w. w < 0x10000);

@@ -9,7 +9,8 @@ use Rattle.cost_bound.specs.Allowance.{CheckedProgram, IsAllowed, bound_of}
 use Rattle.source_values.specs.Runs.{State}
 use Rattle.war_analysis.specs.PlanValue.{TaskPlanValue}
 use Rattle.linked_code.specs.Rooms.{PrivatesAreCounted}
-use Rattle.memory_map.specs.declared.runtime.Logging.TheVariants.{Undo}
+use Rattle.memory_map.specs.declared.runtime.Logging.{Logging}
+use Rattle.memory_map.specs.declared.runtime.Logging.TheVariants.{Redo, Undo}
 use Rattle.memory_map.specs.declared.words.RuntimeWord.TheVariants.{ListLength, EmitCount}
 use Rattle.memory_map.specs.MemoryMap.{MemoryMap, word_place}
 use Rattle.privatise.specs.Layouts.{IsLayoutFor, IsLayout}
@@ -40,14 +41,19 @@ abbrev pub LoggedTasksKeepToTheBound : Type 0
 LoggedTasksKeepToTheBound = (p : CheckedProgram) (allow : Allow) (plans : List TaskPlanValue) (l : MemoryMap) → IsAllowed p allow → PrivatesAreCounted p l
     → IsLayoutFor Undo p allow plans l → LoggedCostsAreWithin p l
 
--- and its part has the cycles of what the task needs beside its code, so that it needs no more than its part
+-- and its part has the cycles of what the task needs beside its code, under each runtime, so that it needs no more than its part
 abbrev pub TableCoversNeeds : Type 0
-TableCoversNeeds = (p : CheckedProgram) (allow : Allow) (plans : List TaskPlanValue) (l : MemoryMap) → IsAllowed p allow → PrivatesAreCounted p l
-    → IsLayout p allow plans l → NeedsAreWithin p l
+TableCoversNeeds = (logging : Logging) (p : CheckedProgram) (allow : Allow) (plans : List TaskPlanValue) (l : MemoryMap) → IsAllowed p allow
+    → PrivatesAreCounted p l → IsLayoutFor logging p allow plans l → NeedsAreWithin logging p l
+
+-- each task keeps to its part under a runtime
+abbrev pub CostsFor : Logging → CheckedProgram → MemoryMap → Type 0
+CostsFor Redo = CostsAreWithin
+CostsFor Undo = LoggedCostsAreWithin
 
 -- the bound of the needs is within it too, with a commit that was pending at the start
 abbrev pub NeedsKeepToTheBound : Type 0
-NeedsKeepToTheBound = (p : CheckedProgram) (l : MemoryMap) → 0 < length p.tasks → CostsAreWithin p l → NeedsAreWithin p l
+NeedsKeepToTheBound = (p : CheckedProgram) (l : MemoryMap) → 0 < length p.tasks → CostsFor l.runtime.logging p l → NeedsAreWithin l.runtime.logging p l
     → bound (with_needs p l (compiled_model p l)) ≤ bound_of p
 
 -- a store to CLN or EN is within the capacity

@@ -27,7 +27,7 @@ pub fn logged_tasks_keep_to_the_bound()
     ensures { LoggedTasksKeepToTheBound }
 {}
 
-/// A task's part of the bound pays for what the task needs beside its code, by the code that is linked.
+/// Under each runtime a task's part of the bound pays for what the task needs beside its code, by the code that is linked.
 pub fn table_covers_needs()
     ensures { TableCoversNeeds }
 {}

@@ -90,5 +90,6 @@ sources_are_ready text p allow plans l t = record {
   stores = λ s x inputs words settled. each_weaker _ (StoresBelow l l.boot.address) (λ a w h. h.below) _
       (stores_below_code text p allow plans l t (run text p allow plans l t) s x inputs words settled);
   few = λ logs. tasks_list_few text p allow plans l t (run text p allow plans l t) logs;
-  needs = λ logs. table_covers_needs p allow plans l t.accepted.allowed (few text p allow plans l t) (layout_for text p allow plans l t Redo logs);
+  needs = table_covers_needs l.runtime.logging p allow plans l t.accepted.allowed (few text p allow plans l t)
+      (layout_for text p allow plans l t l.runtime.logging refl);
 }

@@ -12,14 +12,14 @@ use Rattle.compiled_model.specs.Needs.{AttemptsStoreBelow}
 use Rattle.task_needs.specs.Lists.{TasksListFew, NeedsAreWithin}
 use Rattle.compiled_runs.specs.Laws.{CanRun}
 
--- its tasks and its runtime keep what the crash theorem asks for, its code can run, no attempt stores on the code, and under redo its tasks need what they
--- are said to
+-- its tasks and its runtime keep what the crash theorem asks for, its code can run, no attempt stores on the code, its tasks need what they are said to, and
+-- under redo list few words
 pub record IsReadyToRun (p : CheckedProgram) (l : MemoryMap) : Type 0 where
   pub model : ModelLaws (compiled_model p l)
   pub code : CanRun p l
   pub stores : AttemptsStoreBelow p l l.boot.address
   pub few : l.runtime.logging ≡ Redo → TasksListFew p l
-  pub needs : l.runtime.logging ≡ Redo → NeedsAreWithin p l
+  pub needs : NeedsAreWithin l.runtime.logging p l
 
 -- each accepted text with a plan and a layout of its source is so
 abbrev pub SourcesAreReady : Type 0

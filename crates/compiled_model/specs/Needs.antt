@@ -2,6 +2,7 @@
 use Rattle.std.specs.Prelude.{◌≡◌, ℕ, ◌+◌, ◌<◌, ◌≤◌, ◌⊎◌, true, length}
 use Rattle.machine_effects.specs.World.{World, EachStore}
 use Rattle.machine_effects.specs.Inputs.{Inputs, InputsAreWords}
+use Rattle.cost_bound.specs.Summaries.{summaries}
 use Rattle.cost_bound.specs.Allowance.{task_bound, uses_events, versions_of, list_of}
 use Rattle.cost_bound.specs.Counts.{emits_of}
 use Rattle.source_values.specs.Runs.{CheckedProgram, State, task_body}
@@ -28,28 +29,29 @@ abbrev pub whole_cycles : CheckedProgram → MemoryMap → ℕ → (ℕ → ℕ)
 whole_cycles p l t fram inputs =
     boot_cycles l + start_cycles l.runtime.events true l.versions.words (length (privates_in (task_entries l) t))
     + code_spent (task_program p l t) (started fram inputs)
-    + commit_cycles l.runtime.events (list_of p.shared (task_body p t)) (list_of p.shared (task_body p t)) (emits_of (task_body p t))
+    + commit_cycles l.runtime.events (list_of (summaries p) p.shared (task_body p t)) (list_of (summaries p) p.shared (task_body p t))
+    (emits_of (summaries p) (task_body p t))
 
 -- the same under undo: a boot that puts back as much as the task may list, a start that lists the words of its private scalars, the body, the commit
 abbrev pub logged_cycles : CheckedProgram → MemoryMap → ℕ → (ℕ → ℕ) → Inputs → ℕ
 logged_cycles p l t fram inputs =
-    with_events l.runtime.events 3 + 6 + recovery_cycles (list_of p.shared (task_body p t))
+    with_events l.runtime.events 3 + 6 + recovery_cycles (list_of (summaries p) p.shared (task_body p t))
     + logged_start l.runtime.events true l.versions.words (length (private_homes l t))
     + code_spent (task_program p l t) (started fram inputs)
-    + logged_commit l.runtime.events (emits_of (task_body p t))
+    + logged_commit l.runtime.events (emits_of (summaries p) (task_body p t))
 
 -- each task keeps to its bound, whatever FRAM holds and whatever the inputs are; and where there is a task, a boot with the commit of a
 -- full list and full buffer keeps to the greatest
 pub record CostsAreWithin (p : CheckedProgram) (l : MemoryMap) : Type 0 where
   pub within : (t : ℕ) (fram : ℕ → ℕ) (inputs : Inputs) → t < length p.tasks → HoldsWords fram → InputsAreWords inputs
-      → whole_cycles p l t fram inputs ≤ task_bound (uses_events p) (versions_of p) p.shared (task_body p t)
+      → whole_cycles p l t fram inputs ≤ task_bound (summaries p) (uses_events p) (versions_of p) p.shared (task_body p t)
   pub commits : (t : ℕ) → t < length p.tasks
       → boot_cycles l + commit_cycles l.runtime.events l.entries l.entries l.emits.words ≤ bound (compiled_model p l)
 
 -- so under undo
 pub record LoggedCostsAreWithin (p : CheckedProgram) (l : MemoryMap) : Type 0 where
   pub within : (t : ℕ) (fram : ℕ → ℕ) (inputs : Inputs) → t < length p.tasks → HoldsWords fram → InputsAreWords inputs
-      → logged_cycles p l t fram inputs ≤ task_bound (uses_events p) (versions_of p) p.shared (task_body p t)
+      → logged_cycles p l t fram inputs ≤ task_bound (summaries p) (uses_events p) (versions_of p) p.shared (task_body p t)
   pub commits : (t : ℕ) → t < length p.tasks → boot_cycles l + logged_commit l.runtime.events l.emits.words ≤ bound (compiled_model p l)
 
 -- a program's end: it leaves for an address, or is short of readings

@@ -2,6 +2,7 @@
 use Rattle.std.specs.Prelude.{ℕ, Bool, true, false, List, ◌++◌, length, Option, Some, None, get_or}
 use Rattle.fram_board.specs.Effects.{Effect}
 use Rattle.machine_effects.specs.World.{World}
+use Rattle.cost_bound.specs.Summaries.{summaries}
 use Rattle.cost_bound.specs.Allowance.{task_bound, uses_events, versions_of}
 use Rattle.source_values.specs.Runs.{CheckedProgram, State, Completion, completion_of, attempt_of, task_body}
 use Rattle.array_versions.specs.Program.{Program, nothing}
@@ -58,7 +59,7 @@ task_program p l t = get_or (lowered l p) t nothing
 abbrev pub program_parts : CheckedProgram → MemoryMap → ProgramParts State
 program_parts p l = record {
   task = whole_task p;
-  cost = λ t. task_bound (uses_events p) (versions_of p) p.shared (task_body p t);
+  cost = λ t. task_bound (summaries p) (uses_events p) (versions_of p) p.shared (task_body p t);
   start = start_effects l (privates_in (task_entries l));
   body = λ t fram inputs. effects_of (behaviour (task_program p l t) (started fram inputs));
 }

@@ -4,6 +4,7 @@ use Rattle.task_ast.specs.Paths.{CheckedBlock}
 use Rattle.task_ast.specs.declared.names.Variable.TheVariants.{Shared}
 use Rattle.path_sums.specs.Sums.{block_sum}
 use Rattle.path_sums.specs.Access.{summary, private_of}
+use Rattle.cost_bound.specs.Summaries.{summaries}
 use Rattle.cost_bound.specs.Allowance.{list_of}
 use Rattle.cost_bound.specs.Counts.{emits_of}
 use Rattle.source_values.specs.Runs.{CheckedProgram, task_body}
@@ -17,7 +18,7 @@ use Rattle.stands_for.specs.Layout.{ProgramPlaces}
 
 -- whether a shared variable is private in a task with these statements, and whether the task writes it and it isn't private
 abbrev pub is_private_in : CheckedBlock → ℕ → Bool
-is_private_in body v = private_of (block_sum (summary (Shared v)) body)
+is_private_in body v = private_of (block_sum [] (summary (Shared v)) body)
 
 abbrev pub stays_in_place : CheckedBlock → ℕ → Bool
 stays_in_place body v = some_path_writes body v && not (is_private_in body v)
@@ -39,7 +40,7 @@ abbrev pub program_places : CheckedProgram → MemoryMap → ProgramPlaces
 program_places p l = record {
   map = l;
   tasks = length p.tasks;
-  list_capacity = λ t. list_of p.shared (task_body p t);
-  emit_capacity = λ t. emits_of (task_body p t);
+  list_capacity = λ t. list_of (summaries p) p.shared (task_body p t);
+  emit_capacity = λ t. emits_of (summaries p) (task_body p t);
   written_in_place = λ t a. some_scalar_at (stays_in_place (task_body p t)) 0 l.variables a;
 }

@@ -4,6 +4,7 @@ use Rattle.std.proofs.lemmas.List.Elements.{All-nil}
 use Rattle.machine_effects.specs.World.{World, fram_after}
 use Rattle.machine_effects.specs.Inputs.{Look, Inputs, InputsAreWords, no_inputs}
 use Rattle.machine_effects.proofs.Interface.{code_changes_by_effects}
+use Rattle.cost_bound.specs.Summaries.{summaries}
 use Rattle.cost_bound.specs.Allowance.{list_of}
 use Rattle.cost_bound.specs.Counts.{emits_of}
 use Rattle.source_values.specs.Runs.{CheckedProgram, State, task_body}
@@ -31,7 +32,7 @@ module _ (p : CheckedProgram) (l : MemoryMap) (logs : l.runtime.logging ≡ Redo
   m = redo_model p l
 
   abbrev list : ℕ → ℕ
-  list k = list_of p.shared (task_body p k)
+  list k = list_of (summaries p) p.shared (task_body p k)
 
   body : (k : ℕ) (g : ℕ → ℕ) (inputs : Inputs) → k < length p.tasks → HoldsWords g → InputsAreWords inputs
       → BodyWithin p l (m.task_cost k) (list k) (list k) k g inputs
@@ -45,10 +46,10 @@ module _ (p : CheckedProgram) (l : MemoryMap) (logs : l.runtime.logging ≡ Redo
       }
 
   lists : (s : State) (x : World) (inputs : Inputs) → InputsAreWords inputs → m.Undecided s x → let q = m.attempt x.fram inputs in
-      q.ends ≡ true → FitsCommit l (list s.task) (list s.task) (emits_of (task_body p s.task)) (fram_after q.effects x.fram)
+      q.ends ≡ true → FitsCommit l (list s.task) (list s.task) (emits_of (summaries p) (task_body p s.task)) (fram_after q.effects x.fram)
   lists s x inputs ready und ends =
       let d = decided_behind m s x inputs (m.attempt x.fram inputs) (laws.attempts s x inputs ready und) ends in
-      subst (FitsCommit l (list s.task) (list s.task) (emits_of (task_body p s.task))) d.fram (fits_commit p l r laws s d.next d.world d.decided)
+      subst (FitsCommit l (list s.task) (list s.task) (emits_of (summaries p) (task_body p s.task))) d.fram (fits_commit p l r laws s d.next d.world d.decided)
 
   abbrev bound_costs : Costs p l
   bound_costs = record {

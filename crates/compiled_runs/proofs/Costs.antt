@@ -6,6 +6,7 @@ use Rattle.machine_effects.specs.Inputs.{Inputs, InputsAreWords}
 use Rattle.machine_effects.proofs.Interface.{fram_after-append}
 use Rattle.code_forms.specs.Forms.{Core}
 use Rattle.crash_rules.proofs.Interface.{world_fram}
+use Rattle.cost_bound.specs.Summaries.{summaries}
 use Rattle.cost_bound.specs.Allowance.{list_of}
 use Rattle.cost_bound.specs.Counts.{emits_of}
 use Rattle.source_values.specs.Runs.{CheckedProgram, State, task_body}
@@ -49,7 +50,7 @@ pub record BodyWithin (p : CheckedProgram) (l : MemoryMap) (cost entries words k
       → let b = behaviour (task_program p l k) (started g inputs) in ComesTo (placed_code p l) most v b.effects b.end
   pub within : with_events l.runtime.events 3 + 6
       + start_cycles l.runtime.events true l.versions.words (length (privates_in (task_entries l) k)) + most
-      + commit_cycles l.runtime.events entries words (emits_of (task_body p k)) ≤ cost
+      + commit_cycles l.runtime.events entries words (emits_of (summaries p) (task_body p k)) ≤ cost
 
 -- what each task costs, and what its list has at most: its cost has its body's cycles, those of a commit that it left pending, and where it decides its
 -- list is such
@@ -60,10 +61,10 @@ pub record Costs (p : CheckedProgram) (l : MemoryMap) : Type 0 where
   pub body : (k : ℕ) (g : ℕ → ℕ) (inputs : Inputs) → k < length p.tasks → HoldsWords g → InputsAreWords inputs
       → BodyWithin p l (cost k) (entries k) (words k) k g inputs
   pub commits : (k : ℕ) → k < length p.tasks
-      → boot_cycles l + commit_cycles l.runtime.events (entries k) (words k) (emits_of (task_body p k)) ≤ cost k
+      → boot_cycles l + commit_cycles l.runtime.events (entries k) (words k) (emits_of (summaries p) (task_body p k)) ≤ cost k
   pub lists : (s : State) (x : World) (inputs : Inputs) → InputsAreWords inputs → (redo_model p l).Undecided s x
       → let q = (redo_model p l).attempt x.fram inputs in
-      q.ends ≡ true → FitsCommit l (entries s.task) (words s.task) (emits_of (task_body p s.task)) (fram_after q.effects x.fram)
+      q.ends ≡ true → FitsCommit l (entries s.task) (words s.task) (emits_of (summaries p) (task_body p s.task)) (fram_after q.effects x.fram)
 
 -- what each runtime asks for
 pub by_redo : (p : CheckedProgram) (l : MemoryMap) → l.runtime.logging ≡ Redo → CanRun p l → RunsByRedo p l
@@ -112,7 +113,8 @@ decided_behind m s x inputs q (Lacks d) t = absurd (let e = d.is in cc (t, e))
 -- a decided world's list and words to send have the room that its task has
 pub fits_commit : (p : CheckedProgram) (l : MemoryMap) → CanRun p l → ModelLaws (redo_model p l) → (s next : State) (x : World)
     → (redo_model p l).Decided s next x
-    → FitsCommit l (list_of p.shared (task_body p s.task)) (list_of p.shared (task_body p s.task)) (emits_of (task_body p s.task)) x.fram
+    → FitsCommit l (list_of (summaries p) p.shared (task_body p s.task)) (list_of (summaries p) p.shared (task_body p s.task))
+    (emits_of (summaries p) (task_body p s.task)) x.fram
 fits_commit p l r laws s next x d =
     let e = d.decided.sends.emit_count in let k = d.decided.sends.within_emits in
     record {

@@ -1,25 +1,30 @@
--- Under undo the code makes each recovery with its attempt, and each commit, within the task's part of the bound.
+-- Under undo the code makes each recovery with its attempt, and each commit, within what its task costs: its part of the bound, or its need.
 use Rattle.std.proofs.Common.{◌≡◌, ◌<◌, ◌≤◌, ◌+◌, ℕ, Bool, true, false, List, [], ◌++◌, length, refl, sym, ap, ◌∙◌, subst, inr, arith}
 use Rattle.std.proofs.lemmas.List.Elements.{All-nil}
 use Rattle.fram_board.specs.Effects.{Effect}
 use Rattle.machine_effects.specs.World.{World, fram_after, world_after}
-use Rattle.machine_effects.specs.Inputs.{Look, InputsAreWords, no_inputs}
+use Rattle.machine_effects.specs.Inputs.{Look, Inputs, InputsAreWords, no_inputs}
 use Rattle.machine_effects.specs.Machine.{Code, MachineBoard}
 use Rattle.machine_effects.proofs.Interface.{code_changes_by_effects, fram_after-append}
 use Rattle.code_forms.specs.Forms.{Core, board_of}
+use Rattle.cost_bound.specs.Summaries.{summaries}
 use Rattle.cost_bound.specs.Allowance.{list_of}
 use Rattle.cost_bound.specs.Counts.{emits_of}
 use Rattle.source_values.specs.Runs.{CheckedProgram, State, task_body}
 use Rattle.array_versions.specs.Behaviour.{Behaviour, behaviour, started}
 use Rattle.word_code.specs.Code.{code_spent}
+use Rattle.word_code.specs.Laws.{ComesTo}
 use Rattle.memory_map.specs.declared.runtime.Logging.{Logging}
 use Rattle.memory_map.specs.declared.runtime.Logging.TheVariants.{Undo}
 use Rattle.memory_map.specs.declared.runtime.Role.{Role}
 use Rattle.memory_map.specs.declared.words.RuntimeWord.TheVariants.{CurrentTask, ListLength, EmitCount, SentBase, Version}
 use Rattle.memory_map.specs.MemoryMap.{MemoryMap, word_place, with_events}
 use Rattle.runtime_effects.specs.Stages.{is_at_end}
-use Rattle.runtime_code.specs.Comes.{IsAt}
+use Rattle.runtime_code.specs.Addresses.{stack_origin}
+use Rattle.runtime_code.specs.Comes.{IsAt, Enters}
 use Rattle.runtime_code.proofs.Interface.{nothing as no_steps, if_any_grows}
+use Rattle.boot_runtime.specs.Entries.{task_entries}
+use Rattle.boot_runtime.specs.Listing.{entry_at}
 use Rattle.boot_runtime.specs.Laws.{NamesHandler}
 use Rattle.undo_effects.specs.Stages.{recovery, undo_start, undo_commit}
 use Rattle.undo_runtime.specs.Listing.{recovery_steps, recovery_cycles, start_steps, start_cycles, commit_steps, commit_cycles}
@@ -57,7 +62,24 @@ clearing_is_dearest : (events clears : Bool) (versions privates : ℕ) → start
 clearing_is_dearest events true versions privates = omega arith
 clearing_is_dearest events false versions privates = omega arith
 
-module _ (p : CheckedProgram) (l : MemoryMap) (logs : l.runtime.logging ≡ Undo) (r : CanRun p l) (laws : ModelLaws (logged_model p l)) where
+-- the code of a task on FRAM and inputs keeps to so many cycles, for which its cost has room beside a boot that puts back all that the task may list, the
+-- clearing and a commit
+pub record LoggedBodyWithin (p : CheckedProgram) (l : MemoryMap) (cost k : ℕ) (g : ℕ → ℕ) (inputs : Inputs) : Type 0 where
+  pub most : ℕ
+  pub comes : (v : Core) → Enters (entry_at (task_entries l) k).code (stack_origin l.runtime.events) g inputs v
+      → let b = behaviour (task_program p l k) (started g inputs) in ComesTo (placed_code p l) most v b.effects b.end
+  pub within : with_events l.runtime.events 3 + 6 + recovery_cycles (list_of (summaries p) p.shared (task_body p k))
+      + start_cycles l.runtime.events true l.versions.words (length (private_homes l k)) + most
+      + commit_cycles l.runtime.events (emits_of (summaries p) (task_body p k)) ≤ cost
+
+-- what each task costs: its cost has its body's cycles, and those of a commit that it left pending
+pub record LoggedCosts (p : CheckedProgram) (l : MemoryMap) : Type 0 where
+  pub cost : ℕ → ℕ
+  pub body : (k : ℕ) (g : ℕ → ℕ) (inputs : Inputs) → k < length p.tasks → HoldsWords g → InputsAreWords inputs → LoggedBodyWithin p l (cost k) k g inputs
+  pub commits : (k : ℕ) → k < length p.tasks → boot_cycles l + commit_cycles l.runtime.events (emits_of (summaries p) (task_body p k)) ≤ cost k
+
+module _ (p : CheckedProgram) (l : MemoryMap) (logs : l.runtime.logging ≡ Undo) (r : CanRun p l) (laws : ModelLaws (logged_model p l))
+    (costs : LoggedCosts p l) where
   abbrev m : Model State
   m = logged_model p l
 
@@ -71,10 +93,10 @@ module _ (p : CheckedProgram) (l : MemoryMap) (logs : l.runtime.logging ≡ Undo
   start = undo_start l (private_homes l)
 
   abbrev list : ℕ → ℕ
-  list t = list_of p.shared (task_body p t)
+  list t = list_of (summaries p) p.shared (task_body p t)
 
   abbrev emits : ℕ → ℕ
-  emits t = emits_of (task_body p t)
+  emits t = emits_of (summaries p) (task_body p t)
 
   whole : ProgramsAreWhole (lowered l p)
   whole = are_whole p l r
@@ -192,8 +214,9 @@ module _ (p : CheckedProgram) (l : MemoryMap) (logs : l.runtime.logging ≡ Undo
     abbrev start_time : ℕ
     start_time = start_cycles l.runtime.events clears l.versions.words (length (private_homes l k))
 
-    abbrev spent : ℕ
-    spent = code_spent (task_program p l k) (started g u.inputs)
+    -- the cycles of its body, and that its cost has room for them
+    abbrev paid : LoggedBodyWithin p l (costs.cost k) k g u.inputs
+    paid = costs.body k g u.inputs named start_words words
 
     abbrev commit_time : ℕ
     commit_time = commit_cycles l.runtime.events (f (word_place l EmitCount))
@@ -201,46 +224,43 @@ module _ (p : CheckedProgram) (l : MemoryMap) (logs : l.runtime.logging ≡ Undo
     few_here : arrival.cycles ≤ with_events l.runtime.events 3 + 6 + recovery_cycles (list k)
     few_here = subst (λ t. arrival.cycles ≤ with_events l.runtime.events 3 + 6 + recovery_cycles (list t)) (sym is_current) few
 
-    whole_cost : logged_cycles p l k g u.inputs ≤ m.task_cost k
-    whole_cost = (by_undo p l logs r).costs.within k g u.inputs named start_words words
-
     start_most : start_time ≤ start_cycles l.runtime.events true l.versions.words (length (private_homes l k))
     start_most = clearing_is_dearest l.runtime.events clears l.versions.words (length (private_homes l k))
 
-    all_paid : has_jumped b.end ≡ true → arrival.cycles + start_time + spent + commit_time ≤ m.task_cost k
+    all_paid : has_jumped b.end ≡ true → arrival.cycles + start_time + paid.most + commit_time ≤ costs.cost k
     all_paid ends =
-        let front = few_here in let paid = whole_cost in let most = start_most in
+        let front = few_here in let body = paid.within in let most = start_most in
         let dearest = commit_grows l.runtime.events (f (word_place l EmitCount)) (emits k) (closes ends).1 in
-        omega (arith, front, paid, most, dearest)
+        omega (arith, front, body, most, dearest)
 
-    stretches : Stretches p l start (undo_commit l) arrival (m.task_cost k)
+    stretches : Stretches p l start (undo_commit l) arrival (costs.cost k)
     stretches = record {
       start_steps = start_steps l.runtime.events clears l.versions.words (length (private_homes l k));
       start_cycles = start_time;
       starts = λ v h. logged_start_there l (lowered l p) r.fits whole logs v here u.inputs h program_named
           (settled.undecided.words (word_place l Version)) settled.none;
-      most = spent;
-      body = λ v h. body_there l (lowered l p) r.fits whole v k g u.inputs h program_named start_words words;
+      most = paid.most;
+      body = λ v h. paid.comes v h;
       leaves = leaves;
       commit_steps = commit_steps l.runtime.events (f (word_place l EmitCount));
       commit_cycles = commit_time;
       commits = λ ends v h. logged_commit_there l (lowered l p) r.fits whole logs v f v.inputs h (closes ends).0;
-      within = let front = few_here in let paid = whole_cost in let most = start_most in omega (arith, front, paid, most);
+      within = let front = few_here in let body = paid.within in let most = start_most in omega (arith, front, body, most);
       all_within = all_paid;
     }
 
     abbrev script : ProgramEffects
     script = with_commit m u.fram u.inputs (program_effects (arrival.front ++ (m.attempt here u.inputs).effects) (m.attempt here u.inputs).ends)
 
-    made : Makes c m.delay (m.task_cost s.task) script (board_of u)
-    made = subst (λ t. Makes c m.delay (m.task_cost t) script (board_of u)) is_current
-        (attempt_made p l start (undo_commit l) arrival (m.task_cost k) stretches)
+    made : Makes c m.delay (costs.cost s.task) script (board_of u)
+    made = subst (λ t. Makes c m.delay (costs.cost t) script (board_of u)) is_current
+        (attempt_made p l start (undo_commit l) arrival (costs.cost k) stretches)
 
   -- ---- from a boot, behind the recovery
 
   boot_made : (s : State) (accepted : List ℕ) (u : Core) → u.pc ≡ l.boot.address → NamesHandler l u.fram → InputsAreWords u.inputs
       → m.Undecided s (record { fram = u.fram; accepted = accepted })
-      → Makes c m.delay (m.task_cost s.task) (with_commit m u.fram u.inputs (attempt_from m true u.fram u.inputs)) (board_of u)
+      → Makes c m.delay (costs.cost s.task) (with_commit m u.fram u.inputs (attempt_from m true u.fram u.inputs)) (board_of u)
   boot_made s accepted u at handler words und =
       let x : World = record { fram = u.fram; accepted = accepted } in
       let back = recovery l u.fram in
@@ -266,21 +286,21 @@ module _ (p : CheckedProgram) (l : MemoryMap) (logs : l.runtime.logging ≡ Undo
       })
 
   makes_boot : (s : State) (x : World) (b : MachineBoard) → IsBooting l b → b.fram ≡ x.fram → InputsAreWords b.inputs → m.Undecided s x
-      → Makes c m.delay (m.task_cost s.task) (with_commit m b.fram b.inputs (attempt_from m true b.fram b.inputs)) b
+      → Makes c m.delay (costs.cost s.task) (with_commit m b.fram b.inputs (attempt_from m true b.fram b.inputs)) b
   makes_boot s x b k same words und =
       let u = k.core in
       let f : x.fram ≡ u.fram = sym same ∙ ap (λ q. q.fram) k.is in
       let und' : m.Undecided s (record { fram = u.fram; accepted = x.accepted }) =
       subst (λ g. m.Undecided s (record { fram = g; accepted = x.accepted })) f und in
       let words' : InputsAreWords u.inputs = subst (λ q. InputsAreWords q.inputs) k.is words in
-      subst (λ q. Makes c m.delay (m.task_cost s.task) (with_commit m q.fram q.inputs (attempt_from m true q.fram q.inputs)) q) (sym k.is)
+      subst (λ q. Makes c m.delay (costs.cost s.task) (with_commit m q.fram q.inputs (attempt_from m true q.fram q.inputs)) q) (sym k.is)
       (boot_made s x.accepted u k.pc k.named words' und')
 
   -- ---- from the end of a commit
 
   start_made : (s : State) (accepted : List ℕ) (u : Core) → u.pc ≡ attempt_start l → InputsAreWords u.inputs
       → m.Settled s (record { fram = u.fram; accepted = accepted })
-      → Makes c m.delay (m.task_cost s.task) (with_commit m u.fram u.inputs (m.attempt u.fram u.inputs)) (board_of u)
+      → Makes c m.delay (costs.cost s.task) (with_commit m u.fram u.inputs (m.attempt u.fram u.inputs)) (board_of u)
   start_made s accepted u at words settled =
       let there : IsAt (attempt_start l) u.fram u.inputs u = record { pc = at; fram = refl; inputs = refl } in
       made (record {
@@ -293,14 +313,14 @@ module _ (p : CheckedProgram) (l : MemoryMap) (logs : l.runtime.logging ≡ Undo
       })
 
   makes_attempt : (s : State) (x : World) (b : MachineBoard) → IsStarting l b → b.fram ≡ x.fram → InputsAreWords b.inputs → m.Settled s x
-      → Makes c m.delay (m.task_cost s.task) (with_commit m b.fram b.inputs (m.attempt b.fram b.inputs)) b
+      → Makes c m.delay (costs.cost s.task) (with_commit m b.fram b.inputs (m.attempt b.fram b.inputs)) b
   makes_attempt s x b k same words settled =
       let u = k.core in
       let f : x.fram ≡ u.fram = sym same ∙ ap (λ q. q.fram) k.is in
       let settled' : m.Settled s (record { fram = u.fram; accepted = x.accepted }) =
       subst (λ g. m.Settled s (record { fram = g; accepted = x.accepted })) f settled in
       let words' : InputsAreWords u.inputs = subst (λ q. InputsAreWords q.inputs) k.is words in
-      subst (λ q. Makes c m.delay (m.task_cost s.task) (with_commit m q.fram q.inputs (m.attempt q.fram q.inputs)) q) (sym k.is)
+      subst (λ q. Makes c m.delay (costs.cost s.task) (with_commit m q.fram q.inputs (m.attempt q.fram q.inputs)) q) (sym k.is)
       (start_made s x.accepted u k.pc words' settled')
 
   -- ---- a pending commit
@@ -337,37 +357,83 @@ module _ (p : CheckedProgram) (l : MemoryMap) (logs : l.runtime.logging ≡ Undo
       subst (λ q. Makes c m.delay most (program_effects (m.commit q.fram q.inputs) true) q) (sym k.is)
       (commit_made s next x.accepted u k.pc k.named d' most (omega (arith, dearest, room)))
 
-  -- the cost of a task has room for its own commit behind a boot
-  own_commit : (t : ℕ) → t < length p.tasks → boot_cycles l + commit_cycles l.runtime.events (emits t) ≤ m.task_cost t
-  own_commit t named =
+  -- one that a task decided: the cost of the task has room for it
+  makes_decided : (s next : State) (x : World) (b : MachineBoard) → IsBooting l b → b.fram ≡ x.fram → m.Decided s next x
+      → Makes c m.delay (costs.cost s.task) (program_effects (m.commit b.fram b.inputs) true) b
+  makes_decided s next x b k e d = makes_within s next x b k e d (costs.cost s.task) (costs.commits s.task d.closes.sends.is_task)
+
+  -- any commit: the buffer has room for it
+  makes_commit : (to : State) (x : World) (b : MachineBoard) → IsBooting l b → b.fram ≡ x.fram → m.Committing to x → (most : ℕ)
+      → boot_cycles l + commit_cycles l.runtime.events l.emits.words ≤ most → Makes c m.delay most (program_effects (m.commit b.fram b.inputs) true) b
+  makes_commit to x b k e d most room =
+      let few = r.room.emits d.from.task d.decided.closes.sends.is_task in
+      let dearest = commit_grows l.runtime.events (emits d.from.task) l.emits.words few in
+      makes_within d.from to x b k e d.decided most (omega (arith, dearest, room))
+
+-- what the code owes a model that has undo's runtime and worlds, in which these are the costs
+pub record LoggedCodeMakes (p : CheckedProgram) (l : MemoryMap) (costs : LoggedCosts p l) : Type 0 where
+  pub boot : (s : State) (x : World) (b : MachineBoard) → IsBooting l b → b.fram ≡ x.fram → InputsAreWords b.inputs → (logged_model p l).Undecided s x
+      → Makes (compiled_program p l) (logged_model p l).delay (costs.cost s.task)
+      (with_commit (logged_model p l) b.fram b.inputs (attempt_from (logged_model p l) true b.fram b.inputs)) b
+  pub attempt : (s : State) (x : World) (b : MachineBoard) → IsStarting l b → b.fram ≡ x.fram → InputsAreWords b.inputs → (logged_model p l).Settled s x
+      → Makes (compiled_program p l) (logged_model p l).delay (costs.cost s.task)
+      (with_commit (logged_model p l) b.fram b.inputs ((logged_model p l).attempt b.fram b.inputs)) b
+  pub decided : (s next : State) (x : World) (b : MachineBoard) → IsBooting l b → b.fram ≡ x.fram → (logged_model p l).Decided s next x
+      → Makes (compiled_program p l) (logged_model p l).delay (costs.cost s.task) (program_effects ((logged_model p l).commit b.fram b.inputs) true) b
+  pub commit : (to : State) (x : World) (b : MachineBoard) → IsBooting l b → b.fram ≡ x.fram → (logged_model p l).Committing to x → (most : ℕ)
+      → boot_cycles l + commit_cycles l.runtime.events l.emits.words ≤ most
+      → Makes (compiled_program p l) (logged_model p l).delay most (program_effects ((logged_model p l).commit b.fram b.inputs) true) b
+
+pub logged_code_makes : (p : CheckedProgram) (l : MemoryMap) → l.runtime.logging ≡ Undo → CanRun p l → ModelLaws (logged_model p l)
+    → (costs : LoggedCosts p l) → LoggedCodeMakes p l costs
+logged_code_makes p l logs r laws costs = record {
+  boot = makes_boot p l logs r laws costs;
+  attempt = makes_attempt p l logs r laws costs;
+  decided = makes_decided p l logs r laws costs;
+  commit = makes_commit p l logs r laws costs;
+}
+
+-- ---- within the bound
+
+-- each task's part of the bound has its cycles
+module _ (p : CheckedProgram) (l : MemoryMap) (logs : l.runtime.logging ≡ Undo) (r : CanRun p l) where
+  bound_body : (k : ℕ) (g : ℕ → ℕ) (inputs : Inputs) → k < length p.tasks → HoldsWords g → InputsAreWords inputs
+      → LoggedBodyWithin p l ((logged_model p l).task_cost k) k g inputs
+  bound_body k g inputs named are_words ready =
+      let count = programs_are p l r in
+      let whole : logged_cycles p l k g inputs ≤ (logged_model p l).task_cost k = (by_undo p l logs r).costs.within k g inputs named are_words ready in
+      record {
+        most = code_spent (task_program p l k) (started g inputs);
+        comes = λ v enters. body_there l (lowered l p) r.fits (are_whole p l r) v k g inputs enters (omega (arith, named, count)) are_words ready;
+        within = omega (arith, whole);
+      }
+
+  bound_commits : (k : ℕ) → k < length p.tasks
+      → boot_cycles l + commit_cycles l.runtime.events (emits_of (summaries p) (task_body p k)) ≤ (logged_model p l).task_cost k
+  bound_commits k named =
       let zeros : ℕ → ℕ = λ a. 0 in
-      let paid : logged_cycles p l t zeros no_inputs ≤ m.task_cost t = (by_undo p l logs r).costs.within t zeros no_inputs named (λ a. omega arith) (record {
+      let paid : logged_cycles p l k zeros no_inputs ≤ (logged_model p l).task_cost k =
+      (by_undo p l logs r).costs.within k zeros no_inputs named (λ a. omega arith) (record {
         readings = All-nil (λ w. w < 0x10000);
         looks = All-nil (λ (look : Look). (n : ℕ) → look n < 0x10000);
       }) in
       omega (arith, paid)
 
-  -- and the greatest cost for one that fills the buffer
-  any_commit : (t : ℕ) → t < length p.tasks → (most : ℕ) → boot_cycles l + commit_cycles l.runtime.events l.emits.words ≤ most
-      → boot_cycles l + commit_cycles l.runtime.events (emits t) ≤ most
-  any_commit t named most room =
-      let dearest = commit_grows l.runtime.events (emits t) l.emits.words (r.room.emits t named) in omega (arith, dearest, room)
+  abbrev bound_costs : LoggedCosts p l
+  bound_costs = record { cost = (logged_model p l).task_cost; body = bound_body; commits = bound_commits }
 
 pub under_undo : (p : CheckedProgram) (l : MemoryMap) → l.runtime.logging ≡ Undo → CanRun p l → ModelLaws (compiled_model p l)
     → ProgramLaws (compiled_model p l) (compiled_program p l)
 under_undo p l logs r laws =
     let L : Model State → Type 0 = λ m. ModelLaws m in
     let P : Model State → Type 0 = λ m. ProgramLaws m (compiled_program p l) in
-    let own = subst L (is_logged p l logs) laws in
+    let makes = logged_code_makes p l logs r (subst L (is_logged p l logs) laws) (bound_costs p l logs r) in
     subst P (sym (is_logged p l logs)) (record {
       changes = λ s. code_changes_by_effects (placed_code p l) s;
       takes_cycles = λ s. code_takes (placed_code p l) s;
-      makes_boot = makes_boot p l logs r own;
-      makes_attempt = makes_attempt p l logs r own;
-      makes_decided = λ s next x b k e d.
-          makes_within p l logs r own s next x b k e d _ (own_commit p l logs r own s.task d.closes.sends.is_task);
+      makes_boot = makes.boot;
+      makes_attempt = makes.attempt;
+      makes_decided = makes.decided;
       makes_commit = λ to x b k e d.
-          let from = d.from in let task = d.decided.closes.sends.is_task in
-          makes_within p l logs r own from to x b k e d.decided _
-          (any_commit p l logs r own from.task task _ ((by_undo p l logs r).costs.commits from.task task));
+          makes.commit to x b k e d _ ((by_undo p l logs r).costs.commits d.from.task d.decided.closes.sends.is_task);
     })

@@ -38,6 +38,7 @@ use Rattle.commit_runtime.proofs.Interface.{commit_grows}
 use Rattle.linked_code.proofs.Interface.{to_start, start_there, commit_there, to_commit}
 use Rattle.compiled_runs.specs.Program.{placed_code, IsBooting, IsStarting, compiled_program}
 use Rattle.compiled_runs.specs.Laws.{CanRun}
+use Rattle.cost_bound.specs.Summaries.{summaries}
 use Rattle.cost_bound.specs.Counts.{emits_of}
 use Rattle.source_values.specs.Runs.{task_body}
 use Rattle.compiled_runs.proofs.Costs.{FitsCommit, BodyWithin, Costs, by_redo, programs_are, are_whole}
@@ -157,13 +158,14 @@ module _ (source : Source) where
 
   -- one that a task decided: its list has no more entries and words, and it has no more to send, than what the task's own cost has the cycles for
   makes_decided : (s next : State) (x : World) (b : MachineBoard) → IsBooting l b → b.fram ≡ x.fram → m.Decided s next x
-      → FitsCommit l (costs.entries s.task) (costs.words s.task) (emits_of (task_body p s.task)) x.fram
+      → FitsCommit l (costs.entries s.task) (costs.words s.task) (emits_of (summaries p) (task_body p s.task)) x.fram
       → Makes c m.delay (cost s.task) (program_effects (m.commit b.fram b.inputs) true) b
   makes_decided s next x b k e d fits =
       let list = fits.list in let words = fits.named in let emits = fits.sent in
       let most = costs.commits s.task d.decided.sends.is_task in
       let n = x.fram (word_place l ListLength) in let ws = length (listed l x.fram) in let o = x.fram (word_place l EmitCount) in
-      let dearest = commit_grows l.runtime.events n (costs.entries s.task) ws (costs.words s.task) o (emits_of (task_body p s.task)) list words emits in
+      let dearest = commit_grows l.runtime.events n (costs.entries s.task) ws (costs.words s.task) o (emits_of (summaries p) (task_body p s.task)) list words
+      emits in
       commit_within next x b k e (laws.decided_committing s next x d) (cost s.task) (omega (arith, dearest, most))
 
   -- an undecided world, and a machine with its FRAM from which the start of an attempt is reached
@@ -230,7 +232,7 @@ module _ (source : Source) where
 
     -- what it lists where it decides
     abbrev FitsAt : ℕ → (ℕ → ℕ) → Type 0
-    FitsAt t h = FitsCommit l (costs.entries t) (costs.words t) (emits_of (task_body p t)) h
+    FitsAt t h = FitsCommit l (costs.entries t) (costs.words t) (emits_of (summaries p) (task_body p t)) h
 
     fits_there : has_jumped b.end ≡ true → FitsAt k f
     fits_there ends = subst (λ t. FitsAt t f) (sym is_current) (costs.lists s x u.inputs words und ends)
@@ -262,7 +264,8 @@ module _ (source : Source) where
         let fits : FitsAt k f = fits_there ends in
         let list = fits.list in let words = fits.named in let emits = fits.sent in
         let most = paid.within in let start_most = at_most in
-        let dearest = commit_grows l.runtime.events listed_entries (costs.entries k) listed_words (costs.words k) to_send (emits_of (task_body p k))
+        let dearest = commit_grows l.runtime.events listed_entries (costs.entries k) listed_words (costs.words k) to_send
+        (emits_of (summaries p) (task_body p k))
         list words emits in
         omega (arith, few, most, start_most, dearest)
 
@@ -325,7 +328,7 @@ pub record CodeMakes (p : CheckedProgram) (l : MemoryMap) (costs : Costs p l) : 
       → Makes (compiled_program p l) (redo_model p l).delay (costs.cost s.task)
       (with_commit (redo_model p l) b.fram b.inputs ((redo_model p l).attempt b.fram b.inputs)) b
   pub decided : (s next : State) (x : World) (b : MachineBoard) → IsBooting l b → b.fram ≡ x.fram → (redo_model p l).Decided s next x
-      → FitsCommit l (costs.entries s.task) (costs.words s.task) (emits_of (task_body p s.task)) x.fram
+      → FitsCommit l (costs.entries s.task) (costs.words s.task) (emits_of (summaries p) (task_body p s.task)) x.fram
       → Makes (compiled_program p l) (redo_model p l).delay (costs.cost s.task) (program_effects ((redo_model p l).commit b.fram b.inputs) true) b
   pub commit : (to : State) (x : World) (b : MachineBoard) → IsBooting l b → b.fram ≡ x.fram → (redo_model p l).Committing to x → (most : ℕ)
       → boot_cycles l + commit_cycles l.runtime.events l.entries l.entries l.emits.words ≤ most

@@ -60,14 +60,14 @@ abbrev pub CodeKeepsTheLaws : Type 0
 CodeKeepsTheLaws = (p : CheckedProgram) (l : MemoryMap) → CanRun p l → ModelLaws (compiled_model p l)
     → ProgramLaws (compiled_model p l) (compiled_program p l)
 
--- under redo a source with its tasks' needs as their costs is a model as before, where each task lists few words
+-- a source with its tasks' needs as their costs is a model as before, where under redo each task lists few words
 abbrev pub NeedsKeepTheLaws : Type 0
-NeedsKeepTheLaws = (p : CheckedProgram) (l : MemoryMap) → l.runtime.logging ≡ Redo → CanRun p l → TasksListFew p l → ModelLaws (compiled_model p l)
+NeedsKeepTheLaws = (p : CheckedProgram) (l : MemoryMap) → CanRun p l → (l.runtime.logging ≡ Redo → TasksListFew p l) → ModelLaws (compiled_model p l)
     → ModelLaws (with_needs p l (compiled_model p l))
 
--- and the code makes each attempt and each commit within the task's need, whatever else was pending at the start
+-- and the code makes each attempt, behind a power-up with its recovery, and each commit within the task's need, whatever else was pending at the start
 abbrev pub CodeKeepsToNeeds : Type 0
-CodeKeepsToNeeds = (p : CheckedProgram) (l : MemoryMap) → l.runtime.logging ≡ Redo → CanRun p l → TasksListFew p l → NeedsAreWithin p l
+CodeKeepsToNeeds = (p : CheckedProgram) (l : MemoryMap) → CanRun p l → (l.runtime.logging ≡ Redo → TasksListFew p l) → NeedsAreWithin l.runtime.logging p l
     → ModelLaws (compiled_model p l)
     → ProgramLaws (with_needs p l (compiled_model p l)) (compiled_program p l)
 

@@ -5,6 +5,7 @@ use Rattle.compiled_states.proofs.Names.{versions_of, TaskPlanValue, MemoryMap, 
 use Rattle.memory_map.specs.declared.runtime.Logging.{Logging}
 use Rattle.privatise.specs.Layouts.{IsLayoutFor}
 use Rattle.task_ast.specs.declared.Extent.TheVariants.{Scalar, Long, Array}
+use Rattle.cost_bound.specs.Summaries.{summaries}
 use Rattle.cost_bound.specs.Counts.{CheckedBlock, emits_of}
 use Rattle.cost_bound.specs.Allowance.{plain_words_of}
 use Rattle.privatise.specs.Sizes.{home_part, home_words, copy_part, copy_words, body_words, entry_words}
@@ -65,15 +66,15 @@ pub layout_is_full : {logging : Logging} (p : CheckedProgram) (allow : Allow) (p
 layout_is_full p allow plans l h laid =
     let a = apart_of l laid.rules in
     let starts = total (entry_words p.shared) p.tasks in
-    let bodies = total (body_words p.shared) p.tasks in
+    let bodies = total (body_words (summaries p) p.shared) p.tasks in
     let homes = home_words p.shared in
     let copies = copy_words p in
     let versions = versions_of p in
-    let list = greatest (list_of p.shared) p.tasks in
-    let emits = greatest emits_of p.tasks in
-    let code : total (task_words p.shared) p.tasks ≤ starts + bodies =
-    total_within (task_words p.shared) (entry_words p.shared) (body_words p.shared) p.tasks (λ c. omega arith) in
-    let places = places_within (is_written p.tasks) 0 p.shared in
+    let list = greatest (list_of (summaries p) p.shared) p.tasks in
+    let emits = greatest (emits_of (summaries p)) p.tasks in
+    let code : total (task_words (summaries p) p.shared) p.tasks ≤ starts + bodies =
+    total_within (task_words (summaries p) p.shared) (entry_words p.shared) (body_words (summaries p) p.shared) p.tasks (λ c. omega arith) in
+    let places = places_within (is_written (summaries p) p.tasks) 0 p.shared in
     let all : plain_words_of p ≤ 600 + (starts + bodies) + (homes + copies + versions) + 3 * list + emits = omega (arith, code, places) in
     let commit = a.commit in let begin = a.code in let size = laid.size in
     let boot_has = laid.boot in let commit_has = laid.commit in let code_has = laid.code in

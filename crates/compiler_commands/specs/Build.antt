@@ -10,7 +10,7 @@ use Rattle.plain_commands.specs.source_values.Runs.{CheckedProgram}
 use Rattle.source_runs.specs.Traces.{IsTraceOfWords}
 use Rattle.plain_commands.specs.command_answers.Ending.{well}
 use Rattle.compiler_commands.specs.ToldRuns.{IsTold}
-use Rattle.plain_commands.specs.command_texts.Sources.{RefusesSource, SaysSource}
+use Rattle.plain_commands.specs.command_texts.Sources.{RefusesBuild, SaysPlainSource}
 use Rattle.plain_commands.specs.command_answers.Promises.{Promise, OfOneText}
 use Rattle.compiler_commands.specs.Built.{IsBuilt}
 
@@ -26,13 +26,13 @@ pub record Builds (source file output : List ℕ) : Type 0 where
   pub told : (trace : TraceValue) → IsTraceOfWords trace → IsTold source program built.map image trace
   pub lawful : IsLawful source program allow built.compiled.layout image
 
--- what it promises
+-- What it promises. A source with functions is refused as one that isn't compiled yet.
 abbrev pub build_promise : (source image : List ℕ) → Promise
 build_promise source image = record {
   reads = source ∷ [];
   judges = source ∷ [];
   puts = Some image;
-  takes = OfOneText SaysSource;
+  takes = OfOneText SaysPlainSource;
   makes = λ texts p. OfOneText (λ s. IsSomeAnd p.file (λ file. Builds s file p.output) × (p.ending ≡ well)) texts;
-  refuses = λ texts place r. OfOneText (λ s. RefusesSource s r × (place ≡ 0)) texts;
+  refuses = λ texts place r. OfOneText (λ s. RefusesBuild s r × (place ≡ 0)) texts;
 }

@@ -6,13 +6,13 @@ ghost use Rattle.condition_lines.specs.Conditions.{block_conditions, block_ifs, 
 ghost use Rattle.condition_lines.specs.Conditions.{statement_conditions, statement_ifs};
 
 use std::alloc::{AllocError, Global};
-use task_ast::{Arm, Stmt, TaskName, VariableName};
+use task_ast::{Arm, FunctionName, Stmt, TaskName, VariableName};
 
 // The `if`s of a statement behind others; `number` is that of the next condition, and becomes that of the one behind it; so with what follows.
 #[cycle(ifs)]
 fn push_statement(
     alloc: Global,
-    statement: &Stmt<VariableName, TaskName>,
+    statement: &Stmt<VariableName, TaskName, FunctionName>,
     number: &mut u32,
     ifs: &mut Vec<Vec<u32>>,
 ) -> Result<(), AllocError>
@@ -41,7 +41,8 @@ fn push_statement(
         | Stmt::Assign(_, _)
         | Stmt::Store(_, _, _)
         | Stmt::Emit(_)
-        | Stmt::TransitionTo(_) => Ok(()),
+        | Stmt::Return(_, _)
+        | Stmt::TransitionTo(_, _) => Ok(()),
     }
 }
 
@@ -49,7 +50,7 @@ fn push_statement(
 #[cycle(ifs)]
 fn push_arms(
     alloc: Global,
-    arms: &[Arm<VariableName, TaskName>],
+    arms: &[Arm<VariableName, TaskName, FunctionName>],
     number: &mut u32,
     ifs: &mut Vec<Vec<u32>>,
 ) -> Result<Vec<u32>, AllocError>
@@ -71,7 +72,7 @@ fn push_arms(
 #[cycle(ifs)]
 fn push_block(
     alloc: Global,
-    body: &[Stmt<VariableName, TaskName>],
+    body: &[Stmt<VariableName, TaskName, FunctionName>],
     number: &mut u32,
     ifs: &mut Vec<Vec<u32>>,
 ) -> Result<(), AllocError>
@@ -91,7 +92,7 @@ fn push_block(
 /// `AllocError` where memory was refused.
 pub fn task_ifs(
     alloc: Global,
-    body: &[Stmt<VariableName, TaskName>],
+    body: &[Stmt<VariableName, TaskName, FunctionName>],
 ) -> Result<Vec<Vec<u32>>, AllocError>
     requires { block_conditions (block_view body.now) < 2 ^ 32 }
     ensures { IfOk result (λ ifs. lists_of ifs.items ≡ block_ifs 0 (block_view body.now)) }

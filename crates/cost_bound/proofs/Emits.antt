@@ -1,18 +1,19 @@
 -- The column that counts emits.
-use Rattle.std.proofs.Common.{◌≡◌, ℕ, ◌-◌, ◌*◌, true, false, Some, None, ap, refl, arith}
-use Rattle.task_ast.specs.Tree.{Expression, number, long_number, name, element, sense, next_event, unary, binary, shift, short_circuit}
-use Rattle.task_ast.specs.Tree.{Statement, declare, assign, store, choose}
-use Rattle.task_ast.specs.Tree.{loop, emit, transition, Choice, nothing, otherwise, test, Block, end, step}
+use Rattle.std.proofs.Common.{◌≡◌, ℕ, ◌-◌, ◌*◌, true, false, List, Some, None, ap, refl, arith}
+use Rattle.task_ast.specs.Tree.{number, long_number, name, element, sense, next_event, call, unary, binary, shift, short_circuit, no_value, value}
+use Rattle.task_ast.specs.Tree.{declare, assign, store, choose, loop, emit, give, transition, nothing, otherwise, test, end, step}
+use Rattle.task_ast.specs.Paths.{CheckedExpression, CheckedValues, CheckedStatement, CheckedChoice, CheckedBlock}
 use Rattle.task_ast.specs.declared.BinaryOperator.{BinaryOperator}
 use Rattle.task_ast.specs.declared.BinaryOperator.TheVariants.{Multiply, Divide, Remainder}
 use Rattle.task_ast.specs.declared.WordType.{WordType}
 use Rattle.task_ast.specs.declared.WordType.TheVariants.{Unsigned, Int, Long}
-use Rattle.task_ast.specs.declared.names.VariableName.{VariableName}
-use Rattle.task_ast.specs.declared.names.TaskName.{TaskName}
 use Rattle.task_ast.specs.Types.{by_width, joined_type, type_of}
-use Rattle.cost_bound.specs.Table.{expression_price, operator_price, statement_price, conditions_price, blocks_price, block_price}
-use Rattle.cost_bound.specs.Counts.{is_emit, statement_count, choice_count, block_count, emits_of}
+use Rattle.cost_bound.specs.Summary.{Summary}
+use Rattle.cost_bound.specs.Table.{expression_price, values_price, operator_price, statement_price, conditions_price, blocks_price, block_price}
+use Rattle.cost_bound.specs.Counts.{is_emit, called_emits, expression_count, values_count, statement_count, conditions_count, choice_count, block_count}
+use Rattle.cost_bound.specs.Counts.{emits_of}
 use Rattle.cost_bound.specs.declared.prices.Column.{Column}
+use Rattle.cost_bound.specs.declared.prices.Body.TheVariants.{Emits}
 
 abbrev pub emits_column : Column
 emits_column = record {
@@ -25,6 +26,9 @@ emits_column = record {
   multiply = 0;
   divide = 0;
   element = 0;
+  call = 0;
+  call_value = 0;
+  body = Emits;
   assign = 0;
   long_assign = 0;
   store = 0;
@@ -52,44 +56,53 @@ free_operator Divide t = refl
 free_operator Remainder t = refl
 free_operator _ t = free_width t
 
-free : (e : Expression VariableName) → expression_price emits_column e ≡ 0
-free (number _) = refl
-free (long_number _) = refl
-free (name x) = free_width x.word_type
-free sense = refl
-free next_event = refl
-free (unary _ e) = let x = free_width (type_of e) in let a = free e in omega arith
-free (binary op a b) =
-    let x = free_operator op.operator (joined_type (type_of a) (type_of b)) in let y = free a in let z = free b in omega arith
-free (short_circuit _ a b) = let x = free_width (joined_type (type_of a) (type_of b)) in let y = free a in let z = free b in omega arith
-free (shift _ e _) = let x = free_width (type_of e) in let a = free e in omega arith
-free (element _ e) = let a = free e in omega arith
+module _ (known : List Summary) where
+  mutual
+    of_expression : (e : CheckedExpression) → expression_price known emits_column e ≡ expression_count (called_emits known) e
+    of_expression (number _) = refl
+    of_expression (long_number _) = refl
+    of_expression (name x) = free_width x.word_type
+    of_expression sense = refl
+    of_expression next_event = refl
+    of_expression (call f values) = let a = of_values values in omega arith
+    of_expression (unary _ e) = let x = free_width (type_of e) in let a = of_expression e in omega arith
+    of_expression (binary op a b) =
+        let x = free_operator op.operator (joined_type (type_of a) (type_of b)) in let y = of_expression a in let z = of_expression b in omega arith
+    of_expression (short_circuit _ a b) =
+        let x = free_width (joined_type (type_of a) (type_of b)) in let y = of_expression a in let z = of_expression b in omega arith
+    of_expression (shift _ e _) = let x = free_width (type_of e) in let a = of_expression e in omega arith
+    of_expression (element _ e) = let a = of_expression e in omega arith
 
-mutual
-  of_statement : (s : Statement VariableName TaskName) → statement_price emits_column s ≡ statement_count is_emit s
-  of_statement (declare _ _ None) = refl
-  of_statement (declare _ _ (Some e)) = let a = free e in omega arith
-  of_statement (assign x e) = let w = free_width x.word_type in let a = free e in omega arith
-  of_statement (store _ i e) = let a = free i in let b = free e in omega arith
-  of_statement (emit e) = let a = free e in omega arith
-  of_statement (transition _) = refl
-  of_statement (choose c) = let a = of_conditions c in let b = of_blocks c in omega arith
-  of_statement (loop _ from _ below _ body) = let a = of_block body in let b = ap (λ n. (below - from) * n) a in omega (arith, b)
+    of_values : (values : CheckedValues) → values_price known emits_column values ≡ values_count (called_emits known) values
+    of_values no_value = refl
+    of_values (value e more) = let a = of_expression e in let b = of_values more in omega arith
 
-  of_conditions : (c : Choice VariableName TaskName) → conditions_price emits_column c ≡ 0
-  of_conditions nothing = refl
-  of_conditions (otherwise _) = refl
-  of_conditions (test e _ more) = let w = free_width (type_of e) in let a = free e in let b = of_conditions more in omega arith
+  mutual
+    of_statement : (s : CheckedStatement) → statement_price known emits_column s ≡ statement_count (called_emits known) is_emit s
+    of_statement (declare _ _ None) = refl
+    of_statement (declare _ _ (Some e)) = let a = of_expression e in omega arith
+    of_statement (assign x e) = let w = free_width x.word_type in let a = of_expression e in omega arith
+    of_statement (store _ i e) = let a = of_expression i in let b = of_expression e in omega arith
+    of_statement (emit e) = let a = of_expression e in omega arith
+    of_statement (give _ e) = let a = of_expression e in omega arith
+    of_statement (transition _ _) = refl
+    of_statement (choose c) = let a = of_conditions c in let b = of_blocks c in omega arith
+    of_statement (loop _ from _ below _ body) = let a = of_block body in let b = ap (λ n. (below - from) * n) a in omega (arith, b)
 
-  of_blocks : (c : Choice VariableName TaskName) → blocks_price emits_column c ≡ choice_count is_emit c
-  of_blocks nothing = refl
-  of_blocks (otherwise b) = of_block b
-  of_blocks (test _ b more) = let x = of_block b in let y = of_blocks more in omega arith
+    of_conditions : (c : CheckedChoice) → conditions_price known emits_column c ≡ conditions_count (called_emits known) c
+    of_conditions nothing = refl
+    of_conditions (otherwise _) = refl
+    of_conditions (test e _ more) = let w = free_width (type_of e) in let a = of_expression e in let b = of_conditions more in omega arith
 
-  of_block : (b : Block VariableName TaskName) → block_price emits_column b ≡ block_count is_emit b
-  of_block end = refl
-  of_block (step s more) = let a = of_statement s in let b = of_block more in omega arith
+    of_blocks : (c : CheckedChoice) → blocks_price known emits_column c ≡ choice_count (called_emits known) is_emit c
+    of_blocks nothing = refl
+    of_blocks (otherwise b) = of_block b
+    of_blocks (test _ b more) = let x = of_block b in let y = of_blocks more in omega arith
 
-pub block_price-emits : (b : Block VariableName TaskName) → block_price emits_column b ≡ emits_of b
-unfolding emits_of
-block_price-emits b = of_block b
+    of_block : (b : CheckedBlock) → block_price known emits_column b ≡ block_count (called_emits known) is_emit b
+    of_block end = refl
+    of_block (step s more) = let a = of_statement s in let b = of_block more in omega arith
+
+  pub block_price-emits : (b : CheckedBlock) → block_price known emits_column b ≡ emits_of known b
+  unfolding emits_of
+  block_price-emits b = of_block b

@@ -2,3 +2,6 @@
 
 -- Sums over the shared variables, from what the walks kept.
 pub use Rattle.cost_bound.proofs.Sums.{written_sum}
+-- What is kept of functions, and what depends on it.
+pub use Rattle.cost_bound.proofs.Called.{known_length}
+pub use Rattle.cost_bound.proofs.Same.{price_same, emits_same, stores_same, assigns_same, list_same, bound_same, words_same, written_same, stack_same}

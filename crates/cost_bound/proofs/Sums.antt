@@ -5,11 +5,12 @@ use Rattle.task_ast.specs.declared.Extent.{Extent}
 use Rattle.task_ast.specs.declared.Extent.TheVariants.{Scalar, Long, Array}
 use Rattle.task_ast.specs.declared.SharedDeclaration.{SharedDeclaration}
 use Rattle.cost_bound.specs.Table.{capped}
-use Rattle.cost_bound.specs.Counts.{CheckedBlock, block_count, is_store_to, stores_of}
+use Rattle.cost_bound.specs.Summary.{Summary}
+use Rattle.cost_bound.specs.Counts.{CheckedBlock, called_stores, block_count, is_store_to, stores_of}
 use Rattle.cost_bound.specs.Rooms.{AreCapped, AreMarked}
 use Rattle.cost_bound.specs.Allowance.{shared_sum_from, shared_sum, list_part, scalars_of, list_of}
 
-same_from : (f g : ℕ → Extent → ℕ) (i : ℕ) (ds : List SharedDeclaration) → i + length ds ≤ 256 → ((k : ℕ) (e : Extent) → k < 256 → f k e ≡ g k e)
+pub same_from : (f g : ℕ → Extent → ℕ) (i : ℕ) (ds : List SharedDeclaration) → i + length ds ≤ 256 → ((k : ℕ) (e : Extent) → k < 256 → f k e ≡ g k e)
     → shared_sum_from f i ds ≡ shared_sum_from g i ds
 same_from f g i [] h e = refl
 same_from f g i (d ∷ ds) h e =
@@ -17,7 +18,7 @@ same_from f g i (d ∷ ds) h e =
     let a : f i d.extent ≡ g i d.extent = e i d.extent l in
     let b : shared_sum_from f (i + 1) ds ≡ shared_sum_from g (i + 1) ds = same_from f g (i + 1) ds (omega arith) e in omega arith
 
-capped_from : (f g : ℕ → Extent → ℕ) (i : ℕ) (ds : List SharedDeclaration) → i + length ds ≤ 256
+pub capped_from : (f g : ℕ → Extent → ℕ) (i : ℕ) (ds : List SharedDeclaration) → i + length ds ≤ 256
     → ((k : ℕ) (e : Extent) → k < 256 → capped (f k e) ≡ capped (g k e))
     → capped (shared_sum_from f i ds) ≡ capped (shared_sum_from g i ds)
 capped_from f g i [] h e = refl
@@ -30,20 +31,20 @@ capped_from f g i (d ∷ ds) h e =
 pub mark_is : (marks : List Bool) (of : ℕ → Bool) → AreMarked (replicate 256 false) marks of → (k : ℕ) → k < 256 → slice_index_or marks k false ≡ of k
 mark_is marks of h k l = h k l ∙ ap (λ b. b || of k) (get_or-replicate 256 k false false l)
 
-capped_list_part : (stores of : ℕ) (e : Extent) → capped stores ≡ capped of → capped (list_part stores e) ≡ capped (list_part of e)
+pub capped_list_part : (stores of : ℕ) (e : Extent) → capped stores ≡ capped of → capped (list_part stores e) ≡ capped (list_part of e)
 capped_list_part stores of (Scalar _) h = refl
 capped_list_part stores of (Long _) h = refl
 capped_list_part stores of (Array n) h = omega arith
 
-pub list_is : (shared : List SharedDeclaration) (stores : List ℕ) (code : CheckedBlock) (scalars entries result : ℕ) → length shared ≤ 256
-    → AreCapped stores (λ i. block_count (is_store_to i) code)
-    → scalars ≡ scalars_of shared code → entries ≡ shared_sum (λ i e. list_part (slice_index stores i) e) shared → result ≡ capped (scalars + entries)
-    → result ≡ capped (list_of shared code)
+pub list_is : (known : List Summary) (shared : List SharedDeclaration) (stores : List ℕ) (code : CheckedBlock) (scalars entries result : ℕ)
+    → length shared ≤ 256 → AreCapped stores (λ i. block_count (called_stores known i) (is_store_to i) code)
+    → scalars ≡ scalars_of known shared code → entries ≡ shared_sum (λ i e. list_part (slice_index stores i) e) shared
+    → result ≡ capped (scalars + entries) → result ≡ capped (list_of known shared code)
 unfolding stores_of
-list_is shared stores code scalars entries result h m a b c =
-    let d : capped (shared_sum (λ i e. list_part (slice_index stores i) e) shared) ≡ capped (shared_sum (λ i e. list_part (stores_of i code) e) shared)
-    = capped_from (λ i e. list_part (slice_index stores i) e) (λ i e. list_part (stores_of i code) e) 0 shared (omega arith)
-    (λ k e l. capped_list_part (slice_index stores k) (stores_of k code) e (m k l)) in
+list_is known shared stores code scalars entries result h m a b c =
+    let d : capped (shared_sum (λ i e. list_part (slice_index stores i) e) shared) ≡ capped (shared_sum (λ i e. list_part (stores_of known i code) e) shared)
+    = capped_from (λ i e. list_part (slice_index stores i) e) (λ i e. list_part (stores_of known i code) e) 0 shared (omega arith)
+    (λ k e l. capped_list_part (slice_index stores k) (stores_of known k code) e (m k l)) in
     omega (arith, a, b, c, d)
 
 -- a sum by marks that are known

@@ -1,5 +1,5 @@
 -- The words of stack that tasks and functions need.
-use Rattle.std.specs.Prelude.{ℕ, ◌+◌, ◌*◌, max, List, Some, None}
+use Rattle.std.specs.Prelude.{ℕ, ◌+◌, ◌*◌, max, List, [], Some, None}
 use Rattle.task_ast.specs.Paths.{CheckedExpression, CheckedStatement, CheckedChoice, CheckedBlock}
 use Rattle.task_ast.specs.Tree.{declare, assign, store, choose, loop, emit, give, transition, nothing, otherwise, test, end, step}
 use Rattle.cost_bound.specs.Summary.{Summary}

@@ -2,7 +2,7 @@
 use Rattle.std.specs.Prelude.{◌≡◌, ◌<◌, ℕ, false, List, length, map, slice_get, slice_index, slice_index_or, Some}
 use Rattle.cost_bound.specs.Summary.{Summary}
 use Rattle.cost_bound.specs.Table.{capped}
-use Rattle.cost_bound.specs.declared.summaries.FunctionSummary.{FunctionSummary}
+use Rattle.cost_bound.specs.declared.function_summaries.FunctionSummary.{FunctionSummary}
 
 -- what the tables of a summary say
 abbrev pub summary_of : FunctionSummary → Summary

@@ -1,7 +1,7 @@
 -- What statements cost, and what the allowance of a few small sources comes to, counted by hand from the table.
 use Rattle.std.specs.Prelude.{◌≡◌, ℕ, ◌+◌, ◌*◌, ◌≤◌, Some, None, List, [], ◌∷◌}
 use Rattle.task_ast.specs.Worked.{nowhere, here}
-use Rattle.task_ast.specs.Tree.{Expression, Statement}
+use Rattle.task_ast.specs.Paths.{CheckedExpression, CheckedStatement, CheckedFunction}
 use Rattle.task_ast.specs.Tree as t
 use Rattle.task_ast.specs.declared.WordType.TheVariants.{Unsigned, Long}
 use Rattle.task_ast.specs.declared.BinaryOperator.{BinaryOperator}
@@ -16,10 +16,11 @@ use Rattle.task_ast.specs.declared.SharedDeclaration.{SharedDeclaration}
 use Rattle.task_ast.specs.declared.names.Variable.{Variable}
 use Rattle.task_ast.specs.declared.names.Variable.TheVariants.{Shared, Local}
 use Rattle.task_ast.specs.declared.names.VariableName.{VariableName}
-use Rattle.task_ast.specs.declared.names.TaskName.{TaskName}
+use Rattle.task_ast.specs.declared.names.FunctionName.{FunctionName}
 use Rattle.cost_bound.specs.Table.{statement_price, cycles_column, words_column}
-use Rattle.cost_bound.specs.Counts.{CheckedBlock}
-use Rattle.cost_bound.specs.Allowance.{CheckedProgram, CheckedTask, bound_of, words_of, versions_of, list_of, greatest}
+use Rattle.cost_bound.specs.Counts.{CheckedBlock, emits_of, routine_words}
+use Rattle.cost_bound.specs.Summaries.{summaries}
+use Rattle.cost_bound.specs.Allowance.{CheckedProgram, CheckedTask, bound_of, words_of, stack_words, versions_of, list_of, greatest}
 
 abbrev pub named : Variable → VariableName
 named v = record { span = nowhere; variable = v; word_type = Unsigned }
@@ -46,14 +47,19 @@ j = named (Local 1)
 abbrev pub l : VariableName
 l = record { span = nowhere; variable = Shared 0; word_type = Long }
 
+-- the function of a number
+abbrev pub called : ℕ → FunctionName
+called n = record { span = nowhere; function = n; word_type = Unsigned }
+
 abbrev pub goes_to : ℕ → CheckedBlock
-goes_to n = t.step (t.transition (record { span = nowhere; task = n })) t.end
+goes_to n = t.step (t.transition nowhere (record { span = nowhere; task = n })) t.end
 
 abbrev pub declared : Extent → SharedDeclaration
 declared extent = record { word_type = Unsigned; name = nowhere; extent = extent }
 
-abbrev pub source : List SharedDeclaration → List CheckedBlock → CheckedProgram
-source shared codes = record { shared = shared; tasks = tasks_of codes; entry = record { span = nowhere; task = 0 } }
+abbrev pub source_with : List CheckedFunction → List SharedDeclaration → List CheckedBlock → CheckedProgram
+source_with functions shared codes =
+    record { shared = shared; functions = functions; tasks = tasks_of codes; entry = record { span = nowhere; task = 0 } }
   where
     tasks_of : List CheckedBlock → List CheckedTask
     tasks_of [] = []
@@ -62,6 +68,10 @@ source shared codes = record { shared = shared; tasks = tasks_of codes; entry = 
 -- `x = sense();` and the transition
 abbrev pub senses : CheckedBlock
 senses = t.step (t.assign x t.sense) (goes_to 1)
+
+-- a source without functions
+abbrev pub source : List SharedDeclaration → List CheckedBlock → CheckedProgram
+source shared codes = source_with [] shared codes
 
 -- `x = x + sense(); emit(x); transition_to(..);`
 abbrev pub running_sum : CheckedProgram
@@ -96,13 +106,13 @@ two_loops = source (declared (Scalar 0) ∷ [])
     (t.step (t.loop i 0 i 65535 i (t.step (t.loop j 0 j 65535 j (t.step (t.assign x (t.number 1)) t.end)) t.end)) (goes_to 0) ∷ [])
 
 -- the cycles of a statement, and its words in a task that assigns two shared scalars
-abbrev pub priced : Statement VariableName TaskName → ℕ × ℕ
-priced s = (statement_price cycles_column s, statement_price (words_column 2) s)
+abbrev pub priced : CheckedStatement → ℕ × ℕ
+priced s = (statement_price [] cycles_column s, statement_price [] (words_column 2) s)
 
-abbrev pub emits : Expression VariableName → ℕ × ℕ
+abbrev pub emits : CheckedExpression → ℕ × ℕ
 emits e = priced (t.emit e)
 
-abbrev pub sums : BinaryOperator → Expression VariableName
+abbrev pub sums : BinaryOperator → CheckedExpression
 sums op = t.binary (here op) (t.name x) t.sense
 
 abbrev pub sets : CheckedBlock
@@ -130,7 +140,11 @@ pub record PriceRows : Type 0 where
   pub declaration_with_value : priced (t.declare Unsigned i (Some (t.number 1))) ≡ (80, 40)
   pub assignment : priced (t.assign x (t.number 1)) ≡ (80, 40)
   pub store : priced (t.store y (t.number 0) (t.name x)) ≡ (200, 92)
-  pub transition : priced (t.transition (record { span = nowhere; task = 0 })) ≡ (100, 72)
+  -- a function with no values, and two, where nothing is known of it
+  pub call : emits (t.call (called 0) t.no_value) ≡ (120, 48)
+  pub call_of_two : emits (t.call (called 0) (t.value (t.name x) (t.value (t.number 1) t.no_value))) ≡ (200, 88)
+  pub give : priced (t.give nowhere (t.name x)) ≡ (80, 40)
+  pub transition : priced (t.transition nowhere (record { span = nowhere; task = 0 })) ≡ (100, 72)
   -- the cycles of the greatest block, which is the one in the middle, and the words of all
   pub choice : priced (t.choose (t.test (t.name x) sets (t.test (t.name x) sets_twice (t.otherwise sets)))) ≡ (280, 240)
   pub choice_without_else : priced (t.choose (t.test (t.name x) t.end t.nothing)) ≡ (80, 40)
@@ -179,6 +193,49 @@ abbrev pub two_events : CheckedProgram
 two_events = source (declared (Scalar 0) ∷ [])
     (t.step (t.loop i 5 i 5 i (t.step (t.assign x t.next_event) t.end)) (goes_to 1) ∷ t.step (t.assign x t.next_event) (goes_to 0) ∷ [])
 
+-- ---- functions
+
+-- a call with one value
+abbrev pub calls : ℕ → CheckedExpression → CheckedExpression
+calls n e = t.call (called n) (t.value e t.no_value)
+
+-- an unsigned function of one parameter, which is its local 0
+abbrev pub function_of : CheckedBlock → CheckedFunction
+function_of body = record { word_type = Unsigned; name = nowhere; parameters = record { word_type = Unsigned; name = i } ∷ []; body = body }
+
+abbrev pub gives : CheckedExpression → CheckedBlock
+gives e = t.step (t.give nowhere e) t.end
+
+-- `twice(i) { x = x + 1; return i + i; }`
+abbrev pub twice : CheckedFunction
+twice = function_of (t.step (t.assign x (t.binary (here Add) (t.name x) (t.number 1))) (gives (t.binary (here Add) (t.name i) (t.name i))))
+
+-- `emit(twice(sense()) + x); transition_to(..);`
+abbrev pub one_call : CheckedProgram
+one_call = source_with (twice ∷ []) (declared (Scalar 0) ∷ [])
+    (t.step (t.emit (t.binary (here Add) (calls 0 t.sense) (t.name x))) (goes_to 0) ∷ [])
+
+-- `sent(i) { emit(i); return i; }`, and `again(i) { return sent(i) + sent(twice(i)); }` behind `twice`, with a function that nothing calls
+abbrev pub sent : CheckedFunction
+sent = function_of (t.step (t.emit (t.name i)) (gives (t.name i)))
+
+abbrev pub again : CheckedFunction
+again = function_of (gives (t.binary (here Add) (calls 1 (t.name i)) (calls 1 (calls 0 (t.name i)))))
+
+-- `if (again(1)) { } else if (sent(2)) { emit(again(3)); } transition_to(..);`, and `stored(i) { y[0] = i; return i; }`, which nothing calls
+abbrev pub chain : CheckedProgram
+chain = source_with (twice ∷ sent ∷ again ∷ function_of (t.step (t.store y (t.number 0) (t.name i)) (gives (t.name i))) ∷ [])
+    (declared (Scalar 0) ∷ declared (Array 8) ∷ [])
+    (t.step (t.choose (t.test (calls 2 (t.number 1)) t.end
+    (t.test (calls 1 (t.number 2)) (t.step (t.emit (calls 2 (t.number 3))) t.end) t.nothing))) (goes_to 0) ∷ [])
+
+abbrev pub only_task : CheckedProgram → CheckedBlock
+only_task p = first_of p.tasks
+  where
+    first_of : List CheckedTask → CheckedBlock
+    first_of [] = t.end
+    first_of (task ∷ _) = task.body
+
 pub record AllowanceRows : Type 0 where
   -- 400, one scalar 72, its code 360, one entry 40, one emit 40
   pub running_sum_bound : bound_of running_sum ≡ 912
@@ -199,10 +256,23 @@ pub record AllowanceRows : Type 0 where
   pub two_events_words : words_of two_events ≡ 1501
   -- 12 versions; one scalar, the 4 elements of y and two stores to z
   pub several_versions : versions_of several ≡ 12
-  pub several_list : greatest (list_of several.shared) several.tasks ≡ 7
+  pub several_list : greatest (list_of [] several.shared) several.tasks ≡ 7
   -- 400, the versions 144, one scalar 72, the code 40 + 10 · 300 + 2 · 200 + 2 · 80 + 100, and 7 entries of 40
   pub several_bound : bound_of several ≡ 4596
   -- 400, a long and a scalar 216, the code 280 + 520 + 100, and three entries of 40
   pub long_sum_bound : bound_of long_sum ≡ 1636
   -- 600, the code 200 + 48 + 120 + 88 + 88, the places 6, and three entries of 3
   pub long_sum_words : words_of long_sum ≡ 1159
+  -- 400, one scalar 72, the code 60 + 40 + (60 + 40 + 160 + 160) + 40 + 100, one entry 40, and one emit 40
+  pub one_call_bound : bound_of one_call ≡ 1212
+  -- 600, the task 216 + 24 + 16 + (24 + 4 + 16) + 16 + 56, its copy of the function 40 + 72 + 72, the places 2, an entry of 3, and an emit
+  pub one_call_words : words_of one_call ≡ 1162
+  -- the frame of the task 2 · 4 + 4, that of the function 1 + 2 · 3 + 4, and 16
+  pub one_call_stack : stack_words one_call ≡ 39
+  -- 2 in the first condition and 1 in the second, and 3 in the block
+  pub chain_emits : greatest (emits_of (summaries chain)) chain.tasks ≡ 6
+  -- the body of each of three functions once, however often they are called; nothing of the fourth
+  pub chain_routines : routine_words (summaries chain) (only_task chain) ≡ 40 + 144 + 40 + 80 + 40 + 156
+  -- the frame of the task 2 · 2 + 4, of `again` 1 + 2 · 6 + 4, of `twice` 1 + 2 · 3 + 4, and 16
+  pub chain_stack : stack_words chain ≡ 52
+  pub chain_versions : versions_of chain ≡ 0

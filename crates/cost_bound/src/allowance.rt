@@ -1,11 +1,12 @@
 //! The allowance of a source.
-ghost use Rattle.std.specs.Prelude.{◌≡◌, ◌≤◌, ◌+◌, ◌*◌, ◌<◌, ◌^◌, length, map, max, nat_lt, ℕ, false, slice_index_or, All, IfSome, IfNone, IfOk, IfErr};
+ghost use Rattle.std.specs.Prelude.{◌≡◌, ◌≤◌, ◌+◌, ◌*◌, ◌<◌, ◌^◌, length, map, max, nat_lt, ℕ, false, if◌then◌else◌, slice_index_or, All, IfSome, IfNone};
+ghost use Rattle.std.specs.Prelude.{IfOk, IfErr};
 ghost use Rattle.task_ast.specs.View.{block_view, function_of, task_of, program_of};
 ghost use Rattle.cost_bound.specs.Table.{capped, words_column, cycles_column, block_price};
 ghost use Rattle.cost_bound.specs.Counts.{assigns_of, emits_of, all_called_from, routine_words};
 ghost use Rattle.cost_bound.specs.Frames.{stack_of};
 ghost use Rattle.cost_bound.specs.Summaries.{summaries, function_summaries};
-ghost use Rattle.cost_bound.specs.Machine.{known_of, AreSame};
+ghost use Rattle.cost_bound.specs.Machine.{summary_of, known_of, AreSame};
 ghost use Rattle.cost_bound.specs.Allowance.{scalars_of, list_of, task_bound, task_words, own_words, greatest, is_written, versions_of, places_of, bound_of};
 ghost use Rattle.cost_bound.specs.Allowance.{has_event, use_events, functions_use_events, uses_events, for_events, words_of, stack_words};
 ghost use Rattle.cost_bound.specs.Allowance.{FewEmits, AllFewEmits, IsFirstOver, IsAllowed, IsOver};
@@ -16,11 +17,11 @@ use crate::assigned::assigned_variables;
 use crate::calls::reached_functions;
 use crate::fault::Over;
 use crate::frames::stack;
+use crate::function_summaries::{FunctionSummary, summaries};
 use crate::marks::add_marks;
 use crate::prices::{CYCLES, EMITS, EVENTS, block_price, plus, times, words_column};
 use crate::shared::{array_entries, places, scalars, versions};
 use crate::stores::store_counts;
-use crate::summaries::{FunctionSummary, summaries};
 use task_ast::{
     CheckedSource, FunctionDeclaration, FunctionName, SharedDeclaration, Stmt, TaskDeclaration,
     TaskName, VariableName,
@@ -57,10 +58,7 @@ pub struct Allow {
 }
 
 // How often the task counts an emit.
-fn emits(
-    functions: &[FunctionSummary],
-    body: &[Stmt<VariableName, TaskName, FunctionName>],
-) -> u64
+fn emits(functions: &[FunctionSummary], body: &[Stmt<VariableName, TaskName, FunctionName>]) -> u64
     ensures { result ≡ capped (emits_of (known_of functions.now) (block_view body.now)) }
 {
     block_price(functions, &EMITS, body)
@@ -139,6 +137,17 @@ fn list_entries(
     plus(scalars, array_entries(shared, &stores))
 }
 
+// The words of a function's code in a task, where it is marked.
+fn words_if(marked: bool, function: &FunctionSummary) -> u64
+    ensures { result ≡ capped (if marked then 40 + (summary_of function.now).words else 0) }
+{
+    if marked {
+        plus(ROUTINE, function.words)
+    } else {
+        0
+    }
+}
+
 // The words of the code of the marked functions in a task.
 fn marked_words(functions: &[FunctionSummary], marks: &[bool; SHARED]) -> u64
     requires few { length functions.now ≤ 64 }
@@ -146,12 +155,7 @@ fn marked_words(functions: &[FunctionSummary], marks: &[bool; SHARED]) -> u64
 {
     let mut n = 0;
     for k in (0..functions.len()).rev() {
-        let words = if marks[k] {
-            plus(ROUTINE, functions[k].words)
-        } else {
-            0
-        };
-        n = plus(words, n);
+        n = plus(words_if(marks[k], &functions[k]), n);
     }
     n
 }
@@ -324,6 +328,7 @@ fn too_many_emits(
     number: usize,
 ) -> Over
     requires lines { length lines.now ≡ length source.now.tasks.items }
+    requires few_functions { length functions.now ≤ 64 }
     requires same { AreSame (known_of functions.now) (summaries (program_of source.now)) }
     requires first { IsFirstOver (known_of functions.now) (map task_of source.now.tasks.items) number }
     ensures { IsOver (program_of source.now) lines.now result }
@@ -342,6 +347,7 @@ fn version_words(
     written: &[bool; SHARED],
 ) -> u64
     requires few { length source.now.shared.items ≤ 256 }
+    requires few_functions { length functions.now ≤ 64 }
     requires same { AreSame (known_of functions.now) (summaries (program_of source.now)) }
     requires written { (i : ℕ) → i < 256
         → slice_index_or written.now i false ≡ is_written (known_of functions.now) (map task_of source.now.tasks.items) i }
@@ -357,6 +363,7 @@ fn place_words(
     written: &[bool; SHARED],
 ) -> u64
     requires few { length source.now.shared.items ≤ 256 }
+    requires few_functions { length functions.now ≤ 64 }
     requires same { AreSame (known_of functions.now) (summaries (program_of source.now)) }
     requires written { (i : ℕ) → i < 256
         → slice_index_or written.now i false ≡ is_written (known_of functions.now) (map task_of source.now.tasks.items) i }

@@ -9,8 +9,8 @@ ghost use Rattle.cost_bound.specs.Machine.{known_of};
 
 use crate::SHARED;
 use crate::calls::called_functions;
+use crate::function_summaries::FunctionSummary;
 use crate::marks::mark_what_calls_assign;
-use crate::summaries::FunctionSummary;
 use task_ast::{Arm, FunctionName, Stmt, TaskName, Variable, VariableName};
 
 fn mark(name: &VariableName, marks: &mut [bool; SHARED])
@@ -36,10 +36,7 @@ fn mark_statement(s: &Stmt<VariableName, TaskName, FunctionName>, marks: &mut [b
             mark_arms(arms, marks);
         }
         Stmt::For { body, .. } => mark_assigned(body, marks),
-        Stmt::Declare(_, _, _)
-        | Stmt::Emit(_)
-        | Stmt::Return(_, _)
-        | Stmt::TransitionTo(_, _) => {}
+        Stmt::Declare(_, _, _) | Stmt::Emit(_) | Stmt::Return(_, _) | Stmt::TransitionTo(_, _) => {}
     }
 }
 
@@ -57,10 +54,7 @@ fn mark_arms(arms: &[Arm<VariableName, TaskName, FunctionName>], marks: &mut [bo
 
 // Sets the marks of the shared variables that stand on the left of an assignment in the text itself.
 #[cycle(assigned)]
-fn mark_assigned(
-    body: &[Stmt<VariableName, TaskName, FunctionName>],
-    marks: &mut [bool; SHARED],
-)
+fn mark_assigned(body: &[Stmt<VariableName, TaskName, FunctionName>], marks: &mut [bool; SHARED])
     ensures { AreMarked marks.old marks.new (λ i. block_assigns i (block_view body.now)) }
 {
     for i in (0..body.len()).rev() {

@@ -8,8 +8,8 @@ ghost use Rattle.cost_bound.specs.Machine.{known_of};
 ghost use Rattle.cost_bound.specs.Rooms.{AreMarked};
 
 use crate::SHARED;
+use crate::function_summaries::FunctionSummary;
 use crate::marks::mark_what_calls_reach;
-use crate::summaries::FunctionSummary;
 use task_ast::{Args, Arm, Expr, FunctionName, Stmt, TaskName, VariableName};
 
 fn mark(name: &FunctionName, marks: &mut [bool; SHARED])
@@ -55,10 +55,7 @@ fn mark_in_values(values: &Args<VariableName, FunctionName>, marks: &mut [bool; 
 }
 
 #[cycle(calls)]
-fn mark_in_statement(
-    s: &Stmt<VariableName, TaskName, FunctionName>,
-    marks: &mut [bool; SHARED],
-)
+fn mark_in_statement(s: &Stmt<VariableName, TaskName, FunctionName>, marks: &mut [bool; SHARED])
     ensures { AreMarked marks.old marks.new (λ k. statement_calls k (statement_of s.now)) }
 {
     match s {
@@ -82,10 +79,7 @@ fn mark_in_statement(
 
 // The marks hold those of the last block already.
 #[cycle(calls)]
-fn mark_in_arms(
-    arms: &[Arm<VariableName, TaskName, FunctionName>],
-    marks: &mut [bool; SHARED],
-)
+fn mark_in_arms(arms: &[Arm<VariableName, TaskName, FunctionName>], marks: &mut [bool; SHARED])
     ensures { (start : List Bool) (last : Option CheckedBlock)
         → AreMarked start marks.old (λ k. choice_calls k (choice_of [] last))
         → AreMarked start marks.new (λ k. choice_calls k (choice_of (map tested_of arms.now) last)) }
@@ -97,10 +91,7 @@ fn mark_in_arms(
 }
 
 #[cycle(calls)]
-fn mark_in_block(
-    body: &[Stmt<VariableName, TaskName, FunctionName>],
-    marks: &mut [bool; SHARED],
-)
+fn mark_in_block(body: &[Stmt<VariableName, TaskName, FunctionName>], marks: &mut [bool; SHARED])
     ensures { AreMarked marks.old marks.new (λ k. block_calls k (block_view body.now)) }
 {
     for i in (0..body.len()).rev() {

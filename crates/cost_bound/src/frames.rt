@@ -1,5 +1,5 @@
 //! The words of stack that tasks and functions need.
-ghost use Rattle.std.specs.Prelude.{◌≡◌, ◌≤◌, [], length, map, Option, false, slice_index_or};
+ghost use Rattle.std.specs.Prelude.{◌≡◌, ◌≤◌, [], length, map, Option, false, if◌then◌else◌, slice_index_or};
 ghost use Rattle.task_ast.specs.Tree.{choice_of};
 ghost use Rattle.task_ast.specs.Paths.{CheckedBlock};
 ghost use Rattle.task_ast.specs.View.{expression_of, statement_of, tested_of, block_view};
@@ -7,12 +7,12 @@ ghost use Rattle.cost_bound.specs.Table.{capped};
 ghost use Rattle.cost_bound.specs.Counts.{most_called_from};
 ghost use Rattle.cost_bound.specs.Frames.{expression_nodes, statement_nodes, choice_nodes, block_nodes, statement_locals, choice_locals, block_locals};
 ghost use Rattle.cost_bound.specs.Frames.{frame_of, deepest, stack_of};
-ghost use Rattle.cost_bound.specs.Machine.{known_of};
+ghost use Rattle.cost_bound.specs.Machine.{summary_of, known_of};
 
 use crate::SHARED;
 use crate::calls::called_functions;
+use crate::function_summaries::FunctionSummary;
 use crate::prices::{NODES, expression_price, plus, times};
-use crate::summaries::FunctionSummary;
 use task_ast::{Arm, Expr, FunctionName, Stmt, TaskName, VariableName};
 
 fn expression_nodes(e: &Expr<VariableName, FunctionName>) -> u64
@@ -123,6 +123,13 @@ pub fn frame(parameters: u64, body: &[Stmt<VariableName, TaskName, FunctionName>
     plus(locals, plus(times(2, block_nodes(body)), 4))
 }
 
+// A function's depth, where it is called.
+fn depth_if(called: bool, function: &FunctionSummary) -> u64
+    ensures { result ≡ (if called then (summary_of function.now).depth else 0) }
+{
+    if called { function.depth } else { 0 }
+}
+
 // The greatest depth of the functions that are called.
 fn greatest_depth(functions: &[FunctionSummary], calls: &[bool; SHARED]) -> u64
     requires few { length functions.now ≤ 64 }
@@ -130,8 +137,7 @@ fn greatest_depth(functions: &[FunctionSummary], calls: &[bool; SHARED]) -> u64
 {
     let mut n = 0;
     for k in (0..functions.len()).rev() {
-        let depth = if calls[k] { functions[k].depth } else { 0 };
-        n = depth.max(n);
+        n = depth_if(calls[k], &functions[k]).max(n);
     }
     n
 }

@@ -10,20 +10,20 @@ mod assigned;
 mod calls;
 mod fault;
 mod frames;
+mod function_summaries;
 mod laws;
 mod marks;
 mod prices;
 mod shared;
 mod stores;
-mod summaries;
 
 pub use allowance::{
     Allow, Needs, assigned_scalars, code_words, task_needs, uses_events, written_variables,
 };
 pub use assigned::assigned_variables;
 pub use fault::Over;
+pub use function_summaries::{FunctionSummary, Summaries, summaries};
 pub use laws::{allowance_rows, allowed_is_small, long_price_rows, one_answer, price_rows};
-pub use summaries::{FunctionSummary, Summaries, summaries};
 use task_check::Checked;
 
 /// How many shared variables a source has at most.

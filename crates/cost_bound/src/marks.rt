@@ -1,11 +1,11 @@
 //! Marks of shared variables or of functions, by their numbers.
-ghost use Rattle.std.specs.Prelude.{◌≡◌, ◌≤◌, length, false, slice_index_or};
+ghost use Rattle.std.specs.Prelude.{◌≡◌, ◌≤◌, length, false, if◌then◌else◌, slice_index_or};
 ghost use Rattle.cost_bound.specs.Counts.{some_called_from};
 ghost use Rattle.cost_bound.specs.Rooms.{AreMarked};
 ghost use Rattle.cost_bound.specs.Machine.{known_of};
 
 use crate::SHARED;
-use crate::summaries::FunctionSummary;
+use crate::function_summaries::FunctionSummary;
 
 /// Sets the marks that others have.
 pub fn add_marks(marks: &mut [bool; SHARED], more: &[bool; SHARED])
@@ -13,6 +13,15 @@ pub fn add_marks(marks: &mut [bool; SHARED], more: &[bool; SHARED])
 {
     for i in 0..SHARED {
         marks[i] = marks[i] || more[i];
+    }
+}
+
+// Sets the marks of what the function assigns, where it is called.
+fn mark_assigned_if(called: bool, function: &FunctionSummary, marks: &mut [bool; SHARED])
+    ensures { AreMarked marks.old marks.new (λ i. if called then slice_index_or function.now.assigns i false else false) }
+{
+    if called {
+        add_marks(marks, &function.assigns);
     }
 }
 
@@ -27,9 +36,16 @@ pub fn mark_what_calls_assign(
         (λ i. some_called_from (λ k. slice_index_or calls.now k false) (λ s. s.assigns i) 0 (known_of functions.now)) }
 {
     for k in (0..functions.len()).rev() {
-        if calls[k] {
-            add_marks(marks, &functions[k].assigns);
-        }
+        mark_assigned_if(calls[k], &functions[k], marks);
+    }
+}
+
+// Sets the marks of what the function reaches, where it is called.
+fn mark_reached_if(called: bool, function: &FunctionSummary, marks: &mut [bool; SHARED])
+    ensures { AreMarked marks.old marks.new (λ i. if called then slice_index_or function.now.reaches i false else false) }
+{
+    if called {
+        add_marks(marks, &function.reaches);
     }
 }
 
@@ -44,8 +60,6 @@ pub fn mark_what_calls_reach(
         (λ i. some_called_from (λ k. slice_index_or calls.now k false) (λ s. s.reaches i) 0 (known_of functions.now)) }
 {
     for k in (0..functions.len()).rev() {
-        if calls[k] {
-            add_marks(marks, &functions[k].reaches);
-        }
+        mark_reached_if(calls[k], &functions[k], marks);
     }
 }

@@ -8,7 +8,7 @@ ghost use Rattle.cost_bound.specs.Table.{capped, body_price, called_price, opera
 ghost use Rattle.cost_bound.specs.Table.{conditions_price, blocks_price, blocks_together, turns_together, words_column};
 ghost use Rattle.cost_bound.specs.Machine.{summary_of, known_of};
 
-use crate::summaries::FunctionSummary;
+use crate::function_summaries::FunctionSummary;
 use task_ast::types::{binary_type, joined_type, literal_type, unary_type};
 use task_ast::{
     Args, Arm, BinaryOperator, Expr, FunctionName, Stmt, TaskName, VariableName, WordType,
@@ -238,12 +238,19 @@ pub fn expression_price(
 }
 
 #[cycle(prices)]
-fn statement_price(functions: &[FunctionSummary], column: &Column, s: &Stmt<VariableName, TaskName, FunctionName>) -> u64
+fn statement_price(
+    functions: &[FunctionSummary],
+    column: &Column,
+    s: &Stmt<VariableName, TaskName, FunctionName>,
+) -> u64
     ensures { result ≡ capped (statement_price (known_of functions.now) column.now (statement_of s.now)) }
 {
     match s {
         Stmt::Declare(_, _, None) => 0,
-        Stmt::Declare(_, _, Some(value)) => plus(column.assign, expression_price(functions, column, value)),
+        Stmt::Declare(_, _, Some(value)) => plus(
+            column.assign,
+            expression_price(functions, column, value),
+        ),
         Stmt::Assign(x, value) => plus(
             by_width(x.word_type, column.assign, column.long_assign),
             expression_price(functions, column, value),
@@ -280,7 +287,12 @@ fn statement_price(functions: &[FunctionSummary], column: &Column, s: &Stmt<Vari
 
 // An `if`, of which the last block costs so much.
 #[cycle(prices)]
-fn choice_price(functions: &[FunctionSummary], column: &Column, arms: &[Arm<VariableName, TaskName, FunctionName>], last: u64) -> u64
+fn choice_price(
+    functions: &[FunctionSummary],
+    column: &Column,
+    arms: &[Arm<VariableName, TaskName, FunctionName>],
+    last: u64,
+) -> u64
     ensures { (b : Option CheckedBlock)
         → last ≡ capped (blocks_price (known_of functions.now) column.now (choice_of [] b))
         → result ≡ capped (statement_price (known_of functions.now) column.now (choose (choice_of (map tested_of arms.now) b))) }
@@ -294,7 +306,11 @@ fn choice_price(functions: &[FunctionSummary], column: &Column, arms: &[Arm<Vari
     )
 }
 
-fn conditions_price(functions: &[FunctionSummary], column: &Column, arms: &[Arm<VariableName, TaskName, FunctionName>]) -> u64
+fn conditions_price(
+    functions: &[FunctionSummary],
+    column: &Column,
+    arms: &[Arm<VariableName, TaskName, FunctionName>],
+) -> u64
     ensures { (last : Option CheckedBlock)
         → result ≡ capped (conditions_price (known_of functions.now) column.now (choice_of (map tested_of arms.now) last)) }
 {
@@ -309,7 +325,12 @@ fn conditions_price(functions: &[FunctionSummary], column: &Column, arms: &[Arm<
 
 // The blocks of an `if`, of which the last one costs so much.
 #[cycle(prices)]
-fn blocks_price(functions: &[FunctionSummary], column: &Column, arms: &[Arm<VariableName, TaskName, FunctionName>], last: u64) -> u64
+fn blocks_price(
+    functions: &[FunctionSummary],
+    column: &Column,
+    arms: &[Arm<VariableName, TaskName, FunctionName>],
+    last: u64,
+) -> u64
     ensures { (b : Option CheckedBlock)
         → last ≡ capped (blocks_price (known_of functions.now) column.now (choice_of [] b))
         → result ≡ capped (blocks_price (known_of functions.now) column.now (choice_of (map tested_of arms.now) b)) }
@@ -323,12 +344,16 @@ fn blocks_price(functions: &[FunctionSummary], column: &Column, arms: &[Arm<Vari
 
 /// What a block costs in a column; 2^64 - 1 where it is more.
 #[cycle(prices)]
-pub fn block_price(functions: &[FunctionSummary], column: &Column, body: &[Stmt<VariableName, TaskName, FunctionName>]) -> u64
+pub fn block_price(
+    functions: &[FunctionSummary],
+    column: &Column,
+    body: &[Stmt<VariableName, TaskName, FunctionName>],
+) -> u64
     ensures { result ≡ capped (block_price (known_of functions.now) column.now (block_view body.now)) }
 {
     let mut n = 0;
     for i in (0..body.len()).rev() {
-        n = plus(statement_price(column, &body[i]), n);
+        n = plus(statement_price(functions, column, &body[i]), n);
     }
     n
 }

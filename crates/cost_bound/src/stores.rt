@@ -9,7 +9,7 @@ ghost use Rattle.cost_bound.specs.Rooms.{AreCapped, HaveGrown};
 ghost use Rattle.cost_bound.specs.Machine.{known_of};
 
 use crate::SHARED;
-use crate::summaries::FunctionSummary;
+use crate::function_summaries::FunctionSummary;
 use task_ast::{Args, Arm, Expr, FunctionName, Stmt, TaskName, Variable, VariableName};
 
 fn count_store(name: &VariableName, counts: &mut [u64; SHARED])
@@ -102,7 +102,7 @@ fn count_in_conditions(
 )
     ensures { (last : Option CheckedBlock)
         → HaveGrown counts.old counts.new
-            (λ i. conditions_count (called_stores (known_of functions.now) i) (choice_of (map tested_of arms.now) last)) }
+        (λ i. conditions_count (called_stores (known_of functions.now) i) (choice_of (map tested_of arms.now) last)) }
 {
     for i in (0..arms.len()).rev() {
         count_in_expression(functions, &arms[i].condition, counts);
@@ -162,7 +162,7 @@ fn count_in_choice(
     ensures { (b : Option CheckedBlock)
         → AreCapped last (λ i. choice_count (called_stores (known_of functions.now) i) (is_store_to i) (choice_of [] b))
         → HaveGrown counts.old counts.new
-            (λ i. choice_count (called_stores (known_of functions.now) i) (is_store_to i) (choice_of (map tested_of arms.now) b)) }
+        (λ i. choice_count (called_stores (known_of functions.now) i) (is_store_to i) (choice_of (map tested_of arms.now) b)) }
 {
     let mut greatest = last;
     for i in (0..arms.len()).rev() {

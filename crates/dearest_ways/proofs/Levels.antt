@@ -1,20 +1,12 @@
--- One level of a step and of a test, as a value.
+-- One level of a step, as a value.
 use Rattle.std.proofs.Common.{◌≡◌, rules}
 use Rattle.word_code.specs.array_versions.declared.program.WordStep.{WordStep, the_lemmas}
 use Rattle.word_code.specs.array_versions.declared.program.WordStep.TheVariants.{Choose}
 use Rattle.word_code.specs.array_versions.declared.program.WordTest.{WordTest}
-use Rattle.word_code.specs.array_versions.declared.program.WordTest.TheVariants.{Both, Either}
-use Rattle.word_code.specs.array_versions.Program.{choose, both, either}
+use Rattle.word_code.specs.array_versions.Program.{choose}
 use Rattle.word_code.specs.array_versions.View.{steps_of, step_of, test_of}
 use Rattle.std.specs.declared.alloc.Global.{Global}
-use Rattle.std.specs.declared.boxed.Box.{Box}
 use Rattle.std.specs.declared.vec.Vec.{Vec}
 
 pub step_of-choose : (t : WordTest) (p q : Vec WordStep Global) → step_of (Choose t p q) ≡ choose (test_of t) (steps_of p.items) (steps_of q.items)
 step_of-choose t p q = search (rules, the_lemmas)
-
-pub test_of-both : (t u : Box WordTest Global) → test_of (Both t u) ≡ both (test_of t.value) (test_of u.value)
-test_of-both t u = search (rules, the_lemmas)
-
-pub test_of-either : (t u : Box WordTest Global) → test_of (Either t u) ≡ either (test_of t.value) (test_of u.value)
-test_of-either t u = search (rules, the_lemmas)

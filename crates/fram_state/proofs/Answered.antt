@@ -1,7 +1,7 @@
 -- Answers about migrations exclude one another; and what an answer is made of.
 use Rattle.std.proofs.Common.{◌≡◌, ◌<◌, ◌≤◌, ◌+◌, ◌⊎◌, inl, inr, ◌∙◌, ℕ, zero, suc, Bool, true, false, List, [], ◌∷◌, length, map, Option, Some, None, refl}
 use Rattle.std.proofs.Common.{sym, ap, subst, arith, true≢false}
-use Rattle.std.specs.Prelude.{IsTrue, ◌↔◌, nat_lt, slice_get}
+use Rattle.std.specs.Prelude.{All, IsTrue, ◌↔◌, nat_lt, slice_get}
 use Rattle.std.proofs.lemmas.Bool.{cases_lt, ltb-true}
 use Rattle.std.proofs.lemmas.List.{length-map}
 use Rattle.image_text.specs.image_map.MapValue.{MapValue}
@@ -11,8 +11,11 @@ use Rattle.state_text.specs.declared.state.State.{State}
 use Rattle.task_ast.specs.declared.Source.{Source}
 use Rattle.task_ast.specs.declared.TaskDeclaration.{TaskDeclaration}
 use Rattle.task_ast.specs.declared.names.VariableName.{VariableName}
+use Rattle.task_ast.specs.declared.names.FunctionName.{FunctionName}
 use Rattle.task_ast.specs.declared.names.TaskName.{TaskName}
 use Rattle.task_ast.specs.View.{task_of, program_of}
+use Rattle.task_ast.specs.Calls.{BlockCallsBelow}
+use Rattle.task_check.proofs.Interface.{is_placed}
 use Rattle.task_check.specs.path_checks.Firsts.{CheckedTask}
 use Rattle.war_analysis.specs.PlanValue.{TaskPlanValue}
 use Rattle.war_analysis.specs.Plans.{IsPlan}
@@ -28,7 +31,7 @@ use Rattle.fram_state.specs.Suits.{line_of, declared_line, HasLinesOf, Suits}
 use Rattle.fram_state.specs.Kept.{number_of}
 use Rattle.fram_state.specs.Migrated.{EditionValue, IsStateOf, current, current_task, next_edition_of, GoesOnAt, IsUnsettled, HasNoTask, IsFirstUnsettled}
 use Rattle.fram_state.specs.Migrated.{CanMigrate, IsFault, edition_with}
-use Rattle.fram_state.specs.Editions.{IsEdition}
+use Rattle.fram_state.specs.Editions.{IsEdition, CallsNone}
 use Rattle.fram_state.proofs.Declared.{planned_count, same_count}
 use Rattle.fram_state.proofs.Numbers.{names_of}
 
@@ -71,7 +74,8 @@ excluded b A iff failed a = true≢false (sym (iff.1 a) ∙ failed)
 
 -- ---- tasks by their numbers and names
 
-pub task_at : (ts : List (TaskDeclaration VariableName TaskName)) (i : ℕ) (t : TaskDeclaration VariableName TaskName) → slice_get ts i ≡ Some t
+pub task_at : (ts : List (TaskDeclaration VariableName TaskName FunctionName)) (i : ℕ) (t : TaskDeclaration VariableName TaskName FunctionName)
+    → slice_get ts i ≡ Some t
     → slice_get (map task_of ts) i ≡ Some (task_of t)
 task_at [] i t h = cc
 task_at (u ∷ ts) zero t h = let is : u ≡ t = cc in ap (λ z. Some (task_of z)) is
@@ -81,7 +85,7 @@ pub same_at : {X : Type 0} (xs : List X) (i : ℕ) (x y : X) → slice_get xs i 
 same_at xs i x y a b = let same : Some x ≡ Some y = sym a ∙ b in cc
 
 -- the answer of a look-up, by names and tasks that are the same
-pub looked_up : (text : List ℕ) (ts items : List (TaskDeclaration VariableName TaskName)) (q name : List ℕ) (r : Option ℕ) → ts ≡ items → q ≡ name
+pub looked_up : (text : List ℕ) (ts items : List (TaskDeclaration VariableName TaskName FunctionName)) (q name : List ℕ) (r : Option ℕ) → ts ≡ items → q ≡ name
     → r ≡ number_of (names_of text ts) q → number_of (names_of text items) name ≡ r
 looked_up text ts items q name r tasks named is =
     sym (is ∙ ap (λ xs. number_of (names_of text xs) q) tasks ∙ ap (number_of (names_of text items)) named)
@@ -116,7 +120,7 @@ edition_of_state text p s m is mapped rules long =
     }
 
 pub edition_at : (old : Accepted) (s : State) → IsStateOf old.text.items (program_of old.checked.source) s → (text words : List ℕ)
-    (source : Source VariableName TaskName) (m : MapValue) → text ≡ old.text.items → source ≡ old.checked.source → Some m ≡ s.image.map
+    (source : Source VariableName TaskName FunctionName) (m : MapValue) → text ≡ old.text.items → source ≡ old.checked.source → Some m ≡ s.image.map
     → length words ≡ 24064 → IsMap m → IsEdition (edition_with text (program_of source) m words)
 edition_at old s is text words source m text_is source_is mapped long rules =
     let lines = lines_of old.text.items (program_of old.checked.source) s is m mapped in
@@ -131,9 +135,22 @@ edition_at old s is text words source m text_is source_is mapped long rules =
           (subst (λ x. map line_of m.variables ≡ map (declared_line old.text.items) x.shared.items) (sym source_is) lines.variables);
     }
 
+-- an accepted source without functions has tasks that call none
+pub calls_none_at : (a : Accepted) (source : Source VariableName TaskName FunctionName) → source ≡ a.checked.source
+    → (program_of a.checked.source).functions ≡ [] → CallsNone (program_of source)
+calls_none_at a source is plain = subst (λ x. CallsNone (program_of x)) (sym is) (record {
+  functions = plain;
+  calls = subst (λ (n : ℕ). All (λ task. BlockCallsBelow n task.body) (program_of a.checked.source).tasks) (ap length plain)
+      (is_placed (program_of a.checked.source) a.checked.placed).calls.tasks;
+})
+
+-- a task of a program without functions calls none
+pub calls_none : (p : CheckedProgram) (i : ℕ) (task : CheckedTask) → CallsNone p → slice_get p.tasks i ≡ Some task → BlockCallsBelow 0 task.body
+calls_none p i task none at = none.calls i task at
+
 -- CUR names a task of its source
 pub current_at : (old : Accepted) (s : State) → IsStateOf old.text.items (program_of old.checked.source) s → (text words : List ℕ)
-    (source : Source VariableName TaskName) (m : MapValue) → source ≡ old.checked.source → Some m ≡ s.image.map → words ≡ s.image.words
+    (source : Source VariableName TaskName FunctionName) (m : MapValue) → source ≡ old.checked.source → Some m ≡ s.image.map → words ≡ s.image.words
     → current (edition_with text (program_of source) m words) < length source.tasks.items
 unfolding keeps
 current_at old s is text words source m source_is mapped words_are =

@@ -6,6 +6,7 @@ use Rattle.image_text.specs.image_map.MapValue.{TaskValue}
 use Rattle.task_ast.specs.declared.SharedDeclaration.{SharedDeclaration}
 use Rattle.task_ast.specs.declared.TaskDeclaration.{TaskDeclaration}
 use Rattle.task_ast.specs.declared.names.VariableName.{VariableName}
+use Rattle.task_ast.specs.declared.names.FunctionName.{FunctionName}
 use Rattle.task_ast.specs.declared.names.TaskName.{TaskName}
 use Rattle.task_ast.specs.View.{task_of}
 use Rattle.task_check.specs.path_checks.Firsts.{CheckedTask}
@@ -68,8 +69,8 @@ planned_count text ds [] (p ∷ ps) e = refl
 planned_count text ds (t ∷ ts) [] e = absurd (omega arith)
 planned_count text ds (t ∷ ts) (p ∷ ps) e = ap suc (planned_count text ds ts ps (omega arith))
 
-planned_at : (text : List ℕ) (ds : List SharedDeclaration) (ts : List (TaskDeclaration VariableName TaskName)) (ps : List TaskPlanValue) (i : ℕ)
-    (t : TaskDeclaration VariableName TaskName) (p : TaskPlanValue) → i < length ts → i < length ps → t ≡ get_or ts i t → p ≡ get_or ps i p
+planned_at : (text : List ℕ) (ds : List SharedDeclaration) (ts : List (TaskDeclaration VariableName TaskName FunctionName)) (ps : List TaskPlanValue) (i : ℕ)
+    (t : TaskDeclaration VariableName TaskName FunctionName) (p : TaskPlanValue) → i < length ts → i < length ps → t ≡ get_or ts i t → p ≡ get_or ps i p
     → planned_task text ds (task_of t) p ≡ get_or (planned_tasks text ds (map task_of ts) ps) i (planned_task text ds (task_of t) p)
 planned_at text ds [] ps i t p h k at bt = absurd (omega arith)
 planned_at text ds (u ∷ ts) [] i t p h k at bt = absurd (omega arith)
@@ -77,14 +78,14 @@ planned_at text ds (u ∷ ts) (q ∷ ps) zero t p h k at bt = ap (λ t. planned_
 planned_at text ds (u ∷ ts) (q ∷ ps) (suc i) t p h k at bt = planned_at text ds ts ps i t p (omega arith) (omega arith) at bt
 
 -- so many tasks as are declared
-planned_long : (text : List ℕ) (ds : List SharedDeclaration) (ts : List (TaskDeclaration VariableName TaskName)) (ps : List TaskPlanValue)
+planned_long : (text : List ℕ) (ds : List SharedDeclaration) (ts : List (TaskDeclaration VariableName TaskName FunctionName)) (ps : List TaskPlanValue)
     → length ps ≡ length ts → length (planned_tasks text ds (map task_of ts) ps) ≡ length ts
 planned_long text ds ts ps e =
     let count : length (map task_of ts) ≡ length ts = length-map ts task_of in
     planned_count text ds (map task_of ts) ps (omega arith) ∙ count
 
-pub task_more : (text : List ℕ) (ds : List SharedDeclaration) (ts : List (TaskDeclaration VariableName TaskName)) (ps : List TaskPlanValue)
-    (vs : List TaskValue) (i : ℕ) (t : TaskDeclaration VariableName TaskName) (p : TaskPlanValue) (v : TaskValue) → length ps ≡ length ts
+pub task_more : (text : List ℕ) (ds : List SharedDeclaration) (ts : List (TaskDeclaration VariableName TaskName FunctionName)) (ps : List TaskPlanValue)
+    (vs : List TaskValue) (i : ℕ) (t : TaskDeclaration VariableName TaskName FunctionName) (p : TaskPlanValue) (v : TaskValue) → length ps ≡ length ts
     → i < length ts → i < length vs → t ≡ get_or ts i t → p ≡ get_or ps i p → v ≡ get_or vs i v → v ≡ planned_task text ds (task_of t) p
     → take i vs ≡ take i (planned_tasks text ds (map task_of ts) ps) → take (i + 1) vs ≡ take (i + 1) (planned_tasks text ds (map task_of ts) ps)
 task_more text ds ts ps vs i t p v e h k at bt ct same before =
@@ -92,19 +93,19 @@ task_more text ds ts ps vs i t p v e h k at bt ct same before =
     same_more vs (planned_tasks text ds (map task_of ts) ps) i v (planned_task text ds (task_of t) p) k (omega arith) ct
     (planned_at text ds ts ps i t p h (omega arith) at bt) same before
 
-pub same_task : (text : List ℕ) (ds : List SharedDeclaration) (ts : List (TaskDeclaration VariableName TaskName)) (ps : List TaskPlanValue)
-    (vs : List TaskValue) (i : ℕ) (t : TaskDeclaration VariableName TaskName) (p : TaskPlanValue) (v : TaskValue) → length ps ≡ length ts
+pub same_task : (text : List ℕ) (ds : List SharedDeclaration) (ts : List (TaskDeclaration VariableName TaskName FunctionName)) (ps : List TaskPlanValue)
+    (vs : List TaskValue) (i : ℕ) (t : TaskDeclaration VariableName TaskName FunctionName) (p : TaskPlanValue) (v : TaskValue) → length ps ≡ length ts
     → i < length ts → i < length vs → t ≡ get_or ts i t → p ≡ get_or ps i p → v ≡ get_or vs i v
     → vs ≡ planned_tasks text ds (map task_of ts) ps → v ≡ planned_task text ds (task_of t) p
 same_task text ds ts ps vs i t p v e h k at bt ct same =
     same_item vs (planned_tasks text ds (map task_of ts) ps) i v (planned_task text ds (task_of t) p) k ct
     (planned_at text ds ts ps i t p h (omega arith) at bt) same
 
-pub same_tasks : (text : List ℕ) (ds : List SharedDeclaration) (ts : List (TaskDeclaration VariableName TaskName)) (ps : List TaskPlanValue)
+pub same_tasks : (text : List ℕ) (ds : List SharedDeclaration) (ts : List (TaskDeclaration VariableName TaskName FunctionName)) (ps : List TaskPlanValue)
     (vs : List TaskValue) → length ps ≡ length ts → vs ≡ planned_tasks text ds (map task_of ts) ps → length vs ≡ length ts
 same_tasks text ds ts ps vs e same = ap length same ∙ planned_long text ds ts ps e
 
-pub all_tasks : (text : List ℕ) (ds : List SharedDeclaration) (ts : List (TaskDeclaration VariableName TaskName)) (ps : List TaskPlanValue)
+pub all_tasks : (text : List ℕ) (ds : List SharedDeclaration) (ts : List (TaskDeclaration VariableName TaskName FunctionName)) (ps : List TaskPlanValue)
     (vs : List TaskValue) (i : ℕ) → length ps ≡ length ts → length vs ≡ length ts → length ts ≤ i
     → take i vs ≡ take i (planned_tasks text ds (map task_of ts) ps) → vs ≡ planned_tasks text ds (map task_of ts) ps
 all_tasks text ds ts ps vs i e f h same =

@@ -9,6 +9,7 @@ use Rattle.std.proofs.lemmas.List.{drop_all, get_or_default, length-map}
 use Rattle.task_ast.specs.declared.SharedDeclaration.{SharedDeclaration}
 use Rattle.task_ast.specs.declared.TaskDeclaration.{TaskDeclaration}
 use Rattle.task_ast.specs.declared.names.VariableName.{VariableName}
+use Rattle.task_ast.specs.declared.names.FunctionName.{FunctionName}
 use Rattle.task_ast.specs.declared.names.TaskName.{TaskName}
 use Rattle.task_ast.specs.View.{task_of}
 use Rattle.source_report.specs.SourceReport.{spelled}
@@ -55,24 +56,27 @@ shared_end text ds i q h =
 -- ---- tasks
 
 -- the names of tasks
-abbrev pub names_of : List ℕ → List (TaskDeclaration VariableName TaskName) → List (List ℕ)
+abbrev pub names_of : List ℕ → List (TaskDeclaration VariableName TaskName FunctionName) → List (List ℕ)
 names_of text ts = map (λ t. spelled text t.name) (map task_of ts)
 
-task_step : (text : List ℕ) (ts : List (TaskDeclaration VariableName TaskName)) (i : ℕ) (t : TaskDeclaration VariableName TaskName) (q : List ℕ)
+task_step : (text : List ℕ) (ts : List (TaskDeclaration VariableName TaskName FunctionName)) (i : ℕ) (t : TaskDeclaration VariableName TaskName FunctionName)
+    (q : List ℕ)
     → i < length ts → t ≡ get_or ts i t → from (names_of text ts) i q ≡ cond (bytes_eq (spelled text t.name) q) (Some i) (from (names_of text ts) (i + 1) q)
 task_step text ts i t q h at =
     named_step (names_of text ts) i q (spelled text t.name) (under (λ t. spelled text t.name) (map task_of ts) i (under task_of ts i h))
     (mapped_at (λ t. spelled text t.name) (map task_of ts) i (task_of t) (under task_of ts i h) (mapped_at task_of ts i t h at))
 
-pub task_passed : (text : List ℕ) (ts : List (TaskDeclaration VariableName TaskName)) (i : ℕ) (t : TaskDeclaration VariableName TaskName) (q : List ℕ)
+pub task_passed : (text : List ℕ) (ts : List (TaskDeclaration VariableName TaskName FunctionName)) (i : ℕ)
+    (t : TaskDeclaration VariableName TaskName FunctionName) (q : List ℕ)
     → i < length ts → t ≡ get_or ts i t → bytes_eq (spelled text t.name) q ≡ false → from (names_of text ts) i q ≡ from (names_of text ts) (i + 1) q
 task_passed text ts i t q h at e = task_step text ts i t q h at ∙ ap (λ b. cond b (Some i) (from (names_of text ts) (i + 1) q)) e
 
-pub task_found : (text : List ℕ) (ts : List (TaskDeclaration VariableName TaskName)) (i : ℕ) (t : TaskDeclaration VariableName TaskName) (q : List ℕ)
+pub task_found : (text : List ℕ) (ts : List (TaskDeclaration VariableName TaskName FunctionName)) (i : ℕ)
+    (t : TaskDeclaration VariableName TaskName FunctionName) (q : List ℕ)
     → i < length ts → t ≡ get_or ts i t → bytes_eq (spelled text t.name) q ≡ true → from (names_of text ts) i q ≡ Some i
 task_found text ts i t q h at e = task_step text ts i t q h at ∙ ap (λ b. cond b (Some i) (from (names_of text ts) (i + 1) q)) e
 
-pub no_task : (text : List ℕ) (ts : List (TaskDeclaration VariableName TaskName)) (i : ℕ) (q : List ℕ) → length ts ≤ i
+pub no_task : (text : List ℕ) (ts : List (TaskDeclaration VariableName TaskName FunctionName)) (i : ℕ) (q : List ℕ) → length ts ≤ i
     → from (names_of text ts) i q ≡ None
 no_task text ts i q h =
     let e : length (names_of text ts) ≡ length (map task_of ts) = length-map (map task_of ts) (λ t. spelled text t.name) in

@@ -10,7 +10,7 @@ use Rattle.task_ast.specs.declared.Extent.TheVariants.{Scalar, Array}
 use Rattle.task_ast.specs.declared.Extent.TheVariants as extent
 use Rattle.task_ast.specs.declared.SharedDeclaration.{SharedDeclaration}
 use Rattle.task_ast.specs.declared.names.Variable.TheVariants.{Shared}
-use Rattle.task_ast.specs.Paths.{CheckedBlock}
+use Rattle.task_ast.specs.Paths.{CheckedBlock, CheckedFunction}
 use Rattle.war_analysis.specs.path_sums.Access.{writes, SomePath, IsPrivate}
 use Rattle.source_report.specs.source_values.Runs.{CheckedProgram}
 use Rattle.source_report.specs.SourceReport.{spelled}
@@ -52,7 +52,8 @@ if_alike shared d j = slice_get shared j >>? λ e. cond (are_alike e d) (Some j)
 abbrev pub kept_from : List ℕ → List SharedDeclaration → List ℕ → SharedDeclaration → Option ℕ
 kept_from text shared name d = number_of (shared_names text shared) name >>? if_alike shared d
 
--- a task with this body writes the shared scalar of this number in place: some path of it does, and the scalar isn't private in it
-pub record IsInPlace (code : CheckedBlock) (number : ℕ) : Type 0 where
-  pub written : SomePath code (writes (Shared number))
-  pub not_private : IsPrivate code (Shared number) → ⊥
+-- a task with this body, which may call these functions, writes the shared scalar of this number in place: some path of it does, and the scalar
+-- isn't private in it
+pub record IsInPlace (functions : List CheckedFunction) (code : CheckedBlock) (number : ℕ) : Type 0 where
+  pub written : SomePath functions code (writes (Shared number))
+  pub not_private : IsPrivate functions code (Shared number) → ⊥

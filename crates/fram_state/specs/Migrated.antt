@@ -119,8 +119,8 @@ pub record IsUnsettled (old new : EditionValue) (task number : ℕ) : Type 0 whe
   pub one_word : is_scalar scalar.extent ≡ true
   pub from : ℕ
   pub kept : kept_number old new.text scalar ≡ Some from
-  pub before : IsInPlace (task_body old.program (current old)) from
-  pub behind : IsInPlace (task_body new.program task) number → ⊥
+  pub before : IsInPlace old.program.functions (task_body old.program (current old)) from
+  pub behind : IsInPlace new.program.functions (task_body new.program task) number → ⊥
 
 -- the new source has no task of the current task's name, which stands there in the old text
 pub record HasNoTask (old new : EditionValue) (name : Span) : Type 0 where

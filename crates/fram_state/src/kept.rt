@@ -1,18 +1,23 @@
 //! What a new edition of a program keeps of an old one.
-ghost use Rattle.std.specs.Prelude.{◌≡◌, ◌↔◌, ◌<◌, ◌^◌, ℕ, List, IfOk, IfSome, IsTrue, length, map};
+ghost use Rattle.std.specs.Prelude.{◌≡◌, ◌↔◌, ◌<◌, ◌^◌, ℕ, List, [], IfOk, IfSome, IsTrue, length, map};
 ghost use Rattle.std.specs.Str.{bytes_eq};
-ghost use Rattle.task_ast.specs.View.{task_of, block_view};
+ghost use Rattle.task_ast.specs.View.{task_of, block_view, program_of};
+ghost use Rattle.task_ast.specs.declared.names.Variable.TheVariants.{Shared};
+ghost use Rattle.war_analysis.specs.path_sums.Access.{writes, SomePath, IsPrivate};
+ghost use Rattle.source_report.specs.source_values.Runs.{task_body};
+ghost use Rattle.task_ast.specs.Calls.{BlockCallsBelow};
 ghost use Rattle.source_report.specs.SourceReport.{spelled};
 ghost use Rattle.fram_state.specs.Kept as spec;
 ghost use Rattle.fram_state.specs.Kept.{number_of, shared_names, IsInPlace};
-ghost use Rattle.fram_state.specs.Editions.{HasNumbers};
+ghost use Rattle.fram_state.specs.Editions.{HasNumbers, CallsNone};
 
 use path_sums::{is_private, is_written};
 use source_report::spelled;
 use std::alloc::{AllocError, Global};
 use std::collections::BTreeMap;
 use task_ast::{
-    Extent, SharedDeclaration, Stmt, TaskDeclaration, TaskName, Variable, VariableName, WordType,
+    CheckedSource, Extent, FunctionName, SharedDeclaration, Stmt, TaskDeclaration, TaskName,
+    Variable, VariableName, WordType,
 };
 
 /// The numbers of shared variables, by their names.
@@ -95,7 +100,11 @@ pub fn kept_from<'a>(
 }
 
 // Whether a task has a name.
-fn is_named(text: &[u8], declaration: &TaskDeclaration<VariableName, TaskName>, name: &[u8]) -> bool
+fn is_named(
+    text: &[u8],
+    declaration: &TaskDeclaration<VariableName, TaskName, FunctionName>,
+    name: &[u8],
+) -> bool
     ensures { result ≡ bytes_eq (spelled text.now declaration.now.name) name.now }
 {
     spelled(text, declaration.name) == name
@@ -104,7 +113,7 @@ fn is_named(text: &[u8], declaration: &TaskDeclaration<VariableName, TaskName>, 
 /// The number of the task of this name; of those with one name the first.
 pub fn task_named(
     text: &[u8],
-    tasks: &[TaskDeclaration<VariableName, TaskName>],
+    tasks: &[TaskDeclaration<VariableName, TaskName, FunctionName>],
     name: &[u8],
 ) -> Option<usize>
     ensures value { result ≡ number_of (map (λ t. spelled text.now t.name) (map task_of tasks.now)) name.now }
@@ -118,11 +127,24 @@ pub fn task_named(
     None
 }
 
-/// Whether a task with this body writes the shared scalar of this number in place.
-pub fn is_in_place(number: usize, body: &[Stmt<VariableName, TaskName>]) -> bool
-    requires { number < 2 ^ 32 }
-    ensures { IsTrue result ↔ IsInPlace (block_view body.now) number }
+// Whether a body that calls no function writes the shared scalar of this number, and whether this is private in it.
+fn is_touched(number: usize, body: &[Stmt<VariableName, TaskName, FunctionName>]) -> (bool, bool)
+    requires number { number < 2 ^ 32 }
+    requires calls { BlockCallsBelow 0 (block_view body.now) }
+    ensures written { IsTrue result.0 ↔ SomePath [] (block_view body.now) (writes (Shared number)) }
+    ensures private { IsTrue result.1 ↔ IsPrivate [] (block_view body.now) (Shared number) }
 {
     let scalar = Variable::Shared(number as u32);
-    is_written(scalar, body) && !is_private(scalar, body)
+    (is_written(&[], scalar, body), is_private(&[], scalar, body))
+}
+
+/// Whether the task of this number, of a source without functions, writes the shared scalar of this number in place.
+pub fn is_in_place(source: &CheckedSource, task: usize, number: usize) -> bool
+    requires task { task < length source.now.tasks.items }
+    requires number { number < 2 ^ 32 }
+    requires calls { CallsNone (program_of source.now) }
+    ensures { IsTrue result ↔ IsInPlace (program_of source.now).functions (task_body (program_of source.now) task) number }
+{
+    let (written, private) = is_touched(number, &source.tasks[task].body);
+    written && !private
 }

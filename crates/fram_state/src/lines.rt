@@ -1,5 +1,5 @@
 //! Whether an image is one of a source, by the lines of its map.
-ghost use Rattle.std.specs.Prelude.{◌≡◌, ◌↔◌, IsTrue, IsErrOf, IfOk, length, map};
+ghost use Rattle.std.specs.Prelude.{◌≡◌, ◌↔◌, [], IsTrue, IsErrOf, IfOk, length, map};
 ghost use Rattle.task_ast.specs.View.{task_of, program_of};
 ghost use Rattle.source_report.specs.SourceReport.{spelled};
 ghost use Rattle.source_maps.specs.source_runs.Naming.{length_of};
@@ -16,7 +16,8 @@ use source_meaning::Accepted;
 use source_report::spelled;
 use std::alloc::Global;
 use task_ast::{
-    CheckedSource, Extent, SharedDeclaration, TaskDeclaration, TaskName, VariableName, WordType,
+    CheckedSource, Extent, FunctionName, SharedDeclaration, TaskDeclaration, TaskName,
+    VariableName, WordType,
 };
 use thiserror::Error;
 use war_analysis::{Plan, TaskPlan, analyse, one_plan};
@@ -123,7 +124,7 @@ fn are_privates(text: &[u8], shared: &[SharedDeclaration], numbers: &[u32], name
 fn is_planned(
     text: &[u8],
     shared: &[SharedDeclaration],
-    declaration: &TaskDeclaration<VariableName, TaskName>,
+    declaration: &TaskDeclaration<VariableName, TaskName, FunctionName>,
     plan: &TaskPlan,
     task: &Task,
 ) -> bool
@@ -138,7 +139,7 @@ fn is_planned(
 fn are_planned(
     text: &[u8],
     shared: &[SharedDeclaration],
-    declared: &[TaskDeclaration<VariableName, TaskName>],
+    declared: &[TaskDeclaration<VariableName, TaskName, FunctionName>],
     plans: &[TaskPlan],
     tasks: &[Task],
 ) -> bool
@@ -160,7 +161,7 @@ fn are_planned(
 fn has_ring(source: &CheckedSource) -> bool
     ensures { result ≡ uses_events (program_of source.now) }
 {
-    uses_events(source.tasks.as_slice())
+    uses_events(source)
 }
 
 // Whether a map has the lines that a source with this plan gives.
@@ -179,12 +180,13 @@ fn has_lines_of(text: &[u8], source: &CheckedSource, plan: &Plan, map: &Map) -> 
         && map.ring().is_some() == has_ring(source)
 }
 
-/// Whether an image is one of a source: it has a map, and the `scalar`, `array`, `task` and `private` lines of this are those that the source
+/// Whether an image is one of a source without functions: it has a map, and the `scalar`, `array`, `task` and `private` lines of this are those that the source
 /// gives, addresses aside, and it has a ring exactly where the source has one.
 ///
 /// # Errors
 /// `OtherSource` exactly where it isn't; `Memory` where memory was refused.
 pub fn suits(alloc: Global, source: &Accepted, image: &Image) -> Result<(), SuitFault>
+    requires plain { (program_of source.now.checked.source).functions ≡ [] }
     ensures suits { IfOk result (λ _. Suits source.now.text.items (program_of source.now.checked.source) image.now) }
     ensures other { IsErrOf result SuitFault.OtherSource → Suits source.now.text.items (program_of source.now.checked.source) image.now → ⊥ }
 {

@@ -1,5 +1,5 @@
 //! An old state as one of a new edition of its program.
-ghost use Rattle.std.specs.Prelude.{◌≡◌, ◌↔◌, ◌<◌, ◌^◌, ℕ, IfOk, IfErr, IfSome, IfNone, IsTrue, Some, length};
+ghost use Rattle.std.specs.Prelude.{◌≡◌, ◌↔◌, ◌<◌, ◌^◌, ℕ, [], IfOk, IfErr, IfSome, IfNone, IsTrue, Some, length};
 ghost use Rattle.task_ast.specs.View.{block_view, program_of};
 ghost use Rattle.image_text.specs.address_space.Limits.{fram_words};
 ghost use Rattle.image_text.specs.image_map.MapValue.{MapValue};
@@ -9,7 +9,7 @@ ghost use Rattle.fram_state.specs.Suits.{Suits};
 ghost use Rattle.war_analysis.specs.Plans as plans;
 ghost use Rattle.fram_state.specs.Migrated as spec;
 ghost use Rattle.fram_state.specs.Migrated.{IsPendingAt, IsUnsettled, IsStateOf, IsFault, Migrates, IsAnswerFor, edition_with};
-ghost use Rattle.fram_state.specs.Editions.{edition_of, HasNumbers, IsEdition};
+ghost use Rattle.fram_state.specs.Editions.{edition_of, HasNumbers, IsEdition, CallsNone};
 
 use crate::edition::Edition;
 use crate::kept::{Numbers, is_in_place, kept_from, numbers_of, task_named};
@@ -88,6 +88,8 @@ fn is_unsettled<'a>(
 ) -> bool
     requires old { IsEdition (edition_of old.now) }
     requires new { IsEdition (edition_of new.now) }
+    requires old_calls { CallsNone (edition_of old.now).program }
+    requires new_calls { CallsNone (edition_of new.now).program }
     requires names { HasNumbers (shared_names old.now.text.now old.now.source.now.shared.items) numbers.now }
     requires current { spec.current (edition_of old.now) < length old.now.source.now.tasks.items }
     requires task { task < length new.now.source.now.tasks.items }
@@ -101,8 +103,8 @@ fn is_unsettled<'a>(
         return false;
     };
     is_scalar(declaration.extent)
-        && is_in_place(from, &old.source.tasks[current(old)].body)
-        && !is_in_place(number, &new.source.tasks[task].body)
+        && is_in_place(old.source, current(old), from)
+        && !is_in_place(new.source, task, number)
 }
 
 // The number of the first scalar that isn't settled.
@@ -114,6 +116,8 @@ fn first_unsettled<'a>(
 ) -> Option<usize>
     requires old { IsEdition (edition_of old.now) }
     requires new { IsEdition (edition_of new.now) }
+    requires old_calls { CallsNone (edition_of old.now).program }
+    requires new_calls { CallsNone (edition_of new.now).program }
     requires names { HasNumbers (shared_names old.now.text.now old.now.source.now.shared.items) numbers.now }
     requires current { spec.current (edition_of old.now) < length old.now.source.now.tasks.items }
     requires task { task < length new.now.source.now.tasks.items }
@@ -138,6 +142,8 @@ fn words_behind<'a>(
 ) -> Result<Vec<u16>, MigrateFault>
     requires old { IsEdition (edition_of old.now) }
     requires new { IsEdition (edition_of new.now) }
+    requires old_calls { CallsNone (edition_of old.now).program }
+    requires new_calls { CallsNone (edition_of new.now).program }
     requires current { spec.current (edition_of old.now) < length old.now.source.now.tasks.items }
     ensures words { IfOk result (λ v. Migrates (edition_of old.now) (edition_of new.now) v.items) }
     ensures len { IfOk result (λ v. length v.items ≡ fram_words) }
@@ -159,9 +165,9 @@ fn words_behind<'a>(
     Ok(migrated_words(alloc, old, &numbers, new, task)?)
 }
 
-/// The state of a new edition of a program that goes on in place of an old state: each shared variable of the new source has the words of the old
-/// one of its name, kind, type and length, if there is one, or else those that it begins with; CUR is the task of the same name; BASE, the
-/// receiver's number and, where both maps have a ring, its HEAD, TAIL and slots are kept; and the rest is the new image's.
+/// The state of a new edition of a program that goes on in place of an old state, both without functions: each shared variable of the new source
+/// has the words of the old one of its name, kind, type and length, if there is one, or else those that it begins with; CUR is the task of the
+/// same name; BASE, the receiver's number and, where both maps have a ring, its HEAD, TAIL and slots are kept; and the rest is the new image's.
 ///
 /// # Errors
 /// `Pending` where the commit of the state is pending; then `NoTask` with the name of the current task, where the new source has none of this
@@ -175,6 +181,8 @@ pub fn migrate(
     image: Image,
 ) -> Result<State, MigrateFault>
     requires old { IsStateOf old.now.text.items (program_of old.now.checked.source) state.now }
+    requires old_plain { (program_of old.now.checked.source).functions ≡ [] }
+    requires new_plain { (program_of new.now.checked.source).functions ≡ [] }
     requires new { Suits new.now.text.items (program_of new.now.checked.source) image }
     ensures answer { (m n : MapValue) → state.now.image.map ≡ Some m → image.map ≡ Some n
         → IsAnswerFor (edition_with old.now.text.items (program_of old.now.checked.source) m state.now.image.words)

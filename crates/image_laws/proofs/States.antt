@@ -10,6 +10,7 @@ use Rattle.image_laws.proofs.Names.{⊎_elim, compiled_model, either_logging, is
 use Rattle.memory_map.specs.Spots.{IsWordOf}
 use Rattle.image_laws.proofs.Rows.{RowStands, all_rows}
 use Rattle.image_laws.proofs.Laid.{laid_out, logs_so}
+use Rattle.cost_bound.specs.Summaries.{summaries}
 
 module _ (text : List ℕ) (p : CheckedProgram) (allow : Allow) (plans : List TaskPlanValue) (l : MemoryMap) (laid : HasLayout p allow plans l)
     (s : State) (x : World) (is_state : (state_view p l).is_state s ≡ true)
@@ -24,7 +25,7 @@ module _ (text : List ℕ) (p : CheckedProgram) (allow : Allow) (plans : List Ta
   finds_words task accepted = record {
     task = task;
     shared = all_rows x text p.shared l.variables s.shared laid.layout.variables.count is_state
-        (λ v d place at at_place. of_kind (is_written p.tasks v) d.extent place (laid.layout.variables.each v d place at at_place)) row_stands;
+        (λ v d place at at_place. of_kind (is_written (summaries p) p.tasks v) d.extent place (laid.layout.variables.each v d place at at_place)) row_stands;
     accepted = accepted;
   }
 

@@ -174,8 +174,8 @@ images_keep_the_laws text p allow image ok c cs starts readings events inputs r 
       answered = λ events. answered on events (fresh_keeps_ring text p allow image ok c);
       raises = raises on;
       progress = pays on false (first_within text p allow image ok c);
-      needs = λ redo. needs_pay on redo
-          ((runs_may_begin (with_needs p l (compiled_model p l)) (needs_model_laws p l redo on.start.ready) readings).resting (first_state p)
+      needs = needs_pay on
+          ((runs_may_begin (with_needs p l (compiled_model p l)) (needs_model_laws p l on.start.ready) readings).resting (first_state p)
           (world_with image.words []) (undecided text p allow image c on.start.ready on.start.new)) (some_task text p allow image ok c) false
           (first_need text p allow image ok c);
       told = runs_are_told text p allow image ok c cs readings events inputs r on.run;
@@ -236,7 +236,6 @@ images_keep_capacities logging text p allow image ok c trace t r run ms rest e =
     rest e).capacities
 
 pub images_keep_to_needs : ImagesKeepToNeeds
-images_keep_to_needs text p allow image ok c trace t r run =
+images_keep_to_needs logging text p allow image ok c trace t r run =
     let few = traces_are_few trace t in
     (images_keep_the_laws text p allow image ok c (charges_of trace.charges) few.0 trace.readings trace.events (trace_inputs trace t) r run).needs
-    (logs_so text p allow image c)

@@ -8,14 +8,17 @@ use Rattle.crash_rules.specs.Model.{Marks, Inputs, bound}
 use Rattle.crash_rules.specs.Laws.{TaskCosts, CoversTasks}
 use Rattle.model_runs.specs.Runs.{no_delay, PaysFor, Progresses, AllSpent, SpentOne, StoppedIn}
 use Rattle.model_runs.proofs.Interface.{makes_progress, runs_so}
-use Rattle.memory_map.specs.declared.runtime.Logging.TheVariants.{Redo}
+use Rattle.memory_map.specs.declared.runtime.Logging.{Logging}
+use Rattle.memory_map.specs.declared.runtime.Logging.TheVariants.{Redo, Undo}
 use Rattle.source_runs.specs.Transitions.{HasWordsOf}
 use Rattle.source_runs.proofs.Interface.{read_off}
 use Rattle.task_needs.specs.Needs.{need_of}
 use Rattle.task_needs.specs.Lists.{with_needs}
 use Rattle.task_needs.proofs.Interface.{own_cost}
+use Rattle.compiled_bounds.specs.Laws.{CostsFor}
 use Rattle.compiled_bounds.proofs.Interface.{needs_keep_to_the_bound}
-use Rattle.compiled_runs.proofs.Interface.{needs_keep_the_laws, code_keeps_to_needs, by_redo}
+use Rattle.compiled_runs.specs.Laws.{RunsBy}
+use Rattle.compiled_runs.proofs.Interface.{needs_keep_the_laws, code_keeps_to_needs}
 use Rattle.image_reports.specs.Sources.{IsSourcesMap}
 use Rattle.image_reports.proofs.CompiledTold.{models_are_of_sources}
 use Rattle.image_reports.proofs.Begins.{first_world, first_board, bears}
@@ -43,12 +46,16 @@ progresses_more marks n most costs delay more cs b h r (SpentOne c ds _ _ ms end
     SpentOne c ds b h ms end rest one (pays_more n most costs _ c _ h _ more pays) (progresses_more marks n most costs delay more ds end _ rest on)
 progresses_more marks n most costs delay more cs b h r (StoppedIn c ds _ _ ms stop end one) = StoppedIn c ds b h ms stop end one
 
--- ---- a run of an image, where the runtime works in copies
+-- ---- a run of an image
 
 -- the model with the needs, of a source that is ready to run
-pub needs_model_laws : (p : CheckedProgram) (l : MemoryMap) → l.runtime.logging ≡ Redo → IsReadyToRun p l
-    → ModelLaws (with_needs p l (compiled_model p l))
-needs_model_laws p l redo ready = needs_keep_the_laws p l redo ready.code (ready.few redo) ready.model
+pub needs_model_laws : (p : CheckedProgram) (l : MemoryMap) → IsReadyToRun p l → ModelLaws (with_needs p l (compiled_model p l))
+needs_model_laws p l ready = needs_keep_the_laws p l ready.code ready.few ready.model
+
+-- each task of a source that can run keeps to its part of the bound
+costs_for : (logging : Logging) (p : CheckedProgram) (l : MemoryMap) → RunsBy logging p l → CostsFor logging p l
+costs_for Redo p l runs = runs.costs
+costs_for Undo p l runs = runs.costs
 
 -- a state's task costs what it needs, and the world says so that has the state's words
 pub need_within : (p : CheckedProgram) (l : MemoryMap) (m : MapValue) (s : State) (x : World) → s.task < length p.tasks → HasWordsOf m x s
@@ -58,7 +65,7 @@ need_within p l m s x is_task here below =
     let same : need_of p l (x.fram m.words.current_task) ≡ need_of p l s.task = ap (need_of p l) here.task in
     subst (λ n. n ≤ need_of p l (x.fram m.words.current_task)) (same ∙ cost) (omega arith)
 
-module _ (onward : Onward) (redo : onward.start.compiled.layout.runtime.logging ≡ Redo) where
+module _ (onward : Onward) where
   open onward use {start as beginning, accepted as ok, charges as cs, outcome as r, run}
   open (onward.start) use {text, program as p, allow, image, compiled as c, ready, origin, readings, inputs}
 
@@ -86,15 +93,15 @@ module _ (onward : Onward) (redo : onward.start.compiled.layout.runtime.logging 
   -- the needs are within the bound that the map names
   pub needs_bound : 0 < length p.tasks → bound model ≤ m.bound
   needs_bound some =
-      let within = needs_keep_to_the_bound p l some (by_redo p l redo ready.code).costs (ready.needs redo) in
+      let within = needs_keep_to_the_bound p l some (costs_for l.runtime.logging p l ready.code.own) ready.needs in
       let is = is_sources.bound in
       omega (arith, within, is)
 
   -- the board bears the model with the needs, where this stands for its first history
   bears_needs : StandsFor model readings origin (first_history (runtime_marks l) x) → BearsModel model program readings origin x b
   bears_needs begun = record {
-    model = needs_model_laws p l redo ready;
-    program = code_keeps_to_needs p l redo ready.code (ready.few redo) (ready.needs redo) ready.model;
+    model = needs_model_laws p l ready;
+    program = code_keeps_to_needs p l ready.code ready.few ready.needs ready.model;
     begins = record { fram = refl; readings_left = refl; words = inputs.readings_are_words; stands = begun };
     stands = (bears beginning).stands;
   }

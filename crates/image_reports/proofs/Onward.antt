@@ -141,8 +141,8 @@ pub record Front (p : CheckedProgram) (l : MemoryMap) (image : ImageValue) (x : 
   pub never_lost : h.decided ≡ true → ((outside_of b).fram (word_place l Gate) ≡ 1)
       × ((s : State) → (compiled_model p l).Undecided s h.world → ⊥)
   pub accepted : AcceptedWords (compiled_model p l) readings origin h stands.state h.decided
-  pub takes_few : l.runtime.logging ≡ Redo → length (readings_taken h.effects) ≤ readings_from p l h.start.fram
-  pub offers_few : l.runtime.logging ≡ Redo → length (words_offered h.effects) ≤ words_from p l origin h.completed stands.state
+  pub takes_few : length (readings_taken h.effects) ≤ readings_from p l h.start.fram
+  pub offers_few : length (words_offered h.effects) ≤ words_from p l origin h.completed stands.state
   pub sent : (to : State) → origin ≡ Pending to → h.completed ≡ [] → IsBetween x.accepted to.emitted h.world.accepted
   pub versions : l.runtime.logging ≡ Redo → h.effects ≡ start_due l h.start.fram → VersionsBelow l (outside_of b).fram
   pub versions_in_place : l.runtime.logging ≡ Undo → h.start.fram (word_place l Gate) ≡ 0 → h.effects ≡ due_in_place p l h.booted h.start.fram
@@ -169,8 +169,8 @@ holds_from p l image x origin readings b ms h redo k = record {
   stands = k.stands;
   never_lost = k.never_lost;
   accepted = k.accepted;
-  takes_few = k.takes_few redo;
-  offers_few = k.offers_few redo;
+  takes_few = k.takes_few;
+  offers_few = k.offers_few;
   sent = k.sent;
   versions = k.versions redo;
   belongs = record { code = k.code; capacities = k.capacities; sound = k.sound redo };
@@ -500,8 +500,9 @@ module _ (onward : Onward) where
           never_lost = λ decided. let kept = never_lost model ready.model readings origin h lawful decided in
               (ap (λ f. f (word_place l Gate)) same ∙ kept.0, kept.1);
           accepted = sent_once model ready.model readings origin h lawful.stands;
-          takes_few = λ redo. readings_are_few p l redo readings h lawful.follows;
-          offers_few = λ redo. words_are_few p l redo ready.model readings origin h lawful.follows lawful.stands;
+          takes_few = readings_are_few p l readings h lawful.follows
+              (λ undo. record { apart = ready.code.apart; laws = ready.model; origin = origin; stands = lawful.stands });
+          offers_few = words_are_few p l (λ undo. ready.code.room) ready.model readings origin h lawful.follows lawful.stands;
           sent = λ to is none.
               let P : Origin State → Type 0 = λ o. Begins model readings o x (outside_of b) in
               pending_sends model program ready.model bearing.program readings to at.end h

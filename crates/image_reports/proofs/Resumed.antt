@@ -94,10 +94,10 @@ module _ (text : List ℕ) (p : CheckedProgram) (allow : Allow) (image : ImageVa
   begun_needs : (readings : List ℕ) → IsSound (program_places p l) x → StandsFor costed readings origin (first_history (runtime_marks l) x)
   begun_needs readings (SoundAtRest q) =
       subst (λ o. StandsFor costed readings o (first_history (runtime_marks l) x)) (at_rest q.gate)
-      ((runs_may_begin costed (needs_model_laws p l redo ready) readings).resting (state_in l x) x (undecided_there q))
+      ((runs_may_begin costed (needs_model_laws p l ready) readings).resting (state_in l x) x (undecided_there q))
   begun_needs readings (SoundPending q) =
       subst (λ o. StandsFor costed readings o (first_history (runtime_marks l) x)) (in_commit q.gate)
-      ((runs_may_begin costed (needs_model_laws p l redo ready) readings).pending (state_left l x) x (states.commit x q))
+      ((runs_may_begin costed (needs_model_laws p l ready) readings).pending (state_left l x) x (states.commit x q))
 
   -- the world's CUR names a task
   some_task : IsSound (program_places p l) x → 0 < length p.tasks
@@ -189,8 +189,8 @@ module _ (text : List ℕ) (p : CheckedProgram) (allow : Allow) (image : ImageVa
       answered = answered on;
       raises = raises on redo;
       progress = pays on (x.fram (word_place l Gate) == 1) (first_within (x.fram (word_place l Gate) == 1));
-      needs = needs_pay on redo (begun_needs readings belongs.sound) (some_task belongs.sound) (x.fram (word_place l Gate) == 1)
-          (first_need (x.fram (word_place l Gate) == 1) (needs_bound on redo (some_task belongs.sound)) belongs.sound);
+      needs = needs_pay on (begun_needs readings belongs.sound) (some_task belongs.sound) (x.fram (word_place l Gate) == 1)
+          (first_need (x.fram (word_place l Gate) == 1) (needs_bound on (some_task belongs.sound)) belongs.sound);
       told = onward;
     }
 

@@ -7,11 +7,11 @@ use Rattle.source_runs.specs.Sources.{inputs_of}
 use Rattle.std.proofs.lemmas.List.Elements.{All-get_or}
 use Rattle.std.proofs.lemmas.Option.{slice_get-get_or}
 use Rattle.std.specs.Prelude.{slice_get}
-use Rattle.task_ast.specs.Tree.{Task, end}
-use Rattle.task_ast.specs.declared.names.VariableName.{VariableName}
+use Rattle.task_ast.specs.Tree.{end}
+use Rattle.task_ast.specs.Paths.{CheckedTask}
 use Rattle.task_ast.specs.declared.names.TaskName.{TaskName}
 use Rattle.source_values.specs.Values.{◌>>?◌}
-use Rattle.source_values.specs.Statements.{Outcome, goes_on, to_task, short, run_block}
+use Rattle.source_values.specs.Statements.{Outcome, goes_on, to_task, returns, short, run_block, meanings}
 
 -- a transition of a task that takes all its readings
 abbrev pub IsTransitionTo : State → State → Option Transition → Type 0
@@ -41,20 +41,21 @@ transits p s u given e = transits_by s u (completion_of (attempt_of p s.task s.s
 short_by : (s : State) (tasks : ℕ) (o : Outcome) → EndsWell tasks o → outcome_of s (completion_of o) ≡ Short → o ≡ short
 short_by s tasks (goes_on m) w e = absurd w
 short_by s tasks (to_task t m) w e = absurd (cc e)
+short_by s tasks (returns u m) w e = absurd w
 short_by s tasks short w e = refl
 
 -- an attempt of one of the tasks ends well
 comes : (p : CheckedProgram) → IsRunnable p → (s : State) (given : TaskInputs) → s.task < length p.tasks
     → EndsWell (length p.tasks) (attempt_of p s.task s.shared given)
 comes p ok s given below =
-    let d : Task VariableName TaskName = get_or p.tasks s.task (empty_task p.entry) in
-    let own : Task VariableName TaskName = get_or p.tasks s.task d in
+    let d : CheckedTask = get_or p.tasks s.task (empty_task p.entry) in
+    let own : CheckedTask = get_or p.tasks s.task d in
     let at : slice_get p.tasks s.task ≡ Some own = slice_get-get_or p.tasks s.task d below in
-    let good : TransitionComes (length p.tasks) own = All-get_or (TransitionComes (length p.tasks)) p.tasks s.task d below ok.transition_comes in
-    let P : Option (Task VariableName TaskName) → Type 0 = λ o. EndsWell (length p.tasks) (run_block (body_of o) (fresh_attempt s.shared given)) in
+    let good : TransitionComes p own = All-get_or (TransitionComes p) p.tasks s.task d below ok.transition_comes in
+    let P : Option CheckedTask → Type 0 = λ o. EndsWell (length p.tasks) (run_block (meanings p) (body_of o) (fresh_attempt s.shared given)) in
     subst P (sym at) (good (fresh_attempt s.shared given))
   where
-    empty_task : TaskName → Task VariableName TaskName
+    empty_task : TaskName → CheckedTask
     empty_task n = record { name = n.span; body = end }
 
 -- where a task is short its attempt is

@@ -163,10 +163,10 @@ pub record HoldsAt (p : CheckedProgram) (l : MemoryMap) (image : ImageValue) (re
       × ((s : State) → (compiled_model p l).Undecided s h.world → ⊥)
   -- between a done, or the start, and the next decide no word is accepted; between a decide and its done a prefix of that task's
   pub accepted : AcceptedWords (compiled_model p l) readings (Resting (first_state p)) h stands.state h.decided
-  -- where the runtime works in copies: since the last boot or done no more readings were taken than the text of the task has that CUR named there, and
-  -- no more words were offered than that of the state of the last done emits; each on the path with the most
-  pub takes_few : l.runtime.logging ≡ Redo → length (readings_taken h.effects) ≤ readings_from p l h.start.fram
-  pub offers_few : l.runtime.logging ≡ Redo → length (words_offered h.effects) ≤ words_from p l (Resting (first_state p)) h.completed stands.state
+  -- since the last boot or done no more readings were taken than the text of the task has that CUR named there, and no more words were offered than that of
+  -- the state of the last done emits; each on the path with the most
+  pub takes_few : length (readings_taken h.effects) ≤ readings_from p l h.start.fram
+  pub offers_few : length (words_offered h.effects) ≤ words_from p l (Resting (first_state p)) h.completed stands.state
   -- CLN and EN are within the map's capacities, and version words at most VER
   pub capacities : KeepsCapacities l (outside_of b).fram
   -- as a task's first own instruction runs, whose start is made and which has done nothing yet, each version word is below VER. (With
@@ -238,9 +238,9 @@ pub record IsLawfulRun (text : List ℕ) (p : CheckedProgram) (allow : Allow) (l
   -- the tasks that were completed in it, and of the one that was to come
   pub progress : let m = map_of text p l allow in let b = fresh image.words readings events in
       EachChargePays m (λ h. cost_of p h.task) cs b (at_first m b) r
-  -- and where it does, each is less than those and what the tasks need by the code that is linked, of which none needs more than its part of the bound:
-  -- so one that holds what the next n tasks need has n transitions
-  pub needs : l.runtime.logging ≡ Redo → let m = map_of text p l allow in let b = fresh image.words readings events in
+  -- and each is less than those and what the tasks need by the code that is linked, of which none needs more than its part of the bound: so one that holds
+  -- what the next n tasks need has n transitions
+  pub needs : let m = map_of text p l allow in let b = fresh image.words readings events in
       EachChargePays m (λ h. need_of p l h.task) cs b (at_first m b) r
   -- its report is told by the source, where the charges have fewer than 2^64 cycles and instructions in all
   pub told : all_amounts cs < 2 ^ 64

@@ -21,7 +21,7 @@ use Rattle.memory_map.specs.declared.runtime.Logging.{Logging}
 use Rattle.compiled_bounds.specs.Capacities.{KeepsCapacities}
 use Rattle.source_maps.specs.Maps.{map_of}
 use Rattle.task_needs.specs.Needs.{need_of}
-use Rattle.image_laws.specs.Compiled.{IsCompiledFor, IsCompiled}
+use Rattle.image_laws.specs.Compiled.{IsCompiledFor}
 
 -- on any trace of words, the report of the one run of its fresh board is told by the source
 abbrev pub ImagesAreTold : Type 0
@@ -53,11 +53,11 @@ ImagesKeepCapacities = (logging : Logging) (text : List ℕ) (p : CheckedProgram
     → (ms rest : List Moment) → r.moments ≡ ms ++ rest
     → KeepsCapacities c.layout (outside_of (last_board (fresh image.words trace.readings trace.events) ms)).fram
 
--- and, where the runtime works in copies, each charge that is spent is less than what the tasks need whose transitions were completed in it, and the one
--- that was to come, beside what events take
+-- and each charge that is spent is less than what the tasks need, under the image's runtime, whose transitions were completed in it, and the one that was to
+-- come, beside what events take
 abbrev pub ImagesKeepToNeeds : Type 0
-ImagesKeepToNeeds = (text : List ℕ) (p : CheckedProgram) (allow : Allow) (image : ImageValue) → IsAcceptedText text p allow
-    → (c : IsCompiled text p allow image) → (trace : TraceValue) → IsTraceOfWords trace → (r : RunOutcome)
+ImagesKeepToNeeds = (logging : Logging) (text : List ℕ) (p : CheckedProgram) (allow : Allow) (image : ImageValue) → IsAcceptedText text p allow
+    → (c : IsCompiledFor logging text p allow image) → (trace : TraceValue) → IsTraceOfWords trace → (r : RunOutcome)
     → Run (charges_of trace.charges) (fresh image.words trace.readings trace.events) r
     → let m = map_of text p c.layout allow in let b = fresh image.words trace.readings trace.events in
     EachChargePays m (λ h. need_of p c.layout h.task) (charges_of trace.charges) b (at_first m b) r

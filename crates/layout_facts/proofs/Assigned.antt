@@ -9,20 +9,28 @@ use Rattle.layout_facts.proofs.Names.{HasItsPlace, copy_among, home_of, home_in,
 use Rattle.layout_facts.proofs.Lists.{place_of, contains_at}
 use Rattle.layout_facts.proofs.Privates.{Privates, privates_of, ascending_numbers}
 use Rattle.layout_facts.proofs.Planned.{array_declared, array_extent, array_has_place, places_match}
+use Rattle.cost_bound.specs.Summaries.{summaries}
+use Rattle.cost_bound.specs.Summary.{Summary}
+use Rattle.cost_bound.specs.Counts.{assigns_of, some_called_from, block_calls}
 
 -- what a task assigns is written by some task
-written_by : (ts : List CheckedTask) (t : ℕ) (task : CheckedTask) (v : ℕ) → slice_get ts t ≡ Some task → block_assigns v task.body ≡ true
-    → is_written ts v ≡ true
-written_by [] t task v e a = let no : None ≡ Some task = e in cc
-written_by (x ∷ ts) zero task v e a =
+or_true : (b : Bool) → (b || true) ≡ true
+or_true true = refl
+or_true false = refl
+
+assigned_so : (known : List Summary) (v : ℕ) (task : CheckedTask) → block_assigns v task.body ≡ true → assigns_of known v task.body ≡ true
+assigned_so known v task a =
+    ap (λ b. some_called_from (λ k. block_calls k task.body) (λ s. s.assigns v) 0 known || b) a
+    ∙ or_true (some_called_from (λ k. block_calls k task.body) (λ s. s.assigns v) 0 known)
+
+written_by : (known : List Summary) (ts : List CheckedTask) (t : ℕ) (task : CheckedTask) (v : ℕ) → slice_get ts t ≡ Some task
+    → block_assigns v task.body ≡ true → is_written known ts v ≡ true
+written_by known [] t task v e a = let no : None ≡ Some task = e in cc
+written_by known (x ∷ ts) zero task v e a =
     let same : x ≡ task = cc in
-    let here : block_assigns v x.body ≡ true = ap (λ (y : CheckedTask). block_assigns v y.body) same ∙ a in
+    let here : assigns_of known v x.body ≡ true = ap (λ (y : CheckedTask). assigns_of known v y.body) same ∙ assigned_so known v task a in
     rw here refl
-written_by (x ∷ ts) (suc t) task v e a = rw (written_by ts t task v e a) (or_true (block_assigns v x.body))
-  where
-    or_true : (b : Bool) → (b || true) ≡ true
-    or_true true = refl
-    or_true false = refl
+written_by known (x ∷ ts) (suc t) task v e a = rw (written_by known ts t task v e a) (or_true (assigns_of known v x.body))
 
 some_copies : (o : Option ArrayCopies) → is_some o ≡ true → (c : ArrayCopies) × (o ≡ Some c)
 some_copies (Some c) h = (c, refl)
@@ -64,19 +72,19 @@ module _ (p : CheckedProgram) (allow : Allow) (plans : List TaskPlanValue) (l : 
   mine = privates_of p allow plans l h t task layout k
 
   -- a private scalar is one that the paths make private
-  private_is_one : (i : ℕ) (s : PrivateScalar) → slice_get layout.privates i ≡ Some s → IsPrivateIn p.shared task.body s.number
+  private_is_one : (i : ℕ) (s : PrivateScalar) → slice_get layout.privates i ≡ Some s → IsPrivateIn [] p.shared task.body s.number
   private_is_one i s e =
       let numbers = mine.numbers in
       let lt : i < length mine.plan.private_scalars =
       omega (arith, slice_get_within layout.privates i s e, length-map layout.privates (λ (s : PrivateScalar). s.number), ap length numbers) in
       let at : get_or mine.plan.private_scalars i 0 ≡ s.number = ap (λ (xs : List ℕ). get_or xs i 0) (sym numbers) ∙ number_at layout.privates i s 0 e in
-      subst (IsPrivateIn p.shared task.body) at (mine.is_plan.private_scalars.only i 0 lt)
+      subst (IsPrivateIn [] p.shared task.body) at (mine.is_plan.private_scalars.only i 0 lt)
 
   place_is : (i : ℕ) (s : PrivateScalar) → slice_get layout.privates i ≡ Some s → HasItsPlace l.variables s
   place_is i s e = subst (HasItsPlace l.variables) (get_or_from_slice_get layout.privates i s s e) (mine.places i s (slice_get_within layout.privates i s e))
 
   -- and each of those is one
-  assigned_is : (v : ℕ) → IsPrivateIn p.shared task.body v → (i : ℕ) × (s : PrivateScalar) × (slice_get layout.privates i ≡ Some s) × (s.number ≡ v)
+  assigned_is : (v : ℕ) → IsPrivateIn [] p.shared task.body v → (i : ℕ) × (s : PrivateScalar) × (slice_get layout.privates i ≡ Some s) × (s.number ≡ v)
   assigned_is v a =
       let numbers = mine.numbers in
       let c = mine.is_plan.private_scalars.each v a in
@@ -92,7 +100,7 @@ module _ (p : CheckedProgram) (allow : Allow) (plans : List TaskPlanValue) (l : 
       let d = array_declared p.shared v a in
       let n = array_extent d.0.extent d.2 in
       let x = array_has_place p allow plans l h v n.0 d.0 d.1 n.1 in
-      let c = some_copies x.1 (x.3 ∙ written_by p.tasks t task v k.is_task assigned) in
+      let c = some_copies x.1 (x.3 ∙ written_by (summaries p) p.tasks t task v k.is_task assigned) in
       (x.0, n.0, c.0, x.2 ∙ ap (λ y. Some (Array x.0 n.0 y)) c.1)
 
   pub task_matches : TaskMatches p l task layout
@@ -109,7 +117,7 @@ module _ (p : CheckedProgram) (allow : Allow) (plans : List TaskPlanValue) (l : 
       → is_private_in task.body v ≡ true
       → (i : ℕ) × (s : PrivateScalar) × (slice_get layout.privates i ≡ Some s) × (s.number ≡ v)
   entry_of_private v home copy width e a =
-      assigned_is v (record { scalar = (places_match p allow plans l h).is_scalar v home copy width e; owed = private_is (Shared v) task.body a })
+      assigned_is v (record { scalar = (places_match p allow plans l h).is_scalar v home copy width e; owed = private_is (Shared v) task.body mine.calls a })
 
   address_is : AddressIs p l task layout
   address_is = record { private = private; left = left; each = each }
@@ -151,7 +159,7 @@ module _ (p : CheckedProgram) (allow : Allow) (plans : List TaskPlanValue) (l : 
           by (Some c) f =
               let i = among_member layout.privates v c f in
               let no : is_private_in task.body v ≡ true =
-              subst (λ x. is_private_in task.body x ≡ true) i.3 (is_private_of (Shared i.1.number) task.body (private_is_one i.0 i.1 i.2).owed) in
+              subst (λ x. is_private_in task.body x ≡ true) i.3 (is_private_of (Shared i.1.number) task.body mine.calls (private_is_one i.0 i.1 i.2).owed) in
               let clash : true ≡ false = sym no ∙ a in cc
           by None f = ap home_in (seen v home copy width e)
 

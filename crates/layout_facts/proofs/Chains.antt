@@ -2,6 +2,7 @@
 use Rattle.layout_facts.proofs.Names.{◌≡◌, ℕ, zero, suc, ◌<◌, ◌≤◌, List, [], ◌∷◌, length, arith, ap, subst, sym, Some, None, slice_get, All, All-head, All-tail}
 use Rattle.layout_facts.proofs.Names.{CheckedBlock, emits_of, CheckedProgram, CheckedTask, greatest, list_of, element, body_of, task_body, apart_of}
 use Rattle.layout_facts.proofs.Names.{PlacesAreApart, TasksHaveRoom}
+use Rattle.cost_bound.specs.Summaries.{summaries}
 
 pub places_are_apart : PlacesAreApart
 places_are_apart p allow plans l h = apart_of l h.layout.rules
@@ -30,10 +31,10 @@ body_within f p t lt =
 
 pub tasks_have_room : TasksHaveRoom
 tasks_have_room p allow plans l h = record {
-  list = λ t lt. let most = body_within (list_of p.shared) p t lt in let x = h.layout.list in let y = h.allowed.list in omega (arith, most, x, y);
-  emits = λ t lt. let most = body_within emits_of p t lt in let x = h.layout.emits in let y = h.allowed.emits in omega (arith, most, x, y);
+  list = λ t lt. let most = body_within (list_of (summaries p) p.shared) p t lt in let x = h.layout.list in let y = h.allowed.list in omega (arith, most, x, y);
+  emits = λ t lt. let most = body_within (emits_of (summaries p)) p t lt in let x = h.layout.emits in let y = h.allowed.emits in omega (arith, most, x, y);
   few_emits =
-      let few = greatest_within emits_of 256 p.tasks h.allowed.few_emits in
+      let few = greatest_within (emits_of (summaries p)) 256 p.tasks h.allowed.few_emits in
       let x = h.layout.emits in
       let y = h.allowed.emits in
       omega (arith, few, x, y);

@@ -4,6 +4,7 @@ use Rattle.layout_facts.proofs.Names.{refl, slice_get, cases_lt, Extent, SharedD
 use Rattle.layout_facts.proofs.Names.{end_of, scalar_words, AreInOrder, home_region, even_of, home_between, one_home, home_part, IsPlaceOf}
 use Rattle.layout_facts.proofs.Names.{SharedWordsAreOfVariables, WordsOfVariablesAreShared, EachIsOneWord}
 use Rattle.task_ast.specs.declared.Extent.TheVariants as extent
+use Rattle.cost_bound.specs.Summaries.{summaries}
 
 pub words_of_variables_are_shared : WordsOfVariablesAreShared
 words_of_variables_are_shared p allow plans l h v i a w =
@@ -82,7 +83,7 @@ found from (v ∷ vs) end a (b, rest) t f g l k = pick (cases_lt a (end_of (home
 
 pub shared_words_are_of_variables : SharedWordsAreOfVariables
 shared_words_are_of_variables p allow plans l h a s =
-    let sum = sum_is (is_written p.tasks) 0 p.shared l.variables h.layout.variables.count h.layout.variables.each in
+    let sum = sum_is (is_written (summaries p) p.tasks) 0 p.shared l.variables h.layout.variables.count h.layout.variables.each in
     let words = h.layout.homes in
     let room : end_of l.homes ≤ l.homes.address + 2 * place_words l.variables = omega (arith, sum, words) in
     let w = found l.homes.address l.variables (end_of l.homes) a h.layout.rules.homes room (even_of l h.layout.rules).homes s.even s.from s.below in

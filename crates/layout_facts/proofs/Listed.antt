@@ -7,6 +7,7 @@ use Rattle.layout_facts.proofs.Planned.{array_has_place, scalar_has_place, scala
 use Rattle.layout_facts.proofs.Room.{all_counted, sum_at_most, part_at_most, listed_none, listed_most}
 use Rattle.layout_facts.proofs.Seen.{listed_seen}
 use Rattle.layout_facts.proofs.Assigned.{task_matches}
+use Rattle.cost_bound.specs.Summaries.{summaries}
 
 module _ (p : CheckedProgram) (allow : Allow) (plans : List TaskPlanValue) (l : MemoryMap) (h : HasLayout p allow plans l) (layout : TaskPlace) where
   within : (x : Element) → IsCopied (places_of l layout) x → x.array < length p.shared
@@ -54,8 +55,8 @@ elements_are_stores p allow plans l h t task layout k xs seen few =
     all_counted p.shared xs
     (All-weaker (IsCopied (places_of l layout)) (λ x. x.array < length p.shared) (within p allow plans l h layout) xs listed.copied) in
     let most =
-    sum_at_most (λ i e. listed_of i xs) (λ i e. list_part (stores_of i task.body) e) 0 p.shared
-    (part p allow plans l h layout (λ v. stores_of v task.body) xs listed few) in
+    sum_at_most (λ i e. listed_of i xs) (λ i e. list_part (stores_of (summaries p) i task.body) e) 0 p.shared
+    (part p allow plans l h layout (λ v. stores_of (summaries p) v task.body) xs listed few) in
     omega (arith, sum, most)
 
 pub lists_have_room : ListsHaveRoom

@@ -6,6 +6,7 @@ use Rattle.layout_facts.proofs.Names.{IsSharedWord}
 use Rattle.layout_facts.proofs.Names.{HasLayout, IsTaskAt, PrivateScalar, MemoryMap, TaskPlace, scalar_words, HasItsPlace, scalar_home}
 use Rattle.std.proofs.Common.{zero-le}
 use Rattle.std.proofs.lemmas.List.Elements.{All-nil, All-cons, All-append}
+use Rattle.cost_bound.specs.Summaries.{summaries}
 use Rattle.cost_bound.specs.Allowance.{list_of, scalars_of}
 use Rattle.memory_map.specs.Spots.{private_words}
 use Rattle.undo_runtime.specs.Entries.{words_from, home_words, homes_in, task_of, logged_tasks}
@@ -56,7 +57,7 @@ module _ (p : CheckedProgram) (allow : Allow) (plans : List TaskPlanValue) (l : 
       let body = ap body_of at in
       let count = homes_count layout.privates in
       let few = h.few t task layout at at_layout in
-      let same = ap (scalars_of p.shared) body in
+      let same = ap (scalars_of (summaries p) p.shared) body in
       record {
         each = homes_are layout.privates k.places
             (subst (λ b. All (λ s. is_private_in b s.number ≡ true) layout.privates) (sym body) (private_numbers p l task layout k));

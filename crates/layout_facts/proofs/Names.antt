@@ -32,7 +32,6 @@ pub use Rattle.stands_for.specs.Layout.{ArePrivate, IsAmong, IsCopyWord, IsShare
 pub use Rattle.task_ast.specs.declared.Extent.{Extent}
 pub use Rattle.task_ast.specs.declared.SharedDeclaration.{SharedDeclaration}
 pub use Rattle.task_ast.specs.declared.names.Variable.TheVariants.{Shared}
-pub use Rattle.path_sums.proofs.Interface.{is_private_of, private_is, some_writes, writes_some}
 pub use Rattle.cost_bound.specs.Allowance.{CheckedProgram, CheckedTask, greatest, is_written, list_of, list_part, shared_sum_from}
 pub use Rattle.cost_bound.specs.Counts.{CheckedBlock, block_assigns, emits_of, stores_of}
 pub use Rattle.cost_bound.specs.declared.allowance.Allow.{Allow}
@@ -43,7 +42,8 @@ pub use Rattle.privatise.specs.Layouts.{IsPlaceOf}
 pub use Rattle.privatise.specs.Sizes.{home_part}
 pub use Rattle.source_values.specs.Runs.{State, body_of, initial_words, is_long_extent, task_body}
 -- word programs and their code
-pub use Rattle.lower.proofs.Interface.{SeenFrom, array, array_read, array_seen, privates_seen, read, scalar, scalar_seen, seen_from, seen_laid_out}
+pub use Rattle.lower.proofs.Interface.{SeenFrom, array, array_read, array_seen, is_private_of, private_is, privates_seen, read, scalar, scalar_seen}
+pub use Rattle.lower.proofs.Interface.{seen_from, seen_laid_out, some_writes, writes_some}
 pub use Rattle.lower.specs.Agreement.{IsArray, place_length}
 pub use Rattle.lower.specs.Seen.{map_seen, places_seen, some_path_writes}
 pub use Rattle.lower.specs.Spots.{AreDifferent, AreListed, listed_of}

@@ -4,6 +4,7 @@ use Rattle.layout_facts.proofs.Names.{IsSomeAnd, slice_get_within, Extent, Share
 use Rattle.layout_facts.proofs.Names.{IsScalarAt, IsArrayAt, is_long_extent, element, IsPlaceOf, HasLayout, PlacesAreDeclared, PlacesMatch, ArrayCopies}
 use Rattle.layout_facts.proofs.Names.{ScalarWidth, TwoWords, scalar_words, home_part, VariablePlace, Scalar, Array, MemoryMap}
 use Rattle.task_ast.specs.declared.Extent.TheVariants as extent
+use Rattle.cost_bound.specs.Summaries.{summaries}
 
 -- ---- declarations
 
@@ -99,7 +100,7 @@ extent_array written (extent.Array m) elements n copies k = (ap (λ y. extent.Ar
 module _ (p : CheckedProgram) (allow : Allow) (plans : List TaskPlanValue) (l : MemoryMap) (h : HasLayout p allow plans l) where
   -- a declaration's place
   pub its_place : (v : ℕ) (d : SharedDeclaration) → slice_get p.shared v ≡ Some d
-      → (x : VariablePlace) × (slice_get l.variables v ≡ Some x) × IsPlaceOf (is_written p.tasks v) d.extent x
+      → (x : VariablePlace) × (slice_get l.variables v ≡ Some x) × IsPlaceOf (is_written (summaries p) p.tasks v) d.extent x
   its_place v d e =
       let lt = slice_get_within p.shared v d e in
       let count = h.layout.variables.count in
@@ -108,7 +109,7 @@ module _ (p : CheckedProgram) (allow : Allow) (plans : List TaskPlanValue) (l : 
 
   -- a place's declaration
   pub its_declaration : (v : ℕ) (x : VariablePlace) → slice_get l.variables v ≡ Some x
-      → (d : SharedDeclaration) × (slice_get p.shared v ≡ Some d) × IsPlaceOf (is_written p.tasks v) d.extent x
+      → (d : SharedDeclaration) × (slice_get p.shared v ≡ Some d) × IsPlaceOf (is_written (summaries p) p.tasks v) d.extent x
   its_declaration v x e =
       let lt = slice_get_within l.variables v x e in
       let count = h.layout.variables.count in
@@ -120,7 +121,7 @@ module _ (p : CheckedProgram) (allow : Allow) (plans : List TaskPlanValue) (l : 
   scalar_has_place v k =
       let d = scalar_declared p.shared v k in
       let x = its_place v d.0 d.1 in
-      let s = place_scalar (is_written p.tasks v) d.0.extent x.0 d.2 x.2 in
+      let s = place_scalar (is_written (summaries p) p.tasks v) d.0.extent x.0 d.2 x.2 in
       (s.0, s.1, s.2, x.1 ∙ ap (λ y. Some y) s.3)
 
   -- a long has two words
@@ -128,14 +129,15 @@ module _ (p : CheckedProgram) (allow : Allow) (plans : List TaskPlanValue) (l : 
       → (home copy : ℕ) × (slice_get l.variables v ≡ Some (Scalar home copy TwoWords))
   long_has_place v d e k =
       let x = its_place v d e in
-      let s = place_long (is_written p.tasks v) d.extent x.0 k x.2 in
+      let s = place_long (is_written (summaries p) p.tasks v) d.extent x.0 k x.2 in
       (s.0, s.1, x.1 ∙ ap (λ y. Some y) s.2)
 
   pub array_has_place : (v n : ℕ) (d : SharedDeclaration) → slice_get p.shared v ≡ Some d → d.extent ≡ extent.Array n
-      → (elements : ℕ) × (copies : Option ArrayCopies) × (slice_get l.variables v ≡ Some (Array elements n copies)) × (is_some copies ≡ is_written p.tasks v)
+      → (elements : ℕ) × (copies : Option ArrayCopies) × (slice_get l.variables v ≡ Some (Array elements n copies))
+      × (is_some copies ≡ is_written (summaries p) p.tasks v)
   array_has_place v n d e k =
       let x = its_place v d e in
-      let s = place_array (is_written p.tasks v) n d.extent x.0 k x.2 in
+      let s = place_array (is_written (summaries p) p.tasks v) n d.extent x.0 k x.2 in
       (s.elements, s.copies, x.1 ∙ ap (λ y. Some y) s.is, s.has)
 
   pub places_match : PlacesMatch p l
@@ -144,13 +146,13 @@ module _ (p : CheckedProgram) (allow : Allow) (plans : List TaskPlanValue) (l : 
     scalar = scalar_has_place;
     is_scalar = λ v home copy width e.
         let d = its_declaration v (Scalar home copy width) e in
-        scalar_at p.shared v d.0 d.1 (extent_scalar (is_written p.tasks v) d.0.extent home copy width d.2);
+        scalar_at p.shared v d.0 d.1 (extent_scalar (is_written (summaries p) p.tasks v) d.0.extent home copy width d.2);
     is_wide = λ v home copy width d e at.
-        extent_width (is_written p.tasks v) d.extent home copy width (h.layout.variables.each v d (Scalar home copy width) at e);
+        extent_width (is_written (summaries p) p.tasks v) d.extent home copy width (h.layout.variables.each v d (Scalar home copy width) at e);
     array = array_has_place;
     is_array = λ v elements n copies e.
         let d = its_declaration v (Array elements n copies) e in
-        let k = extent_array (is_written p.tasks v) d.0.extent elements n copies d.2 in
+        let k = extent_array (is_written (summaries p) p.tasks v) d.0.extent elements n copies d.2 in
         (d.0, d.1, k.0, k.1);
   }
 

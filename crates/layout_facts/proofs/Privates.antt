@@ -10,7 +10,8 @@ use Rattle.runtime_code.specs.LayoutPlaces.{pairs_of}
 use Rattle.boot_runtime.specs.Entries.{entry_of, task_entries}
 use Rattle.boot_runtime.specs.Listing.{TaskEntry, privates_in}
 use Rattle.layout_facts.proofs.Homes.{words_of_variables_are_shared, each_is_one_word}
-use Rattle.layout_facts.proofs.InPlace.{scalar_found, found_word, in_place_not_private}
+use Rattle.task_ast.specs.Calls.{BlockCallsBelow}
+use Rattle.layout_facts.proofs.InPlace.{scalar_found, found_word, in_place_not_private, calls_none}
 use Rattle.layout_facts.proofs.Pairs.{among_scalars}
 
 -- ---- a scalar and its copy
@@ -141,7 +142,8 @@ are_private p allow plans l h t (s ∷ xs) ascending places private =
 -- what the plan and the layout say of a task's private scalars
 pub record Privates (p : CheckedProgram) (l : MemoryMap) (task : CheckedTask) (layout : TaskPlace) : Type 0 where
   pub plan : TaskPlanValue
-  pub is_plan : IsTaskPlan p.shared task.body plan
+  pub is_plan : IsTaskPlan [] p.shared task.body plan
+  pub calls : BlockCallsBelow 0 task.body
   pub numbers : map (λ s. s.number) layout.privates ≡ plan.private_scalars
   pub places : All (HasItsPlace l.variables) layout.privates
 
@@ -152,7 +154,8 @@ privates_of p allow plans l h t task layout k =
     let is = get_or_from_slice_get l.tasks t layout layout k.is_layout in
     record {
       plan = plan.0;
-      is_plan = h.plan.each t task plan.0 k.is_task plan.1;
+      is_plan = subst (λ fs. IsTaskPlan fs p.shared task.body plan.0) h.layout.plain (h.plan.each t task plan.0 k.is_task plan.1);
+      calls = subst (λ o. BlockCallsBelow 0 (body_of o)) k.is_task (calls_none p allow plans l h t);
       numbers = (h.layout.tasks.each t task plan.0 layout k.is_task plan.1 k.is_layout).privates;
       places =
           subst (λ (x : TaskPlace). All (HasItsPlace l.variables) x.privates) is
@@ -173,7 +176,7 @@ private_numbers p l task layout k i d lt =
     ap (λ xs. get_or xs i 0) (sym k.numbers) ∙ get_or-map (λ (s : PrivateScalar). s.number) layout.privates i d 0 lt in
     let only = k.is_plan.private_scalars.only i 0 inside in
     subst (λ n. is_private_in task.body n ≡ true) numbers
-    (is_private_of (Shared (get_or k.plan.private_scalars i 0)) task.body only.owed)
+    (is_private_of (Shared (get_or k.plan.private_scalars i 0)) task.body k.calls only.owed)
 
 -- the entry of a number, and that there is none beyond
 entry_is : (l : MemoryMap) (t : ℕ) (layout : TaskPlace) → slice_get l.tasks t ≡ Some layout

@@ -6,6 +6,7 @@ use Rattle.layout_facts.proofs.Privates as privates
 use Rattle.layout_facts.proofs.Chains.{at_most_greatest}
 use Rattle.layout_facts.proofs.Seen.{word_of_seen}
 use Rattle.layout_facts.proofs.Privates.{privates_of}
+use Rattle.cost_bound.specs.Summaries.{summaries}
 
 pub task_places_are_apart : TaskPlacesAreApart
 task_places_are_apart p allow plans l h t task layout k =
@@ -14,11 +15,11 @@ task_places_are_apart p allow plans l h t task layout k =
     let stand = spots_are_apart (map_seen task.body l) layout (seen_laid_out w l h.layout.rules) (privates_seen w l.variables layout.privates mine.places) in
     let a = apart_of l h.layout.rules in
     let emits = a.emits in let versions = a.versions in
-    let most_list = at_most_greatest (list_of p.shared) p.tasks t task k.is_task in
-    let most_emits = at_most_greatest emits_of p.tasks t task k.is_task in
+    let most_list = at_most_greatest (list_of (summaries p) p.shared) p.tasks t task k.is_task in
+    let most_emits = at_most_greatest (emits_of (summaries p)) p.tasks t task k.is_task in
     let list_is = h.layout.list in let list_allowed = h.allowed.list in
     let emits_is = h.layout.emits in let emits_allowed = h.allowed.emits in
-    let behind : l.emits.address + 2 * emits_of task.body ≤ l.versions.address = omega (arith, most_emits, emits_is, emits_allowed, versions) in
+    let behind : l.emits.address + 2 * emits_of (summaries p) task.body ≤ l.versions.address = omega (arith, most_emits, emits_is, emits_allowed, versions) in
     let low = (parts_in_fram l h.layout.rules).versions.end in
     record {
       row = a.row;

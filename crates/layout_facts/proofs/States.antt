@@ -12,6 +12,7 @@ use Rattle.crash_rules.specs.Model.{Model}
 use Rattle.layout_facts.proofs.Chains.{places_are_apart, tasks_have_room}
 use Rattle.layout_facts.proofs.Homes.{shared_words_are_of_variables}
 use Rattle.layout_facts.proofs.Views.{initial_length, view_has_their_words}
+use Rattle.cost_bound.specs.Summaries.{summaries}
 
 -- words that FRAM has from an address on
 are_in_fram : (f : ℕ → ℕ) → HoldsWords f → (n p : ℕ) → are_words (words_at n p f) ≡ true
@@ -62,7 +63,7 @@ module _ (p : CheckedProgram) (allow : Allow) (plans : List TaskPlanValue) (l : 
       ∙ word_among f r.words r.address i word.below ∙ ap f (sym word.address))
 
   is_state : (x : World) → HoldsWords x.fram → (state_view p l).is_state (state_in l x) ≡ true
-  is_state x words = rows_are x.fram words (is_written p.tasks) p.shared l.variables h.layout.variables.count h.layout.variables.each
+  is_state x words = rows_are x.fram words (is_written (summaries p) p.tasks) p.shared l.variables h.layout.variables.count h.layout.variables.each
 
   rests : (x : World) → IsAtRest (program_places p l) x → RestsAt (program_places p l) (state_view p l) (state_in l x) x
   rests x r =

@@ -5,6 +5,7 @@ use Rattle.layout_facts.proofs.Names.{eqb-true, length-replicate, slice_get_with
 use Rattle.layout_facts.proofs.Names.{VariablePlace, Scalar, Array, end_of, scalar_words, AreInOrder, home_region, IsPlaceOf, in_order_within, mapped}
 use Rattle.layout_facts.proofs.Names.{place_length, is_within, word_of_row, shared_word, are_rows, ViewHasTheirWords, RowsFitPlaces}
 use Rattle.task_ast.specs.declared.Extent.TheVariants as extent
+use Rattle.cost_bound.specs.Summaries.{summaries}
 
 is_in : (r : Region) (i a : ℕ) → i < r.words → a ≡ 2 * i + r.address → is_within r a ≡ true
 is_in r i a b e = and_from _ _ (le-leb r.address a (omega (arith, e))) (lt-ltb a (end_of r) (omega (arith, e, b)))
@@ -64,4 +65,4 @@ rows_fit_places p allow plans l h rows v place r e =
     let count = h.layout.variables.count in
     let d = element p.shared v (omega (arith, lt, count)) in
     let k = row_is p.shared rows v d.0 r d.1 in
-    (k.0, k.1 ∙ initial_length (is_written p.tasks v) d.0.extent place (h.layout.variables.each v d.0 place d.1 e))
+    (k.0, k.1 ∙ initial_length (is_written (summaries p) p.tasks v) d.0.extent place (h.layout.variables.each v d.0 place d.1 e))

@@ -1,5 +1,6 @@
 -- The words of a source's variables, by number and by index.
 use Rattle.std.specs.Prelude.{◌≡◌, ℕ, List, Some, slice_get}
+use Rattle.cost_bound.specs.Summaries.{summaries}
 use Rattle.cost_bound.specs.declared.allowance.Allow.{Allow}
 use Rattle.cost_bound.specs.Counts.{emits_of}
 use Rattle.cost_bound.specs.Allowance.{CheckedProgram, CheckedTask, IsAllowed, list_of}
@@ -29,7 +30,7 @@ pub record IsTaskAt (p : CheckedProgram) (l : MemoryMap) (t : ℕ) (task : Check
 
 -- the room that a task has by its own counts
 abbrev pub task_room : CheckedProgram → CheckedTask → Room
-task_room p task = record { emits = emits_of task.body; list = list_of p.shared task.body }
+task_room p task = record { emits = emits_of (summaries p) task.body; list = list_of (summaries p) p.shared task.body }
 
 -- the places that a task works on: the memory map as it sees it, and its private scalars
 abbrev pub task_places : MemoryMap → CheckedTask → TaskPlace → Places

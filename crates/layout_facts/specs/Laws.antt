@@ -3,6 +3,7 @@ use Rattle.std.specs.Prelude.{◌≡◌, ◌↔◌, ℕ, ◌+◌, ◌*◌, ◌<�
 use Rattle.std.specs.Prelude.{slice_index, slice_index_or}
 use Rattle.task_ast.specs.declared.Extent.TheVariants as extent
 use Rattle.task_ast.specs.declared.SharedDeclaration.{SharedDeclaration}
+use Rattle.cost_bound.specs.Summaries.{summaries}
 use Rattle.cost_bound.specs.declared.allowance.Allow.{Allow}
 use Rattle.cost_bound.specs.Counts.{stores_of, block_assigns}
 use Rattle.cost_bound.specs.Allowance.{CheckedProgram, CheckedTask, is_written, list_of, scalars_of}
@@ -80,11 +81,12 @@ TaskPlacesAreEven = OfTasks (λ p l task layout. spots.AreEven (task_places l ta
 -- different elements, of each array no more than there are stores to it, are no more than a task's list has beside the scalars that it assigns
 abbrev pub ElementsAreStores : Type 0
 ElementsAreStores = OfTasks (λ p l task layout. (xs : List Element) → spots.AreListed (task_places l task layout) xs
-    → ((v : ℕ) → spots.listed_of v xs ≤ stores_of v task.body) → length xs + scalars_of p.shared task.body ≤ list_of p.shared task.body)
+    → ((v : ℕ) → spots.listed_of v xs ≤ stores_of (summaries p) v task.body)
+    → length xs + scalars_of (summaries p) p.shared task.body ≤ list_of (summaries p) p.shared task.body)
 
 -- the list has room for the private scalars and for as many different elements of each array as there are stores to it
 abbrev pub ListsHaveRoom : Type 0
-ListsHaveRoom = OfTasks (λ p l task layout. HasRoom (task_places l task layout) (λ v. stores_of v task.body) (task_room p task))
+ListsHaveRoom = OfTasks (λ p l task layout. HasRoom (task_places l task layout) (λ v. stores_of (summaries p) v task.body) (task_room p task))
 
 -- ---- addresses and variables
 
@@ -156,9 +158,9 @@ pub record PlacesMatch (p : CheckedProgram) (l : MemoryMap) : Type 0 where
       → slice_get p.shared v ≡ Some d → scalar_words width ≡ home_part d.extent
   pub array : (v n : ℕ) (d : SharedDeclaration) → slice_get p.shared v ≡ Some d → d.extent ≡ extent.Array n
       → (elements : ℕ) × (copies : Option ArrayCopies)
-      × (slice_get l.variables v ≡ Some (Array elements n copies)) × (is_some copies ≡ is_written p.tasks v)
+      × (slice_get l.variables v ≡ Some (Array elements n copies)) × (is_some copies ≡ is_written (summaries p) p.tasks v)
   pub is_array : (v elements n : ℕ) (copies : Option ArrayCopies) → slice_get l.variables v ≡ Some (Array elements n copies)
-      → (d : SharedDeclaration) × (slice_get p.shared v ≡ Some d) × (d.extent ≡ extent.Array n) × (is_some copies ≡ is_written p.tasks v)
+      → (d : SharedDeclaration) × (slice_get p.shared v ≡ Some d) × (d.extent ≡ extent.Array n) × (is_some copies ≡ is_written (summaries p) p.tasks v)
 
 -- so with each source and its layout
 abbrev pub PlacesAreDeclared : Type 0
@@ -168,9 +170,9 @@ PlacesAreDeclared = OfLayouts PlacesMatch
 -- allowance counts; the layout has copies of the arrays that stand on the left of an assignment in it
 pub record TaskMatches (p : CheckedProgram) (l : MemoryMap) (task : CheckedTask) (layout : TaskPlace) : Type 0 where
   pub ascending : AllPairs ◌<◌ (map (λ s. s.number) layout.privates)
-  pub only : (s : PrivateScalar) → Contains layout.privates s → IsPrivateIn p.shared task.body s.number × HasItsPlace l.variables s
-  pub each : (v : ℕ) → IsPrivateIn p.shared task.body v → (s : PrivateScalar) × Contains layout.privates s × (s.number ≡ v)
-  pub count : private_words layout.privates ≤ scalars_of p.shared task.body
+  pub only : (s : PrivateScalar) → Contains layout.privates s → IsPrivateIn [] p.shared task.body s.number × HasItsPlace l.variables s
+  pub each : (v : ℕ) → IsPrivateIn [] p.shared task.body v → (s : PrivateScalar) × Contains layout.privates s × (s.number ≡ v)
+  pub count : private_words layout.privates ≤ scalars_of (summaries p) p.shared task.body
   pub stored : (v : ℕ) → plan.IsArrayAt p.shared v → block_assigns v task.body ≡ true
       → (elements n : ℕ) × (copies : ArrayCopies) × (slice_get l.variables v ≡ Some (Array elements n (Some copies)))
 
@@ -200,9 +202,9 @@ abbrev pub WrittenArraysHaveCopies : Type 0
 WrittenArraysHaveCopies = OfTasks (λ p l task layout.
     WellFormedBlock p.shared task.body → HasCopies p.shared (task_places l task layout) (some_path_writes task.body))
 
--- a task writes the words of a scalar in place exactly where some path of it writes it, and it isn't private there
+-- a task, which calls no function, writes the words of a scalar in place exactly where some path of it writes it, and it isn't private there
 abbrev pub InPlaceByPaths : Type 0
 InPlaceByPaths = OfLayouts (λ p l. (t v home copy : ℕ) (width : ScalarWidth) (i : ℕ) → slice_get l.variables v ≡ Some (Scalar home copy width)
     → i < scalar_words width
     → ((program_places p l).written_in_place t (2 * i + home) ≡ true)
-    ↔ (SomePath (task_body p t) (writes (Shared v)) × (IsPrivate (task_body p t) (Shared v) → ⊥)))
+    ↔ (SomePath [] (task_body p t) (writes (Shared v)) × (IsPrivate [] (task_body p t) (Shared v) → ⊥)))

@@ -2,6 +2,7 @@
 use Rattle.std.specs.Prelude.{◌≡◌, ℕ, ◌≤◌, List, [], ◌∷◌, length, Some, slice_get}
 use Rattle.boot_runtime.specs.task_ast.declared.SharedDeclaration.{SharedDeclaration}
 use Rattle.boot_runtime.specs.cost_bound.declared.allowance.Allow.{Allow}
+use Rattle.boot_runtime.specs.cost_bound.Summaries.{Summary, summaries}
 use Rattle.boot_runtime.specs.cost_bound.Allowance.{CheckedProgram, CheckedTask, IsAllowed, scalars_of}
 use Rattle.boot_runtime.specs.war_analysis.PlanValue.{TaskPlanValue}
 use Rattle.word_code.specs.array_versions.Program.{Program}
@@ -13,20 +14,21 @@ use Rattle.boot_runtime.specs.privatise.Layouts.{IsLayoutFor}
 use Rattle.boot_runtime.specs.privatise.Sizes.{body_words}
 use Rattle.linked_code.specs.Linked.{CodeFits}
 
--- each program keeps to the words that the allowance has for its task
-abbrev pub ProgramsKeep : List SharedDeclaration → List CheckedTask → List Program → Type 0
-ProgramsKeep shared [] [] = Unit {0}
-ProgramsKeep shared [] (q ∷ qs) = ⊥
-ProgramsKeep shared (t ∷ ts) [] = ⊥
-ProgramsKeep shared (t ∷ ts) (q ∷ qs) = (words_of q ≤ body_words shared t.body) × ProgramsKeep shared ts qs
+-- each program keeps to the words that the allowance has for its task, where these functions are known
+abbrev pub ProgramsKeep : List Summary → List SharedDeclaration → List CheckedTask → List Program → Type 0
+ProgramsKeep known shared [] [] = Unit {0}
+ProgramsKeep known shared [] (q ∷ qs) = ⊥
+ProgramsKeep known shared (t ∷ ts) [] = ⊥
+ProgramsKeep known shared (t ∷ ts) (q ∷ qs) = (words_of q ≤ body_words known shared t.body) × ProgramsKeep known shared ts qs
 
 -- each task's private scalars have at most as many words as the allowance counts
 abbrev pub PrivatesAreCounted : CheckedProgram → MemoryMap → Type 0
 PrivatesAreCounted p l = (k : ℕ) (task : CheckedTask) (t : TaskPlace) → slice_get p.tasks k ≡ Some task → slice_get l.tasks k ≡ Some t
-    → private_words t.privates ≤ scalars_of p.shared task.body
+    → private_words t.privates ≤ scalars_of (summaries p) p.shared task.body
 
 -- the layout of a source that costs no more than it may has room for the code, whichever its runtime is
 abbrev pub LayoutsHaveRoom : Type 0
 LayoutsHaveRoom = (logging : Logging) (p : CheckedProgram) (allow : Allow) (plans : List TaskPlanValue) (l : MemoryMap) (programs : List Program)
-    → IsAllowed p allow → IsLayoutFor logging p allow plans l → length plans ≡ length p.tasks → PrivatesAreCounted p l → ProgramsKeep p.shared p.tasks programs
+    → IsAllowed p allow → IsLayoutFor logging p allow plans l → length plans ≡ length p.tasks → PrivatesAreCounted p l
+    → ProgramsKeep (summaries p) p.shared p.tasks programs
     → CodeFits l programs

@@ -17,7 +17,7 @@ module _ (events : Bool) where
   part : (count all : ℕ) → (all ≡ 0 → count ≡ 0) → IsFree all → IsFree count
   part count all f h = ⊎_elim {C = IsFree count} (λ on. inl on) (λ e. inr (f e)) h
 
-  admits_expression : (e : CheckedExpression) → IsFree (expression_price events_column e) → AdmitsExpression events e
+  admits_expression : (e : CheckedExpression) → IsFree (expression_price [] events_column e) → AdmitsExpression events e
   admits_expression t.next_event h = ⊎_elim (λ on. on) (λ e. absurd (omega (arith, e))) h
   admits_expression (t.element x index) h = admits_expression index (part _ _ (λ e. omega (arith, e)) h)
   admits_expression (t.unary op e) h = admits_expression e (part _ _ (λ e. omega (arith, e)) h)
@@ -29,7 +29,7 @@ module _ (events : Bool) where
   admits_expression _ h = tt
 
   mutual
-    admits_statement : (s : CheckedStatement) → IsFree (statement_price events_column s) → AdmitsStatement events s
+    admits_statement : (s : CheckedStatement) → IsFree (statement_price [] events_column s) → AdmitsStatement events s
     admits_statement (t.declare of x None) h = tt
     admits_statement (t.declare of x (Some e)) h = admits_expression e (part _ _ (λ e. omega (arith, e)) h)
     admits_statement (t.assign x e) h = admits_expression e (part _ _ (λ e. omega (arith, e)) h)
@@ -38,9 +38,10 @@ module _ (events : Bool) where
     admits_statement (t.choose choice) h = admits_choice choice (part _ _ (λ e. omega (arith, e)) h)
     admits_statement (t.loop x from tested below stepped body) h = admits_block body (part _ _ (λ e. omega (arith, e)) h)
     admits_statement (t.emit e) h = admits_expression e (part _ _ (λ e. omega (arith, e)) h)
-    admits_statement (t.transition task) h = tt
+    admits_statement (t.give at e) h = admits_expression e (part _ _ (λ e. omega (arith, e)) h)
+    admits_statement (t.transition at task) h = tt
 
-    admits_choice : (c : CheckedChoice) → IsFree (conditions_price events_column c + blocks_price events_column c) → AdmitsChoice events c
+    admits_choice : (c : CheckedChoice) → IsFree (conditions_price [] events_column c + blocks_price [] events_column c) → AdmitsChoice events c
     admits_choice t.nothing h = tt
     admits_choice (t.otherwise block) h = admits_block block (part _ _ (λ e. omega (arith, e)) h)
     admits_choice (t.test e block more) h = (
@@ -49,7 +50,7 @@ module _ (events : Bool) where
       admits_choice more (part _ _ (λ e. omega (arith, e)) h),
     )
 
-    admits_block : (b : CheckedBlock) → IsFree (block_price events_column b) → AdmitsBlock events b
+    admits_block : (b : CheckedBlock) → IsFree (block_price [] events_column b) → AdmitsBlock events b
     admits_block t.end h = tt
     admits_block (t.step s more) h =
         (admits_statement s (part _ _ (λ e. omega (arith, e)) h), admits_block more (part _ _ (λ e. omega (arith, e)) h))
@@ -65,19 +66,19 @@ task_used n b = ⊎_elim {C = ((nat_lt 0 n || b) ≡ true) ⊎ (n ≡ 0)}
 
 -- `next_event()` stands in some task, or not in this one
 used : (tasks : List CheckedTask) (k : ℕ) (task : CheckedTask) → slice_get tasks k ≡ Some task
-    → (use_events tasks ≡ true) ⊎ (block_price events_column task.body ≡ 0)
+    → (use_events tasks ≡ true) ⊎ (block_price [] events_column task.body ≡ 0)
 used [] k task e = absurd (cc)
 used (t ∷ tasks) zero task e =
     let same : t ≡ task = cc in
-    subst (λ (u : CheckedTask). (use_events (t ∷ tasks) ≡ true) ⊎ (block_price events_column u.body ≡ 0)) same
-    (task_used (block_price events_column t.body) (use_events tasks))
+    subst (λ (u : CheckedTask). (use_events (t ∷ tasks) ≡ true) ⊎ (block_price [] events_column u.body ≡ 0)) same
+    (task_used (block_price [] events_column t.body) (use_events tasks))
 used (t ∷ tasks) (suc k) task e =
-    ⊎_elim {C = (use_events (t ∷ tasks) ≡ true) ⊎ (block_price events_column task.body ≡ 0)}
-    (λ on. inl (either_used (nat_lt 0 (block_price events_column t.body)) (use_events tasks) on)) (λ none. inr none) (used tasks k task e)
+    ⊎_elim {C = (use_events (t ∷ tasks) ≡ true) ⊎ (block_price [] events_column task.body ≡ 0)}
+    (λ on. inl (either_used (nat_lt 0 (block_price [] events_column t.body)) (use_events tasks) on)) (λ none. inr none) (used tasks k task e)
 
 -- where a program takes events as its source uses some, each task is admitted
 pub tasks_are_admitted : (events : Bool) (tasks : List CheckedTask) (k : ℕ) (task : CheckedTask) → slice_get tasks k ≡ Some task
     → events ≡ use_events tasks → AdmitsBlock events task.body
 tasks_are_admitted events tasks k task is same =
-    admits_block events task.body (⊎_elim {C = (events ≡ true) ⊎ (block_price events_column task.body ≡ 0)} (λ on. inl (same ∙ on)) (λ none. inr none)
+    admits_block events task.body (⊎_elim {C = (events ≡ true) ⊎ (block_price [] events_column task.body ≡ 0)} (λ on. inl (same ∙ on)) (λ none. inr none)
     (used tasks k task is))

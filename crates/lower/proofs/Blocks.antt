@@ -405,9 +405,9 @@ module _ (z : Scene) where
   long_setting_does : (x : Variable) (e : CheckedExpression) {n : ℕ} {count : ℕ → ℕ} (here : Start z n count)
       → IsFit z.shared z.p e → IsLongTarget z.p z.written x
       → DoesFrom here (behaviour (long_setting z.p x e) here.w)
-      (λ m. if_value (converted_to (type_of e) Long (value_of e m)) (λ v s. goes_on (both_assigned s x v)))
+      (λ m. if_value (converted_to (type_of e) Long (value_of [] e m)) (λ v s. goes_on (both_assigned s x v)))
   long_setting_does x e here fits target =
-      let o : Attempt → Option Evaluated = λ m. converted_to (type_of e) Long (value_of e m) in
+      let o : Attempt → Option Evaluated = λ m. converted_to (type_of e) Long (value_of [] e m) in
       let given : ℕ → Attempt → Outcome = λ v s. goes_on (both_assigned s x v) in
       let q = lowered_long z.p e in
       subst (λ b. DoesFrom here b (λ m. if_value (o m) given)) (sym (joined_go_on q (write_long z.p x) here.w))
@@ -418,7 +418,7 @@ module _ (z : Scene) where
   -- a variable of one word takes the value as one word
   word_assigned_does : (of : WordType) (x : Variable) (e : CheckedExpression) {n : ℕ} {count : ℕ → ℕ} (here : Start z n count) → IsOneWord of
       → IsFit z.shared z.p e → IsTarget z.p z.written x
-      → DoesFrom here (behaviour (assignment z.p x e) here.w) (λ m. with_value e m (λ v s. goes_on (assigned_as of s x (type_of e) v)))
+      → DoesFrom here (behaviour (assignment z.p x e) here.w) (λ m. with_value [] e m (λ v s. goes_on (assigned_as of s x (type_of e) v)))
   word_assigned_does of x e here word fits target =
       subst (DoesFrom here (behaviour (assignment z.p x e) here.w)) (λ j. λ m. as_word m j) (assignment_does x e here fits target)
     where
@@ -427,18 +427,18 @@ module _ (z : Scene) where
           ∙ sym (one_word.by_one_word of (source.assigned s x 0 (converted (type_of e) of v)) (both_assigned s x (converted (type_of e) of v)) word)
 
       as_word : (m : Attempt) → if_value (word_value e m) (λ v s. goes_on (source.assigned s x 0 v))
-          ≡ with_value e m (λ v s. goes_on (assigned_as of s x (type_of e) v))
+          ≡ with_value [] e m (λ v s. goes_on (assigned_as of s x (type_of e) v))
       as_word m =
-          if_converted (type_of e) Unsigned (value_of e m) (λ v s. goes_on (source.assigned s x 0 v))
-          ∙ if_same (value_of e m) _ _ (λ v s. ap goes_on (same v s))
+          if_converted (type_of e) Unsigned (value_of [] e m) (λ v s. goes_on (source.assigned s x 0 v))
+          ∙ if_same (value_of [] e m) _ _ (λ v s. ap goes_on (same v s))
 
   -- an assignment to a scalar of a type
   scalar_does : (of : WordType) (x : Variable) (e : CheckedExpression) {n : ℕ} {count : ℕ → ℕ} (here : Start z n count)
       → IsFit z.shared z.p e → IsTargetOf z.p z.written of x
-      → DoesFrom here (behaviour (scalar_assignment z.p of x e) here.w) (λ m. with_value e m (λ v s. goes_on (assigned_as of s x (type_of e) v)))
+      → DoesFrom here (behaviour (scalar_assignment z.p of x e) here.w) (λ m. with_value [] e m (λ v s. goes_on (assigned_as of s x (type_of e) v)))
   scalar_does Long x e here fits target =
       subst (DoesFrom here (behaviour (long_setting z.p x e) here.w))
-      (λ j. λ m. if_converted (type_of e) Long (value_of e m) (λ v s. goes_on (both_assigned s x v)) j)
+      (λ j. λ m. if_converted (type_of e) Long (value_of [] e m) (λ v s. goes_on (both_assigned s x v)) j)
       (long_setting_does x e here fits target)
   scalar_does Int x e here fits target = word_assigned_does Int x e here tt fits target
   scalar_does Unsigned x e here fits target = word_assigned_does Unsigned x e here tt fits target
@@ -479,9 +479,9 @@ module _ (z : Scene) where
 
   -- what is given of an index and of a value, as of expressions of one word
   as_values : (index e : CheckedExpression) (m : Attempt) (given : ℕ → ℕ → Attempt → Outcome) → IsOneWord (type_of index) → IsOneWord (type_of e)
-      → if_value (word_value index m) (λ i s. if_value (word_value e s) (given i)) ≡ with_value index m (λ i s. with_value e s (given i))
+      → if_value (word_value index m) (λ i s. if_value (word_value e s) (given i)) ≡ with_value [] index m (λ i s. with_value [] e s (given i))
   as_values index e m given of_index of_e =
-      let more : ℕ → Attempt → Outcome = λ i s. with_value e s (given i) in
+      let more : ℕ → Attempt → Outcome = λ i s. with_value [] e s (given i) in
       if_same (word_value index m) _ more (λ i s. ap (λ r. if_value r (given i)) (word_as_value e s of_e))
       ∙ ap (λ r. if_value r more) (word_as_value index m of_index)
 
@@ -522,13 +522,13 @@ module _ (z : Scene) where
   element_store_does : (x : Variable) (index e : CheckedExpression) (here : Start z 0 (one_store x)) → IsWrittenArray z.p x
       → IsFit z.shared z.p index → IsOneWord (type_of index) → IsFit z.shared z.p e
       → DoesFrom here (behaviour (element_assignment z.p x index e) here.w)
-      (λ m. with_value index m (λ i s. with_value e s (λ v s. goes_on (source.assigned s x i (source.word_of e v)))))
+      (λ m. with_value [] index m (λ i s. with_value [] e s (λ v s. goes_on (source.assigned s x i (source.word_of e v)))))
   element_store_does x index e here array of_index index_word of_e =
       let given : ℕ → ℕ → Attempt → Outcome = λ i v s. goes_on (source.assigned s x i v) in
       let same : (m : Attempt) → if_value (word_value index m) (stored_word x e)
-      ≡ with_value index m (λ i s. with_value e s (λ v s. goes_on (source.assigned s x i (source.word_of e v)))) =
+      ≡ with_value [] index m (λ i s. with_value [] e s (λ v s. goes_on (source.assigned s x i (source.word_of e v)))) =
       λ m. ap (λ r. if_value r (stored_word x e)) (word_as_value index m index_word)
-      ∙ if_same (value_of index m) (stored_word x e) _ (λ i s. if_converted (type_of e) Unsigned (value_of e s) (given i)) in
+      ∙ if_same (value_of [] index m) (stored_word x e) _ (λ i s. if_converted (type_of e) Unsigned (value_of [] e s) (given i)) in
       subst (DoesFrom here (behaviour (element_assignment z.p x index e) here.w)) (λ j. λ m. same m j)
       (element_does x index e here array of_index index_word of_e)
 
@@ -668,17 +668,17 @@ module _ (z : Scene) where
   choice_of_ways : (e : CheckedExpression) {n : ℕ} {count : ℕ → ℕ} (here : Start z n count) (taken otherwise : Program) (f g : Attempt → Outcome)
       → IsFit z.shared z.p e → WayDoes here taken f → WayDoes here otherwise g
       → DoesFrom here (behaviour (one (choose (lowered_test z.p e) taken otherwise)) here.w)
-      (λ m. with_value e m (λ v s. if holds v then f s else g s))
+      (λ m. with_value [] e m (λ v s. if holds v then f s else g s))
   choice_of_ways e here taken otherwise f g fits a b =
       let w = here.w in
       let c = lowered_test z.p e in
       let run : ℕ → Attempt → Outcome = λ v s. if holds v then f s else g s in
-      let o : Attempt → Option Evaluated = λ m. truth_of (value_of e m) in
+      let o : Attempt → Option Evaluated = λ m. truth_of (value_of [] e m) in
       let ways = way_by_top (behaviour taken) (behaviour otherwise) in
       does_alone z w.fram here.most w.stack (tested c (behaviour taken) (behaviour otherwise) w)
-      (λ answers. with_value e (answered_by answers here.m) run)
-      (subst (λ r. DoesFrom here r (λ m. with_value e m run)) (sym (decided_by_truth c (behaviour taken) (behaviour otherwise) w))
-      (subst (DoesFrom here (then_on (truth_pushed c w) ways)) (λ j. λ m. by_truth (value_of e m) f g j)
+      (λ answers. with_value [] e (answered_by answers here.m) run)
+      (subst (λ r. DoesFrom here r (λ m. with_value [] e m run)) (sym (decided_by_truth c (behaviour taken) (behaviour otherwise) w))
+      (subst (DoesFrom here (then_on (truth_pushed c w) ways)) (λ j. λ m. by_truth (value_of [] e m) f g j)
       (value_does here single w.stack w (truth_pushed c w) (by_answers here.m o) ways run (test_by_effects c w)
       (test_leaves (keeping here) e here.m w (at_first here) fits)
       (λ v there. let s = with_stack w.stack there.w in
@@ -708,9 +708,9 @@ module _ (z : Scene) where
   Writes writes = (v : ℕ) → writes v ≡ true → z.written v ≡ true
 
   mutual
-    statement_does : (s : CheckedStatement) (here : Start z (statement_emits s) (λ v. statement_count (is_store_to v) s)) → WellFormedStatement z.shared s
-        → AdmitsStatement z.p.map.runtime.events s → Writes (λ v. (statement_sum (summary (Shared v)) s).writes)
-        → DoesFrom here (behaviour (lowered_statement z.p s) here.w) (run_statement s)
+    statement_does : (s : CheckedStatement) (here : Start z (statement_emits [] s) (λ v. statement_count [] (is_store_to v) s)) → WellFormedStatement z.shared s
+        → AdmitsStatement z.p.map.runtime.events s → Writes (λ v. (statement_sum [] (summary (Shared v)) s).writes)
+        → DoesFrom here (behaviour (lowered_statement z.p s) here.w) (run_statement [] s)
     statement_does (t.declare of x None) here fits admits writes = nothing_does here
     statement_does (t.declare of x (Some e)) here fits admits writes =
         word_assigned_does x.word_type x.variable e here (local_word z.shared x.word_type x.variable fits.0 fits.2) (fits.1, admits)
@@ -719,12 +719,14 @@ module _ (z : Scene) where
         scalar_does x.word_type x.variable e here (fits.1, admits)
         (target_of z.shared z.p z.written z.declared x.word_type x.variable fits.0 fits.2 (λ v k. writes v (assignment_writes v x e k)))
     statement_does (t.store x index e) here fits admits writes =
-        element_store_does x.variable index e here
+        element_store_does x.variable index e (with_fewer here 0 (one_store x.variable) (omega arith) (λ v. omega arith))
         (array_target z.shared z.p z.written z.declared x.variable z.copied fits.0 (λ v k. writes v (store_writes v x index e k)))
         (fits.1, admits.0) fits.3 (fits.2, admits.1)
-    statement_does (t.choose choice) here fits admits writes = choice_does choice here fits admits writes
+    statement_does (t.choose choice) here fits admits writes =
+        choice_does choice (with_fewer here (choice_emits [] choice) (λ v. choice_count [] (is_store_to v) choice) (omega arith) (λ v. omega arith)) fits admits
+        writes
     statement_does (t.loop x from tested below stepped body) here fits admits writes =
-        loop_does x.variable from below (lowered_block z.p body) (run_block body) (block_emits body) (λ v. block_count (is_store_to v) body) fits.0
+        loop_does x.variable from below (lowered_block z.p body) (run_block [] body) (block_emits [] body) (λ v. block_count [] (is_store_to v) body) fits.0
         (λ some. record {
           does = λ turn. block_does body turn fits.1 admits (λ v k. writes v (loop_writes v x from tested below stepped body some k));
           emitted = block_emitted body;
@@ -733,37 +735,39 @@ module _ (z : Scene) where
         let last = one (emit_word (word_place z.p.map EmitCount) z.p.map.emits.address) in
         let given : ℕ → Attempt → Outcome = λ v s. goes_on (record s { emitted = s.emitted ++ v ∷ [] }) in
         subst (DoesFrom here (behaviour (joined (lowered_expression z.p e) last) here.w))
-        (λ j. λ m. if_converted (type_of e) Unsigned (value_of e m) given j)
-        (value_taken e here last given (fits.0, admits) (λ v there. emit_does (behind_value here there) v))
-    statement_does (t.transition task) here fits admits writes = transition_does task.task here
+        (λ j. λ m. if_converted (type_of e) Unsigned (value_of [] e m) given j)
+        (value_taken e here last given (fits.0, admits)
+        (λ v there. emit_does (with_fewer (behind_value here there) 1 (λ v. 0) (omega arith) (λ v. omega arith)) v))
+    statement_does (t.give at e) here fits admits writes = absurd fits
+    statement_does (t.transition at task) here fits admits writes = transition_does task.task here
 
-    choice_does : (c : CheckedChoice) (here : Start z (choice_emits c) (λ v. choice_count (is_store_to v) c)) → WellFormedChoice z.shared c
-        → AdmitsChoice z.p.map.runtime.events c → Writes (λ v. (choice_sum (summary (Shared v)) c).writes)
-        → DoesFrom here (behaviour (lowered_choice z.p c) here.w) (run_choice c)
+    choice_does : (c : CheckedChoice) (here : Start z (choice_emits [] c) (λ v. choice_count [] (is_store_to v) c)) → WellFormedChoice z.shared c
+        → AdmitsChoice z.p.map.runtime.events c → Writes (λ v. (choice_sum [] (summary (Shared v)) c).writes)
+        → DoesFrom here (behaviour (lowered_choice z.p c) here.w) (run_choice [] c)
     choice_does t.nothing here fits admits writes = nothing_does here
     choice_does (t.otherwise block) here fits admits writes = block_does block here fits admits writes
     choice_does (t.test e block more) here fits admits writes =
-        choice_of_ways e here (lowered_block z.p block) (lowered_choice z.p more) (run_block block) (run_choice more)
+        choice_of_ways e here (lowered_block z.p block) (lowered_choice z.p more) (run_block [] block) (run_choice [] more)
         (fits.0, admits.0)
         (λ there. block_does block
-        (with_fewer (behind_value here there) (block_emits block) (λ v. block_count (is_store_to v) block) (omega arith) (λ v. omega arith)) fits.1
+        (with_fewer (behind_value here there) (block_emits [] block) (λ v. block_count [] (is_store_to v) block) (omega arith) (λ v. omega arith)) fits.1
         admits.1 (λ v k. writes v (taken_writes v e block more k)))
         (λ there. choice_does more
-        (with_fewer (behind_value here there) (choice_emits more) (λ v. choice_count (is_store_to v) more) (omega arith) (λ v. omega arith)) fits.2
+        (with_fewer (behind_value here there) (choice_emits [] more) (λ v. choice_count [] (is_store_to v) more) (omega arith) (λ v. omega arith)) fits.2
         admits.2 (λ v k. writes v (passed_writes v e block more k)))
 
-    block_does : (b : CheckedBlock) (here : Start z (block_emits b) (λ v. block_count (is_store_to v) b)) → WellFormedBlock z.shared b
-        → AdmitsBlock z.p.map.runtime.events b → Writes (λ v. (block_sum (summary (Shared v)) b).writes)
-        → DoesFrom here (behaviour (lowered_block z.p b) here.w) (run_block b)
+    block_does : (b : CheckedBlock) (here : Start z (block_emits [] b) (λ v. block_count [] (is_store_to v) b)) → WellFormedBlock z.shared b
+        → AdmitsBlock z.p.map.runtime.events b → Writes (λ v. (block_sum [] (summary (Shared v)) b).writes)
+        → DoesFrom here (behaviour (lowered_block z.p b) here.w) (run_block [] b)
     block_does t.end here fits admits writes = nothing_does here
     block_does (t.step s more) here fits admits writes =
         let w = here.w in
         let m = here.m in
-        let P : Behaviour → Type 0 = λ b. DoesFrom here b (run_block (t.step s more)) in
+        let P : Behaviour → Type 0 = λ b. DoesFrom here b (run_block [] (t.step s more)) in
         let room = here.emits in
-        let once : ℕ → ℕ = λ v. listed_of v here.listed + statement_count (is_store_to v) s in
+        let once : ℕ → ℕ = λ v. listed_of v here.listed + statement_count [] (is_store_to v) s in
         let fewer : (v : ℕ) → once v ≤ here.most v = λ v. let a = here.lists v in omega (arith, a) in
-        let first : Start z (statement_emits s) (λ v. statement_count (is_store_to v) s) = record {
+        let first : Start z (statement_emits [] s) (λ v. statement_count [] (is_store_to v) s) = record {
           m = m;
           listed = here.listed;
           w = w;
@@ -775,20 +779,20 @@ module _ (z : Scene) where
           within = λ v. let a = fewer v in let b = here.within v in omega (arith, a, b);
         } in
         subst P (sym (joined_go_on (lowered_statement z.p s) (lowered_block z.p more) w))
-        (does_then z once here.most w.stack (length m.emitted + statement_emits s)
-        (λ answers. run_statement s (answered_by answers m)) (record {
+        (does_then z once here.most w.stack (length m.emitted + statement_emits [] s)
+        (λ answers. run_statement [] s (answered_by answers m)) (record {
           q = lowered_statement z.p s;
           w = w;
           ver = here.number;
           does = statement_does s first fits.0 admits.0 (λ v k. writes v (first_writes v s more k));
-          emits = λ answers. statement_emitted s (answered_by answers m) (length m.emitted + statement_emits s) (omega arith);
+          emits = λ answers. statement_emitted s (answered_by answers m) (length m.emitted + statement_emits [] s) (omega arith);
         })
-        (behaviour (lowered_block z.p more)) (run_block more) fewer
+        (behaviour (lowered_block z.p more)) (run_block [] more) fewer
         (λ u n listing answers is there.
         let below = there.few_emitted in
         let Q : List ℕ → Type 0 = λ l. Does z u.fram here.most l (behaviour (lowered_block z.p more) u)
-        (λ answers. run_block more (answered_by answers n)) in
-        let behind : Start z (block_emits more) (λ v. block_count (is_store_to v) more) = record {
+        (λ answers. run_block [] more (answered_by answers n)) in
+        let behind : Start z (block_emits [] more) (λ v. block_count [] (is_store_to v) more) = record {
           m = n;
           listed = listing;
           w = u;
@@ -805,7 +809,7 @@ module _ (z : Scene) where
 pub blocks_agree : BlocksAgree
 unfolding stores_of
 blocks_agree z block m listed w ver fits admits writes stands emits lists =
-    let most : ℕ → ℕ = λ v. listed_of v listed + stores_of v block in
+    let most : ℕ → ℕ = λ v. listed_of v listed + stores_of [] v block in
     block_does z block (record {
       m = m;
       listed = listed;

@@ -1,7 +1,8 @@
 -- What tasks spend along the way that they take, against the allowance of a source: the entries of the private scalars are paid for once, at
 -- the transition.
 use Rattle.lower.proofs.Names.{◌≡◌, ℕ, zero, suc, ◌+◌, ◌-◌, ◌*◌, ◌%◌, ◌==◌, ◌≤◌, max, Bool, true, false, if◌then◌else◌, List, [], ◌∷◌, length, Some, None}
-use Rattle.lower.proofs.Names.{refl, sym, subst, arith, CheckedStatement, CheckedChoice, CheckedBlock, cycles_column, statement_price, conditions_price}
+use Rattle.lower.proofs.Names.{refl, sym, subst, arith, Summary, CheckedStatement, CheckedChoice, CheckedBlock, cycles_column, statement_price}
+use Rattle.lower.proofs.Names.{conditions_price}
 use Rattle.lower.proofs.Names.{blocks_price, block_price, word_place, NextTask, Gate, ListLength, Base, SentBase, Run, runs_of, is_true, compare_words, Step}
 use Rattle.lower.proofs.Names.{Test, Program, choose, repeat, store_number, move_word, jump, nothing, step, joined, WordState, End, GoesOn, Jumps, Short}
 use Rattle.lower.proofs.Names.{Strays, Broken, Behaviour, behaves, broken, on_end, then_on, is_place, strays, with_stack, with_top, way_by_top, way_by_two}
@@ -189,44 +190,47 @@ test_spends p (word.fails c) ra rb ca cb a b f g s = let k = test_spends p c rb 
 
 -- ---- statements
 
-mutual
-  statement_spends : (p : Places) (x : CheckedStatement) (w : WordState)
-      → Within p (statement_price cycles_column x) (behaviour (lowered_statement p x) w).end (spent (lowered_statement p x) w)
-  statement_spends p (t.declare of x None) w = omega arith
-  statement_spends p (t.declare of x (Some e)) w = plain p (assignment p x.variable e) _ w (assignment_keeps p 0 x.variable e).1
-  statement_spends p (t.assign x e) w =
-      plain p (scalar_assignment p x.word_type x.variable e) _ w (scalar_keeps p 0 x.word_type x.variable e).1
-  statement_spends p (t.store x index e) w = plain p (element_assignment p x.variable index e) _ w (element_keeps p 0 x.variable index e).1
-  statement_spends p (t.choose choice) w = let a = choice_spends p choice w in omega (arith, a)
-  statement_spends p (t.loop x from tested below stepped body) w =
-      let n = loop_local x.variable in
-      let turn = lowered_block p body in
-      let a = turns_spend p (block_price cycles_column body) (below - from) n from (behaviour turn) (spent turn) w (λ v. block_spends p body v) in
-      alone p (repeat n from below turn) _ w (omega (arith, a))
-  statement_spends p (t.emit e) w = plain p (emission p e) _ w (emission_keeps p 0 e).1
-  statement_spends p (t.transition task) w = transition_spends p task.task w
+module _ (known : List Summary) where
+  mutual
+    statement_spends : (p : Places) (x : CheckedStatement) (w : WordState)
+        → Within p (statement_price known cycles_column x) (behaviour (lowered_statement p x) w).end (spent (lowered_statement p x) w)
+    statement_spends p (t.declare of x None) w = omega arith
+    statement_spends p (t.declare of x (Some e)) w = plain p (assignment p x.variable e) _ w (assignment_keeps known p 0 x.variable e).1
+    statement_spends p (t.assign x e) w =
+        plain p (scalar_assignment p x.word_type x.variable e) _ w (scalar_keeps known p 0 x.word_type x.variable e).1
+    statement_spends p (t.store x index e) w = plain p (element_assignment p x.variable index e) _ w (element_keeps known p 0 x.variable index e).1
+    statement_spends p (t.choose choice) w = let a = choice_spends p choice w in omega (arith, a)
+    statement_spends p (t.loop x from tested below stepped body) w =
+        let n = loop_local x.variable in
+        let turn = lowered_block p body in
+        let a = turns_spend p (block_price known cycles_column body) (below - from) n from (behaviour turn) (spent turn) w (λ v. block_spends p body v) in
+        alone p (repeat n from below turn) _ w (omega (arith, a))
+    statement_spends p (t.emit e) w = plain p (emission p e) _ w (emission_keeps known p 0 e).1
+    statement_spends p (t.give at e) w = omega arith
+    statement_spends p (t.transition at task) w = transition_spends p task.task w
 
-  -- with a branch past what isn't taken
-  choice_spends : (p : Places) (c : CheckedChoice) (w : WordState)
-      → Within p (conditions_price cycles_column c + blocks_price cycles_column c + 3) (behaviour (lowered_choice p c) w).end (spent (lowered_choice p c) w)
-  choice_spends p t.nothing w = omega arith
-  choice_spends p (t.otherwise block) w = let a = block_spends p block w in omega (arith, a)
-  choice_spends p (t.test e block more) w =
-      let taken = lowered_block p block in
-      let otherwise = lowered_choice p more in
-      let a = block_price cycles_column block + 3 in
-      let b = conditions_price cycles_column more + blocks_price cycles_column more + 3 in
-      let k = alone p (choose (lowered_test p e) taken otherwise) (test_cycles (lowered_test p e) + max a b) w
-      (test_spends p (lowered_test p e) (behaviour taken) (behaviour otherwise) (λ v. spent taken v + 3) (spent otherwise) a b
-      (λ v. let r = block_spends p block v in omega (arith, r)) (λ v. choice_spends p more v) w) in
-      omega (arith, k, test_cycles_kept p e)
+    -- with a branch past what isn't taken
+    choice_spends : (p : Places) (c : CheckedChoice) (w : WordState)
+        → Within p (conditions_price known cycles_column c + blocks_price known cycles_column c + 3) (behaviour (lowered_choice p c) w).end
+        (spent (lowered_choice p c) w)
+    choice_spends p t.nothing w = omega arith
+    choice_spends p (t.otherwise block) w = let a = block_spends p block w in omega (arith, a)
+    choice_spends p (t.test e block more) w =
+        let taken = lowered_block p block in
+        let otherwise = lowered_choice p more in
+        let a = block_price known cycles_column block + 3 in
+        let b = conditions_price known cycles_column more + blocks_price known cycles_column more + 3 in
+        let k = alone p (choose (lowered_test p e) taken otherwise) (test_cycles (lowered_test p e) + max a b) w
+        (test_spends p (lowered_test p e) (behaviour taken) (behaviour otherwise) (λ v. spent taken v + 3) (spent otherwise) a b
+        (λ v. let r = block_spends p block v in omega (arith, r)) (λ v. choice_spends p more v) w) in
+        omega (arith, k, test_cycles_kept known p e)
 
-  block_spends : (p : Places) (b : CheckedBlock) (w : WordState)
-      → Within p (block_price cycles_column b) (behaviour (lowered_block p b) w).end (spent (lowered_block p b) w)
-  block_spends p t.end w = omega arith
-  block_spends p (t.step x more) w =
-      joined_spends p (lowered_statement p x) (lowered_block p more) (statement_price cycles_column x) (block_price cycles_column more) w
-      (statement_spends p x w) (λ s. block_spends p more s)
+    block_spends : (p : Places) (b : CheckedBlock) (w : WordState)
+        → Within p (block_price known cycles_column b) (behaviour (lowered_block p b) w).end (spent (lowered_block p b) w)
+    block_spends p t.end w = omega arith
+    block_spends p (t.step x more) w =
+        joined_spends p (lowered_statement p x) (lowered_block p more) (statement_price known cycles_column x) (block_price known cycles_column more) w
+        (statement_spends p x w) (λ s. block_spends p more s)
 
 pub blocks_keep_to_cycles : BlocksKeepToCycles
-blocks_keep_to_cycles p block w = block_spends p block w
+blocks_keep_to_cycles known p block w = block_spends known p block w

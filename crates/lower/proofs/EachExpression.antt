@@ -207,17 +207,17 @@ module _ (k : Keeping) where
 
   -- its value as a long, by the type by which it becomes one
   widened_agrees : (e : CheckedExpression) (m : Attempt) (w : WordState) → Keeps k m w
-      → AgreesAs k (type_of e) w (lowering k.p e) (by_answers m (value_of e))
-      → LeavesLong k w.stack (behaviour (lowered_long k.p e) w) (by_answers m (λ s. converted_to (type_of e) Long (value_of e s)))
+      → AgreesAs k (type_of e) w (lowering k.p e) (by_answers m (value_of [] e))
+      → LeavesLong k w.stack (behaviour (lowered_long k.p e) w) (by_answers m (λ s. converted_to (type_of e) Long (value_of [] e s)))
   widened_agrees (t.number n) m w kept h =
       subst (λ v. LeavesLong k w.stack (behaviour (lowered_long k.p (t.number n)) w) (by_answers m (gives v))) (sym (number_as_long n))
       (long_agrees k Unsigned w (lowering k.p (t.number n)) (by_answers m (gives n)) (by_word k w (one (number n)) _ (pushes n m w kept)))
-  widened_agrees e m w kept h = long_agrees k (type_of e) w (lowering k.p e) (by_answers m (value_of e)) h
+  widened_agrees e m w kept h = long_agrees k (type_of e) w (lowering k.p e) (by_answers m (value_of [] e)) h
 
   -- ---- all expressions
 
   pub lowering_agrees : (e : CheckedExpression) (m : Attempt) (w : WordState) → Keeps k m w → WellFormedExpression k.shared e
-      → AdmitsExpression (events_of k) e → AgreesAs k (type_of e) w (lowering k.p e) (by_answers m (value_of e))
+      → AdmitsExpression (events_of k) e → AgreesAs k (type_of e) w (lowering k.p e) (by_answers m (value_of [] e))
   lowering_agrees (t.number n) m w kept fits admits =
       as_one_word k (type_of (t.number n)) (one_word.literal_word n) w _ _ (by_word k w (one (number n)) _ (pushes n m w kept))
   lowering_agrees (t.long_number n) m w kept fits admits =
@@ -227,7 +227,7 @@ module _ (k : Keeping) where
   lowering_agrees (t.element x index) m w kept fits admits =
       let l = lowering k.p index in
       let last = one (element_step k.p x.variable) in
-      let o = by_answers m (value_of index) in
+      let o = by_answers m (value_of [] index) in
       let agrees = of_one_word k (type_of index) fits.3 w l o (lowering_agrees index m w kept fits.1 admits) in
       as_one_word k x.word_type (array_word k.shared x.word_type x.variable fits.0 fits.2) w _ _
       (by_word k w (joined (word_program l) last) _
@@ -236,8 +236,9 @@ module _ (k : Keeping) where
       (λ i s kept. element_agrees k w.stack i.behind s kept x.variable i.value (array_known k.shared k.p k.declared x.variable fits.0))))
   lowering_agrees t.sense m w kept fits admits = by_word k w (one sense) _ (sense_agrees k m w kept)
   lowering_agrees t.next_event m w kept fits admits = by_word k w (one next_event) _ (event_agrees k m w kept admits)
+  lowering_agrees (t.call f values) m w kept fits admits = absurd fits
   lowering_agrees (t.unary op e) m w kept fits admits =
-      operand_agrees op (type_of e) w (lowering k.p e) (by_answers m (value_of e)) (lowering_agrees e m w kept fits admits)
+      operand_agrees op (type_of e) w (lowering k.p e) (by_answers m (value_of [] e)) (lowering_agrees e m w kept fits admits)
       (lowering_agrees e m (pushed 0 (pushed 0 w)) kept fits admits)
   lowering_agrees (t.binary op a b) m w kept fits admits =
       let s = type_of a in
@@ -255,8 +256,8 @@ module _ (k : Keeping) where
         w = w;
         l = l;
         r = r;
-        o = by_answers m (value_of a);
-        second = value_of b;
+        o = by_answers m (value_of [] a);
+        second = value_of [] b;
         left = left;
         right = λ x s kept. lowering_agrees b x.behind (with_stack (x.value ∷ w.stack) s) kept fits.1 admits.1;
         longs = record {
@@ -266,16 +267,16 @@ module _ (k : Keeping) where
         };
       } in
       let P : WordType → Type 0 = λ z. AgreesAs k (binary_type op.operator s of) w (sides_lowering z op.operator u v l r)
-      (by_answers m (value_of (t.binary op a b))) in
+      (by_answers m (value_of [] (t.binary op a b))) in
       subst P (sym (operands_as_joined (joined_type s of) op.operator fits.2))
       (operands_agree (joined_type s of) op.operator operands refl fits.2)
   lowering_agrees (t.shift op e count) m w kept fits admits =
-      shift_agrees (type_of e) op count.value w (lowering k.p e) (by_answers m (value_of e)) (lowering_agrees e m w kept fits.0 admits)
+      shift_agrees (type_of e) op count.value w (lowering k.p e) (by_answers m (value_of [] e)) (lowering_agrees e m w kept fits.0 admits)
   lowering_agrees (t.short_circuit op a b) m w kept fits admits =
       let c = value_test (lowering k.p a) in
       let d = value_test (lowering k.p b) in
-      let o = by_answers m (value_of a) in
-      let right : Attempt → Option Evaluated = value_of b in
+      let o = by_answers m (value_of [] a) in
+      let right : Attempt → Option Evaluated = value_of [] b in
       by_test k w (sides_test op c d) _ (sides_are_truth op o right)
       (subst (LeavesWord k w.stack (truth_pushed (sides_test op c d) w)) (sides_of_truth o op right)
       (side_agrees k op w c d o right (test_agrees k (type_of a) w (lowering k.p a) o (lowering_agrees a m w kept fits.0 admits.0))
@@ -285,18 +286,18 @@ module _ (k : Keeping) where
   -- ---- by its program
 
   pub expression_leaves : (e : CheckedExpression) (m : Attempt) (w : WordState) → Keeps k m w → IsFit k.shared k.p e
-      → LeavesWord k w.stack (behaviour (lowered_expression k.p e) w) (by_answers m (λ s. converted_to (type_of e) Unsigned (value_of e s)))
+      → LeavesWord k w.stack (behaviour (lowered_expression k.p e) w) (by_answers m (λ s. converted_to (type_of e) Unsigned (value_of [] e s)))
   expression_leaves e m w kept fits =
-      word_agrees k (type_of e) w (lowering k.p e) (by_answers m (value_of e)) (lowering_agrees e m w kept fits.0 fits.1)
+      word_agrees k (type_of e) w (lowering k.p e) (by_answers m (value_of [] e)) (lowering_agrees e m w kept fits.0 fits.1)
 
   pub long_leaves : (e : CheckedExpression) (m : Attempt) (w : WordState) → Keeps k m w → IsFit k.shared k.p e
-      → LeavesLong k w.stack (behaviour (lowered_long k.p e) w) (by_answers m (λ s. converted_to (type_of e) Long (value_of e s)))
+      → LeavesLong k w.stack (behaviour (lowered_long k.p e) w) (by_answers m (λ s. converted_to (type_of e) Long (value_of [] e s)))
   long_leaves e m w kept fits = widened_agrees e m w kept (lowering_agrees e m w kept fits.0 fits.1)
 
   pub test_leaves : (e : CheckedExpression) (m : Attempt) (w : WordState) → Keeps k m w → IsFit k.shared k.p e
-      → LeavesWord k w.stack (truth_pushed (lowered_test k.p e) w) (by_answers m (λ s. truth_of (value_of e s)))
+      → LeavesWord k w.stack (truth_pushed (lowered_test k.p e) w) (by_answers m (λ s. truth_of (value_of [] e s)))
   test_leaves e m w kept fits =
-      test_agrees k (type_of e) w (lowering k.p e) (by_answers m (value_of e)) (lowering_agrees e m w kept fits.0 fits.1)
+      test_agrees k (type_of e) w (lowering k.p e) (by_answers m (value_of [] e)) (lowering_agrees e m w kept fits.0 fits.1)
 
 -- ---- what is as it was
 
@@ -348,21 +349,21 @@ pub expressions_agree : ExpressionsAgree
 expressions_agree shared p room e m w apart even declared fits h =
     let s = in_state w m in
     one_state shared p room m w apart even declared h single (behaviour (lowered_expression p e) w)
-    (by_answers s (λ s. converted_to (type_of e) Unsigned (value_of e s)))
+    (by_answers s (λ s. converted_to (type_of e) Unsigned (value_of [] e s)))
     (expression_leaves (all_kept shared p room m w apart even declared h) e s w (at_first shared p room m w apart even declared h) fits)
 
 pub longs_agree : LongsAgree
 longs_agree shared p room e m w apart even declared fits h =
     let s = in_state w m in
     one_state shared p room m w apart even declared h stacked (behaviour (lowered_long p e) w)
-    (by_answers s (λ s. converted_to (type_of e) Long (value_of e s)))
+    (by_answers s (λ s. converted_to (type_of e) Long (value_of [] e s)))
     (long_leaves (all_kept shared p room m w apart even declared h) e s w (at_first shared p room m w apart even declared h) fits)
 
 pub tests_agree : TestsAgree
 tests_agree shared p room e m w apart even declared fits h =
     let s = in_state w m in
     let k = all_kept shared p room m w apart even declared h in
-    let o = by_answers s (λ s. truth_of (value_of e s)) in
+    let o = by_answers s (λ s. truth_of (value_of [] e s)) in
     one_state shared p room m w apart even declared h single (behaviour (one (truth (lowered_test p e))) w) o
     (agrees_alone p.map.runtime.events (Leaves k single w.stack) (truth_pushed (lowered_test p e) w) o
     (test_leaves k e s w (at_first shared p room m w apart even declared h) fits))

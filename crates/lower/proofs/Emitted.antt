@@ -1,5 +1,5 @@
 -- Statements emit no more words than they count.
-use Rattle.lower.proofs.Names.{ℕ, ◌+◌, ◌≤◌, length, CheckedStatement, CheckedBlock, Outcome, to_task, short, run_statement, run_block, statement_emits}
+use Rattle.lower.proofs.Names.{ℕ, ◌+◌, ◌≤◌, [], length, CheckedStatement, CheckedBlock, Outcome, to_task, returns, short, run_statement, run_block, statement_emits}
 use Rattle.lower.proofs.Names.{block_emits, EmitsUpTo, statement_up_to, block_up_to}
 use Rattle.source_values.specs.Statements.{Attempt, goes_on}
 
@@ -7,18 +7,20 @@ use Rattle.source_values.specs.Statements.{Attempt, goes_on}
 abbrev pub EmitsAtMost : ℕ → Outcome → Type 0
 EmitsAtMost n (goes_on s) = length s.emitted ≤ n
 EmitsAtMost n (to_task task s) = Unit {0}
+EmitsAtMost n (returns w s) = Unit {0}
 EmitsAtMost n short = Unit {0}
 
 -- what holds of each outcome that isn't short holds of one that goes on
 where_it_goes_on : (n : ℕ) (o : Outcome) → EmitsUpTo n o → EmitsAtMost n o
 where_it_goes_on n (goes_on s) h = h
 where_it_goes_on n (to_task task s) h = tt
+where_it_goes_on n (returns w s) h = tt
 where_it_goes_on n short h = tt
 
 -- a statement that goes on has emitted no more words than it counts
-pub statement_emitted : (s : CheckedStatement) (m : Attempt) (n : ℕ) → length m.emitted + statement_emits s ≤ n → EmitsAtMost n (run_statement s m)
-statement_emitted s m n h = where_it_goes_on n (run_statement s m) (statement_up_to s m n h)
+pub statement_emitted : (s : CheckedStatement) (m : Attempt) (n : ℕ) → length m.emitted + statement_emits [] s ≤ n → EmitsAtMost n (run_statement [] s m)
+statement_emitted s m n h = where_it_goes_on n (run_statement [] s m) (statement_up_to [] [] tt s m n h)
 
 -- nor has a block
-pub block_emitted : (b : CheckedBlock) (m : Attempt) (n : ℕ) → length m.emitted + block_emits b ≤ n → EmitsAtMost n (run_block b m)
-block_emitted b m n h = where_it_goes_on n (run_block b m) (block_up_to b m n h)
+pub block_emitted : (b : CheckedBlock) (m : Attempt) (n : ℕ) → length m.emitted + block_emits [] b ≤ n → EmitsAtMost n (run_block [] b m)
+block_emitted b m n h = where_it_goes_on n (run_block [] b m) (block_up_to [] [] tt b m n h)

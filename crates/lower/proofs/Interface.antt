@@ -2,6 +2,8 @@
 
 -- The program of an expression leaves its value.
 pub use Rattle.lower.proofs.Values.{takes_append, told_append, small_modulo}
+-- What a sum says of the paths of a text that calls no function.
+pub use Rattle.lower.proofs.Paths.{some_writes, writes_some, private_is, is_private_of}
 -- A program that takes events where its source uses some admits each task.
 pub use Rattle.lower.proofs.Admits.{tasks_are_admitted}
 -- An assignment in place has the variable on the left side.

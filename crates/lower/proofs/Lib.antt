@@ -2,6 +2,7 @@ mod Names
 mod Neighbours
 mod Addresses
 mod Admits
+mod Paths
 mod Declared
 mod Values
 mod Longs

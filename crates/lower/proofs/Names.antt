@@ -45,14 +45,15 @@ pub use Rattle.checked_trees.specs.WellFormed.{IsArrayName, IsLocal, IsOfType, I
 pub use Rattle.checked_trees.specs.WellFormed.{WellFormedStatement}
 pub use Rattle.cost_bound.specs.Allowance.{CheckedTask}
 pub use Rattle.cost_bound.specs.Counts.{block_count, choice_count, is_shared, is_store_to, statement_count}
+pub use Rattle.cost_bound.specs.Summary.{Summary}
 pub use Rattle.cost_bound.specs.Table.{block_price, blocks_price, conditions_price, cycles_column, expression_price, operator_price, statement_price}
 pub use Rattle.cost_bound.specs.Table.{words_column}
 pub use Rattle.path_runs.proofs.Interface.{runs_go_on_along_paths}
 pub use Rattle.path_sums.specs.Access.{is_same, summary}
 pub use Rattle.path_sums.specs.Sums.{block_sum, choice_sum, statement_sum}
-pub use Rattle.source_values.proofs.Interface.{EmitsUpTo, block_up_to, more_turns, scalar_word, statement_up_to, value_takes}
-pub use Rattle.source_values.specs.Statements.{Outcome, and_then, block_emits, choice_emits, if_value, run_block, run_choice, run_statement, short}
-pub use Rattle.source_values.specs.Statements.{statement_emits, to_task, with_value}
+pub use Rattle.source_values.proofs.Interface.{EmitsUpTo, block_up_to, more_turns, scalar_word, statement_up_to, value_keeps}
+pub use Rattle.source_values.specs.Statements.{Outcome, and_then, block_emits, choice_emits, if_value, returns, run_block, run_choice, run_statement}
+pub use Rattle.source_values.specs.Statements.{short, statement_emits, to_task, with_value}
 pub use Rattle.source_values.specs.Values.{Evaluated, Variables, binary_result, binary_value, converted, gives, holds, is_settled, long_binary_value}
 pub use Rattle.source_values.specs.Values.{long_difference, long_shift_value, made_of, next_answer, next_reading, reading_of, scalar_value, shift_result}
 pub use Rattle.source_values.specs.Values.{shift_value}
@@ -71,6 +72,7 @@ pub use Rattle.task_ast.specs.declared.Stmt.{Stmt}
 pub use Rattle.task_ast.specs.declared.UnaryOperator.{UnaryOperator}
 pub use Rattle.task_ast.specs.declared.WordType.{WordType}
 pub use Rattle.task_ast.specs.declared.WordType.TheVariants.{Int, Long, Unsigned}
+pub use Rattle.task_ast.specs.declared.names.FunctionName.{FunctionName}
 pub use Rattle.task_ast.specs.declared.names.TaskName.{TaskName}
 pub use Rattle.task_ast.specs.declared.names.Variable.{Variable}
 pub use Rattle.task_ast.specs.declared.names.Variable.TheVariants.{Local, Shared}

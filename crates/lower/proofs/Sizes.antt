@@ -5,7 +5,8 @@ use Rattle.lower.proofs.Names.{◌≡◌, ℕ, ◌+◌, ◌*◌, ◌<◌, ◌≤
 use Rattle.lower.proofs.Names.{if◌then◌else◌, nat_tests, CheckedExpression, CheckedStatement, CheckedChoice, CheckedBlock, WordType, Unsigned, Int, Long}
 use Rattle.lower.proofs.Names.{is_long, binary_type, unary_type, literal_type, UnaryOperator, BinaryOperator, PlacedOperator, ShiftOperator}
 use Rattle.lower.proofs.Names.{ShortCircuitOperator, BothHold, OneHolds, Variable, Shared, Local, width_least, cycles_column, words_column, operator_price}
-use Rattle.lower.proofs.Names.{expression_price, statement_price, conditions_price, blocks_price, block_price, Negate, Complement, Plain, PlainOperation}
+use Rattle.lower.proofs.Names.{Summary, expression_price, statement_price, conditions_price, blocks_price, block_price, Negate, Complement, Plain}
+use Rattle.lower.proofs.Names.{PlainOperation}
 use Rattle.lower.proofs.Names.{Subtract, And, Xor, Or, Step, Test, Program, number, truth, unary, binary, shift, long, emit_word, store_number, move_word}
 use Rattle.lower.proofs.Names.{jump, step, joined, binary_cycles, step_cycles, test_cycles, cycles_of, entry_words, step_words, test_words, words_of}
 use Rattle.lower.proofs.Names.{joined_cycles, steps_keep_to_words, word_place, Gate, ListLength, EmitCount, Base, SentBase, VariablePlace, Scalar, Array}
@@ -330,37 +331,40 @@ widened_type_has : (p : Places) (e : CheckedExpression) (x : Price) → HasPrice
 widened_type_has p (t.number w) x h = word_has Unsigned (one (number w)) x h.word
 widened_type_has p e x h = h
 
--- the price of an expression in the allowance of a source
-abbrev price : ℕ → CheckedExpression → Price
-price s e = record { words = expression_price (words_column s) e; cycles = expression_price cycles_column e }
+-- with these answers of the functions in front
+module _ (known : List Summary) where
+  -- the price of an expression in the allowance of a source
+  abbrev price : ℕ → CheckedExpression → Price
+  price s e = record { words = expression_price known (words_column s) e; cycles = expression_price known cycles_column e }
 
-lowering_has : (p : Places) (s : ℕ) (e : CheckedExpression) → HasPrice (type_of e) (lowering p e) (price s e)
-lowering_has p s (t.number n) = word_has _ _ _ (omega arith, omega arith)
-lowering_has p s (t.long_number n) = long_value_has Long _ _ (omega arith) (omega arith)
-lowering_has p s (t.name x) = name_has p x.word_type x.variable
-lowering_has p s (t.element x index) =
-    let few = element_costs p x.variable in
-    last_has x.word_type (lowered_expression p index) (element_step p x.variable) 24 60 (price s index) (omega (arith, few), omega (arith, few))
-    (lowering_has p s index).word
-lowering_has p s t.sense = word_has Unsigned _ _ (omega arith, omega arith)
-lowering_has p s t.next_event = word_has Unsigned _ _ (omega arith, omega arith)
-lowering_has p s (t.unary op e) = operand_has (type_of e) op (lowering p e) (price s e) (lowering_has p s e)
-lowering_has p s (t.binary op a b) =
-    let both : BothHave (type_of a) (type_of b) (widened_type a) (widened_type b) (lowering p a) (lowering p b) (price s a) (price s b) = record {
-      left = widened_type_has p a (price s a) (lowering_has p s a);
-      right = widened_type_has p b (price s b) (lowering_has p s b);
-      left_wider = same_wider a;
-      right_wider = same_wider b;
-    } in
-    sides_have s (operand_type op.operator (joined_type (type_of a) (type_of b))) (type_of a) (type_of b) (widened_type a) (widened_type b) op.operator
-    (lowering p a) (lowering p b) (price s a) (price s b) refl both
-lowering_has p s (t.shift op e count) = shift_has (type_of e) op (lowering p e) (price s e) count.value (lowering_has p s e)
-lowering_has p s (t.short_circuit op a b) =
-    let first = (lowering_has p s a).test in
-    let second = (lowering_has p s b).test in
-    let both = both_cost op (lowered_test p a) (lowered_test p b) in
-    let few = least (joined_type (type_of a) (type_of b)) in
-    test_has Int _ _ (omega (arith, both, first, second, few)) (omega (arith, both, first, second, few))
+  lowering_has : (p : Places) (s : ℕ) (e : CheckedExpression) → HasPrice (type_of e) (lowering p e) (price s e)
+  lowering_has p s (t.number n) = word_has _ _ _ (omega arith, omega arith)
+  lowering_has p s (t.long_number n) = long_value_has Long _ _ (omega arith) (omega arith)
+  lowering_has p s (t.name x) = name_has p x.word_type x.variable
+  lowering_has p s (t.element x index) =
+      let few = element_costs p x.variable in
+      last_has x.word_type (lowered_expression p index) (element_step p x.variable) 24 60 (price s index) (omega (arith, few), omega (arith, few))
+      (lowering_has p s index).word
+  lowering_has p s t.sense = word_has Unsigned _ _ (omega arith, omega arith)
+  lowering_has p s t.next_event = word_has Unsigned _ _ (omega arith, omega arith)
+  lowering_has p s (t.call f values) = word_has f.word_type _ _ (omega arith, omega arith)
+  lowering_has p s (t.unary op e) = operand_has (type_of e) op (lowering p e) (price s e) (lowering_has p s e)
+  lowering_has p s (t.binary op a b) =
+      let both : BothHave (type_of a) (type_of b) (widened_type a) (widened_type b) (lowering p a) (lowering p b) (price s a) (price s b) = record {
+        left = widened_type_has p a (price s a) (lowering_has p s a);
+        right = widened_type_has p b (price s b) (lowering_has p s b);
+        left_wider = same_wider a;
+        right_wider = same_wider b;
+      } in
+      sides_have s (operand_type op.operator (joined_type (type_of a) (type_of b))) (type_of a) (type_of b) (widened_type a) (widened_type b) op.operator
+      (lowering p a) (lowering p b) (price s a) (price s b) refl both
+  lowering_has p s (t.shift op e count) = shift_has (type_of e) op (lowering p e) (price s e) count.value (lowering_has p s e)
+  lowering_has p s (t.short_circuit op a b) =
+      let first = (lowering_has p s a).test in
+      let second = (lowering_has p s b).test in
+      let both = both_cost op (lowered_test p a) (lowered_test p b) in
+      let few = least (joined_type (type_of a) (type_of b)) in
+      test_has Int _ _ (omega (arith, both, first, second, few)) (omega (arith, both, first, second, few))
 
 -- ---- words of transitions
 
@@ -406,129 +410,132 @@ transition_words p s task few =
 abbrev Keeps : Program → Price → Type 0
 Keeps q x = (words_of q ≤ x.words) × (cycles_of q ≤ x.cycles)
 
-setting_keeps : (p : Places) (s : ℕ) (x : Variable) (e : CheckedExpression) → Keeps (setting p x e) (beside 24 40 (price s e))
-setting_keeps p s x e =
-    let l = added (lowered_expression p e) (one (write_step p x)) in
-    let a = write_costs p x in
-    let h = (lowering_has p s e).word in
-    (omega (arith, a, l, h), omega (arith, a, l, h))
+module _ (known : List Summary) where
+  setting_keeps : (p : Places) (s : ℕ) (x : Variable) (e : CheckedExpression) → Keeps (setting p x e) (beside 24 40 (price known s e))
+  setting_keeps p s x e =
+      let l = added (lowered_expression p e) (one (write_step p x)) in
+      let a = write_costs p x in
+      let h = (lowering_has known p s e).word in
+      (omega (arith, a, l, h), omega (arith, a, l, h))
 
-sides_set_keeps : (p : Places) (s : ℕ) (x : Variable) (op : PlacedOperator) (a b : CheckedExpression) (o : Option PlainOperation)
-    → Keeps (sides_set p x op a b o) (beside 24 40 (price s (t.binary op a b)))
-sides_set_keeps p s x op a b None = setting_keeps p s x (t.binary op a b)
-sides_set_keeps p s x op a b (Some o) =
-    let l = added (lowered_expression p b) (one (update_step p o x)) in
-    let c = update_costs p o x in
-    let h = (lowering_has p s b).word in
-    (omega (arith, c, l, h), omega (arith, c, l, h))
+  sides_set_keeps : (p : Places) (s : ℕ) (x : Variable) (op : PlacedOperator) (a b : CheckedExpression) (o : Option PlainOperation)
+      → Keeps (sides_set p x op a b o) (beside 24 40 (price known s (t.binary op a b)))
+  sides_set_keeps p s x op a b None = setting_keeps p s x (t.binary op a b)
+  sides_set_keeps p s x op a b (Some o) =
+      let l = added (lowered_expression p b) (one (update_step p o x)) in
+      let c = update_costs p o x in
+      let h = (lowering_has known p s b).word in
+      (omega (arith, c, l, h), omega (arith, c, l, h))
 
--- the first clause makes it a proof by cases
-pub assignment_keeps : (p : Places) (s : ℕ) (x : Variable) (e : CheckedExpression) → Keeps (assignment p x e) (beside 24 40 (price s e))
-assignment_keeps p s x (t.binary op a b) =
-    sides_set_keeps p s x op a b (of_words (joined_type (type_of a) (type_of b)) (updating x op.operator a))
-assignment_keeps p s x e = setting_keeps p s x e
+  -- the first clause makes it a proof by cases
+  pub assignment_keeps : (p : Places) (s : ℕ) (x : Variable) (e : CheckedExpression) → Keeps (assignment p x e) (beside 24 40 (price known s e))
+  assignment_keeps p s x (t.binary op a b) =
+      sides_set_keeps p s x op a b (of_words (joined_type (type_of a) (type_of b)) (updating x op.operator a))
+  assignment_keeps p s x e = setting_keeps p s x e
 
-long_setting_keeps : (p : Places) (s : ℕ) (x : Variable) (e : CheckedExpression) → Keeps (long_setting p x e) (beside 40 80 (price s e))
-long_setting_keeps p s x e =
-    let l = added (lowered_long p e) (write_long p x) in
-    let h = (widened_type_has p e (price s e) (lowering_has p s e)).long in
-    let few = most_wider (widened_type e) in
-    let a = writes x in
-    (omega (arith, l, a, h, few), omega (arith, l, a, h))
-  where
-    most_wider : (of : WordType) → wider of ≤ 7
-    most_wider Long = omega arith
-    most_wider of = omega arith
+  long_setting_keeps : (p : Places) (s : ℕ) (x : Variable) (e : CheckedExpression) → Keeps (long_setting p x e) (beside 40 80 (price known s e))
+  long_setting_keeps p s x e =
+      let l = added (lowered_long p e) (write_long p x) in
+      let h = (widened_type_has p e (price known s e) (lowering_has known p s e)).long in
+      let few = most_wider (widened_type e) in
+      let a = writes x in
+      (omega (arith, l, a, h, few), omega (arith, l, a, h))
+    where
+      most_wider : (of : WordType) → wider of ≤ 7
+      most_wider Long = omega arith
+      most_wider of = omega arith
 
-    writes : (x : Variable) → Keeps (write_long p x) (record { words = 5; cycles = 10 })
-    writes (Shared v) = (omega arith, omega arith)
-    writes (Local n) = (omega arith, omega arith)
+      writes : (x : Variable) → Keeps (write_long p x) (record { words = 5; cycles = 10 })
+      writes (Shared v) = (omega arith, omega arith)
+      writes (Local n) = (omega arith, omega arith)
 
-pub scalar_keeps : (p : Places) (s : ℕ) (of : WordType) (x : Variable) (e : CheckedExpression)
-    → Keeps (scalar_assignment p of x e) (beside (by_width of 24 40) (by_width of 40 80) (price s e))
-scalar_keeps p s Long x e = long_setting_keeps p s x e
-scalar_keeps p s of x e = assignment_keeps p s x e
+  pub scalar_keeps : (p : Places) (s : ℕ) (of : WordType) (x : Variable) (e : CheckedExpression)
+      → Keeps (scalar_assignment p of x e) (beside (by_width of 24 40) (by_width of 40 80) (price known s e))
+  scalar_keeps p s Long x e = long_setting_keeps p s x e
+  scalar_keeps p s of x e = assignment_keeps p s x e
 
--- an assignment to an element keeps to its row and those of its parts
-abbrev ElementKeeps : ℕ → CheckedExpression → CheckedExpression → Program → Type 0
-ElementKeeps s index e q = Keeps q (record {
-  words = 60 + expression_price (words_column s) index + expression_price (words_column s) e;
-  cycles = 120 + expression_price cycles_column index + expression_price cycles_column e;
-})
+  -- an assignment to an element keeps to its row and those of its parts
+  abbrev ElementKeeps : ℕ → CheckedExpression → CheckedExpression → Program → Type 0
+  ElementKeeps s index e q = Keeps q (record {
+    words = 60 + expression_price known (words_column s) index + expression_price known (words_column s) e;
+    cycles = 120 + expression_price known cycles_column index + expression_price known cycles_column e;
+  })
 
-element_setting_keeps : (p : Places) (s : ℕ) (x : Variable) (index e : CheckedExpression) → ElementKeeps s index e (element_setting p x index e)
-element_setting_keeps p s x index e =
-    let l = added (lowered_expression p index) (lowered_expression p e) in
-    let m = added (index_and_value p index e) (one (store_step p x)) in
-    let last = own_write_costs p.map.runtime.logging (stored_array p x) (list_place p) in
-    let h = (lowering_has p s index).word in
-    let k = (lowering_has p s e).word in
-    (omega (arith, l, m, h, k, last), omega (arith, l, m, h, k, last))
+  element_setting_keeps : (p : Places) (s : ℕ) (x : Variable) (index e : CheckedExpression) → ElementKeeps s index e (element_setting p x index e)
+  element_setting_keeps p s x index e =
+      let l = added (lowered_expression p index) (lowered_expression p e) in
+      let m = added (index_and_value p index e) (one (store_step p x)) in
+      let last = own_write_costs p.map.runtime.logging (stored_array p x) (list_place p) in
+      let h = (lowering_has known p s index).word in
+      let k = (lowering_has known p s e).word in
+      (omega (arith, l, m, h, k, last), omega (arith, l, m, h, k, last))
 
-element_sides_keep : (p : Places) (s : ℕ) (x : Variable) (index : CheckedExpression) (op : PlacedOperator) (a b : CheckedExpression)
-    (o : Option PlainOperation) → ElementKeeps s index (t.binary op a b) (element_sides_set p x index op a b o)
-element_sides_keep p s x index op a b None = element_setting_keeps p s x index (t.binary op a b)
-element_sides_keep p s x index op a b (Some o) =
-    let most = row s op.operator Unsigned (joined_type (type_of a) (type_of b)) in
-    let l = added (lowered_expression p index) (lowered_expression p b) in
-    let m = added (index_and_value p index b) (one (update_element_step p o x)) in
-    let last = own_update_costs p.map.runtime.logging o (stored_array p x) (list_place p) in
-    let h = (lowering_has p s index).word in
-    let k = (lowering_has p s b).word in
-    (omega (arith, most, l, m, h, k, last), omega (arith, most, l, m, h, k, last))
+  element_sides_keep : (p : Places) (s : ℕ) (x : Variable) (index : CheckedExpression) (op : PlacedOperator) (a b : CheckedExpression)
+      (o : Option PlainOperation) → ElementKeeps s index (t.binary op a b) (element_sides_set p x index op a b o)
+  element_sides_keep p s x index op a b None = element_setting_keeps p s x index (t.binary op a b)
+  element_sides_keep p s x index op a b (Some o) =
+      let most = row s op.operator Unsigned (joined_type (type_of a) (type_of b)) in
+      let l = added (lowered_expression p index) (lowered_expression p b) in
+      let m = added (index_and_value p index b) (one (update_element_step p o x)) in
+      let last = own_update_costs p.map.runtime.logging o (stored_array p x) (list_place p) in
+      let h = (lowering_has known p s index).word in
+      let k = (lowering_has known p s b).word in
+      (omega (arith, most, l, m, h, k, last), omega (arith, most, l, m, h, k, last))
 
--- the first clause makes it a proof by cases
-pub element_keeps : (p : Places) (s : ℕ) (x : Variable) (index e : CheckedExpression) → ElementKeeps s index e (element_assignment p x index e)
-element_keeps p s x index (t.binary op a b) =
-    element_sides_keep p s x index op a b (of_words (joined_type (type_of a) (type_of b)) (element_updating x index op.operator a))
-element_keeps p s x index e = element_setting_keeps p s x index e
+  -- the first clause makes it a proof by cases
+  pub element_keeps : (p : Places) (s : ℕ) (x : Variable) (index e : CheckedExpression) → ElementKeeps s index e (element_assignment p x index e)
+  element_keeps p s x index (t.binary op a b) =
+      element_sides_keep p s x index op a b (of_words (joined_type (type_of a) (type_of b)) (element_updating x index op.operator a))
+  element_keeps p s x index e = element_setting_keeps p s x index e
 
-pub emission_keeps : (p : Places) (s : ℕ) (e : CheckedExpression) → Keeps (emission p e) (beside 24 60 (price s e))
-emission_keeps p s e =
-    let l = added (lowered_expression p e) (one (emit_word (word_place p.map EmitCount) p.map.emits.address)) in
-    let h = (lowering_has p s e).word in
-    (omega (arith, l, h), omega (arith, l, h))
+  pub emission_keeps : (p : Places) (s : ℕ) (e : CheckedExpression) → Keeps (emission p e) (beside 24 60 (price known s e))
+  emission_keeps p s e =
+      let l = added (lowered_expression p e) (one (emit_word (word_place p.map EmitCount) p.map.emits.address)) in
+      let h = (lowering_has known p s e).word in
+      (omega (arith, l, h), omega (arith, l, h))
 
--- ---- words of statements
+  -- ---- words of statements
 
-mutual
-  pub statement_words : (p : Places) (s : ℕ) → private_words p.privates ≤ s → (x : CheckedStatement)
-      → words_of (lowered_statement p x) ≤ statement_price (words_column s) x
-  statement_words p s few (t.declare of x None) = omega arith
-  statement_words p s few (t.declare of x (Some e)) = (assignment_keeps p s x.variable e).0
-  statement_words p s few (t.assign x e) = (scalar_keeps p s x.word_type x.variable e).0
-  statement_words p s few (t.store x index e) = (element_keeps p s x.variable index e).0
-  statement_words p s few (t.choose choice) = let a = choice_words p s few choice in omega (arith, a)
-  statement_words p s few (t.loop x from tested below stepped body) = let a = block_words p s few body in omega (arith, a)
-  statement_words p s few (t.emit e) = (emission_keeps p s e).0
-  statement_words p s few (t.transition task) = transition_words p s task.task few
+  mutual
+    pub statement_words : (p : Places) (s : ℕ) → private_words p.privates ≤ s → (x : CheckedStatement)
+        → words_of (lowered_statement p x) ≤ statement_price known (words_column s) x
+    statement_words p s few (t.declare of x None) = omega arith
+    statement_words p s few (t.declare of x (Some e)) = (assignment_keeps p s x.variable e).0
+    statement_words p s few (t.assign x e) = (scalar_keeps p s x.word_type x.variable e).0
+    statement_words p s few (t.store x index e) = (element_keeps p s x.variable index e).0
+    statement_words p s few (t.choose choice) = let a = choice_words p s few choice in omega (arith, a)
+    statement_words p s few (t.loop x from tested below stepped body) = let a = block_words p s few body in omega (arith, a)
+    statement_words p s few (t.emit e) = (emission_keeps p s e).0
+    statement_words p s few (t.give at e) = omega arith
+    statement_words p s few (t.transition at task) = transition_words p s task.task few
 
-  pub choice_words : (p : Places) (s : ℕ) → private_words p.privates ≤ s → (c : CheckedChoice)
-      → words_of (lowered_choice p c) ≤ conditions_price (words_column s) c + blocks_price (words_column s) c
-  choice_words p s few t.nothing = omega arith
-  choice_words p s few (t.otherwise block) = let a = block_words p s few block in omega (arith, a)
-  choice_words p s few (t.test e block more) =
-      let a = block_words p s few block in
-      let b = choice_words p s few more in
-      let h = (lowering_has p s e).test in
-      omega (arith, a, b, h)
+    pub choice_words : (p : Places) (s : ℕ) → private_words p.privates ≤ s → (c : CheckedChoice)
+        → words_of (lowered_choice p c) ≤ conditions_price known (words_column s) c + blocks_price known (words_column s) c
+    choice_words p s few t.nothing = omega arith
+    choice_words p s few (t.otherwise block) = let a = block_words p s few block in omega (arith, a)
+    choice_words p s few (t.test e block more) =
+        let a = block_words p s few block in
+        let b = choice_words p s few more in
+        let h = (lowering_has known p s e).test in
+        omega (arith, a, b, h)
 
-  pub block_words : (p : Places) (s : ℕ) → private_words p.privates ≤ s → (b : CheckedBlock) → words_of (lowered_block p b) ≤ block_price (words_column s) b
-  block_words p s few t.end = omega arith
-  block_words p s few (t.step x more) =
-      let a = statement_words p s few x in
-      let b = block_words p s few more in
-      let l = joined_words (lowered_statement p x) (lowered_block p more) in
-      omega (arith, a, b, l)
+    pub block_words : (p : Places) (s : ℕ) → private_words p.privates ≤ s → (b : CheckedBlock)
+        → words_of (lowered_block p b) ≤ block_price known (words_column s) b
+    block_words p s few t.end = omega arith
+    block_words p s few (t.step x more) =
+        let a = statement_words p s few x in
+        let b = block_words p s few more in
+        let l = joined_words (lowered_statement p x) (lowered_block p more) in
+        omega (arith, a, b, l)
 
--- ---- cycles of expressions: 11 less than is allowed, so that a test has them
+  -- ---- cycles of expressions: 11 less than is allowed, so that a test has them
 
-pub expression_cycles : (p : Places) (e : CheckedExpression) → cycles_of (lowered_expression p e) + 11 ≤ expression_price cycles_column e
-expression_cycles p e = (lowering_has p 0 e).word.1
+  pub expression_cycles : (p : Places) (e : CheckedExpression) → cycles_of (lowered_expression p e) + 11 ≤ expression_price known cycles_column e
+  expression_cycles p e = (lowering_has known p 0 e).word.1
 
--- a choice has 3 more for a branch
-pub test_cycles_kept : (p : Places) (e : CheckedExpression) → test_cycles (lowered_test p e) + 3 ≤ expression_price cycles_column e
-test_cycles_kept p e = (lowering_has p 0 e).test.1
+  -- a choice has 3 more for a branch
+  pub test_cycles_kept : (p : Places) (e : CheckedExpression) → test_cycles (lowered_test p e) + 3 ≤ expression_price known cycles_column e
+  test_cycles_kept p e = (lowering_has known p 0 e).test.1
 
 pub blocks_keep_to_words : BlocksKeepToWords
-blocks_keep_to_words p s block few = block_words p s few block
+blocks_keep_to_words known p s block few = block_words known p s few block

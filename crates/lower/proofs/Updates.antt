@@ -2,7 +2,7 @@
 use Rattle.lower.proofs.Names.{◌≡◌, ℕ, Bool, true, false, ◌&&◌, Option, Some, None, refl, sym, ap, subst, ◌∙◌, if◌then◌else◌, eqb-true, and_parts}
 use Rattle.lower.proofs.Names.{CheckedExpression, WordType, Unsigned, Int, Long, BinaryOperator, Variable, Shared, Local, VariableName, PlacedOperator}
 use Rattle.lower.proofs.Names.{IsOneWord, by_one_word, joined_word, ◌>>?◌, Evaluated, gives, made_of, word_at, scalar_value, binary_value, binary_result}
-use Rattle.lower.proofs.Names.{value_of, scalar_word, value_takes, Outcome, if_value, with_value, PlainOperation, plain_word, plain_operation, is_same}
+use Rattle.lower.proofs.Names.{value_of, scalar_word, value_keeps, Outcome, if_value, with_value, PlainOperation, plain_word, plain_operation, is_same}
 use Rattle.lower.proofs.Names.{is_name, updating, of_words, is_number, are_alike, element_updating}
 use Rattle.source_values.specs.Values.{Attempt, joined_type, type_of}
 use Rattle.source_values.specs.Statements.{goes_on, assigned}
@@ -76,15 +76,15 @@ is_element_update x index op a o h = absurd (cc)
 -- two expressions have one word, and leave the attempt as it is
 record HaveOneWord (m : Attempt) (a b : CheckedExpression) : Type 0 where
   word : ℕ
-  first : value_of a m ≡ gives word m
-  second : value_of b m ≡ gives word m
+  first : value_of [] a m ≡ gives word m
+  second : value_of [] b m ≡ gives word m
 
-number_value : (m : Attempt) (n : ℕ) (e : CheckedExpression) → is_number n e ≡ true → value_of e m ≡ gives n m
+number_value : (m : Attempt) (n : ℕ) (e : CheckedExpression) → is_number n e ≡ true → value_of [] e m ≡ gives n m
 number_value m n (t.number k) h = ap (λ w. gives w m) (sym (eqb-true n k h))
 number_value m n e h = absurd (cc)
 
 name_value : (m : Attempt) (x : Variable) (e : CheckedExpression) → IsOneWord (type_of e) → is_name x e ≡ true
-    → value_of e m ≡ gives (word_at m.variables x 0) m
+    → value_of [] e m ≡ gives (word_at m.variables x 0) m
 name_value m x (t.name y) one h =
     ap (λ w. gives w m) (scalar_word m.variables y one ∙ ap (λ z. word_at m.variables z 0) (same_variable x y.variable h))
 name_value m x e one h = absurd (cc)
@@ -119,22 +119,22 @@ plain_result op o s of a b of_left of_right h =
 -- evaluated
 updated_value : (x : Variable) (i : ℕ) (b : CheckedExpression) (m : Attempt) (f : ℕ → ℕ) (o : PlainOperation)
     → ((v : ℕ) → f v ≡ plain_word o (word_at m.variables x i) v)
-    → if_value (made_of f (value_of b m)) (λ v s. goes_on (assigned s x i v))
-    ≡ with_value b m (λ v s. goes_on (assigned s x i (plain_word o (word_at s.variables x i) v)))
-updated_value x i b m f o same = by (value_of b m) refl
+    → if_value (made_of f (value_of [] b m)) (λ v s. goes_on (assigned s x i v))
+    ≡ with_value [] b m (λ v s. goes_on (assigned s x i (plain_word o (word_at s.variables x i) v)))
+updated_value x i b m f o same = by (value_of [] b m) refl
   where
-    by : (r : Option Evaluated) → value_of b m ≡ r
+    by : (r : Option Evaluated) → value_of [] b m ≡ r
         → if_value (made_of f r) (λ v s. goes_on (assigned s x i v)) ≡ if_value r (λ v s. goes_on (assigned s x i (plain_word o (word_at s.variables x i) v)))
     by None is = refl
     by (Some y) is = ap (λ v. goes_on (assigned y.behind x i v))
-        (same y.value ∙ ap (λ vs. plain_word o (word_at vs x i) y.value) (sym (value_takes b m y is).keeps.variables))
+        (same y.value ∙ ap (λ vs. plain_word o (word_at vs x i) y.value) (sym (value_keeps b m y is).variables))
 
 pub update_goes_on : (x : Variable) (op : PlacedOperator) (a b : CheckedExpression) (o : PlainOperation) (m : Attempt) → IsUpdate x op.operator a o
     → IsOneWord (type_of a) → IsOneWord (type_of b)
-    → with_value (t.binary op a b) m (λ v s. goes_on (assigned s x 0 v))
-    ≡ with_value b m (λ v s. goes_on (assigned s x 0 (plain_word o (word_at s.variables x 0) v)))
+    → with_value [] (t.binary op a b) m (λ v s. goes_on (assigned s x 0 v))
+    ≡ with_value [] b m (λ v s. goes_on (assigned s x 0 (plain_word o (word_at s.variables x 0) v)))
 update_goes_on x op a b o m u of_left of_right =
-    ap (λ e. with_value (t.binary op e b) m (λ v s. goes_on (assigned s x 0 v))) u.is
+    ap (λ e. with_value [] (t.binary op e b) m (λ v s. goes_on (assigned s x 0 v))) u.is
     ∙ updated_value x 0 b m (binary_result op.operator u.name.word_type (type_of b) (scalar_value m.variables u.name)) o same
   where
     one : IsOneWord u.name.word_type
@@ -147,11 +147,11 @@ update_goes_on x op a b o m u of_left of_right =
 
 -- what an assignment to an element goes on with, where the index is evaluated first
 abbrev pub stored_value : Variable → CheckedExpression → ℕ → Attempt → Outcome
-stored_value x e i s = with_value e s (λ v s. goes_on (assigned s x i v))
+stored_value x e i s = with_value [] e s (λ v s. goes_on (assigned s x i v))
 
 -- the same in place
 abbrev updated_element : Variable → PlainOperation → CheckedExpression → ℕ → Attempt → Outcome
-updated_element x o b i s = with_value b s (λ v s. goes_on (assigned s x i (plain_word o (word_at s.variables x i) v)))
+updated_element x o b i s = with_value [] b s (λ v s. goes_on (assigned s x i (plain_word o (word_at s.variables x i) v)))
 
 -- both indexes and both sides are of one word
 pub record AreOneWord (first second a b : CheckedExpression) : Type 0 where
@@ -162,7 +162,7 @@ pub record AreOneWord (first second a b : CheckedExpression) : Type 0 where
 
 pub element_update_goes_on : (x : Variable) (index : CheckedExpression) (op : PlacedOperator) (a b : CheckedExpression) (o : PlainOperation) (m : Attempt)
     (u : IsElementUpdate x index op.operator a o) → AreOneWord index u.other a b
-    → with_value index m (stored_value x (t.binary op a b)) ≡ with_value index m (updated_element x o b)
+    → with_value [] index m (stored_value x (t.binary op a b)) ≡ with_value [] index m (updated_element x o b)
 element_update_goes_on x index op a b o m u one =
     let of = u.name.word_type in
     let result = binary_result op.operator of (type_of b) in
@@ -172,8 +172,8 @@ element_update_goes_on x index op a b o m u one =
     let element_of : Option Evaluated → Option Evaluated =
     λ r. r >>? λ j. gives (word_at j.behind.variables u.name.variable j.value) j.behind in
     let behind_index : Option Evaluated → Outcome =
-    λ r. if_value (element_of r >>? λ y. made_of (result y.value) (value_of b y.behind)) stored in
-    let behind_word : ℕ → Outcome = λ n. if_value (made_of (result n) (value_of b m)) stored in
+    λ r. if_value (element_of r >>? λ y. made_of (result y.value) (value_of [] b y.behind)) stored in
+    let behind_word : ℕ → Outcome = λ n. if_value (made_of (result n) (value_of [] b m)) stored in
     let of_left = subst (λ e. IsOneWord (type_of e)) u.is one.left in
     let word = word_at m.variables x i in
     ap (λ r. if_value r (stored_value x (t.binary op a b))) indexes.first

@@ -13,7 +13,7 @@ use Rattle.task_ast.specs.declared.names.Variable.{Variable}
 use Rattle.task_ast.specs.declared.names.Variable.TheVariants.{Shared, Local}
 use Rattle.source_values.specs.Values.{Variables, Attempt, Evaluated, word_at, converted, made_of, truth_word, value_of}
 use Rattle.memory_map.specs.event_places.Places.{sent_place, answer_place}
-use Rattle.source_values.specs.Statements.{Outcome, goes_on, to_task, short, run_block, block_emits}
+use Rattle.source_values.specs.Statements.{Outcome, goes_on, to_task, returns, short, run_block, block_emits}
 use Rattle.array_versions.specs.Behaviour.{WordState, End, GoesOn, Jumps, Short, Strays, Broken, Behaviour, behaviour, event_index}
 use Rattle.cost_bound.specs.Counts.{stores_of}
 use Rattle.memory_map.specs.MemoryMap.{MemoryMap, word_place, where_events}
@@ -211,19 +211,19 @@ converted_to s t o = made_of (converted s t) o
 abbrev pub IsFit : List SharedDeclaration → Places → CheckedExpression → Type 0
 IsFit shared p e = WellFormedExpression shared e × AdmitsExpression p.map.runtime.events e
 
--- the program of an expression leaves its value, as one word
+-- the program of a well-formed expression, which calls no function, leaves its value, as one word
 abbrev pub ExpressionsAgree : Type 0
 ExpressionsAgree = (shared : List SharedDeclaration) (p : Places) (room : Room) (e : CheckedExpression) (m : Attempt) (w : WordState)
     → AreApart p room → AreEven p → AsDeclared shared p → IsFit shared p e → HoldVariables p m.variables w.fram w.locals
     → AgreesWithValue p.map.runtime.events w (behaviour (lowered_expression p e) w)
-    (by_answers (in_state w m) (λ s. converted_to (type_of e) Unsigned (value_of e s)))
+    (by_answers (in_state w m) (λ s. converted_to (type_of e) Unsigned (value_of [] e s)))
 
 -- and the other its value as a long
 abbrev pub LongsAgree : Type 0
 LongsAgree = (shared : List SharedDeclaration) (p : Places) (room : Room) (e : CheckedExpression) (m : Attempt) (w : WordState)
     → AreApart p room → AreEven p → AsDeclared shared p → IsFit shared p e → HoldVariables p m.variables w.fram w.locals
     → AgreesWithLong p.map.runtime.events w (behaviour (lowered_long p e) w)
-    (by_answers (in_state w m) (λ s. converted_to (type_of e) Long (value_of e s)))
+    (by_answers (in_state w m) (λ s. converted_to (type_of e) Long (value_of [] e s)))
 
 -- a value as 1 where it isn't 0, else 0
 abbrev pub truth_of : Option Evaluated → Option Evaluated
@@ -233,7 +233,7 @@ truth_of o = made_of truth_word o
 abbrev pub TestsAgree : Type 0
 TestsAgree = (shared : List SharedDeclaration) (p : Places) (room : Room) (e : CheckedExpression) (m : Attempt) (w : WordState)
     → AreApart p room → AreEven p → AsDeclared shared p → IsFit shared p e → HoldVariables p m.variables w.fram w.locals
-    → AgreesWithValue p.map.runtime.events w (behaviour (one (truth (lowered_test p e))) w) (by_answers (in_state w m) (λ s. truth_of (value_of e s)))
+    → AgreesWithValue p.map.runtime.events w (behaviour (one (truth (lowered_test p e))) w) (by_answers (in_state w m) (λ s. truth_of (value_of [] e s)))
 
 -- ---- statements
 
@@ -296,16 +296,19 @@ pub record Left (p : Places) (b : Bounds) (left : List ℕ) (es : List Effect) (
   pub readings : s.inputs.readings ≡ m.left
   pub answers : m.answers ≡ left
 
--- the end is as the outcome has it, with these answers left
+-- the end is as the outcome has it, with these answers left; a task's statements don't return
 abbrev pub EndsAs : Places → Bounds → List ℕ → List ℕ → List Effect → End → Outcome → Type 0
 EndsAs p b stack left es (GoesOn s) (goes_on m) = WentOn p b stack left es s m
 EndsAs p b stack left es (GoesOn s) (to_task task m) = ⊥
+EndsAs p b stack left es (GoesOn s) (returns u m) = ⊥
 EndsAs p b stack left es (GoesOn s) short = ⊥
 EndsAs p b stack left es (Jumps to s) (goes_on m) = ⊥
 EndsAs p b stack left es (Jumps to s) (to_task task m) = Left p b left es to s task m
+EndsAs p b stack left es (Jumps to s) (returns u m) = ⊥
 EndsAs p b stack left es (Jumps to s) short = ⊥
 EndsAs p b stack left es Short (goes_on m) = ⊥
 EndsAs p b stack left es Short (to_task task m) = ⊥
+EndsAs p b stack left es Short (returns u m) = ⊥
 EndsAs p b stack left es Short short = DidWithin p b es
 EndsAs p b stack left es Strays o = ⊥
 EndsAs p b stack left es Broken o = Unit {0}
@@ -318,10 +321,10 @@ Agrees p b stack r o = (others : List ℕ) → EndsAs p b stack others r.effects
 abbrev pub WritesWithin : (ℕ → Bool) → CheckedBlock → Type 0
 WritesWithin written block = (v : ℕ) → some_path_writes block v ≡ true → written v ≡ true
 
--- the program of well-formed statements does what they do, where there is room for what they emit and list
+-- the program of well-formed statements, which call no function, does what they do, where there is room for what they emit and list
 abbrev pub BlocksAgree : Type 0
 BlocksAgree = (z : Scene) (block : CheckedBlock) (m : Attempt) (listed : List Element) (w : WordState) → w.fram (word_place z.p.map Version) ≡ z.ver
     → WellFormedBlock z.shared block → AdmitsBlock z.p.map.runtime.events block → WritesWithin z.written block → StandsFor z.p z.first m listed w
-    → length m.emitted + block_emits block ≤ z.room.emits → ((v : ℕ) → listed_of v listed + stores_of v block ≤ z.stores v)
-    → Agrees z.p (bounds z w.fram (λ v. listed_of v listed + stores_of v block)) w.stack (behaviour (lowered_block z.p block) w)
-    (λ answers. run_block block (answered_by answers m))
+    → length m.emitted + block_emits [] block ≤ z.room.emits → ((v : ℕ) → listed_of v listed + stores_of [] v block ≤ z.stores v)
+    → Agrees z.p (bounds z w.fram (λ v. listed_of v listed + stores_of [] v block)) w.stack (behaviour (lowered_block z.p block) w)
+    (λ answers. run_block [] block (answered_by answers m))

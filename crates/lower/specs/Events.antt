@@ -1,7 +1,7 @@
 -- Which sources a program that takes events may stand for, and which one that takes none.
 use Rattle.std.specs.Prelude.{◌≡◌, Bool, true, Some, None}
 use Rattle.task_ast.specs.Tree.{element, next_event, unary, binary, shift, short_circuit}
-use Rattle.task_ast.specs.Tree.{declare, assign, store, choose, loop, emit, transition, nothing, otherwise, test, end, step}
+use Rattle.task_ast.specs.Tree.{declare, assign, store, choose, loop, emit, give, transition, nothing, otherwise, test, end, step}
 use Rattle.task_ast.specs.Paths.{CheckedExpression, CheckedStatement, CheckedChoice, CheckedBlock}
 
 -- `next_event()` stands in an expression only where events are taken
@@ -24,7 +24,8 @@ abbrev mutual
   AdmitsStatement events (choose choice) = AdmitsChoice events choice
   AdmitsStatement events (loop x from tested below stepped body) = AdmitsBlock events body
   AdmitsStatement events (emit e) = AdmitsExpression events e
-  AdmitsStatement events (transition task) = Unit {0}
+  AdmitsStatement events (give at e) = AdmitsExpression events e
+  AdmitsStatement events (transition at task) = Unit {0}
 
   -- of conditions with their blocks
   pub AdmitsChoice : Bool → CheckedChoice → Type 0

@@ -1,8 +1,7 @@
 -- The word programs of expressions, statements and tasks.
 use Rattle.std.specs.Prelude.{ℕ, ◌/◌, ◌%◌, ◌==◌, ◌&&◌, Bool, false, if◌then◌else◌, List, [], ◌∷◌, Option, Some, None, slice_get}
 use Rattle.task_ast.specs.Tree as t
-use Rattle.task_ast.specs.Tree.{Task}
-use Rattle.task_ast.specs.Paths.{CheckedExpression, CheckedStatement, CheckedChoice, CheckedBlock}
+use Rattle.task_ast.specs.Paths.{CheckedExpression, CheckedStatement, CheckedChoice, CheckedBlock, CheckedTask}
 use Rattle.task_ast.specs.declared.WordType.{WordType}
 use Rattle.task_ast.specs.declared.WordType.TheVariants.{Unsigned, Int, Long}
 use Rattle.task_ast.specs.declared.UnaryOperator.{UnaryOperator}
@@ -14,8 +13,6 @@ use Rattle.task_ast.specs.declared.ShortCircuitOperator.{ShortCircuitOperator}
 use Rattle.task_ast.specs.declared.ShortCircuitOperator.TheVariants.{And as BothHold, Or as OneHolds}
 use Rattle.task_ast.specs.declared.names.Variable.{Variable}
 use Rattle.task_ast.specs.declared.names.Variable.TheVariants.{Shared, Local}
-use Rattle.task_ast.specs.declared.names.VariableName.{VariableName}
-use Rattle.task_ast.specs.declared.names.TaskName.{TaskName}
 use Rattle.path_sums.specs.Access.{is_same}
 use Rattle.source_values.specs.Values.{by_width, joined_type, type_of}
 use Rattle.source_values.specs.Runs.{CheckedProgram}
@@ -231,6 +228,8 @@ lowering p (t.name x) = name_lowering p x.word_type x.variable
 lowering p (t.element x index) = as_word (behind (word_program (lowering p index)) (element_step p x.variable))
 lowering p t.sense = as_word (one sense)
 lowering p t.next_event = as_word (one next_event)
+-- no program calls a function: where none is declared, none is called
+lowering p (t.call f values) = as_word (one (number 0))
 lowering p (t.unary op e) = operand_lowering (type_of e) op (lowering p e)
 lowering p (t.binary op a b) =
     sides_lowering (operand_type op.operator (joined_type (type_of a) (type_of b))) op.operator (widened_type a) (widened_type b)
@@ -368,7 +367,9 @@ abbrev mutual
   lowered_statement p (t.choose choice) = lowered_choice p choice
   lowered_statement p (t.loop x from tested below stepped body) = one (repeat (loop_local x.variable) from below (lowered_block p body))
   lowered_statement p (t.emit e) = emission p e
-  lowered_statement p (t.transition task) = lowered_transition p task.task
+  -- it stands in functions alone
+  lowered_statement p (t.give at e) = nothing
+  lowered_statement p (t.transition at task) = lowered_transition p task.task
 
   -- the conditions of an `if` one after another, up to the first that holds
   pub lowered_choice : Places → CheckedChoice → Program
@@ -386,7 +387,7 @@ abbrev pub lowered_task : MemoryMap → TaskPlace → CheckedBlock → Program
 lowered_task l task body = lowered_block (places_of (map_seen body l) (task_seen l.runtime.logging task)) body
 
 -- the programs of tasks, each with its layout
-abbrev pub lowered_tasks : MemoryMap → List (Task VariableName TaskName) → List TaskPlace → List Program
+abbrev pub lowered_tasks : MemoryMap → List CheckedTask → List TaskPlace → List Program
 lowered_tasks l (task ∷ tasks) (layout ∷ layouts) = lowered_task l layout task.body ∷ lowered_tasks l tasks layouts
 lowered_tasks l _ _ = []
 

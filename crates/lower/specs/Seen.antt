@@ -11,9 +11,9 @@ use Rattle.memory_map.specs.declared.runtime.Logging.{Logging}
 use Rattle.memory_map.specs.declared.runtime.Logging.TheVariants.{Redo, Undo}
 use Rattle.memory_map.specs.MemoryMap.{MemoryMap, TaskPlace}
 
--- whether some path of a task writes a shared variable
+-- whether some path of a task writes a shared variable, where it calls no function
 abbrev pub some_path_writes : CheckedBlock → ℕ → Bool
-some_path_writes body v = (block_sum (summary (Shared v)) body).writes
+some_path_writes body v = (block_sum [] (summary (Shared v)) body).writes
 
 -- the place of a variable in a task that writes it, and in one that doesn't
 abbrev pub place_seen : Bool → VariablePlace → VariablePlace

@@ -28,8 +28,8 @@ use memory_map::{Logging, VariablePlace};
 use std::alloc::{AllocError, Global};
 use task_ast::types::{binary_type, joined_type, literal_type, unary_type};
 use task_ast::{
-    BinaryOperator, Expr, ShiftOperator, ShortCircuitOperator, UnaryOperator, Variable,
-    VariableName, WordType,
+    BinaryOperator, Expr, FunctionName, ShiftOperator, ShortCircuitOperator, UnaryOperator,
+    Variable, VariableName, WordType,
 };
 use variable_places::{TaskPlaces, array_place, high_address, low_word};
 
@@ -460,7 +460,7 @@ fn long_binary(
 }
 
 // The type by which an expression of this type becomes long: a number of one word has no sign.
-fn widened_type(e: &Expr<VariableName>, word_type: WordType) -> WordType
+fn widened_type(e: &Expr<VariableName, FunctionName>, word_type: WordType) -> WordType
     requires { word_type ≡ type_of (expression_of e.now) }
     ensures { result ≡ widened_type (expression_of e.now) }
 {
@@ -471,6 +471,7 @@ fn widened_type(e: &Expr<VariableName>, word_type: WordType) -> WordType
         | Expr::Element(..)
         | Expr::Sense
         | Expr::NextEvent
+        | Expr::Call(..)
         | Expr::Unary(..)
         | Expr::Binary(..)
         | Expr::Shift(..)
@@ -582,7 +583,7 @@ pub fn append(program: &mut WordProgram, mut more: WordProgram) -> Result<(), Al
 #[cycle(expression)]
 fn lower(
     alloc: Global,
-    e: &Expr<VariableName>,
+    e: &Expr<VariableName, FunctionName>,
     places: &TaskPlaces<'_>,
 ) -> Result<(ExpressionProgram, WordType), AllocError>
     ensures program { IfOk result (λ x. lowering_of x.0 ≡ lowering (places_in places.now) (expression_of e.now)) }
@@ -598,6 +599,8 @@ fn lower(
         }
         Expr::Sense => with_type(reading(alloc), WordType::Unsigned),
         Expr::NextEvent => with_type(event(alloc), WordType::Unsigned),
+        // No program calls a function yet: where none is declared, none is called.
+        Expr::Call(function, _) => with_type(number(alloc, 0), function.word_type),
         Expr::Unary(op, operand) => {
             let (operand, word_type) = lower(alloc, operand, places)?;
             let program = of_operand(alloc, word_type, *op, operand)?;
@@ -632,7 +635,7 @@ fn lower(
 #[cycle(expression)]
 pub fn lower_expression(
     alloc: Global,
-    e: &Expr<VariableName>,
+    e: &Expr<VariableName, FunctionName>,
     places: &TaskPlaces<'_>,
 ) -> Result<WordProgram, AllocError>
     ensures { IfOk result (λ p. program_of p ≡ lowered_expression (places_in places.now) (expression_of e.now)) }
@@ -644,7 +647,7 @@ pub fn lower_expression(
 /// Puts the program that leaves an expression's value, as one word, behind another.
 pub fn append_expression(
     alloc: Global,
-    e: &Expr<VariableName>,
+    e: &Expr<VariableName, FunctionName>,
     places: &TaskPlaces<'_>,
     program: &mut WordProgram,
 ) -> Result<(), AllocError>
@@ -658,7 +661,7 @@ pub fn append_expression(
 /// The program that leaves an expression's value on top of the stack, as a long.
 pub fn lower_long(
     alloc: Global,
-    e: &Expr<VariableName>,
+    e: &Expr<VariableName, FunctionName>,
     places: &TaskPlaces<'_>,
 ) -> Result<WordProgram, AllocError>
     ensures { IfOk result (λ p. program_of p ≡ lowered_long (places_in places.now) (expression_of e.now)) }
@@ -670,7 +673,7 @@ pub fn lower_long(
 /// The test that an expression's value isn't 0.
 pub fn lower_test(
     alloc: Global,
-    e: &Expr<VariableName>,
+    e: &Expr<VariableName, FunctionName>,
     places: &TaskPlaces<'_>,
 ) -> Result<WordTest, AllocError>
     ensures { IfOk result (λ c. test_of c ≡ lowered_test (places_in places.now) (expression_of e.now)) }

@@ -6,10 +6,10 @@ ghost use Rattle.lower.specs.Lowered.{is_name, updating, of_words, is_number, ar
 use crate::operations::plain_operation;
 use array_versions::PlainOperation;
 use path_sums::is_same;
-use task_ast::{BinaryOperator, Expr, Variable, VariableName, WordType};
+use task_ast::{BinaryOperator, Expr, FunctionName, Variable, VariableName, WordType};
 
 // Whether an expression is a variable alone.
-fn is_name(variable: Variable, e: &Expr<VariableName>) -> bool
+fn is_name(variable: Variable, e: &Expr<VariableName, FunctionName>) -> bool
     ensures { result ≡ is_name variable (expression_of e.now) }
 {
     match e {
@@ -19,6 +19,7 @@ fn is_name(variable: Variable, e: &Expr<VariableName>) -> bool
         | Expr::Element(..)
         | Expr::Sense
         | Expr::NextEvent
+        | Expr::Call(..)
         | Expr::Unary(..)
         | Expr::Binary(..)
         | Expr::Shift(..)
@@ -30,7 +31,7 @@ fn is_name(variable: Variable, e: &Expr<VariableName>) -> bool
 pub fn updating(
     variable: Variable,
     op: BinaryOperator,
-    left: &Expr<VariableName>,
+    left: &Expr<VariableName, FunctionName>,
 ) -> Option<PlainOperation>
     ensures { result ≡ updating variable op (expression_of left.now) }
 {
@@ -52,7 +53,7 @@ pub fn of_words(word_type: WordType, operation: Option<PlainOperation>) -> Optio
 }
 
 // Whether an expression is this number.
-fn is_number(n: u16, e: &Expr<VariableName>) -> bool
+fn is_number(n: u16, e: &Expr<VariableName, FunctionName>) -> bool
     ensures { result ≡ is_number n (expression_of e.now) }
 {
     match e {
@@ -62,6 +63,7 @@ fn is_number(n: u16, e: &Expr<VariableName>) -> bool
         | Expr::Element(..)
         | Expr::Sense
         | Expr::NextEvent
+        | Expr::Call(..)
         | Expr::Unary(..)
         | Expr::Binary(..)
         | Expr::Shift(..)
@@ -70,7 +72,10 @@ fn is_number(n: u16, e: &Expr<VariableName>) -> bool
 }
 
 // Whether two expressions are one number or one variable alone.
-fn are_alike(first: &Expr<VariableName>, second: &Expr<VariableName>) -> bool
+fn are_alike(
+    first: &Expr<VariableName, FunctionName>,
+    second: &Expr<VariableName, FunctionName>,
+) -> bool
     ensures { result ≡ are_alike (expression_of first.now) (expression_of second.now) }
 {
     match first {
@@ -80,6 +85,7 @@ fn are_alike(first: &Expr<VariableName>, second: &Expr<VariableName>) -> bool
         | Expr::Element(..)
         | Expr::Sense
         | Expr::NextEvent
+        | Expr::Call(..)
         | Expr::Unary(..)
         | Expr::Binary(..)
         | Expr::Shift(..)
@@ -88,7 +94,11 @@ fn are_alike(first: &Expr<VariableName>, second: &Expr<VariableName>) -> bool
 }
 
 // Whether an expression is the element of a variable at an index that is a number or a variable alone.
-fn is_element(variable: Variable, index: &Expr<VariableName>, e: &Expr<VariableName>) -> bool
+fn is_element(
+    variable: Variable,
+    index: &Expr<VariableName, FunctionName>,
+    e: &Expr<VariableName, FunctionName>,
+) -> bool
     ensures { result ≡ is_element variable (expression_of index.now) (expression_of e.now) }
 {
     match e {
@@ -98,6 +108,7 @@ fn is_element(variable: Variable, index: &Expr<VariableName>, e: &Expr<VariableN
         | Expr::Name(_)
         | Expr::Sense
         | Expr::NextEvent
+        | Expr::Call(..)
         | Expr::Unary(..)
         | Expr::Binary(..)
         | Expr::Shift(..)
@@ -109,9 +120,9 @@ fn is_element(variable: Variable, index: &Expr<VariableName>, e: &Expr<VariableN
 /// number or one variable alone, so that it is one element.
 pub fn element_updating(
     variable: Variable,
-    index: &Expr<VariableName>,
+    index: &Expr<VariableName, FunctionName>,
     op: BinaryOperator,
-    left: &Expr<VariableName>,
+    left: &Expr<VariableName, FunctionName>,
 ) -> Option<PlainOperation>
     ensures { result ≡ element_updating variable (expression_of index.now) op (expression_of left.now) }
 {

@@ -11,7 +11,7 @@ use array_versions::WordProgram;
 use memory_map::{Layout, Logging, PrivateScalar, TaskLayout, VariablePlace};
 use path_sums::access_summary;
 use std::alloc::{AllocError, Global};
-use task_ast::{Stmt, TaskName, Variable, VariableName};
+use task_ast::{FunctionName, Stmt, TaskName, Variable, VariableName};
 use task_check::Checked;
 use variable_places::TaskPlaces;
 
@@ -39,7 +39,7 @@ fn place_seen(written: bool, place: VariablePlace) -> VariablePlace
 // The places of all variables as a task sees them.
 fn places_seen(
     alloc: Global,
-    body: &[Stmt<VariableName, TaskName>],
+    body: &[Stmt<VariableName, TaskName, FunctionName>],
     variables: &[VariablePlace],
 ) -> Result<Vec<VariablePlace>, AllocError>
     requires { length variables.now ≤ 256 }
@@ -47,7 +47,7 @@ fn places_seen(
 {
     let mut seen = Vec::new(alloc);
     for i in 0..variables.len() {
-        let summary = access_summary(Variable::Shared(i as u32), body);
+        let summary = access_summary(&[], Variable::Shared(i as u32), body);
         seen.push(place_seen(summary.writes, variables[i]))?;
     }
     Ok(seen)
@@ -65,7 +65,7 @@ fn privates_seen(logging: Logging, task: &TaskLayout) -> &[PrivateScalar]
 
 fn lower_task(
     alloc: Global,
-    body: &[Stmt<VariableName, TaskName>],
+    body: &[Stmt<VariableName, TaskName, FunctionName>],
     layout: &Layout,
     task: &TaskLayout,
 ) -> Result<WordProgram, AllocError>

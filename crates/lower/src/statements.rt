@@ -3,10 +3,9 @@ ghost use Rattle.std.specs.Prelude.{◌≡◌, [], map, Option, OnOk, IfOk};
 ghost use Rattle.std.specs.Option.{option_map};
 ghost use Rattle.array_versions.specs.Program.{joined, behind, choose};
 ghost use Rattle.array_versions.specs.View.{program_of};
-ghost use Rattle.task_ast.specs.Tree.{Block, choice_of};
+ghost use Rattle.task_ast.specs.Tree.{choice_of};
+ghost use Rattle.task_ast.specs.Paths.{CheckedBlock};
 ghost use Rattle.task_ast.specs.View.{expression_of, statement_of, tested_of, block_view};
-ghost use Rattle.task_ast.specs.declared.names.VariableName.{VariableName};
-ghost use Rattle.task_ast.specs.declared.names.TaskName.{TaskName};
 ghost use Rattle.lower.specs.View.{places_in};
 ghost use Rattle.lower.specs.Lowered.{one, write_step, write_long, update_step, logged_place, store_step, update_element_step, loop_local};
 ghost use Rattle.lower.specs.Lowered.{lowered_test, setting, long_setting};
@@ -20,7 +19,7 @@ use array_versions::{ArrayPlace, LoggedPlace, LongOperation, PlainOperation, Wor
 use memory_map::{Logging, RuntimeWord};
 use std::alloc::{AllocError, Global};
 use task_ast::types::{joined_type, type_of};
-use task_ast::{Arm, Expr, Stmt, TaskName, Variable, VariableName, WordType};
+use task_ast::{Arm, Expr, FunctionName, Stmt, TaskName, Variable, VariableName, WordType};
 use variable_places::{TaskPlaces, high_address, low_word};
 
 fn write(
@@ -81,7 +80,7 @@ fn update(
 fn set(
     alloc: Global,
     variable: Variable,
-    e: &Expr<VariableName>,
+    e: &Expr<VariableName, FunctionName>,
     places: &TaskPlaces<'_>,
     program: &mut WordProgram,
 ) -> Result<(), AllocError>
@@ -97,7 +96,7 @@ fn set(
 fn set_long(
     alloc: Global,
     variable: Variable,
-    e: &Expr<VariableName>,
+    e: &Expr<VariableName, FunctionName>,
     places: &TaskPlaces<'_>,
     program: &mut WordProgram,
 ) -> Result<(), AllocError>
@@ -114,7 +113,7 @@ fn set_in_place(
     alloc: Global,
     operation: PlainOperation,
     variable: Variable,
-    e: &Expr<VariableName>,
+    e: &Expr<VariableName, FunctionName>,
     places: &TaskPlaces<'_>,
     program: &mut WordProgram,
 ) -> Result<(), AllocError>
@@ -129,7 +128,7 @@ fn set_in_place(
 fn assign(
     alloc: Global,
     variable: Variable,
-    e: &Expr<VariableName>,
+    e: &Expr<VariableName, FunctionName>,
     places: &TaskPlaces<'_>,
     program: &mut WordProgram,
 ) -> Result<(), AllocError>
@@ -150,6 +149,7 @@ fn assign(
         | Expr::Element(..)
         | Expr::Sense
         | Expr::NextEvent
+        | Expr::Call(..)
         | Expr::Unary(..)
         | Expr::Shift(..)
         | Expr::ShortCircuit(..) => set(alloc, variable, e, places, program),
@@ -161,7 +161,7 @@ fn assign_scalar(
     alloc: Global,
     word_type: WordType,
     variable: Variable,
-    e: &Expr<VariableName>,
+    e: &Expr<VariableName, FunctionName>,
     places: &TaskPlaces<'_>,
     program: &mut WordProgram,
 ) -> Result<(), AllocError>
@@ -178,8 +178,8 @@ fn assign_scalar(
 #[tactic(auto, using(array_versions::proofs::Interface::joined_assoc))]
 fn index_and_value(
     alloc: Global,
-    index: &Expr<VariableName>,
-    e: &Expr<VariableName>,
+    index: &Expr<VariableName, FunctionName>,
+    e: &Expr<VariableName, FunctionName>,
     places: &TaskPlaces<'_>,
     program: &mut WordProgram,
 ) -> Result<(), AllocError>
@@ -241,8 +241,8 @@ fn update_element(
 fn set_element(
     alloc: Global,
     variable: Variable,
-    index: &Expr<VariableName>,
-    e: &Expr<VariableName>,
+    index: &Expr<VariableName, FunctionName>,
+    e: &Expr<VariableName, FunctionName>,
     places: &TaskPlaces<'_>,
     program: &mut WordProgram,
 ) -> Result<(), AllocError>
@@ -259,8 +259,8 @@ fn set_element_in_place(
     alloc: Global,
     operation: PlainOperation,
     variable: Variable,
-    index: &Expr<VariableName>,
-    e: &Expr<VariableName>,
+    index: &Expr<VariableName, FunctionName>,
+    e: &Expr<VariableName, FunctionName>,
     places: &TaskPlaces<'_>,
     program: &mut WordProgram,
 ) -> Result<(), AllocError>
@@ -276,8 +276,8 @@ fn set_element_in_place(
 fn store(
     alloc: Global,
     variable: Variable,
-    index: &Expr<VariableName>,
-    e: &Expr<VariableName>,
+    index: &Expr<VariableName, FunctionName>,
+    e: &Expr<VariableName, FunctionName>,
     places: &TaskPlaces<'_>,
     program: &mut WordProgram,
 ) -> Result<(), AllocError>
@@ -300,6 +300,7 @@ fn store(
         | Expr::Element(..)
         | Expr::Sense
         | Expr::NextEvent
+        | Expr::Call(..)
         | Expr::Unary(..)
         | Expr::Shift(..)
         | Expr::ShortCircuit(..) => set_element(alloc, variable, index, e, places, program),
@@ -311,7 +312,7 @@ fn store(
 fn declare(
     alloc: Global,
     variable: Variable,
-    value: &Option<Expr<VariableName>>,
+    value: &Option<Expr<VariableName, FunctionName>>,
     places: &TaskPlaces<'_>,
     program: &mut WordProgram,
 ) -> Result<(), AllocError>
@@ -327,7 +328,7 @@ fn declare(
 #[tactic(auto, using(array_versions::proofs::Interface::joined_assoc))]
 fn emit(
     alloc: Global,
-    e: &Expr<VariableName>,
+    e: &Expr<VariableName, FunctionName>,
     places: &TaskPlaces<'_>,
     program: &mut WordProgram,
 ) -> Result<(), AllocError>
@@ -390,7 +391,7 @@ fn lower_transition(
 #[tactic(auto, using(array_versions::proofs::Interface::joined_assoc, array_versions::proofs::Interface::joined_nothing))]
 fn lower_statement(
     alloc: Global,
-    s: &Stmt<VariableName, TaskName>,
+    s: &Stmt<VariableName, TaskName, FunctionName>,
     places: &TaskPlaces<'_>,
     program: &mut WordProgram,
 ) -> Result<(), AllocError>
@@ -424,7 +425,9 @@ fn lower_statement(
             program.repeat(loop_local(variable.variable), *from, *below, turn)
         }
         Stmt::Emit(e) => emit(alloc, e, places, program),
-        Stmt::TransitionTo(t) => lower_transition(t.task, places, program),
+        // It stands in functions alone.
+        Stmt::Return(..) => Ok(()),
+        Stmt::TransitionTo(_, t) => lower_transition(t.task, places, program),
     }
 }
 
@@ -432,7 +435,7 @@ fn lower_statement(
 #[cycle(lower)]
 fn lower_arm(
     alloc: Global,
-    arm: &Arm<VariableName, TaskName>,
+    arm: &Arm<VariableName, TaskName, FunctionName>,
     otherwise: WordProgram,
     places: &TaskPlaces<'_>,
 ) -> Result<WordProgram, AllocError>
@@ -451,11 +454,11 @@ fn lower_arm(
 #[cycle(lower)]
 fn lower_arms(
     alloc: Global,
-    arms: &[Arm<VariableName, TaskName>],
+    arms: &[Arm<VariableName, TaskName, FunctionName>],
     last: WordProgram,
     places: &TaskPlaces<'_>,
 ) -> Result<WordProgram, AllocError>
-    ensures { (b : Option (Block VariableName TaskName))
+    ensures { (b : Option CheckedBlock)
         → program_of last ≡ lowered_choice (places_in places.now) (choice_of [] b)
         → IfOk result (λ p. program_of p ≡ lowered_choice (places_in places.now) (choice_of (map tested_of arms.now) b)) }
 {
@@ -471,7 +474,7 @@ fn lower_arms(
 #[tactic(auto, using(array_versions::proofs::Interface::joined_assoc))]
 pub fn lower_block(
     alloc: Global,
-    body: &[Stmt<VariableName, TaskName>],
+    body: &[Stmt<VariableName, TaskName, FunctionName>],
     places: &TaskPlaces<'_>,
     program: &mut WordProgram,
 ) -> Result<(), AllocError>

@@ -5,8 +5,8 @@ use Rattle.text_parts.specs.Printed.{spaced, printed}
 use Rattle.text_parts.proofs.Interface.{printed_append}
 use Rattle.need_lines.specs.declared.needs.IfWay.{IfWay}
 use Rattle.need_lines.specs.declared.needs.TaskNeed.{TaskNeed}
-use Rattle.need_lines.specs.Rows.{NeedRow, row_of, greatest}
-use Rattle.need_lines.specs.Lines.{task_fields, parts_fields, way_fields, rows_fields, last_fields, needs_text, tail_text}
+use Rattle.need_lines.specs.Rows.{NeedRow, row_of, greatest, greatest_undo}
+use Rattle.need_lines.specs.Lines.{task_fields, parts_fields, way_fields, undo_fields, rows_fields, last_undo_fields, last_fields, needs_text, tail_text}
 
 spaced_tail : (v : List ℕ) (ws : List (List ℕ)) → spaced (v ∷ ws) ≡ v ++ tail_text ws
 unfolding tail_text
@@ -43,18 +43,21 @@ unfolding printed
 no_ways_written a = append-nil a
 
 -- the lines of one task more are written
-pub task_written : (ts : List TaskNeed) (i : ℕ) (t : TaskNeed) (a b c e : List ℕ) → i < length ts → t ≡ get_or ts i t
+pub task_written : (ts : List TaskNeed) (i : ℕ) (t : TaskNeed) (a b c d e : List ℕ) → i < length ts → t ≡ get_or ts i t
     → b ≡ a ++ (spaced (task_fields (row_of t)) ++ 10 ∷ []) → c ≡ b ++ (spaced (parts_fields (row_of t)) ++ 10 ∷ [])
-    → e ≡ c ++ printed (map way_fields t.ways.items)
+    → d ≡ c ++ printed (map way_fields t.ways.items) → e ≡ d ++ (spaced (undo_fields t.undo) ++ 10 ∷ [])
     → e ++ printed (rows_fields (map row_of (drop (i + 1) ts))) ≡ a ++ printed (rows_fields (map row_of (drop i ts)))
-task_written ts i t a b c e h is f g k =
+task_written ts i t a b c d e h is f g k m =
     let next : i + 1 ≡ suc i = omega arith in
-    let more : List (List (List ℕ)) = rows_fields (map row_of (drop (i + 1) ts)) in
+    let behind : List (List (List ℕ)) = rows_fields (map row_of (drop (i + 1) ts)) in
+    let undo : List ℕ = line_text (undo_fields t.undo) in
+    let more : List (List (List ℕ)) = undo_fields t.undo ∷ behind in
     let ways : List (List (List ℕ)) = map way_fields t.ways.items in
     let rest : List ℕ = printed ways ++ printed more in
     let first : List ℕ = line_text (task_fields (row_of t)) in
     let second : List ℕ = line_text (parts_fields (row_of t)) in
-    ap (λ x. x ++ printed more) k ∙ append_assoc c (printed ways) (printed more)
+    ap (λ x. x ++ printed behind) m ∙ append_assoc d undo (printed behind) ∙ ap (λ x. d ++ x) (sym (first_line (undo_fields t.undo) behind))
+    ∙ ap (λ x. x ++ printed more) k ∙ append_assoc c (printed ways) (printed more)
     ∙ ap (λ x. x ++ rest) (g ∙ ap (λ x. x ++ second) f) ∙ append_assoc (a ++ first) second rest ∙ append_assoc a first (second ++ rest)
     ∙ ap (λ x. a ++ (first ++ (second ++ x))) (sym (printed_append ways more))
     ∙ ap (λ x. a ++ (first ++ x)) (sym (first_line (parts_fields (row_of t)) (ways ++ more)))
@@ -70,9 +73,13 @@ unfolding printed
 last_line l = append-nil (spaced l ++ 10 ∷ [])
 
 -- all lines are written
-pub needs_written : (rows : List NeedRow) (bound : ℕ) (a b c : List ℕ) → b ≡ a ++ printed (rows_fields rows)
-    → c ≡ b ++ (spaced (last_fields (greatest rows) bound) ++ 10 ∷ []) → c ≡ a ++ needs_text rows bound
-needs_written rows bound a b c e f =
-    let end : List (List (List ℕ)) = last_fields (greatest rows) bound ∷ [] in
-    f ∙ ap (λ x. b ++ x) (sym (last_line (last_fields (greatest rows) bound))) ∙ ap (λ x. x ++ printed end) e
+pub needs_written : (rows : List NeedRow) (bound : ℕ) (a b c d : List ℕ) → b ≡ a ++ printed (rows_fields rows)
+    → c ≡ b ++ (spaced (last_undo_fields (greatest_undo rows) bound) ++ 10 ∷ []) → d ≡ c ++ (spaced (last_fields (greatest rows) bound) ++ 10 ∷ [])
+    → d ≡ a ++ needs_text rows bound
+needs_written rows bound a b c d e f g =
+    let last : List (List (List ℕ)) = last_fields (greatest rows) bound ∷ [] in
+    let undo : List ℕ = line_text (last_undo_fields (greatest_undo rows) bound) in
+    let end : List (List (List ℕ)) = last_undo_fields (greatest_undo rows) bound ∷ last in
+    g ∙ ap (λ x. c ++ x) (sym (last_line (last_fields (greatest rows) bound))) ∙ ap (λ x. x ++ printed last) f ∙ append_assoc b undo (printed last)
+    ∙ ap (λ x. b ++ x) (sym (first_line (last_undo_fields (greatest_undo rows) bound) last)) ∙ ap (λ x. x ++ printed end) e
     ∙ append_assoc a (printed (rows_fields rows)) (printed end) ∙ ap (λ x. a ++ x) (sym (printed_append (rows_fields rows) end))

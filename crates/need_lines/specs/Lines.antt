@@ -2,7 +2,8 @@
 use Rattle.std.specs.Prelude.{ℕ, List, [], ◌∷◌, ◌++◌, codes, decimal, map}
 use Rattle.text_parts.specs.Printed.{printed}
 use Rattle.need_lines.specs.declared.needs.IfWay.{IfWay}
-use Rattle.need_lines.specs.Rows.{NeedRow, need_in, greatest}
+use Rattle.need_lines.specs.declared.needs.UndoNeed.{UndoNeed}
+use Rattle.need_lines.specs.Rows.{NeedRow, need_in, undo_in, greatest, greatest_undo}
 
 -- `task NAME NEED TABLE WORDS`
 abbrev pub task_fields : NeedRow → List (List ℕ)
@@ -16,18 +17,26 @@ parts_fields r = codes "parts" ∷ decimal r.boot ∷ decimal r.start ∷ decima
 abbrev pub way_fields : IfWay → List (List ℕ)
 way_fields w = codes "way" ∷ decimal w.line ∷ decimal w.way ∷ decimal w.times ∷ []
 
+-- `undo NEED BOOT START PATH COMMIT`
+abbrev pub undo_fields : UndoNeed → List (List ℕ)
+undo_fields u = codes "undo" ∷ decimal (undo_in u) ∷ decimal u.boot ∷ decimal u.start ∷ decimal u.path ∷ decimal u.commit ∷ []
+
 -- the lines of each task
 abbrev pub rows_fields : List NeedRow → List (List (List ℕ))
 rows_fields [] = []
-rows_fields (r ∷ rs) = task_fields r ∷ parts_fields r ∷ (map way_fields r.ways ++ rows_fields rs)
+rows_fields (r ∷ rs) = task_fields r ∷ parts_fields r ∷ (map way_fields r.ways ++ undo_fields r.undo ∷ rows_fields rs)
 
 -- `need N of B`
 abbrev pub last_fields : ℕ → ℕ → List (List ℕ)
 last_fields most bound = codes "need" ∷ decimal most ∷ codes "of" ∷ decimal bound ∷ []
 
--- the lines of tasks in order, and behind them the greatest need and the bound
+-- `undo N of B`
+abbrev pub last_undo_fields : ℕ → ℕ → List (List ℕ)
+last_undo_fields most bound = codes "undo" ∷ decimal most ∷ codes "of" ∷ decimal bound ∷ []
+
+-- the lines of tasks in order, and behind them the greatest needs and the bound
 abbrev pub needs_text : List NeedRow → ℕ → List ℕ
-needs_text rows bound = printed (rows_fields rows ++ last_fields (greatest rows) bound ∷ [])
+needs_text rows bound = printed (rows_fields rows ++ last_undo_fields (greatest_undo rows) bound ∷ last_fields (greatest rows) bound ∷ [])
 
 -- what is left of a line behind its first word
 unfoldable pub tail_text : List (List ℕ) → List ℕ

@@ -5,4 +5,4 @@ mod lines;
 mod needs;
 
 pub use lines::push_needs;
-pub use needs::{IfWay, TaskNeed, greatest};
+pub use needs::{IfWay, TaskNeed, UndoNeed, greatest, greatest_undo};

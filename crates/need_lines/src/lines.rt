@@ -3,9 +3,10 @@
 ghost use Rattle.std.specs.Prelude.{◌≡◌, ◌++◌, ◌∷◌, [], OnOk, decimal, codes, map};
 ghost use Rattle.text_parts.specs.Printed.{spaced, printed};
 ghost use Rattle.need_lines.specs.Rows.{row_of};
-ghost use Rattle.need_lines.specs.Lines.{task_fields, parts_fields, way_fields, rows_fields, last_fields, needs_text, tail_text};
+ghost use Rattle.need_lines.specs.Lines.{task_fields, parts_fields, way_fields, undo_fields, rows_fields};
+ghost use Rattle.need_lines.specs.Lines.{last_undo_fields, last_fields, needs_text, tail_text};
 
-use crate::needs::{IfWay, TaskNeed, greatest};
+use crate::needs::{IfWay, TaskNeed, UndoNeed, greatest, greatest_undo};
 use alp_text::print_u64;
 use std::alloc::AllocError;
 
@@ -95,6 +96,27 @@ fn push_ways(out: &mut Vec<u8>, ways: &[IfWay]) -> Result<(), AllocError>
     Ok(())
 }
 
+fn push_undo(out: &mut Vec<u8>, undo: UndoNeed) -> Result<(), AllocError>
+    ensures { OnOk result (out.new.items ≡ out.old.items ++ (spaced (undo_fields undo) ++ 10 ∷ [])) }
+{
+    let need = print_u64(undo.need());
+    let boot = print_u64(undo.boot as u64);
+    let start = print_u64(undo.start as u64);
+    let path = print_u64(undo.path as u64);
+    let commit = print_u64(undo.commit as u64);
+    push_line(
+        out,
+        b"undo",
+        &[
+            need.as_bytes(),
+            boot.as_bytes(),
+            start.as_bytes(),
+            path.as_bytes(),
+            commit.as_bytes(),
+        ],
+    )
+}
+
 // The lines of each task.
 fn push_tasks(out: &mut Vec<u8>, tasks: &[TaskNeed<'_>]) -> Result<(), AllocError>
     ensures { OnOk result (out.new.items ≡ out.old.items ++ printed (rows_fields (map row_of tasks.now))) }
@@ -103,6 +125,7 @@ fn push_tasks(out: &mut Vec<u8>, tasks: &[TaskNeed<'_>]) -> Result<(), AllocErro
         push_task(out, task)?;
         push_parts(out, task)?;
         push_ways(out, &task.ways)?;
+        push_undo(out, task.undo)?;
     }
     Ok(())
 }
@@ -115,10 +138,19 @@ fn push_last(out: &mut Vec<u8>, most: u64, bound: u32) -> Result<(), AllocError>
     push_line(out, b"need", &[most.as_bytes(), b"of", bound.as_bytes()])
 }
 
-/// Writes behind a text the lines of each task, its need, its parts and its ways, and the greatest need of them with the bound.
+fn push_last_undo(out: &mut Vec<u8>, most: u64, bound: u32) -> Result<(), AllocError>
+    ensures { OnOk result (out.new.items ≡ out.old.items ++ (spaced (last_undo_fields most bound) ++ 10 ∷ [])) }
+{
+    let most = print_u64(most);
+    let bound = print_u64(bound as u64);
+    push_line(out, b"undo", &[most.as_bytes(), b"of", bound.as_bytes()])
+}
+
+/// Writes behind a text the lines of each task, its need, its parts, its ways and its need in place, and the greatest needs of them with the bound.
 pub fn push_needs(out: &mut Vec<u8>, tasks: &[TaskNeed<'_>], bound: u32) -> Result<(), AllocError>
     ensures { OnOk result (out.new.items ≡ out.old.items ++ needs_text (map row_of tasks.now) bound) }
 {
     push_tasks(out, tasks)?;
+    push_last_undo(out, greatest_undo(tasks), bound)?;
     push_last(out, greatest(tasks), bound)
 }

@@ -1,7 +1,7 @@
 //! What a task needs.
 
 ghost use Rattle.std.specs.Prelude.{◌≡◌, max, map};
-ghost use Rattle.need_lines.specs.Rows.{need_in, greatest, row_of};
+ghost use Rattle.need_lines.specs.Rows.{need_in, undo_in, greatest, greatest_undo, row_of};
 
 /// A way that the dearest one through a task goes at an `if`, and how often.
 #[derive(Clone, Copy)]
@@ -11,6 +11,29 @@ pub struct IfWay {
     /// The number, from 1, of the condition that holds; 0 where none does.
     pub way: u64,
     pub times: u64,
+}
+
+/// What a task needs of a charge in an image that works in place, in cycles, part by part.
+#[derive(Clone, Copy)]
+pub struct UndoNeed {
+    /// From a power-up to the start of an attempt, with all put back that an attempt before may have left.
+    pub boot: u32,
+    /// To the task's own code, with the version words cleared.
+    pub start: u32,
+    /// Through it, up to the store that decides.
+    pub path: u32,
+    /// To the end of the commit.
+    pub commit: u32,
+}
+
+impl UndoNeed {
+    /// In all.
+    pub fn need(self) -> u64
+        ensures { result ≡ undo_in self }
+    {
+        let begun = self.boot as u64 + self.start as u64;
+        begun + self.path as u64 + self.commit as u64
+    }
 }
 
 /// What a task needs of a charge, in cycles, part by part; what the table of allowances says of it; and the dearest way through it.
@@ -32,6 +55,8 @@ pub struct TaskNeed<'t> {
     pub words: u32,
     /// Which ways the dearest one goes at the `if`s on it, in the order of the text.
     pub ways: Vec<IfWay>,
+    /// What it needs where the image works in place.
+    pub undo: UndoNeed,
 }
 
 impl TaskNeed<'_> {
@@ -57,6 +82,17 @@ pub fn greatest(needs: &[TaskNeed<'_>]) -> u64
     let mut most = 0;
     for i in (0..needs.len()).rev() {
         most = dearer(needs[i].need(), most);
+    }
+    most
+}
+
+/// The greatest need in place of some tasks, 0 where there are none.
+pub fn greatest_undo(needs: &[TaskNeed<'_>]) -> u64
+    ensures { result ≡ greatest_undo (map row_of needs.now) }
+{
+    let mut most = 0;
+    for i in (0..needs.len()).rev() {
+        most = dearer(needs[i].undo.need(), most);
     }
     most
 }

@@ -11,15 +11,19 @@ use Rattle.source_values.specs.task_ast.declared.WordType.TheVariants.{Unsigned,
 use Rattle.source_values.specs.task_ast.declared.names.VariableName.{VariableName}
 use Rattle.source_values.specs.task_ast.declared.names.Variable.{Variable}
 use Rattle.source_values.specs.task_ast.declared.names.Variable.TheVariants.{Shared, Local}
-use Rattle.source_values.specs.task_ast.Paths.{CheckedExpression, CheckedStatement, CheckedChoice, CheckedBlock}
-use Rattle.path_sums.specs.Sums.{expression_sum, statement_sum, choice_sum, block_sum}
+use Rattle.source_values.specs.task_ast.Calls.{BlockCallsBelow}
+use Rattle.source_values.specs.task_ast.Paths.{CheckedExpression, CheckedValues, CheckedStatement, CheckedChoice, CheckedBlock}
+use Rattle.path_sums.specs.Sums.{expression_sum, values_sum, statement_sum, choice_sum, block_sum}
 use Rattle.path_sums.specs.Access.{is_same, writes, SomePath, IsPrivate, summary, summary_unit, summary_read, summary_write, summary_seq, summary_join}
 use Rattle.path_sums.specs.Access.{private_of}
 use Rattle.path_sums.specs.declared.access.AccessSummary.{AccessSummary}
-use Rattle.path_sums.proofs.Interface.{writes_some, private_is}
-use Rattle.source_values.specs.Values.{Variables, Attempt, Evaluated, word_at, with_word, two_words, scalar_value, by_width, converted, value_of, holds}
+use Rattle.path_sums.proofs.Interface.{no_calls, writes_some, private_is}
+use Rattle.source_values.specs.Values.{Variables, Attempt, Evaluated, EvaluatedWords, word_at, with_word, two_words, scalar_value, by_width, converted}
+use Rattle.source_values.specs.Values.{value_of, holds}
+use Rattle.source_values.specs.Values.{meaning_in, words_of}
 use Rattle.source_values.specs.Values.{evaluated, gives, made_of, reading_of, truth_word, is_settled, unary_result, binary_result, shift_result, type_of, ◌>>?◌}
-use Rattle.source_values.specs.Statements.{Outcome, goes_on, to_task, short, and_then, if_value, with_value, assigned, assigned_to, assigned_value, word_of}
+use Rattle.source_values.specs.Statements.{Outcome, goes_on, to_task, returns, short, and_then, if_value, with_value, assigned, assigned_to, assigned_value}
+use Rattle.source_values.specs.Statements.{word_of}
 use Rattle.source_values.specs.Statements.{turns, run_statement}
 use Rattle.source_values.specs.Statements.{run_choice, run_block}
 use Rattle.path_runs.specs.Laws.{HasWords, IsScalarInStatement, IsScalarInChoice, IsScalarIn, FirstWritesForget}
@@ -106,16 +110,19 @@ turns_untouched false false s h = both_hold s.untouched s.untouched h h
 
 module _ (v n at word : ℕ) (inside : at < n) where
   abbrev of_expression : CheckedExpression → AccessSummary
-  of_expression e = expression_sum (summary (Shared v)) e
+  of_expression e = expression_sum [] (summary (Shared v)) e
+
+  abbrev of_values : CheckedValues → AccessSummary
+  of_values values = values_sum [] (summary (Shared v)) values
 
   abbrev of_statement : CheckedStatement → AccessSummary
-  of_statement s = statement_sum (summary (Shared v)) s
+  of_statement s = statement_sum [] (summary (Shared v)) s
 
   abbrev of_choice : CheckedChoice → AccessSummary
-  of_choice c = choice_sum (summary (Shared v)) c
+  of_choice c = choice_sum [] (summary (Shared v)) c
 
   abbrev of_block : CheckedBlock → AccessSummary
-  of_block b = block_sum (summary (Shared v)) b
+  of_block b = block_sum [] (summary (Shared v)) b
 
   abbrev of_write : Variable → AccessSummary
   of_write x = if is_same (Shared v) x then summary_write else summary_unit
@@ -224,26 +231,38 @@ module _ (v n at word : ℕ) (inside : at < n) where
   unread true h = h
   unread false h = refl
 
-  expression_untouched : (e : CheckedExpression) → (of_expression e).exposed ≡ false → (of_expression e).untouched ≡ true
-  unfolding summary
-  expression_untouched (t.number _) h = refl
-  expression_untouched (t.long_number _) h = refl
-  expression_untouched (t.name n) h = read_untouched (is_same (Shared v) n.variable) h
-  expression_untouched (t.element n index) h =
-      let i = of_expression index in
-      let parts = or_none i.exposed _ h in
-      let first = expression_untouched index parts.0 in
-      both_hold i.untouched _ first (read_untouched (is_same (Shared v) n.variable) (second_none i.untouched _ parts.1 first))
-  expression_untouched t.sense h = refl
-  expression_untouched t.next_event h = refl
-  expression_untouched (t.unary _ a) h = expression_untouched a h
-  expression_untouched (t.binary _ a b) h =
-      let parts = or_none (of_expression a).exposed _ h in
-      let first = expression_untouched a parts.0 in
-      both_hold (of_expression a).untouched _ first (expression_untouched b (second_none (of_expression a).untouched _ parts.1 first))
-  expression_untouched (t.shift _ a _) h = expression_untouched a h
-  expression_untouched (t.short_circuit _ a b) h =
-      left_holds (of_expression a).untouched _ (expression_untouched a (or_none (of_expression a).exposed _ h).0)
+  mutual
+    unfolding summary
+
+    expression_untouched : (e : CheckedExpression) → (of_expression e).exposed ≡ false → (of_expression e).untouched ≡ true
+    expression_untouched (t.number _) h = refl
+    expression_untouched (t.long_number _) h = refl
+    expression_untouched (t.name n) h = read_untouched (is_same (Shared v) n.variable) h
+    expression_untouched (t.element n index) h =
+        let i = of_expression index in
+        let parts = or_none i.exposed _ h in
+        let first = expression_untouched index parts.0 in
+        both_hold i.untouched _ first (read_untouched (is_same (Shared v) n.variable) (second_none i.untouched _ parts.1 first))
+    expression_untouched t.sense h = refl
+    expression_untouched t.next_event h = refl
+    expression_untouched (t.call _ values) h =
+        let parts = or_none (of_values values).exposed _ h in
+        both_hold (of_values values).untouched true (values_untouched values parts.0) refl
+    expression_untouched (t.unary _ a) h = expression_untouched a h
+    expression_untouched (t.binary _ a b) h =
+        let parts = or_none (of_expression a).exposed _ h in
+        let first = expression_untouched a parts.0 in
+        both_hold (of_expression a).untouched _ first (expression_untouched b (second_none (of_expression a).untouched _ parts.1 first))
+    expression_untouched (t.shift _ a _) h = expression_untouched a h
+    expression_untouched (t.short_circuit _ a b) h =
+        left_holds (of_expression a).untouched _ (expression_untouched a (or_none (of_expression a).exposed _ h).0)
+
+    values_untouched : (values : CheckedValues) → (of_values values).exposed ≡ false → (of_values values).untouched ≡ true
+    values_untouched t.no_value h = refl
+    values_untouched (t.value e more) h =
+        let parts = or_none (of_expression e).exposed _ h in
+        let first = expression_untouched e parts.0 in
+        both_hold (of_expression e).untouched _ first (values_untouched more (second_none (of_expression e).untouched _ parts.1 first))
 
   scalar_same : (m : Variables) (n : VariableName) → is_same (Shared v) n.variable ≡ false → scalar_value (other m) n ≡ scalar_value m n
   scalar_same m n h = ap₂ (λ low high. by_width n.word_type low (two_words low high)) (word_same m n.variable 0 h) (word_same m n.variable 1 h)
@@ -261,7 +280,7 @@ module _ (v n at word : ℕ) (inside : at < n) where
   made_other f None = refl
   made_other f (Some x) = refl
 
-  value_same : (e : CheckedExpression) (s : Attempt) → (of_expression e).exposed ≡ false → value_of e (other_in s) ≡ in_other (value_of e s)
+  value_same : (e : CheckedExpression) (s : Attempt) → (of_expression e).exposed ≡ false → value_of [] e (other_in s) ≡ in_other (value_of [] e s)
   unfolding summary
   value_same (t.number _) s h = refl
   value_same t.next_event s h = refl
@@ -274,40 +293,46 @@ module _ (v n at word : ℕ) (inside : at < n) where
       let apart = unread (is_same (Shared v) n.variable) (second_none i.untouched _ parts.1 first) in
       let read : Evaluated → Option Evaluated = λ i. gives (word_at i.behind.variables n.variable i.value) i.behind in
       ap (λ o. o >>? read) (value_same index s parts.0)
-      ∙ bind_other (value_of index s) read read (λ i. ap (λ w. gives w (other_in i.behind)) (word_same i.behind.variables n.variable i.value apart))
+      ∙ bind_other (value_of [] index s) read read (λ i. ap (λ w. gives w (other_in i.behind)) (word_same i.behind.variables n.variable i.value apart))
   value_same t.sense s h = by s.left
     where
       by : (rs : List ℕ) → reading_of rs (other_in s) ≡ in_other (reading_of rs s)
       by [] = refl
       by (r ∷ rs) = refl
+  value_same (t.call f values) s h = no_call (words_of [] values (other_in s)) ∙ ap in_other (sym (no_call (words_of [] values s)))
+    where
+      -- no function is known
+      no_call : (o : Option EvaluatedWords) → (o >>? λ x. meaning_in [] f.function x.words x.behind) ≡ None
+      no_call None = refl
+      no_call (Some x) = refl
   value_same (t.unary op a) s h =
       let f = unary_result op (type_of a) in
-      ap (made_of f) (value_same a s h) ∙ made_other f (value_of a s)
+      ap (made_of f) (value_same a s h) ∙ made_other f (value_of [] a s)
   value_same (t.binary op a b) s h =
       let parts = or_none (of_expression a).exposed _ h in
       let second = second_none (of_expression a).untouched _ parts.1 (expression_untouched a parts.0) in
       let f = binary_result op.operator (type_of a) (type_of b) in
-      let more : Evaluated → Option Evaluated = λ x. made_of (f x.value) (value_of b x.behind) in
+      let more : Evaluated → Option Evaluated = λ x. made_of (f x.value) (value_of [] b x.behind) in
       ap (λ o. o >>? more) (value_same a s parts.0)
-      ∙ bind_other (value_of a s) more more
-      (λ x. ap (made_of (f x.value)) (value_same b x.behind second) ∙ made_other (f x.value) (value_of b x.behind))
+      ∙ bind_other (value_of [] a s) more more
+      (λ x. ap (made_of (f x.value)) (value_same b x.behind second) ∙ made_other (f x.value) (value_of [] b x.behind))
   value_same (t.shift op a count) s h =
       let f : ℕ → ℕ = λ w. shift_result op (type_of a) w count.value in
-      ap (made_of f) (value_same a s h) ∙ made_other f (value_of a s)
+      ap (made_of f) (value_same a s h) ∙ made_other f (value_of [] a s)
   value_same (t.short_circuit op a b) s h =
       let sides = or_none (of_expression a).exposed _ h in
       let parts = or_none (of_expression a).exposed _ sides.1 in
       let second = second_none (of_expression a).untouched _ parts.1 (expression_untouched a sides.0) in
       let more : Evaluated → Option Evaluated =
-      λ x. if is_settled op x.value then gives (truth_word x.value) x.behind else made_of truth_word (value_of b x.behind) in
+      λ x. if is_settled op x.value then gives (truth_word x.value) x.behind else made_of truth_word (value_of [] b x.behind) in
       ap (λ o. o >>? more) (value_same a s sides.0)
-      ∙ bind_other (value_of a s) more more (λ x. by (is_settled op x.value) x (value_same b x.behind second))
+      ∙ bind_other (value_of [] a s) more more (λ x. by (is_settled op x.value) x (value_same b x.behind second))
     where
-      by : (settled : Bool) (x : Evaluated) → value_of b (other_in x.behind) ≡ in_other (value_of b x.behind)
-          → (if settled then gives (truth_word x.value) (other_in x.behind) else made_of truth_word (value_of b (other_in x.behind)))
-          ≡ in_other (if settled then gives (truth_word x.value) x.behind else made_of truth_word (value_of b x.behind))
+      by : (settled : Bool) (x : Evaluated) → value_of [] b (other_in x.behind) ≡ in_other (value_of [] b x.behind)
+          → (if settled then gives (truth_word x.value) (other_in x.behind) else made_of truth_word (value_of [] b (other_in x.behind)))
+          ≡ in_other (if settled then gives (truth_word x.value) x.behind else made_of truth_word (value_of [] b x.behind))
       by true x e = refl
-      by false x e = ap (made_of truth_word) e ∙ made_other truth_word (value_of b x.behind)
+      by false x e = ap (made_of truth_word) e ∙ made_other truth_word (value_of [] b x.behind)
 
   -- ---- outcomes
 
@@ -330,9 +355,9 @@ module _ (v n at word : ℕ) (inside : at < n) where
       by (apart u d h i) = apart u (both_hold b c e d) (ap (λ z. and_then z next) f ∙ h) (ap (λ z. and_then z next) g ∙ i)
 
   value_alike : (b : Bool) (e : CheckedExpression) (s : Attempt) (next : ℕ → Attempt → Outcome) → (of_expression e).exposed ≡ false
-      → ((w : ℕ) (s : Attempt) → Alike b (next w s) (next w (other_in s))) → Alike b (with_value e s next) (with_value e (other_in s) next)
+      → ((w : ℕ) (s : Attempt) → Alike b (next w s) (next w (other_in s))) → Alike b (with_value [] e s next) (with_value [] e (other_in s) next)
   value_alike b e s next h k =
-      subst (λ o. Alike b (with_value e s next) (if_value o next)) (sym (value_same e s h)) (by (value_of e s))
+      subst (λ o. Alike b (with_value [] e s next) (if_value o next)) (sym (value_same e s h)) (by (value_of [] e s))
     where
       by : (o : Option Evaluated) → Alike b (if_value o next) (if_value (in_other o) next)
       by None = same refl
@@ -429,6 +454,7 @@ module _ (v n at word : ℕ) (inside : at < n) where
     abbrev gone_on : Attempt → Outcome → Attempt
     gone_on d (goes_on a) = a
     gone_on d (to_task j a) = d
+    gone_on d (returns w a) = d
     gone_on d short = d
 
     turn_alike : (n i : ℕ) (s u : Attempt)
@@ -457,7 +483,7 @@ module _ (v n at word : ℕ) (inside : at < n) where
 
   set_alike : (x : VariableName) (e : CheckedExpression) → HasWords v n x → IsClean (summary_seq (of_expression e) (of_write x.variable)) → (a : Attempt)
       → Alike ((of_expression e).untouched && (of_write x.variable).untouched)
-      (with_value e a (λ w s. goes_on (assigned_value s x e w))) (with_value e (other_in a) (λ w s. goes_on (assigned_value s x e w)))
+      (with_value [] e a (λ w s. goes_on (assigned_value s x e w))) (with_value [] e (other_in a) (λ w s. goes_on (assigned_value s x e w)))
   set_alike x e its clean a =
       let unread = (clean_first (of_expression e) (of_write x.variable) clean).exposed in
       value_alike ((of_expression e).untouched && (of_write x.variable).untouched) e a (λ w s. goes_on (assigned_value s x e w)) unread
@@ -475,7 +501,7 @@ module _ (v n at word : ℕ) (inside : at < n) where
     unfolding summary
 
     statement_alike : (s : CheckedStatement) → IsScalarInStatement v n s → IsClean (of_statement s) → (a : Attempt)
-        → Alike (of_statement s).untouched (run_statement s a) (run_statement s (other_in a))
+        → Alike (of_statement s).untouched (run_statement [] s a) (run_statement [] s (other_in a))
     statement_alike (t.declare of x None) plain clean a = apart a refl refl refl
     statement_alike (t.declare of x (Some e)) plain clean a = set_alike x e plain clean a
     statement_alike (t.assign x e) plain clean a = set_alike x e plain clean a
@@ -488,23 +514,27 @@ module _ (v n at word : ℕ) (inside : at < n) where
         let unwritten : (of_write x.variable).untouched ≡ true = ap (λ b. (if b then summary_write else summary_unit).untouched) plain in
         let touched = i.untouched && (j.untouched && (of_write x.variable).untouched) in
         let all = both_hold i.untouched _ (expression_untouched index first) (both_hold j.untouched _ (expression_untouched e second) unwritten) in
-        value_alike touched index a (λ i s. with_value e s (λ w s. goes_on (assigned s x.variable i (word_of e w)))) first
+        value_alike touched index a (λ i s. with_value [] e s (λ w s. goes_on (assigned s x.variable i (word_of e w)))) first
         (λ i s. value_alike touched e s (λ w s. goes_on (assigned s x.variable i (word_of e w))) second
         (λ w s. apart (assigned s x.variable i (word_of e w)) all refl
         (ap (λ m. goes_on (record s { variables = m })) (set_later s.variables x.variable i (word_of e w) plain))))
     statement_alike (t.choose c) plain clean a = choice_alike c plain clean a
     statement_alike (t.loop x from tested below stepped body) plain clean a =
         let count = below - from in
-        turns_alike x.variable plain.0 (run_block body) (of_block body) (λ h s. block_alike body plain.1 h s) count from a
+        turns_alike x.variable plain.0 (run_block [] body) (of_block body) (λ h s. block_alike body plain.1 h s) count from a
         (λ wrote j e. clean_turn (count == 0) (count == 1) (summary_seq (of_block body) (of_write x.variable))
         (λ none. let zero_turns = eqb-true count 0 none in omega (arith, zero_turns, e)) (clean_second (of_write x.variable) _ clean wrote))
     statement_alike (t.emit e) plain clean a =
         value_alike (of_expression e).untouched e a (λ w s. goes_on (record s { emitted = s.emitted ++ word_of e w ∷ [] })) clean.exposed
         (λ w s. apart (record s { emitted = s.emitted ++ word_of e w ∷ [] }) (expression_untouched e clean.exposed) refl refl)
-    statement_alike (t.transition n) plain clean a = absurd (let none : true ≡ false = clean.transitions in cc)
+    statement_alike (t.give at e) plain clean a =
+        let untouched = expression_untouched e (or_none (of_expression e).exposed _ clean.exposed).0 in
+        let leaves = (or_none (of_expression e).transitions_untouched _ clean.transitions).1 in
+        absurd (let none : true ≡ false = second_none (of_expression e).untouched true leaves untouched in cc)
+    statement_alike (t.transition at n) plain clean a = absurd (let none : true ≡ false = clean.transitions in cc)
 
     choice_alike : (c : CheckedChoice) → IsScalarInChoice v n c → IsClean (of_choice c) → (a : Attempt)
-        → Alike (of_choice c).untouched (run_choice c a) (run_choice c (other_in a))
+        → Alike (of_choice c).untouched (run_choice [] c a) (run_choice [] c (other_in a))
     choice_alike t.nothing plain clean a = apart a refl refl refl
     choice_alike (t.otherwise b) plain clean a = block_alike b plain clean a
     choice_alike (t.test e b more) plain clean a =
@@ -513,29 +543,29 @@ module _ (v n at word : ℕ) (inside : at < n) where
         let untouched = expression_untouched e first in
         let behind = clean_second i _ clean untouched in
         value_alike (i.untouched && ((of_block b).untouched || (of_choice more).untouched)) e a
-        (λ w s. if holds w then run_block b s else run_choice more s) first
-        (λ w s. either_alike i.untouched (of_block b).untouched (of_choice more).untouched untouched (run_block b s) (run_block b (other_in s))
-        (run_choice more s) (run_choice more (other_in s)) (holds w) (block_alike b plain.0 (clean_left (of_block b) (of_choice more) behind) s)
+        (λ w s. if holds w then run_block [] b s else run_choice [] more s) first
+        (λ w s. either_alike i.untouched (of_block b).untouched (of_choice more).untouched untouched (run_block [] b s) (run_block [] b (other_in s))
+        (run_choice [] more s) (run_choice [] more (other_in s)) (holds w) (block_alike b plain.0 (clean_left (of_block b) (of_choice more) behind) s)
         (choice_alike more plain.1 (clean_right (of_block b) (of_choice more) behind) s))
 
     block_alike : (b : CheckedBlock) → IsScalarIn v n b → IsClean (of_block b) → (a : Attempt)
-        → Alike (of_block b).untouched (run_block b a) (run_block b (other_in a))
+        → Alike (of_block b).untouched (run_block [] b a) (run_block [] b (other_in a))
     block_alike t.end plain clean a = apart a refl refl refl
     block_alike (t.step s more) plain clean a =
-        then_alike (of_statement s).untouched (of_block more).untouched (run_statement s a) (run_statement s (other_in a)) (run_block more)
+        then_alike (of_statement s).untouched (of_block more).untouched (run_statement [] s a) (run_statement [] s (other_in a)) (run_block [] more)
         (statement_alike s plain.0 (clean_first (of_statement s) _ clean) a)
         (λ u e. block_alike more plain.1 (clean_second (of_statement s) (of_block more) clean e) u)
 
 -- where the scalar isn't private and some path writes it, no run reads it first, and none ends before it is written
-module _ (b : CheckedBlock) (v : ℕ) (written : SomePath b (writes (Shared v))) (in_place : IsPrivate b (Shared v) → ⊥) where
+module _ (b : CheckedBlock) (calls : BlockCallsBelow 0 b) (v : ℕ) (written : SomePath [] b (writes (Shared v))) (in_place : IsPrivate [] b (Shared v) → ⊥) where
   abbrev sum : AccessSummary
-  sum = block_sum (summary (Shared v)) b
+  sum = block_sum [] (summary (Shared v)) b
 
   not_private : private_of sum ≡ false
-  not_private = ⊎_elim (λ e. absurd (in_place (private_is (Shared v) b e))) (λ e. e) (cases_Bool (private_of sum))
+  not_private = ⊎_elim (λ e. absurd (in_place (private_is (Shared v) [] [] (no_calls (Shared v)) b calls e))) (λ e. e) (cases_Bool (private_of sum))
 
   none_amiss : (sum.exposed || (sum.transitions_untouched || sum.untouched)) ≡ false
-  none_amiss = second_none sum.writes _ not_private (writes_some (Shared v) b written)
+  none_amiss = second_none sum.writes _ not_private (writes_some (Shared v) [] [] (no_calls (Shared v)) b calls written)
 
   clean : IsClean sum
   clean =
@@ -545,12 +575,13 @@ module _ (b : CheckedBlock) (v : ℕ) (written : SomePath b (writes (Shared v)))
   touched : sum.untouched ≡ false
   touched = (or_none sum.transitions_untouched sum.untouched (or_none sum.exposed (sum.transitions_untouched || sum.untouched) none_amiss).1).1
 
-  forgotten : (n i w : ℕ) (s : Attempt) → IsScalarIn v n b → i < n → run_block b (assigned s (Shared v) i w) ≡ run_block b s
+  forgotten : (n i w : ℕ) (s : Attempt) → IsScalarIn v n b → i < n → run_block [] b (assigned s (Shared v) i w) ≡ run_block [] b s
   forgotten n i w s plain l = by (block_alike v n i w l b plain clean s)
     where
-      by : Alike v n i w l sum.untouched (run_block b s) (run_block b (assigned s (Shared v) i w)) → run_block b (assigned s (Shared v) i w) ≡ run_block b s
+      by : Alike v n i w l sum.untouched (run_block [] b s) (run_block [] b (assigned s (Shared v) i w))
+          → run_block [] b (assigned s (Shared v) i w) ≡ run_block [] b s
       by (same e) = sym e
       by (apart a e f g) = absurd (differs sum.untouched e touched)
 
 pub first_writes_forget : FirstWritesForget
-first_writes_forget b v n i w s plain l written in_place = forgotten b v written in_place n i w s plain l
+first_writes_forget b calls v n i w s plain l written in_place = forgotten b calls v written in_place n i w s plain l

@@ -1,17 +1,19 @@
 -- What the paths of a block tell of its runs.
-use Rattle.std.specs.Prelude.{◌≡◌, ◌<◌, ◌≤◌, ℕ, true, false, Some, None}
+use Rattle.std.specs.Prelude.{◌≡◌, ◌<◌, ◌≤◌, ℕ, true, false, List, [], Some, None}
 use Rattle.source_values.specs.task_ast.Tree as t
+use Rattle.source_values.specs.task_ast.Calls.{BlockCallsBelow}
 use Rattle.source_values.specs.task_ast.Paths.{CheckedStatement, CheckedChoice, CheckedBlock}
 use Rattle.source_values.specs.task_ast.declared.names.Variable.TheVariants.{Shared}
 use Rattle.source_values.specs.task_ast.declared.names.VariableName.{VariableName}
 use Rattle.path_sums.specs.Access.{is_same, writes, SomePath, IsPrivate}
 use Rattle.path_sums.specs.Reaches.{statement_falls_through}
-use Rattle.source_values.specs.Values.{by_width}
+use Rattle.source_values.specs.Values.{Meaning, by_width}
 use Rattle.source_values.specs.Statements.{Attempt, goes_on, assigned, run_statement, run_block}
 
 -- a statement that goes on has a path that goes on
 abbrev pub RunsGoOnAlongPaths : Type 0
-RunsGoOnAlongPaths = (s : CheckedStatement) (a b : Attempt) → run_statement s a ≡ goes_on b → statement_falls_through s ≡ true
+RunsGoOnAlongPaths = (known : List Meaning) (s : CheckedStatement) (a b : Attempt) → run_statement known s a ≡ goes_on b
+    → statement_falls_through s ≡ true
 
 -- if the variable of a name is this shared one, an assignment gives it so many words at least
 abbrev pub HasWords : ℕ → ℕ → VariableName → Type 0
@@ -28,7 +30,8 @@ abbrev mutual
   IsScalarInStatement v n (t.loop x from tested below stepped body) = (is_same (Shared v) x.variable ≡ true → n ≤ 1)
       × IsScalarIn v n body
   IsScalarInStatement v n (t.emit e) = Unit {0}
-  IsScalarInStatement v n (t.transition task) = Unit {0}
+  IsScalarInStatement v n (t.give at e) = Unit {0}
+  IsScalarInStatement v n (t.transition at task) = Unit {0}
 
   pub IsScalarInChoice : ℕ → ℕ → CheckedChoice → Type 0
   IsScalarInChoice v n t.nothing = Unit {0}
@@ -39,9 +42,9 @@ abbrev mutual
   IsScalarIn v n t.end = Unit {0}
   IsScalarIn v n (t.step s more) = IsScalarInStatement v n s × IsScalarIn v n more
 
--- A scalar that some path of a block writes, and that isn't private to it, is written on each path before it is read and before the
--- transition. So the block comes to the same whichever words the scalar held.
+-- A scalar that some path of a block without calls writes, and that isn't private to it, is written on each path before it is read and
+-- before the transition. So the block comes to the same whichever words the scalar held.
 abbrev pub FirstWritesForget : Type 0
-FirstWritesForget = (b : CheckedBlock) (v n i w : ℕ) (s : Attempt) → IsScalarIn v n b → i < n → SomePath b (writes (Shared v))
-    → (IsPrivate b (Shared v) → ⊥)
-    → run_block b (assigned s (Shared v) i w) ≡ run_block b s
+FirstWritesForget = (b : CheckedBlock) → BlockCallsBelow 0 b → (v n i w : ℕ) (s : Attempt) → IsScalarIn v n b → i < n
+    → SomePath [] b (writes (Shared v)) → (IsPrivate [] b (Shared v) → ⊥)
+    → run_block [] b (assigned s (Shared v) i w) ≡ run_block [] b s

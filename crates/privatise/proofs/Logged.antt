@@ -20,6 +20,8 @@ logged_rules l h = record {
 
 pub layouts_are_logged : LayoutsAreLogged
 layouts_are_logged p allow plans l h = record {
+  plain = h.plain;
+  calls = h.calls;
   runtime = ap (λ (r : Runtime). record r { logging = Undo }) h.runtime;
   rules = logged_rules l h.rules;
   list = h.list;

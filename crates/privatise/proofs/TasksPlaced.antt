@@ -12,6 +12,7 @@ use Rattle.task_ast.specs.declared.SharedDeclaration.{SharedDeclaration}
 use Rattle.task_ast.specs.declared.TaskDeclaration.{TaskDeclaration}
 use Rattle.task_ast.specs.declared.names.VariableName.{VariableName}
 use Rattle.task_ast.specs.declared.names.TaskName.{TaskName}
+use Rattle.task_ast.specs.declared.names.FunctionName.{FunctionName}
 use Rattle.cost_bound.specs.Allowance.{CheckedTask, total}
 use Rattle.war_analysis.specs.PlanValue.{TaskPlanValue}
 use Rattle.memory_map.specs.address_space.Limits.{program_end}
@@ -71,17 +72,17 @@ all_privates places numbers i privates l h = subst (λ ns. ArePrivates places ns
 -- ---- tasks
 
 -- the layouts of the first tasks, and the address for the next
-pub record TasksBelow (shared : List SharedDeclaration) (places : List VariablePlace) (tasks : List (TaskDeclaration VariableName TaskName))
+pub record TasksBelow (shared : List SharedDeclaration) (places : List VariablePlace) (tasks : List (TaskDeclaration VariableName TaskName FunctionName))
     (plans : List TaskPlanValue) (address : ℕ) (i at : ℕ) (layouts : List TaskPlace) : Type 0 where
   pub count : length layouts ≡ i
   pub each : (k : ℕ) (t : TaskPlace) → slice_get layouts k ≡ Some t → (task : CheckedTask) (plan : TaskPlanValue) → slice_get (map task_of tasks) k
-      ≡ Some task → slice_get plans k ≡ Some plan → IsTaskLayout shared task.body plan t
+      ≡ Some task → slice_get plans k ≡ Some plan → IsTaskLayout [] shared task.body plan t
   pub privates : All (λ t. All (HasItsPlace places) t.privates) layouts
   pub code : AreInOrder address (map (λ t. t.code) layouts) at
-  pub room : at + 2 * total (body_words shared) (map task_of (drop i tasks)) ≡ address + 2 * total (body_words shared) (map task_of tasks)
+  pub room : at + 2 * total (body_words [] shared) (map task_of (drop i tasks)) ≡ address + 2 * total (body_words [] shared) (map task_of tasks)
   pub even : at % 2 ≡ 0
 
-pub no_tasks : (shared : List SharedDeclaration) (places : List VariablePlace) (tasks : List (TaskDeclaration VariableName TaskName))
+pub no_tasks : (shared : List SharedDeclaration) (places : List VariablePlace) (tasks : List (TaskDeclaration VariableName TaskName FunctionName))
     (plans : List TaskPlanValue) (address : ℕ) → address % 2 ≡ 0 → TasksBelow shared places tasks plans address 0 address []
 no_tasks shared places tasks plans address even = record {
   count = refl;
@@ -92,40 +93,41 @@ no_tasks shared places tasks plans address even = record {
   even = even;
 }
 
-module _ (shared : List SharedDeclaration) (places : List VariablePlace) (tasks : List (TaskDeclaration VariableName TaskName)) (plans : List TaskPlanValue)
+module _ (shared : List SharedDeclaration) (places : List VariablePlace) (tasks : List (TaskDeclaration VariableName TaskName FunctionName))
+    (plans : List TaskPlanValue)
     (address : ℕ) (i at : ℕ)
-    (task : TaskDeclaration VariableName TaskName) (l : i < length tasks) (is : task ≡ get_or tasks i task) where
-  pub small_task : total (body_words shared) (map task_of tasks) ≤ 22000 → body_words shared (task_of task).body ≤ 22000
-  small_task small = let part = total_part (body_words shared) tasks i task l is in omega (arith, part, small)
+    (task : TaskDeclaration VariableName TaskName FunctionName) (l : i < length tasks) (is : task ≡ get_or tasks i task) where
+  pub small_task : total (body_words [] shared) (map task_of tasks) ≤ 22000 → body_words [] shared (task_of task).body ≤ 22000
+  small_task small = let part = total_part (body_words [] shared) tasks i task l is in omega (arith, part, small)
 
   fits : (at part rest all : ℕ) → at + 2 * (part + rest) ≡ all → all ≤ program_end → at + 2 * part < 65536
   fits at part rest all h k = omega (arith, h, k)
 
-  step : total (body_words shared) (map task_of (drop i tasks)) ≡ body_words shared (task_of task).body + total (body_words shared)
+  step : total (body_words [] shared) (map task_of (drop i tasks)) ≡ body_words [] shared (task_of task).body + total (body_words [] shared)
       (map task_of (drop (i + 1) tasks))
-  step = total_step (body_words shared) tasks i task l is
+  step = total_step (body_words [] shared) tasks i task l is
 
-  pub task_fits : (layouts : List TaskPlace) (words : ℕ) → address + 2 * total (body_words shared) (map task_of tasks) ≤ program_end → words
-      ≡ body_words shared (task_of task).body → TasksBelow shared places tasks plans address i at layouts → at + 2 * words < 65536
+  pub task_fits : (layouts : List TaskPlace) (words : ℕ) → address + 2 * total (body_words [] shared) (map task_of tasks) ≤ program_end → words
+      ≡ body_words [] shared (task_of task).body → TasksBelow shared places tasks plans address i at layouts → at + 2 * words < 65536
   task_fits layouts words room e h =
-      let f : at + 2 * body_words shared (task_of task).body < 65536 =
-      fits at (body_words shared (task_of task).body) _ _ (ap (λ s. at + 2 * s) (sym step) ∙ h.room) room in
+      let f : at + 2 * body_words [] shared (task_of task).body < 65536 =
+      fits at (body_words [] shared (task_of task).body) _ _ (ap (λ s. at + 2 * s) (sym step) ∙ h.room) room in
       subst (λ w. at + 2 * w < 65536) (sym e) f
 
   on : (at later part rest all : ℕ) → later ≡ at + 2 * part → at + 2 * (part + rest) ≡ all → later + 2 * rest ≡ all
   on at later part rest all e h = omega (arith, e, h)
 
   pub one_task : (plan : TaskPlanValue) (t : TaskPlace) (later : ℕ) (xs ys : List TaskPlace) → slice_get plans i ≡ Some plan
-      → IsPlacedTask shared places (task_of task) plan at t → later ≡ at + 2 * t.code.words
+      → IsPlacedTask [] shared places (task_of task) plan at t → later ≡ at + 2 * t.code.words
       → ys ≡ xs ++ t ∷ [] → TasksBelow shared places tasks plans address i at xs → TasksBelow shared places tasks plans address (i + 1) later ys
   one_task plan t later xs ys planned placed behind e h = subst (λ zs. TasksBelow shared places tasks plans address (i + 1) later zs) (sym e) (record {
     count = length_push xs t ∙ ap (λ k. k + 1) h.count;
     each = each_push (λ k x. (task : CheckedTask) (plan : TaskPlanValue) → slice_get (map task_of tasks) k ≡ Some task → slice_get plans k ≡ Some plan
-        → IsTaskLayout shared task.body plan x) xs t h.each here;
+        → IsTaskLayout [] shared task.body plan x) xs t h.each here;
     privates = All-push (λ t. All (HasItsPlace places) t.privates) xs t h.privates placed.privates;
     code = subst (λ rs. AreInOrder address rs later) (sym (map-append (λ t. t.code) xs (t ∷ [])))
         (in_order_push address (map (λ t. t.code) xs) at later t.code placed.address h.even behind h.code);
-    room = on at later t.code.words _ _ behind (ap (λ w. at + 2 * (w + total (body_words shared) (map task_of (drop (i + 1) tasks)))) placed.layout.words
+    room = on at later t.code.words _ _ behind (ap (λ w. at + 2 * (w + total (body_words [] shared) (map task_of (drop (i + 1) tasks)))) placed.layout.words
         ∙ ap (λ s. at + 2 * s) (sym step) ∙ h.room);
     even = even_behind at t.code.words later h.even behind;
   })
@@ -134,18 +136,18 @@ module _ (shared : List SharedDeclaration) (places : List VariablePlace) (tasks 
       there = slice_get-map task_of tasks i ∙ ap (option_map task_of) (slice_get_read tasks (length tasks) i task refl l is)
 
       here : (k : CheckedTask) (q : TaskPlanValue) → slice_get (map task_of tasks) (length xs) ≡ Some k → slice_get plans (length xs) ≡ Some q
-          → IsTaskLayout shared k.body q t
+          → IsTaskLayout [] shared k.body q t
       here k q f g =
           let same : task_of task ≡ k = same_Some (task_of task) k (sym there ∙ ap (λ n. slice_get (map task_of tasks) n) (sym h.count) ∙ f) in
           let planned_so : plan ≡ q = same_Some plan q (sym planned ∙ ap (λ n. slice_get plans n) (sym h.count) ∙ g) in
-          subst (λ x. IsTaskLayout shared x.body q t) same (subst (λ x. IsTaskLayout shared (task_of task).body x t) planned_so placed.layout)
+          subst (λ x. IsTaskLayout [] shared x.body q t) same (subst (λ x. IsTaskLayout [] shared (task_of task).body x t) planned_so placed.layout)
 
 over : (at rest all : ℕ) → rest ≡ 0 → at + 2 * rest ≡ all → at ≤ all
 over at rest all e h = omega (arith, e, h)
 
-pub all_tasks : (shared : List SharedDeclaration) (places : List VariablePlace) (tasks : List (TaskDeclaration VariableName TaskName))
+pub all_tasks : (shared : List SharedDeclaration) (places : List VariablePlace) (tasks : List (TaskDeclaration VariableName TaskName FunctionName))
     (plans : List TaskPlanValue) (address : ℕ) (i at : ℕ) (layouts : List TaskPlace) → i ≡ length tasks
-    → TasksBelow shared places tasks plans address i at layouts → ArePlacedTasks shared places (map task_of tasks) plans address layouts
+    → TasksBelow shared places tasks plans address i at layouts → ArePlacedTasks [] shared places (map task_of tasks) plans address layouts
 all_tasks shared places tasks plans address i at layouts e h = record {
   count = h.count ∙ e ∙ sym (length-map tasks task_of);
   each = λ k task plan t f g p. h.each k t p task plan f g;
@@ -153,6 +155,6 @@ all_tasks shared places tasks plans address i at layouts e h = record {
   code = in_order_higher address (map (λ t. t.code) layouts) at _ (over at _ _ none_left h.room) h.code;
 }
   where
-    none_left : total (body_words shared) (map task_of (drop i tasks)) ≡ 0
-    none_left = subst (λ k. total (body_words shared) (map task_of (drop k tasks)) ≡ 0) (sym e)
-        (ap (λ ds. total (body_words shared) (map task_of ds)) (drop-length tasks))
+    none_left : total (body_words [] shared) (map task_of (drop i tasks)) ≡ 0
+    none_left = subst (λ k. total (body_words [] shared) (map task_of (drop k tasks)) ≡ 0) (sym e)
+        (ap (λ ds. total (body_words [] shared) (map task_of ds)) (drop-length tasks))

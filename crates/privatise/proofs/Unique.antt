@@ -6,6 +6,8 @@ use Rattle.memory_map.specs.address_space.Limits.{fram_first}
 use Rattle.memory_map.specs.Words.{row_words}
 use Rattle.task_ast.specs.declared.SharedDeclaration.{SharedDeclaration}
 use Rattle.cost_bound.specs.declared.allowance.Allow.{Allow}
+use Rattle.cost_bound.specs.Summary.{Summary}
+use Rattle.cost_bound.specs.Summaries.{summaries}
 use Rattle.cost_bound.specs.Allowance.{CheckedTask, CheckedProgram, is_written, total, plain_words_of, versions_of, IsAllowed}
 use Rattle.war_analysis.specs.PlanValue.{TaskPlanValue}
 use Rattle.memory_map.specs.declared.place.Region.{Region}
@@ -43,36 +45,37 @@ same_privates places (x ∷ xs) (y ∷ ys) e a b =
     ap (λ s. s ∷ xs) same ∙ ap (λ s. y ∷ s) (same_privates places xs ys behind (All-tail (HasItsPlace places) x xs a) (All-tail (HasItsPlace places) y ys b))
 
 -- layouts of tasks by their plans
-abbrev AreOfTasks : List SharedDeclaration → List CheckedTask → List TaskPlanValue → List TaskPlace → Type 0
-AreOfTasks shared [] [] [] = Unit {0}
-AreOfTasks shared (t ∷ ts) (p ∷ ps) (l ∷ ls) = IsTaskLayout shared t.body p l × AreOfTasks shared ts ps ls
-AreOfTasks shared _ _ _ = ⊥
+abbrev AreOfTasks : List Summary → List SharedDeclaration → List CheckedTask → List TaskPlanValue → List TaskPlace → Type 0
+AreOfTasks known shared [] [] [] = Unit {0}
+AreOfTasks known shared (t ∷ ts) (p ∷ ps) (l ∷ ls) = IsTaskLayout known shared t.body p l × AreOfTasks known shared ts ps ls
+AreOfTasks known shared _ _ _ = ⊥
 
-of_tasks : (shared : List SharedDeclaration) (ts : List CheckedTask) (ps : List TaskPlanValue) (ls : List TaskPlace) → length ps ≡ length ts → length ls
+of_tasks : (known : List Summary) (shared : List SharedDeclaration) (ts : List CheckedTask) (ps : List TaskPlanValue) (ls : List TaskPlace)
+    → length ps ≡ length ts → length ls
     ≡ length ts
     → ((k : ℕ) (t : CheckedTask) (p : TaskPlanValue) (l : TaskPlace) → slice_get ts k ≡ Some t → slice_get ps k ≡ Some p → slice_get ls k ≡ Some l
-    → IsTaskLayout shared t.body p l) → AreOfTasks shared ts ps ls
-of_tasks shared [] [] [] e f h = tt
-of_tasks shared [] (p ∷ ps) ls e f h = absurd (omega (arith, e))
-of_tasks shared [] [] (l ∷ ls) e f h = absurd (omega (arith, f))
-of_tasks shared (t ∷ ts) [] ls e f h = absurd (omega (arith, e))
-of_tasks shared (t ∷ ts) (p ∷ ps) [] e f h = absurd (omega (arith, f))
-of_tasks shared (t ∷ ts) (p ∷ ps) (l ∷ ls) e f h = (
+    → IsTaskLayout known shared t.body p l) → AreOfTasks known shared ts ps ls
+of_tasks known shared [] [] [] e f h = tt
+of_tasks known shared [] (p ∷ ps) ls e f h = absurd (omega (arith, e))
+of_tasks known shared [] [] (l ∷ ls) e f h = absurd (omega (arith, f))
+of_tasks known shared (t ∷ ts) [] ls e f h = absurd (omega (arith, e))
+of_tasks known shared (t ∷ ts) (p ∷ ps) [] e f h = absurd (omega (arith, f))
+of_tasks known shared (t ∷ ts) (p ∷ ps) (l ∷ ls) e f h = (
   h zero t p l refl refl refl,
-  of_tasks shared ts ps ls (omega (arith, e)) (omega (arith, f)) (λ k t p l a b c. h (suc k) t p l a b c),
+  of_tasks known shared ts ps ls (omega (arith, e)) (omega (arith, f)) (λ k t p l a b c. h (suc k) t p l a b c),
 )
 
-task_room : (shared : List SharedDeclaration) (ts : List CheckedTask) (ps : List TaskPlanValue) (ls : List TaskPlace) (from end : ℕ)
-    → AreOfTasks shared ts ps ls → AreInOrder from (map (λ t. t.code) ls) end
-    → from + 2 * total (body_words shared) ts ≤ end
-task_room shared [] [] [] from end k h = omega (arith, h)
-task_room shared [] (p ∷ ps) ls from end k h = absurd k
-task_room shared [] [] (l ∷ ls) from end k h = absurd k
-task_room shared (t ∷ ts) [] ls from end k h = absurd k
-task_room shared (t ∷ ts) (p ∷ ps) [] from end k h = absurd k
-task_room shared (t ∷ ts) (p ∷ ps) (l ∷ ls) from end (here, others) (b, rest) =
-    let r = task_room shared ts ps ls (end_of l.code) end others rest in
-    added from l.code.address l.code.words (body_words shared t.body) (total (body_words shared) ts) end b.from here.words r
+task_room : (known : List Summary) (shared : List SharedDeclaration) (ts : List CheckedTask) (ps : List TaskPlanValue) (ls : List TaskPlace) (from end : ℕ)
+    → AreOfTasks known shared ts ps ls → AreInOrder from (map (λ t. t.code) ls) end
+    → from + 2 * total (body_words known shared) ts ≤ end
+task_room known shared [] [] [] from end k h = omega (arith, h)
+task_room known shared [] (p ∷ ps) ls from end k h = absurd k
+task_room known shared [] [] (l ∷ ls) from end k h = absurd k
+task_room known shared (t ∷ ts) [] ls from end k h = absurd k
+task_room known shared (t ∷ ts) (p ∷ ps) [] from end k h = absurd k
+task_room known shared (t ∷ ts) (p ∷ ps) (l ∷ ls) from end (here, others) (b, rest) =
+    let r = task_room known shared ts ps ls (end_of l.code) end others rest in
+    added from l.code.address l.code.words (body_words known shared t.body) (total (body_words known shared) ts) end b.from here.words r
   where
     added : (from a w n rest end : ℕ) → from ≤ a → w ≡ n → a + 2 * w + 2 * rest ≤ end → from + 2 * (n + rest) ≤ end
     added from a w n rest end x y z = omega (arith, x, y, z)
@@ -81,35 +84,38 @@ begins : (from a w n rest end : ℕ) → from ≤ a → w ≡ n → a + 2 * w + 
 begins from a w n rest end x y z t = omega (arith, x, y, z, t)
 
 -- layouts of the tasks, with the code of each between two addresses
-abbrev AreLaidOut : List SharedDeclaration → List VariablePlace → List CheckedTask → List TaskPlanValue → (from end : ℕ) → List TaskPlace → Type 0
-AreLaidOut shared places ts ps from end xs =
-    AreOfTasks shared ts ps xs × All (λ t. All (HasItsPlace places) t.privates) xs × AreInOrder from (map (λ t. t.code) xs) end
+abbrev AreLaidOut : List Summary → List SharedDeclaration → List VariablePlace → List CheckedTask → List TaskPlanValue → (from end : ℕ) → List TaskPlace
+    → Type 0
+AreLaidOut known shared places ts ps from end xs =
+    AreOfTasks known shared ts ps xs × All (λ t. All (HasItsPlace places) t.privates) xs × AreInOrder from (map (λ t. t.code) xs) end
 
-same_tasks : (shared : List SharedDeclaration) (places : List VariablePlace) (ts : List CheckedTask) (ps : List TaskPlanValue) (xs ys : List TaskPlace)
-    (from end : ℕ) → end ≤ from + 2 * total (body_words shared) ts → AreLaidOut shared places ts ps from end xs → AreLaidOut shared places ts ps from end ys
+same_tasks : (known : List Summary) (shared : List SharedDeclaration) (places : List VariablePlace) (ts : List CheckedTask) (ps : List TaskPlanValue)
+    (xs ys : List TaskPlace)
+    (from end : ℕ) → end ≤ from + 2 * total (body_words known shared) ts → AreLaidOut known shared places ts ps from end xs
+    → AreLaidOut known shared places ts ps from end ys
     → xs ≡ ys
-same_tasks shared places [] [] [] [] from end t x y = refl
-same_tasks shared places [] [] [] (_ ∷ _) from end t x y = absurd y.0
-same_tasks shared places [] [] (_ ∷ _) ys from end t x y = absurd x.0
-same_tasks shared places [] (_ ∷ _) xs ys from end t x y = absurd x.0
-same_tasks shared places (_ ∷ _) [] xs ys from end t x y = absurd x.0
-same_tasks shared places (_ ∷ _) (_ ∷ _) [] ys from end t x y = absurd x.0
-same_tasks shared places (_ ∷ _) (_ ∷ _) (_ ∷ _) [] from end t x y = absurd y.0
-same_tasks shared places (task ∷ ts) (p ∷ ps) (l ∷ ls) (m ∷ ms) from end t ((here, others), a, (x, xs)) ((here', others'), b, (y, ys)) =
+same_tasks known shared places [] [] [] [] from end t x y = refl
+same_tasks known shared places [] [] [] (_ ∷ _) from end t x y = absurd y.0
+same_tasks known shared places [] [] (_ ∷ _) ys from end t x y = absurd x.0
+same_tasks known shared places [] (_ ∷ _) xs ys from end t x y = absurd x.0
+same_tasks known shared places (_ ∷ _) [] xs ys from end t x y = absurd x.0
+same_tasks known shared places (_ ∷ _) (_ ∷ _) [] ys from end t x y = absurd x.0
+same_tasks known shared places (_ ∷ _) (_ ∷ _) (_ ∷ _) [] from end t x y = absurd y.0
+same_tasks known shared places (task ∷ ts) (p ∷ ps) (l ∷ ls) (m ∷ ms) from end t ((here, others), a, (x, xs)) ((here', others'), b, (y, ys)) =
     let P = λ (t : TaskPlace). All (HasItsPlace places) t.privates in
-    let n = body_words shared task.body in
-    let rest = total (body_words shared) ts in
+    let n = body_words known shared task.body in
+    let rest = total (body_words known shared) ts in
     let lat : l.code.address ≡ from = begins from l.code.address l.code.words n rest end x.from here.words
-    (task_room shared ts ps ls (end_of l.code) end others xs) t in
+    (task_room known shared ts ps ls (end_of l.code) end others xs) t in
     let mat : m.code.address ≡ from = begins from m.code.address m.code.words n rest end y.from here'.words
-    (task_room shared ts ps ms (end_of m.code) end others' ys) t in
+    (task_room known shared ts ps ms (end_of m.code) end others' ys) t in
     let address : l.code.address ≡ m.code.address = lat ∙ sym mat in
     let words : l.code.words ≡ m.code.words = here.words ∙ sym here'.words in
     let privates = same_privates places l.privates m.privates (here.privates ∙ sym here'.privates) (All-head P l ls a) (All-head P m ms b) in
     let same : l ≡ m = λ j. record { privates = privates j; code = record { address = address j; words = words j } } in
     let l_end : end_of l.code ≡ from + 2 * n = ended l.code.address l.code.words from n lat here.words in
     let m_end : end_of m.code ≡ from + 2 * n = ended m.code.address m.code.words from n mat here'.words in
-    let behind = same_tasks shared places ts ps ls ms (from + 2 * n) end (less from n rest end t)
+    let behind = same_tasks known shared places ts ps ls ms (from + 2 * n) end (less from n rest end t)
     (others, All-tail P l ls a, subst (λ f. AreInOrder f (map (λ t. t.code) ls) end) l_end xs)
     (others', All-tail P m ms b, subst (λ f. AreInOrder f (map (λ t. t.code) ms) end) m_end ys) in
     ap (λ t. t ∷ ls) same ∙ ap (λ ts. m ∷ ts) behind
@@ -127,7 +133,7 @@ addresses l = map (λ (r : Region). r.address) (parts l)
 
 abbrev sizes : CheckedProgram → Allow → List ℕ
 sizes p allow = 2 * row_words ∷ 2 * (list_entry_room * allow.list) ∷ 2 * allow.emits ∷ 2 * allow.versions ∷ 2 * home_words p.shared ∷ 2 * copy_words p
-    ∷ 2 * boot_words p.shared p.tasks ∷ 2 * commit_words ∷ 2 * total (body_words p.shared) p.tasks ∷ []
+    ∷ 2 * boot_words (summaries p) p.shared p.tasks ∷ 2 * commit_words ∷ 2 * total (body_words (summaries p) p.shared) p.tasks ∷ []
 
 times : (a b c n m : ℕ) → a + n * b ≤ c → b ≡ m → a + n * m ≤ c
 times a b c n m h e = subst (λ x. a + n * x ≤ c) e h
@@ -145,9 +151,9 @@ chain_of p allow plans l h =
     let homes = times l.versions.address l.versions.words l.homes.address 2 allow.versions a.homes h.versions in
     let copies = times l.homes.address l.homes.words l.copies.address 2 (home_words p.shared) a.copies h.homes in
     let boot = times l.copies.address l.copies.words l.boot.address 2 (copy_words p) a.boot h.copies in
-    let commit = times l.boot.address l.boot.words l.commit.address 2 (boot_words p.shared p.tasks) a.commit h.boot in
+    let commit = times l.boot.address l.boot.words l.commit.address 2 (boot_words (summaries p) p.shared p.tasks) a.commit h.boot in
     let code = times l.commit.address l.commit.words l.code.address 2 commit_words a.code h.commit in
-    let end = last l.code.address l.code.words (total (body_words p.shared) p.tasks) (plain_words_of p) h.size h.code in
+    let end = last l.code.address l.code.words (total (body_words (summaries p) p.shared) p.tasks) (plain_words_of p) h.size h.code in
     (a.row, (a.list, (emits, (versions, (homes, (copies, (boot, (commit, (code, end)))))))))
 
 full : (l m v h c b t w : ℕ) → (row_words + commit_words + 3 * l + m + v + h + c + b + t) + 1 ≡ w
@@ -224,7 +230,7 @@ one_layout logging p allow h plans a b planned x y = λ j. record {
     code = same_region a.code b.code (at 8) (x.code ∙ sym y.code)
 
     variables : a.variables ≡ b.variables
-    variables = same_variables (is_written p.tasks) 0 p.shared a.variables b.variables
+    variables = same_variables (is_written (summaries p) p.tasks) 0 p.shared a.variables b.variables
         (record { home = a.homes.address; copy = a.copies.address; version = a.versions.address })
         (record { home = end_of a.homes; copy = end_of a.copies; version = end_of a.versions })
         (record {
@@ -232,8 +238,8 @@ one_layout logging p allow h plans a b planned x y = λ j. record {
           copy = behind a.copies.address a.copies.words (copy_words p) x.copies;
           version = behind a.versions.address a.versions.words (versions_of p) (x.versions ∙ h.versions);
         })
-        (kinds_from (is_written p.tasks) 0 p.shared a.variables x.variables.count (λ k d v e f. kind a x k d v e f))
-        (kinds_from (is_written p.tasks) 0 p.shared b.variables y.variables.count (λ k d v e f. kind b y k d v e f))
+        (kinds_from (is_written (summaries p) p.tasks) 0 p.shared a.variables x.variables.count (λ k d v e f. kind a x k d v e f))
+        (kinds_from (is_written (summaries p) p.tasks) 0 p.shared b.variables y.variables.count (λ k d v e f. kind b y k d v e f))
         (record { home = x.rules.homes; copy = x.rules.copies; version = x.rules.versions })
         (record {
           home = subst (λ r. AreInOrder r.address (map home_region b.variables) (end_of r)) (sym homes) y.rules.homes;
@@ -242,14 +248,15 @@ one_layout logging p allow h plans a b planned x y = λ j. record {
         })
       where
         kind : (l : MemoryMap) → IsLayoutFor logging p allow plans l → (k : ℕ) (d : SharedDeclaration) (v : VariablePlace) → slice_get p.shared k ≡ Some d
-            → slice_get l.variables k ≡ Some v → IsPlaceOf (is_written p.tasks (0 + k)) d.extent v
-        kind l z k d v e f = let same : k ≡ 0 + k = omega arith in subst (λ n. IsPlaceOf (is_written p.tasks n) d.extent v) same (z.variables.each k d v e f)
+            → slice_get l.variables k ≡ Some v → IsPlaceOf (is_written (summaries p) p.tasks (0 + k)) d.extent v
+        kind l z k d v e f = let same : k ≡ 0 + k = omega arith in
+            subst (λ n. IsPlaceOf (is_written (summaries p) p.tasks n) d.extent v) same (z.variables.each k d v e f)
 
     tasks : a.tasks ≡ b.tasks
-    tasks = same_tasks p.shared a.variables p.tasks plans a.tasks b.tasks a.code.address (end_of a.code)
-        (behind a.code.address a.code.words (total (body_words p.shared) p.tasks) x.code)
-        (of_tasks p.shared p.tasks plans a.tasks planned.count x.tasks.count x.tasks.each, x.rules.privates, x.rules.code) (
-          of_tasks p.shared p.tasks plans b.tasks planned.count y.tasks.count y.tasks.each,
+    tasks = same_tasks (summaries p) p.shared a.variables p.tasks plans a.tasks b.tasks a.code.address (end_of a.code)
+        (behind a.code.address a.code.words (total (body_words (summaries p) p.shared) p.tasks) x.code)
+        (of_tasks (summaries p) p.shared p.tasks plans a.tasks planned.count x.tasks.count x.tasks.each, x.rules.privates, x.rules.code) (
+          of_tasks (summaries p) p.shared p.tasks plans b.tasks planned.count y.tasks.count y.tasks.each,
           subst (λ vs. All (λ t. All (HasItsPlace vs) t.privates) b.tasks) (sym variables) y.rules.privates,
           subst (λ r. AreInOrder r.address (map (λ t. t.code) b.tasks) (end_of r)) (sym code) y.rules.code,
         )

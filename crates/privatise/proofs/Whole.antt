@@ -1,5 +1,5 @@
 -- The whole layout from its parts.
-use Rattle.std.proofs.Common.{◌≡◌, ℕ, ◌+◌, ◌*◌, ◌%◌, ◌<◌, ◌≤◌, Bool, true, false, List, length, map, refl, sym, ◌∙◌, ap, subst, arith, Option, Some, None}
+use Rattle.std.proofs.Common.{◌≡◌, ℕ, ◌+◌, ◌*◌, ◌%◌, ◌<◌, ◌≤◌, Bool, true, false, List, [], length, map, refl, sym, ◌∙◌, ap, subst, arith, Option, Some, None}
 use Rattle.std.specs.Prelude.{slice_get, slice_index_or, All, IsSomeAnd}
 use Rattle.std.specs.List.{flat_map}
 use Rattle.std.proofs.lemmas.List.Elements.{All-weaker}
@@ -8,11 +8,16 @@ use Rattle.task_ast.specs.View.{task_of}
 use Rattle.task_ast.specs.declared.TaskDeclaration.{TaskDeclaration}
 use Rattle.task_ast.specs.declared.names.VariableName.{VariableName}
 use Rattle.task_ast.specs.declared.names.TaskName.{TaskName}
+use Rattle.task_ast.specs.declared.names.FunctionName.{FunctionName}
+use Rattle.task_ast.specs.Calls.{BlockCallsBelow}
+use Rattle.task_ast.specs.Paths.{CheckedFunction}
 use Rattle.task_ast.specs.declared.Extent.{Extent}
 use Rattle.task_ast.specs.declared.Extent.TheVariants as extent
 use Rattle.task_ast.specs.declared.SharedDeclaration.{SharedDeclaration}
 use Rattle.cost_bound.specs.declared.allowance.Allow.{Allow}
 use Rattle.cost_bound.specs.Counts.{CheckedBlock, emits_of}
+use Rattle.cost_bound.specs.Summary.{Summary}
+use Rattle.cost_bound.specs.Summaries.{function_summaries, summaries}
 use Rattle.cost_bound.specs.Allowance.{CheckedProgram, version_part, is_written, total, greatest, list_of, plain_words_of, versions_of, IsAllowed}
 use Rattle.cost_bound.proofs.Interface.{written_sum}
 use Rattle.war_analysis.specs.PlanValue.{TaskPlanValue}
@@ -38,7 +43,7 @@ use Rattle.privatise.proofs.VariablesPlaced.{kind_at}
 
 -- the marks of the variables that some task writes
 abbrev pub AreWritten : CheckedProgram → List Bool → Type 0
-AreWritten p written = (i : ℕ) → i < 256 → slice_index_or written i false ≡ is_written p.tasks i
+AreWritten p written = (i : ℕ) → i < 256 → slice_index_or written i false ≡ is_written (summaries p) p.tasks i
 
 -- ---- the sizes
 
@@ -58,13 +63,13 @@ words_with n = row_words + commit_words + 3 * n.list + n.emits + n.versions + n.
 -- what a source needs
 abbrev pub needed : CheckedProgram → Amounts
 needed p = record {
-  list = greatest (list_of p.shared) p.tasks;
-  emits = greatest emits_of p.tasks;
+  list = greatest (list_of (summaries p) p.shared) p.tasks;
+  emits = greatest (emits_of (summaries p)) p.tasks;
   versions = versions_of p;
   homes = home_words p.shared;
   copies = copy_words p;
-  boot = boot_words p.shared p.tasks;
-  code = total (body_words p.shared) p.tasks;
+  boot = boot_words (summaries p) p.shared p.tasks;
+  code = total (body_words (summaries p) p.shared) p.tasks;
 }
 
 -- all but the vector, whose word is the last
@@ -210,10 +215,11 @@ chain runtime allow s r places layouts k fits =
 -- ---- the variables
 
 copies_are : (p : CheckedProgram) (written : List Bool) → length p.shared ≤ 256 → AreWritten p written → copy_sum written p.shared ≡ copy_words p
-copies_are p written few h = written_sum copy_part p.shared p.shared written (is_written p.tasks) (copy_sum written p.shared) few refl h refl
+copies_are p written few h = written_sum copy_part p.shared p.shared written (is_written (summaries p) p.tasks) (copy_sum written p.shared) few refl h refl
 
 versions_are : (p : CheckedProgram) (written : List Bool) → length p.shared ≤ 256 → AreWritten p written → version_sum written p.shared ≡ versions_of p
-versions_are p written few h = written_sum version_part p.shared p.shared written (is_written p.tasks) (version_sum written p.shared) few refl h refl
+versions_are p written few h = written_sum version_part p.shared p.shared written (is_written (summaries p) p.tasks) (version_sum written p.shared) few refl
+    h refl
 
 fits_in : (a w n m total : ℕ) → a ≡ row_end + 2 * n → w ≡ m → fram_first + 2 * total ≤ program_end → n + m + row_words ≤ total → a + 2 * w ≤ program_end
 fits_in a w n m total e f h k = omega (arith, e, f, h, k)
@@ -264,9 +270,10 @@ some_and : (o : Option VariablePlace) (place : VariablePlace) → o ≡ Some pla
     → IsSomeAnd o (λ place. is_scalar_place place ≡ true)
 some_and o place e h = subst (λ o. IsSomeAnd o (λ place. is_scalar_place place ≡ true)) (sym e) h
 
-private_place : (shared : List SharedDeclaration) (code : CheckedBlock) (written : List Bool) (free : Free) (places : List VariablePlace)
-    → ArePlaced shared written free places → (i : ℕ) → IsPrivateIn shared code i → IsScalarPlaceAt places i
-private_place shared code written free places k i h =
+private_place : (fs : List CheckedFunction) (shared : List SharedDeclaration) (code : CheckedBlock) (written : List Bool) (free : Free)
+    (places : List VariablePlace)
+    → ArePlaced shared written free places → (i : ℕ) → IsPrivateIn fs shared code i → IsScalarPlaceAt places i
+private_place fs shared code written free places k i h =
     let d = some_scalar (slice_get shared i) h.scalar in
     let l = slice_get_within shared i d.0 d.1 in
     let count = k.count in
@@ -281,34 +288,40 @@ scalars_placed p plans written free places h placed k plan e =
     let l = slice_get_within plans k plan e in
     let count = h.count in
     let task = element p.tasks k (omega (arith, l, count)) in
-    All-weaker (IsPrivateIn p.shared task.0.body) (IsScalarPlaceAt places) (private_place p.shared task.0.body written free places placed) plan.private_scalars
+    All-weaker (IsPrivateIn p.functions p.shared task.0.body) (IsScalarPlaceAt places)
+    (private_place p.functions p.shared task.0.body written free places placed) plan.private_scalars
     (h.each k task.0 plan task.1 e).private_scalars.only
 
 small : (t n rest w : ℕ) → t ≡ n → (rest + n) + 1 ≡ w → w ≤ 22000 → t ≤ 22000
 small t n rest w e h k = omega (arith, e, h, k)
 
-pub code_small : (p : CheckedProgram) (allow : Allow) (s : Sizes) → IsAllowed p allow → AreSizes p s → total (body_words p.shared) p.tasks ≤ 22000
+pub code_small : (p : CheckedProgram) (allow : Allow) (s : Sizes) → IsAllowed p allow → AreSizes p s → total (body_words (summaries p) p.shared) p.tasks ≤ 22000
 code_small p allow s a k = small _ s.code _ (plain_words_of p) (sym k.code) (sizes_add p allow s a k) (plain_small p a.within_size)
 
 code_room_by : (a t n rest : ℕ) → a ≡ fram_first + 2 * rest → t ≡ n → fram_first + 2 * (rest + n) ≤ program_end → a + 2 * t ≤ program_end
 code_room_by a t n rest e f h = omega (arith, e, f, h)
 
 pub code_room : (p : CheckedProgram) (allow : Allow) (s : Sizes) (r : Regions) → IsAllowed p allow → AreSizes p s → AreRegions allow s r
-    → r.code.address + 2 * total (body_words p.shared) p.tasks ≤ program_end
+    → r.code.address + 2 * total (body_words (summaries p) p.shared) p.tasks ≤ program_end
 code_room p allow s r a k g = code_room_by r.code.address _ s.code _ (starts allow s r g).code (sym k.code) (sizes_fit p allow s a k)
+
+-- a source without functions has no summaries of any
+pub no_summaries : (p : CheckedProgram) → p.functions ≡ [] → summaries p ≡ []
+no_summaries p plain = ap function_summaries plain
 
 -- what the layouts of tasks are made of
 pub record TaskSources : Type 0 where
+  pub known : List Summary
   pub shared : List SharedDeclaration
   pub places : List VariablePlace
-  pub tasks : List (TaskDeclaration VariableName TaskName)
+  pub tasks : List (TaskDeclaration VariableName TaskName FunctionName)
   pub plans : List TaskPlanValue
 
 -- the same of equal lists
 pub tasks_moved : (a b : TaskSources) (address : ℕ) (layouts : List TaskPlace) → a ≡ b
-    → ArePlacedTasks a.shared a.places (map task_of a.tasks) a.plans address layouts
-    → ArePlacedTasks b.shared b.places (map task_of b.tasks) b.plans address layouts
-tasks_moved a b address layouts e h = subst (λ x. ArePlacedTasks x.shared x.places (map task_of x.tasks) x.plans address layouts) e h
+    → ArePlacedTasks a.known a.shared a.places (map task_of a.tasks) a.plans address layouts
+    → ArePlacedTasks b.known b.shared b.places (map task_of b.tasks) b.plans address layouts
+tasks_moved a b address layouts e h = subst (λ x. ArePlacedTasks x.known x.shared x.places (map task_of x.tasks) x.plans address layouts) e h
 
 -- ---- the whole
 
@@ -318,13 +331,15 @@ words_end a w n m e f = omega (arith, e, f)
 -- the sizes, the regions, the places of variables and the layouts of tasks as they are made for a source
 pub record IsPlaced (p : CheckedProgram) (allow : Allow) (plans : List TaskPlanValue) (s : Sizes) (r : Regions) (written : List Bool)
     (places : List VariablePlace) (layouts : List TaskPlace) : Type 0 where
+  pub plain : p.functions ≡ []
+  pub calls : All (λ task. BlockCallsBelow 0 task.body) p.tasks
   pub few : length p.shared ≤ 256
   pub written_so : AreWritten p written
   pub allowed : IsAllowed p allow
   pub sizes : AreSizes p s
   pub regions : AreRegions allow s r
   pub variables : ArePlaced p.shared written (record { home = r.homes.address; copy = r.copies.address; version = r.versions.address }) places
-  pub tasks : ArePlacedTasks p.shared places p.tasks plans r.code.address layouts
+  pub tasks : ArePlacedTasks (summaries p) p.shared places p.tasks plans r.code.address layouts
 
 pub laid_out : (runtime : Runtime) (p : CheckedProgram) (allow : Allow) (plans : List TaskPlanValue) (s : Sizes) (r : Regions) (written : List Bool)
     (places : List VariablePlace) (layouts : List TaskPlace) → IsPlaced p allow plans s r written places layouts → IsLaidOut (map_with runtime r places layouts)
@@ -340,7 +355,7 @@ laid_out runtime p allow plans s r written places layouts made = record {
       (words_end r.versions.address r.versions.words allow.versions (version_sum written p.shared) g.versions_words
       (made.allowed.versions ∙ sym (versions_are p written made.few made.written_so))) made.variables.versions;
   code = subst (λ end. AreInOrder r.code.address (map (λ t. t.code) layouts) end)
-      (words_end r.code.address r.code.words s.code (total (body_words p.shared) p.tasks) g.code_words k.code) made.tasks.code;
+      (words_end r.code.address r.code.words s.code (total (body_words (summaries p) p.shared) p.tasks) g.code_words k.code) made.tasks.code;
   privates = made.tasks.privates;
 }
   where
@@ -359,6 +374,8 @@ whole p allow plans s r written places layouts made =
     let k = made.sizes in
     let g = made.regions in
     record {
+      plain = made.plain;
+      calls = made.calls;
       runtime = refl;
       rules = laid_out (runtime_for Redo p) p allow plans s r written places layouts made;
       list = g.entries;

@@ -1,10 +1,13 @@
 -- The layout of a source.
-use Rattle.std.specs.Prelude.{◌≡◌, ℕ, ◌+◌, ◌*◌, ◌≤◌, Bool, List, length, map, Some, is_some, slice_get}
+use Rattle.std.specs.Prelude.{◌≡◌, ℕ, ◌+◌, ◌*◌, ◌≤◌, Bool, List, [], length, map, All, Some, is_some, slice_get}
+use Rattle.task_ast.specs.Calls.{BlockCallsBelow}
 use Rattle.task_ast.specs.declared.Extent.{Extent}
 use Rattle.task_ast.specs.declared.Extent.TheVariants as extent
 use Rattle.task_ast.specs.declared.SharedDeclaration.{SharedDeclaration}
 use Rattle.cost_bound.specs.declared.allowance.Allow.{Allow}
+use Rattle.cost_bound.specs.Summary.{Summary}
 use Rattle.cost_bound.specs.Counts.{CheckedBlock}
+use Rattle.cost_bound.specs.Summaries.{summaries}
 use Rattle.cost_bound.specs.Allowance.{CheckedProgram, CheckedTask, is_written, total, plain_words_of, uses_events}
 use Rattle.war_analysis.specs.PlanValue.{TaskPlanValue}
 use Rattle.memory_map.specs.address_space.Limits.{fram_first}
@@ -32,27 +35,30 @@ IsPlaceOf written (extent.Array n) (Scalar _ _ _) = ⊥
 pub record AreVariables (p : CheckedProgram) (places : List VariablePlace) : Type 0 where
   pub count : length places ≡ length p.shared
   pub each : (i : ℕ) (d : SharedDeclaration) (place : VariablePlace) → slice_get p.shared i ≡ Some d → slice_get places i ≡ Some place
-      → IsPlaceOf (is_written p.tasks i) d.extent place
+      → IsPlaceOf (is_written (summaries p) p.tasks i) d.extent place
 
 -- the private scalars of the plan, and the words of the task's code
-pub record IsTaskLayout (shared : List SharedDeclaration) (code : CheckedBlock) (plan : TaskPlanValue) (t : TaskPlace) : Type 0 where
+pub record IsTaskLayout (known : List Summary) (shared : List SharedDeclaration) (code : CheckedBlock) (plan : TaskPlanValue) (t : TaskPlace) : Type 0 where
   pub privates : map (λ s. s.number) t.privates ≡ plan.private_scalars
-  pub words : t.code.words ≡ body_words shared code
+  pub words : t.code.words ≡ body_words known shared code
 
 -- each task has a layout, by its number
 pub record AreTasks (p : CheckedProgram) (plans : List TaskPlanValue) (tasks : List TaskPlace) : Type 0 where
   pub count : length tasks ≡ length p.tasks
   pub each : (k : ℕ) (task : CheckedTask) (plan : TaskPlanValue) (t : TaskPlace) → slice_get p.tasks k ≡ Some task → slice_get plans k ≡ Some plan
-      → slice_get tasks k ≡ Some t → IsTaskLayout p.shared task.body plan t
+      → slice_get tasks k ≡ Some t → IsTaskLayout (summaries p) p.shared task.body plan t
 
 -- the runtime of a source that logs so: that of a board that is alone, which takes events where the source uses some
 abbrev pub runtime_for : Logging → CheckedProgram → Runtime
 runtime_for logging p = record lone_redo { logging = logging; events = uses_events p }
 
--- The layout of a source, by how its runtime logs, for a board that is alone: it keeps the rules of layouts, its buffers have room for what the source's
+-- The layout of a source without functions, by how its runtime logs, for a board that is alone: it keeps the rules of layouts, its buffers have room for what
+-- the source's
 -- allowance says, its variables and tasks are those of the source, and the whole takes no more words than the source has without what events need, of which
 -- the last is the one at FFFE. The places are the same for each runtime.
 pub record IsLayoutFor (logging : Logging) (p : CheckedProgram) (allow : Allow) (plans : List TaskPlanValue) (l : MemoryMap) : Type 0 where
+  pub plain : p.functions ≡ []
+  pub calls : All (λ task. BlockCallsBelow 0 task.body) p.tasks
   pub runtime : l.runtime ≡ runtime_for logging p
   pub rules : IsLaidOut l
   pub list : l.entries ≡ allow.list
@@ -61,9 +67,9 @@ pub record IsLayoutFor (logging : Logging) (p : CheckedProgram) (allow : Allow) 
   pub homes : l.homes.words ≡ home_words p.shared
   pub copies : l.copies.words ≡ copy_words p
   pub variables : AreVariables p l.variables
-  pub boot : l.boot.words ≡ boot_words p.shared p.tasks
+  pub boot : l.boot.words ≡ boot_words (summaries p) p.shared p.tasks
   pub commit : l.commit.words ≡ commit_words
-  pub code : l.code.words ≡ total (body_words p.shared) p.tasks
+  pub code : l.code.words ≡ total (body_words (summaries p) p.shared) p.tasks
   pub tasks : AreTasks p plans l.tasks
   pub size : end_of l.code + 2 ≤ fram_first + 2 * plain_words_of p
 

@@ -6,6 +6,8 @@ use Rattle.task_ast.specs.declared.Extent.{Extent}
 use Rattle.task_ast.specs.declared.Extent.TheVariants as extent
 use Rattle.task_ast.specs.declared.SharedDeclaration.{SharedDeclaration}
 use Rattle.cost_bound.specs.declared.allowance.Allow.{Allow}
+use Rattle.cost_bound.specs.Summary.{Summary}
+use Rattle.cost_bound.specs.Summaries.{summaries}
 use Rattle.cost_bound.specs.Allowance.{CheckedTask, CheckedProgram, shared_sum, version_part, total}
 use Rattle.war_analysis.specs.PlanValue.{TaskPlanValue}
 use Rattle.memory_map.specs.address_space.Limits.{fram_first, program_end}
@@ -79,27 +81,27 @@ pub record ArePrivates (variables : List VariablePlace) (plan : List ℕ) (priva
   pub places : All (HasItsPlace variables) privates
 
 -- a task's layout, its code from an address on
-pub record IsPlacedTask (shared : List SharedDeclaration) (places : List VariablePlace) (task : CheckedTask) (plan : TaskPlanValue) (at : ℕ)
-    (t : TaskPlace) : Type 0 where
-  pub layout : IsTaskLayout shared task.body plan t
+pub record IsPlacedTask (known : List Summary) (shared : List SharedDeclaration) (places : List VariablePlace) (task : CheckedTask) (plan : TaskPlanValue)
+    (at : ℕ) (t : TaskPlace) : Type 0 where
+  pub layout : IsTaskLayout known shared task.body plan t
   pub privates : All (HasItsPlace places) t.privates
   pub address : t.code.address ≡ at
 
 -- the layouts of all tasks, their code in order from an address on
-pub record ArePlacedTasks (shared : List SharedDeclaration) (places : List VariablePlace) (tasks : List CheckedTask) (plans : List TaskPlanValue)
-    (address : ℕ) (layouts : List TaskPlace) : Type 0 where
+pub record ArePlacedTasks (known : List Summary) (shared : List SharedDeclaration) (places : List VariablePlace) (tasks : List CheckedTask)
+    (plans : List TaskPlanValue) (address : ℕ) (layouts : List TaskPlace) : Type 0 where
   pub count : length layouts ≡ length tasks
   pub each : (k : ℕ) (task : CheckedTask) (plan : TaskPlanValue) (t : TaskPlace) → slice_get tasks k ≡ Some task → slice_get plans k ≡ Some plan
-      → slice_get layouts k ≡ Some t → IsTaskLayout shared task.body plan t
+      → slice_get layouts k ≡ Some t → IsTaskLayout known shared task.body plan t
   pub privates : All (λ t. All (HasItsPlace places) t.privates) layouts
-  pub code : AreInOrder address (map (λ t. t.code) layouts) (address + 2 * total (body_words shared) tasks)
+  pub code : AreInOrder address (map (λ t. t.code) layouts) (address + 2 * total (body_words known shared) tasks)
 
 -- the words of a source's variables, of their copies, of the boot and of the tasks' code
 pub record AreSizes (p : CheckedProgram) (sizes : Sizes) : Type 0 where
   pub homes : sizes.homes ≡ home_words p.shared
   pub copies : sizes.copies ≡ copy_words p
-  pub boot : sizes.boot ≡ boot_words p.shared p.tasks
-  pub code : sizes.code ≡ total (body_words p.shared) p.tasks
+  pub boot : sizes.boot ≡ boot_words (summaries p) p.shared p.tasks
+  pub code : sizes.code ≡ total (body_words (summaries p) p.shared) p.tasks
 
 -- the words of the runtime, and behind them the regions of these sizes, one right behind another
 pub record AreRegions (allow : Allow) (sizes : Sizes) (r : Regions) : Type 0 where

@@ -5,8 +5,10 @@ use Rattle.task_ast.specs.declared.Extent.TheVariants.{Scalar, Long, Array}
 use Rattle.task_ast.specs.declared.SharedDeclaration.{SharedDeclaration}
 use Rattle.cost_bound.specs.Counts.{CheckedBlock}
 use Rattle.memory_map.specs.Words.{row_words}
-use Rattle.cost_bound.specs.Table.{words_column, block_price}
-use Rattle.cost_bound.specs.Allowance.{CheckedProgram, CheckedTask, shared_sum, scalars_of, is_written, total}
+use Rattle.cost_bound.specs.Summary.{Summary}
+use Rattle.cost_bound.specs.Counts.{routine_words}
+use Rattle.cost_bound.specs.Summaries.{summaries}
+use Rattle.cost_bound.specs.Allowance.{CheckedProgram, CheckedTask, shared_sum, scalars_of, own_words, is_written, total}
 
 -- the words of a variable
 abbrev pub home_part : Extent → ℕ
@@ -26,11 +28,11 @@ copy_part written (Array length) = if written then length else 0
 
 -- the words of all copies
 abbrev pub copy_words : CheckedProgram → ℕ
-copy_words p = shared_sum (λ i extent. copy_part (is_written p.tasks i) extent) p.shared
+copy_words p = shared_sum (λ i extent. copy_part (is_written (summaries p) p.tasks i) extent) p.shared
 
--- the words of a task's code, as the allowance has them
-abbrev pub body_words : List SharedDeclaration → CheckedBlock → ℕ
-body_words shared code = block_price (words_column (scalars_of shared code)) code
+-- the words of a task's code, as the allowance has them: its own, and the copies of the functions that it reaches
+abbrev pub body_words : List Summary → List SharedDeclaration → CheckedBlock → ℕ
+body_words known shared code = own_words known shared code + routine_words known code
 
 -- of the commit
 abbrev pub commit_words : ℕ
@@ -42,9 +44,9 @@ abbrev pub own_boot_words : ℕ
 own_boot_words = 599 - row_words - commit_words
 
 -- of the start of a task, with the copies of its scalars
-abbrev pub entry_words : List SharedDeclaration → CheckedBlock → ℕ
-entry_words shared code = 200 + 16 * scalars_of shared code
+abbrev pub entry_words : List Summary → List SharedDeclaration → CheckedBlock → ℕ
+entry_words known shared code = 200 + 16 * scalars_of known shared code
 
 -- of boot and all starts
-abbrev pub boot_words : List SharedDeclaration → List CheckedTask → ℕ
-boot_words shared tasks = own_boot_words + total (entry_words shared) tasks
+abbrev pub boot_words : List Summary → List SharedDeclaration → List CheckedTask → ℕ
+boot_words known shared tasks = own_boot_words + total (entry_words known shared) tasks

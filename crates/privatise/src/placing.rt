@@ -1,6 +1,7 @@
 //! The layout of a source.
-ghost use Rattle.std.specs.Prelude.{◌≡◌, ◌+◌, ◌*◌, ◌≤◌, IfOk, length};
+ghost use Rattle.std.specs.Prelude.{◌≡◌, ◌+◌, ◌*◌, ◌≤◌, [], IfOk, All, length};
 ghost use Rattle.task_ast.specs.View.{program_of};
+ghost use Rattle.task_ast.specs.Calls.{BlockCallsBelow};
 ghost use Rattle.cost_bound.specs.Allowance.{IsAllowed};
 ghost use Rattle.war_analysis.specs.Plans.{IsPlan};
 ghost use Rattle.memory_map.specs.address_space.Limits.{fram_first, program_end};
@@ -74,13 +75,15 @@ fn layout_of(
 ) -> Result<Layout, AllocError>
     requires few { length source.now.shared.items ≤ 256 }
     requires few_tasks { length source.now.tasks.items ≤ 64 }
+    requires plain { (program_of source.now).functions ≡ [] }
+    requires calls { All (λ task. BlockCallsBelow 0 task.body) (program_of source.now).tasks }
     requires allowed { IsAllowed (program_of source.now) allow.now }
     requires planned { IsPlan (program_of source.now) plan.now }
     ensures { IfOk result (IsLayout (program_of source.now) allow.now plan.now) }
 {
     let shared = source.shared.as_slice();
     let tasks = source.tasks.as_slice();
-    let written = written_variables(tasks);
+    let written = written_variables(&[], tasks);
     let regions = regions_of(allow, sizes_of(source, &written));
     let free = Free {
         home: regions.homes.address,
@@ -99,12 +102,12 @@ fn layout_of(
     let runtime = Runtime {
         logging: Logging::Redo,
         role: Role::Alone,
-        events: uses_events(tasks),
+        events: uses_events(source),
     };
     Ok(Layout::new(runtime, regions, variables, layouts))
 }
 
-/// Where the data and the code of a source stand; or no memory is left. The allowance and the plan are those of the source.
+/// Where the data and the code of a source without functions stand; or no memory is left. The allowance and the plan are those of the source.
 ///
 /// It takes no more than the words of the allowance, from 0x4400 up, but for the last of them, which is the word at 0xFFFE.
 pub fn layout(
@@ -113,6 +116,7 @@ pub fn layout(
     allow: &Allow,
     plan: &Plan,
 ) -> Result<Layout, AllocError>
+    requires plain { (program_of checked.now.source).functions ≡ [] }
     requires allowed { IsAllowed (program_of checked.now.source) allow.now }
     requires planned { IsPlan (program_of checked.now.source) plan.now }
     ensures { IfOk result (IsLayout (program_of checked.now.source) allow.now plan.now) }

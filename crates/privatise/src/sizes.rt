@@ -1,13 +1,16 @@
 //! The words that data and code are given.
-ghost use Rattle.std.specs.Prelude.{◌≡◌, ◌+◌, ◌≤◌, ◌<◌, ℕ, length, map, false, slice_index_or};
+ghost use Rattle.std.specs.Prelude.{◌≡◌, ◌+◌, ◌≤◌, ◌<◌, ℕ, [], length, map, false, slice_index_or};
 ghost use Rattle.task_ast.specs.View.{task_of, program_of};
+ghost use Rattle.cost_bound.specs.Summaries.{summaries};
 ghost use Rattle.cost_bound.specs.Allowance.{shared_sum, is_written, version_part, total, plain_words_of};
 ghost use Rattle.privatise.specs.Sizes.{home_part, home_words, copy_part, body_words, boot_words};
 ghost use Rattle.privatise.specs.Placing.{AreSizes};
 
 use cost_bound::{SHARED, assigned_scalars, code_words};
 use memory_map::ROW_WORDS;
-use task_ast::{CheckedSource, Extent, SharedDeclaration, TaskDeclaration, TaskName, VariableName};
+use task_ast::{
+    CheckedSource, Extent, FunctionName, SharedDeclaration, TaskDeclaration, TaskName, VariableName,
+};
 
 /// The words of a variable.
 pub fn home_part(extent: Extent) -> u32
@@ -74,43 +77,43 @@ pub const COMMIT: u32 = 200;
 // The words of the boot, beside what each task takes there. It shares 599 with the words of the runtime and the commit.
 const BOOT: u32 = 599 - ROW_WORDS - COMMIT;
 
-// The words of the boot.
+// The words of the boot of a source without functions.
 fn boot_words(
     shared: &[SharedDeclaration],
-    tasks: &[TaskDeclaration<VariableName, TaskName>],
+    tasks: &[TaskDeclaration<VariableName, TaskName, FunctionName>],
 ) -> u32
     requires few { length shared.now ≤ 256 }
     requires few_tasks { length tasks.now ≤ 64 }
-    ensures { result ≡ boot_words shared.now (map task_of tasks.now) }
+    ensures { result ≡ boot_words [] shared.now (map task_of tasks.now) }
 {
     let mut n = BOOT;
     for i in (0..tasks.len()).rev() {
-        n += 200 + 16 * assigned_scalars(shared, &tasks[i].body) as u32;
+        n += 200 + 16 * assigned_scalars(&[], shared, &tasks[i].body) as u32;
     }
     n
 }
 
-/// The words of a task's code.
+/// The words of the code of a task that calls no function.
 pub fn task_words(
     shared: &[SharedDeclaration],
-    task: &TaskDeclaration<VariableName, TaskName>,
+    task: &TaskDeclaration<VariableName, TaskName, FunctionName>,
 ) -> u32
     requires few { length shared.now ≤ 256 }
-    requires small { body_words shared.now (task_of task.now).body ≤ 22000 }
-    ensures { result ≡ body_words shared.now (task_of task.now).body }
+    requires small { body_words [] shared.now (task_of task.now).body ≤ 22000 }
+    ensures { result ≡ body_words [] shared.now (task_of task.now).body }
 {
-    let scalars = assigned_scalars(shared, &task.body);
-    code_words(scalars, &task.body) as u32
+    let scalars = assigned_scalars(&[], shared, &task.body);
+    code_words(&[], scalars, &task.body) as u32
 }
 
-// The words of all tasks' code.
+// The words of all tasks' code, where they call no functions.
 fn all_task_words(
     shared: &[SharedDeclaration],
-    tasks: &[TaskDeclaration<VariableName, TaskName>],
+    tasks: &[TaskDeclaration<VariableName, TaskName, FunctionName>],
 ) -> u32
     requires few { length shared.now ≤ 256 }
-    requires small { total (body_words shared.now) (map task_of tasks.now) ≤ 22000 }
-    ensures { result ≡ total (body_words shared.now) (map task_of tasks.now) }
+    requires small { total (body_words [] shared.now) (map task_of tasks.now) ≤ 22000 }
+    ensures { result ≡ total (body_words [] shared.now) (map task_of tasks.now) }
 {
     let mut n = 0u32;
     for i in (0..tasks.len()).rev() {
@@ -128,12 +131,13 @@ pub struct Sizes {
     pub code: u32,
 }
 
-/// The sizes for a source, in which the variables that some task writes are marked.
+/// The sizes for a source without functions, in which the variables that some task writes are marked.
 pub fn sizes_of(source: &CheckedSource, written: &[bool; SHARED]) -> Sizes
     requires few { length source.now.shared.items ≤ 256 }
     requires few_tasks { length source.now.tasks.items ≤ 64 }
+    requires plain { (program_of source.now).functions ≡ [] }
     requires written { (i : ℕ) → i < 256
-        → slice_index_or written.now i false ≡ is_written (map task_of source.now.tasks.items) i }
+        → slice_index_or written.now i false ≡ is_written (summaries (program_of source.now)) (map task_of source.now.tasks.items) i }
     requires small { plain_words_of (program_of source.now) ≤ 22000 }
     ensures { AreSizes (program_of source.now) result }
 {

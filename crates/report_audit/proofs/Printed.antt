@@ -18,10 +18,7 @@ use Rattle.text_parts.specs.Fields.{fields}
 use Rattle.text_parts.specs.Printed.{spaced}
 use Rattle.text_parts.proofs.Interface.{Inked, AreWords, decimal_word, fields_spaced}
 use Rattle.source_maps.specs.model_runs.image_map.Names.{is_name_byte, is_name}
-use Rattle.source_report.specs.task_ast.Tree.{Task}
-use Rattle.source_report.specs.task_ast.declared.names.VariableName.{VariableName}
-use Rattle.source_report.specs.task_ast.declared.names.TaskName.{TaskName}
-use Rattle.source_values.specs.Runs.{CheckedProgram, Transition}
+use Rattle.source_values.specs.Runs.{CheckedTask, CheckedProgram, Transition}
 use Rattle.source_report.specs.SourceReport.{Committed, spelled, task_name, emitted_lines, change_lines, transition_lines}
 use Rattle.source_maps.specs.Names.{HasNames}
 use Rattle.report_audit.specs.Entry.{entry_of}
@@ -110,10 +107,10 @@ reason_word Limit ws l = (omega arith, (omega arith, (omega arith, (omega arith,
 named : (source : List ℕ) (program : CheckedProgram) (task : ℕ) → HasNames source program → IsNamed (task_name source program task)
 named source program task names = by_task (slice_get program.tasks task) refl
   where
-    by_task : (o : Option (Task VariableName TaskName)) → slice_get program.tasks task ≡ o → IsNamed (option_map (λ t. spelled source t.name) o)
+    by_task : (o : Option (CheckedTask)) → slice_get program.tasks task ≡ o → IsNamed (option_map (λ t. spelled source t.name) o)
     by_task None e = tt
     by_task (Some t) e =
-        let P : Task VariableName TaskName → Type 0 = λ x. is_name (spelled source x.name) ≡ true in
+        let P : CheckedTask → Type 0 = λ x. is_name (spelled source x.name) ≡ true in
         subst P (get_or_from_slice_get program.tasks task t t e) (All-get_or P program.tasks task t (slice_get_within program.tasks task t e) names.tasks)
 
 module _ (source : List ℕ) (program : CheckedProgram) (names : HasNames source program) where

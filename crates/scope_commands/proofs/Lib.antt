@@ -1,2 +1,3 @@
 mod Scoped
 mod Called
+mod Complete

@@ -1,13 +1,15 @@
 //! The commands of the program.
-ghost use Rattle.std.specs.Prelude.{◌≡◌, ℕ, List, ◌≤◌, ◌⊎◌, map, string_bytes};
+ghost use Rattle.std.specs.Prelude.{◌≡◌, ℕ, List, ◌≤◌, ◌⊎◌, IfSome, map, string_bytes};
+ghost use Rattle.plain_commands.specs.alp_io.Count.{Rose};
 ghost use Rattle.plain_commands.specs.alp_io.Shelf.{NeverFall, Told};
 ghost use Rattle.plain_commands.specs.command_answers.Messages.{Tells};
 ghost use Rattle.plain_commands.specs.command_answers.CommandAnswers.{CommandAnswers};
-ghost use Rattle.scope_commands.specs.Answers.{OnScopeLine, ScopeAnswers, promise_of, scope_usage};
+ghost use Rattle.scope_commands.specs.Answers.{IsToBeDone, OnScopeLine, ScopeAnswers, promise_of, scope_usage};
 
 use crate::bounds::answer_bounds;
 use plain_commands::answers::{Status, messages};
 use plain_commands::outside::{Shelf, Sink, write_all};
+use plain_commands::texts::{one_answer, one_program};
 use scope_line::{Command, WordsFault, command_of};
 use std::alloc::Global;
 
@@ -96,6 +98,14 @@ pub fn alpaca_scope<H: Shelf, O: Sink, E: Sink>(
     // Words that are no line are answered by the usage, or memory ran out.
     ensures no_line { (OnScopeLine (map string_bytes words.entry.now) (λ command. Unit {0}) → ⊥)
         → (result ≡ Status.Usage) ⊎ (result ≡ Status.OutOfMemory) }
+
+    // Where the words are a line, the files are told and fit, their texts are accepted, and no read and no write fails, the command is
+    // carried out, or memory ran out.
+    ensures complete { IfSome (H.files shelf.old) (λ f. IsToBeDone (map string_bytes words.entry.now) f
+        → ¬ Rose (H.counts shelf.old).failed_reads (H.counts shelf.new).failed_reads → ¬ Rose (O.faults out.old) (O.faults out.new)
+        → (result ≡ Status.Done) ⊎ (result ≡ Status.OutOfMemory)) }
 {
+    one_answer();
+    one_program();
     answer(alloc, words, shelf, out, err)
 }

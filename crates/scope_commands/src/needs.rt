@@ -2,6 +2,7 @@
 ghost use Rattle.std.specs.Prelude.{◌≡◌, IfOk, IfErr};
 ghost use Rattle.task_ast.specs.View.{program_of};
 ghost use Rattle.plain_commands.specs.source_meaning.Acceptance.{IsAcceptedText};
+ghost use Rattle.plain_commands.specs.source_meaning.Plain.{IsPlain};
 ghost use Rattle.plain_commands.specs.command_answers.declared.failure.Failure.TheVariants.{Memory};
 ghost use Rattle.scope_commands.specs.Bounds.{IsScope};
 
@@ -12,9 +13,10 @@ use plain_commands::texts::Accepted;
 use source_needs::needs_of;
 use std::alloc::Global;
 
-/// The lines of a source's tasks; `Memory` where memory was refused.
+/// The lines of the tasks of a source without functions; `Memory` where memory was refused.
 pub fn needs_text<'t>(alloc: Global, source: &Accepted) -> Result<Vec<u8>, Failure<'t>>
-    requires { IsAcceptedText source.now.text.items (program_of source.now.checked.source) source.now.allow }
+    requires accepted { IsAcceptedText source.now.text.items (program_of source.now.checked.source) source.now.allow }
+    requires plain { IsPlain (program_of source.now.checked.source) }
     ensures text { IfOk result (λ text. IsScope source.now.text.items (program_of source.now.checked.source) source.now.allow text.items) }
     ensures failure { IfErr result (λ e. e ≡ Memory) }
 {

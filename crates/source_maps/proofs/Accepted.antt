@@ -3,9 +3,7 @@ use Rattle.std.proofs.Common.{◌≡◌, ◌∙◌, ℕ, true, List, [], ◌∷�
 use Rattle.std.specs.Prelude.{All}
 use Rattle.std.proofs.lemmas.List.Elements.{All-nil, All-cons, All-head, All-tail}
 use Rattle.alp_text.specs.declared.lines.Span.{Span}
-use Rattle.task_ast.specs.Tree.{Task}
-use Rattle.task_ast.specs.declared.names.VariableName.{VariableName}
-use Rattle.task_ast.specs.declared.names.TaskName.{TaskName}
+use Rattle.task_ast.specs.Paths.{CheckedTask}
 use Rattle.cost_bound.specs.task_check.LookedUp.{task_back}
 use Rattle.cost_bound.specs.task_check.Occurrences.{program_names}
 use Rattle.image_map.specs.Names.{is_name}
@@ -16,13 +14,13 @@ use Rattle.source_maps.proofs.Spelling.{are_named, program_named, ProgramNamed}
 use Rattle.source_maps.proofs.Declared.{program_declared}
 use Rattle.source_maps.proofs.Different.{different, have_words, program_words}
 
-tasks_there : (P : Span → Type 0) (tasks : List (Task VariableName TaskName)) → All (λ t. P t.name) (map task_back tasks) → All (λ t. P t.name) tasks
+tasks_there : (P : Span → Type 0) (tasks : List CheckedTask) → All (λ t. P t.name) (map task_back tasks) → All (λ t. P t.name) tasks
 tasks_there P [] h = All-nil (λ t. P t.name)
 tasks_there P (t ∷ ts) h =
     All-cons (λ t. P t.name) t ts (All-head (λ t. P t.name) (task_back t) (map task_back ts) h)
     (tasks_there P ts (All-tail (λ t. P t.name) (task_back t) (map task_back ts) h))
 
-names_there : (text : List ℕ) (tasks : List (Task VariableName TaskName)) → map (λ t. spelled text t.name) (map task_back tasks)
+names_there : (text : List ℕ) (tasks : List CheckedTask) → map (λ t. spelled text t.name) (map task_back tasks)
     ≡ map (λ t. spelled text t.name) tasks
 names_there text [] = refl
 names_there text (t ∷ ts) = ap (λ l. spelled text t.name ∷ l) (names_there text ts)

@@ -19,8 +19,8 @@ use Rattle.cost_bound.specs.task_check.declared.symbol.Global.{Global}
 use Rattle.cost_bound.specs.task_check.declared.symbol.Local.{Local}
 use Rattle.cost_bound.specs.task_check.declared.symbol.Symbol.{Symbol}
 use Rattle.cost_bound.specs.task_check.SharedTypes.{shared_type}
-use Rattle.cost_bound.specs.task_check.Occurrences.{and_front, task_names, shared_names, program_names}
-use Rattle.cost_bound.specs.task_check.Scope.{text_of, shared_in, tasks_in, global_in, local_in, global_with, if_named, stands_in_front}
+use Rattle.cost_bound.specs.task_check.Occurrences.{and_front, function_names, task_names, shared_names, program_names}
+use Rattle.cost_bound.specs.task_check.Scope.{text_of, shared_in, functions_in, tasks_in, global_in, local_in, global_with, if_named, stands_in_front}
 use Rattle.cost_bound.specs.task_check.LookedUp.{symbol_at}
 use Rattle.cost_bound.specs.task_check.Faults.{fault_if, first_fault, is_repeated, is_unknown, name_fault_if, name_fault, use_fault_by, use_fault}
 use Rattle.image_map.specs.MapValue.{is_among, are_different}
@@ -64,22 +64,24 @@ module _ (source : List ℕ) where
   either_before n None b h k = k
   either_before n (Some g) b h k = omega (arith, h)
 
-  own_before : (named : Bool) (r : Role) (n shared tasks : ℕ) → StandsBefore (suc n) (if_named named (global_with r n shared tasks))
-  own_before false r n shared tasks = tt
-  own_before true (role.Shared of e) n shared tasks = omega arith
-  own_before true role.Task n shared tasks = omega arith
-  own_before true (role.Local of begin end) n shared tasks = tt
-  own_before true role.Scalar n shared tasks = tt
-  own_before true role.Element n shared tasks = tt
-  own_before true role.Counter n shared tasks = tt
-  own_before true role.Target n shared tasks = tt
-  own_before true (role.Operand refused kept) n shared tasks = tt
+  own_before : (named : Bool) (r : Role) (n shared functions tasks : ℕ) → StandsBefore (suc n) (if_named named (global_with r n shared functions tasks))
+  own_before false r n shared functions tasks = tt
+  own_before true (role.Shared of e) n shared functions tasks = omega arith
+  own_before true role.Task n shared functions tasks = omega arith
+  own_before true (role.Function of count) n shared functions tasks = omega arith
+  own_before true (role.Local of begin end extra) n shared functions tasks = tt
+  own_before true role.Scalar n shared functions tasks = tt
+  own_before true role.Element n shared functions tasks = tt
+  own_before true role.Counter n shared functions tasks = tt
+  own_before true (role.Call count) n shared functions tasks = tt
+  own_before true role.Target n shared functions tasks = tt
+  own_before true (role.Operand refused kept) n shared functions tasks = tt
 
   found_before : (name : List ℕ) (front : List Occurrence) → StandsBefore (length front) (global_in source name front)
   found_before name [] = tt
   found_before name (o ∷ front) =
       either_before (length front) (global_in source name front) _ (found_before name front)
-      (own_before (bytes_eq (text_of source o.span) name) o.role (length front) (shared_in front) (tasks_in front))
+      (own_before (bytes_eq (text_of source o.span) name) o.role (length front) (shared_in front) (functions_in front) (tasks_in front))
 
   some_first : (a b : Option Global) → is_some a ≡ true → is_some (option_or a b) ≡ true
   some_first None b h = absurd (cc)
@@ -89,24 +91,26 @@ module _ (source : List ℕ) where
   some_second None b h = h
   some_second (Some g) b h = refl
 
-  own_found : (r : Role) (text name : List ℕ) (n shared tasks : ℕ) → is_among name (declared_by r text) ≡ true
-      → is_some (if_named (bytes_eq text name) (global_with r n shared tasks)) ≡ true
-  own_found (role.Shared of e) text name n shared tasks h = by (bytes_eq text name) h
+  own_found : (r : Role) (text name : List ℕ) (n shared functions tasks : ℕ) → is_among name (declared_by r text) ≡ true
+      → is_some (if_named (bytes_eq text name) (global_with r n shared functions tasks)) ≡ true
+  own_found (role.Shared of e) text name n shared functions tasks h = by (bytes_eq text name) h
     where
-      by : (b : Bool) → (b || false) ≡ true → is_some (if_named b (global_with (role.Shared of e) n shared tasks)) ≡ true
+      by : (b : Bool) → (b || false) ≡ true → is_some (if_named b (global_with (role.Shared of e) n shared functions tasks)) ≡ true
       by true h = refl
       by false h = absurd (cc)
-  own_found role.Task text name n shared tasks h = by (bytes_eq text name) h
+  own_found role.Task text name n shared functions tasks h = by (bytes_eq text name) h
     where
-      by : (b : Bool) → (b || false) ≡ true → is_some (if_named b (global_with role.Task n shared tasks)) ≡ true
+      by : (b : Bool) → (b || false) ≡ true → is_some (if_named b (global_with role.Task n shared functions tasks)) ≡ true
       by true h = refl
       by false h = absurd (cc)
-  own_found (role.Local of begin end) text name n shared tasks h = absurd (cc)
-  own_found role.Scalar text name n shared tasks h = absurd (cc)
-  own_found role.Element text name n shared tasks h = absurd (cc)
-  own_found role.Counter text name n shared tasks h = absurd (cc)
-  own_found role.Target text name n shared tasks h = absurd (cc)
-  own_found (role.Operand refused kept) text name n shared tasks h = absurd (cc)
+  own_found (role.Function of count) text name n shared functions tasks h = absurd (cc)
+  own_found (role.Local of begin end extra) text name n shared functions tasks h = absurd (cc)
+  own_found role.Scalar text name n shared functions tasks h = absurd (cc)
+  own_found role.Element text name n shared functions tasks h = absurd (cc)
+  own_found role.Counter text name n shared functions tasks h = absurd (cc)
+  own_found (role.Call count) text name n shared functions tasks h = absurd (cc)
+  own_found role.Target text name n shared functions tasks h = absurd (cc)
+  own_found (role.Operand refused kept) text name n shared functions tasks h = absurd (cc)
 
   found : (name : List ℕ) (front : List Occurrence) → is_among name (declared source front) ≡ true → is_some (global_in source name front) ≡ true
   found name [] h = absurd (cc)
@@ -117,7 +121,8 @@ module _ (source : List ℕ) where
           → (is_among name (declared source front) ≡ true → is_some (global_in source name front) ≡ true) → is_some (global_in source name (o ∷ front)) ≡ true
       go (inl h) later = some_first (global_in source name front) _ (later h)
       go (inr h) later =
-          some_second (global_in source name front) _ (own_found o.role (text_of source o.span) name (length front) (shared_in front) (tasks_in front) h)
+          some_second (global_in source name front) _
+          (own_found o.role (text_of source o.span) name (length front) (shared_in front) (functions_in front) (tasks_in front) h)
 
   -- what is found in front is found in all
   found_behind : (name : List ℕ) (behind front : List Occurrence) → is_some (global_in source name front) ≡ true
@@ -127,7 +132,7 @@ module _ (source : List ℕ) where
     where
       go : (a b : Option Global) → a ≡ b → is_some b ≡ true
           → option_or a (if_named (bytes_eq (text_of source o.span) name)
-          (global_with o.role (length (behind ++ front)) (shared_in (behind ++ front)) (tasks_in (behind ++ front)))) ≡ b
+          (global_with o.role (length (behind ++ front)) (shared_in (behind ++ front)) (functions_in (behind ++ front)) (tasks_in (behind ++ front)))) ≡ b
       go None b e h = absurd (let none : is_some b ≡ false = ap is_some (sym e) in cc)
       go (Some g) b e h = e
 
@@ -154,19 +159,21 @@ module _ (source : List ℕ) where
   repeated : (o : Occurrence) (a b : Bool) → name_fault_if source o a b ≡ None → a ≡ false
   repeated o a b h = no_fault a _ (both_none (fault_if a _) (fault_if b _) h).0
 
-  by_role : (r : Role) (text : List ℕ) (ns : List (List ℕ)) (global : Bool) (tasks : ℕ) (local : Option Local) → are_different [] ns ≡ true
-      → is_repeated r global tasks local ≡ false → (global ≡ false → is_among text ns ≡ false) → are_different [] (ns ++ declared_by r text) ≡ true
-  by_role (role.Shared of e) text ns global tasks local h k free = different_more [] ns text h (free (or_parts global (is_some local) k).0)
-  by_role role.Task text ns global tasks local h k free = different_more [] ns text h (free (or_parts global (is_some local) k).0)
-  by_role (role.Local of begin end) text ns global tasks local h k free = ap (are_different []) (append-nil ns) ∙ h
-  by_role role.Scalar text ns global tasks local h k free = ap (are_different []) (append-nil ns) ∙ h
-  by_role role.Element text ns global tasks local h k free = ap (are_different []) (append-nil ns) ∙ h
-  by_role role.Counter text ns global tasks local h k free = ap (are_different []) (append-nil ns) ∙ h
-  by_role role.Target text ns global tasks local h k free = ap (are_different []) (append-nil ns) ∙ h
-  by_role (role.Operand refused kept) text ns global tasks local h k free = ap (are_different []) (append-nil ns) ∙ h
+  by_role : (r : Role) (text : List ℕ) (ns : List (List ℕ)) (global : Bool) (functions tasks : ℕ) (local : Option Local) → are_different [] ns ≡ true
+      → is_repeated r global functions tasks local ≡ false → (global ≡ false → is_among text ns ≡ false) → are_different [] (ns ++ declared_by r text) ≡ true
+  by_role (role.Shared of e) text ns global functions tasks local h k free = different_more [] ns text h (free (or_parts global (is_some local) k).0)
+  by_role role.Task text ns global functions tasks local h k free = different_more [] ns text h (free (or_parts global (is_some local) k).0)
+  by_role (role.Function of count) text ns global functions tasks local h k free = ap (are_different []) (append-nil ns) ∙ h
+  by_role (role.Local of begin end extra) text ns global functions tasks local h k free = ap (are_different []) (append-nil ns) ∙ h
+  by_role role.Scalar text ns global functions tasks local h k free = ap (are_different []) (append-nil ns) ∙ h
+  by_role role.Element text ns global functions tasks local h k free = ap (are_different []) (append-nil ns) ∙ h
+  by_role role.Counter text ns global functions tasks local h k free = ap (are_different []) (append-nil ns) ∙ h
+  by_role (role.Call count) text ns global functions tasks local h k free = ap (are_different []) (append-nil ns) ∙ h
+  by_role role.Target text ns global functions tasks local h k free = ap (are_different []) (append-nil ns) ∙ h
+  by_role (role.Operand refused kept) text ns global functions tasks local h k free = ap (are_different []) (append-nil ns) ∙ h
 
   unrepeated : (all front : List Occurrence) (o : Occurrence) → name_fault source all o front ≡ None
-      → is_repeated o.role (stands_in_front (length front) (global_in source (text_of source o.span) all)) (tasks_in front)
+      → is_repeated o.role (stands_in_front (length front) (global_in source (text_of source o.span) all)) (functions_in front) (tasks_in front)
       (local_in source (text_of source o.span) front) ≡ false
   unfolding name_fault
   unrepeated all front o h = repeated o _ (is_unknown o.role (symbol_at source all o front)) h
@@ -178,7 +185,7 @@ module _ (source : List ℕ) where
       let here = unrepeated all front o (both_none (first_fault (name_fault source all) front) (name_fault source all o front) h).1 in
       let rest = (both_none (first_fault (name_fault source all) front) (name_fault source all o front) h).0 in
       let there : all ≡ (behind ++ o ∷ []) ++ front = e ∙ sym (append_assoc behind (o ∷ []) front) in
-      by_role o.role (text_of source o.span) (declared source front) _ (tasks_in front) (local_in source (text_of source o.span) front)
+      by_role o.role (text_of source o.span) (declared source front) _ (functions_in front) (tasks_in front) (local_in source (text_of source o.span) front)
       (different all (behind ++ o ∷ []) front there rest) here
       (λ free. fresh all (behind ++ o ∷ []) front (text_of source o.span) there free)
 
@@ -187,10 +194,12 @@ module _ (source : List ℕ) where
   abbrev RoleHasWords : Role → Type 0
   RoleHasWords (role.Shared of e) = HasWords e
   RoleHasWords role.Task = Unit {0}
-  RoleHasWords (role.Local of begin end) = Unit {0}
+  RoleHasWords (role.Function of count) = Unit {0}
+  RoleHasWords (role.Local of begin end extra) = Unit {0}
   RoleHasWords role.Scalar = Unit {0}
   RoleHasWords role.Element = Unit {0}
   RoleHasWords role.Counter = Unit {0}
+  RoleHasWords (role.Call count) = Unit {0}
   RoleHasWords role.Target = Unit {0}
   RoleHasWords (role.Operand refused kept) = Unit {0}
 
@@ -206,10 +215,12 @@ module _ (source : List ℕ) where
   by_use : (o : Occurrence) (r : Role) (s : Option Symbol) → use_fault_by source o r s ≡ None → RoleHasWords r
   by_use o (role.Shared of e) s h = by_extent o of e s h
   by_use o role.Task s h = tt
-  by_use o (role.Local of begin end) s h = tt
+  by_use o (role.Function of count) s h = tt
+  by_use o (role.Local of begin end extra) s h = tt
   by_use o role.Scalar s h = tt
   by_use o role.Element s h = tt
   by_use o role.Counter s h = tt
+  by_use o (role.Call count) s h = tt
   by_use o role.Target s h = tt
   by_use o (role.Operand refused kept) s h = tt
 
@@ -234,6 +245,7 @@ module _ (source : List ℕ) where
       let r = front_words (shared_names more behind) (record { span = d.name; role = role.Shared d.word_type d.extent }) h in
       All-cons (λ d. HasWords d.extent) d more r.1 (shared_words more behind r.0)
 
-  pub program_words : (p : Program Span Span) → HaveWords (program_names source p) → All (λ d. HasWords d.extent) p.shared
+  pub program_words : (p : Program Span Span Span) → HaveWords (program_names source p) → All (λ d. HasWords d.extent) p.shared
   unfolding program_names
-  program_words p h = shared_words p.shared (task_names (shared_type source p.shared) p.tasks (and_front [] p.entry role.Target)) h
+  program_words p h = let types = shared_type source p.shared in
+      shared_words p.shared (function_names types p.functions (task_names types p.tasks (and_front [] p.entry role.Target))) h

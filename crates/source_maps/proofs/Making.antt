@@ -7,6 +7,7 @@ use Rattle.task_ast.specs.View.{task_of}
 use Rattle.task_ast.specs.declared.SharedDeclaration.{SharedDeclaration}
 use Rattle.task_ast.specs.declared.TaskDeclaration.{TaskDeclaration}
 use Rattle.task_ast.specs.declared.names.VariableName.{VariableName}
+use Rattle.task_ast.specs.declared.names.FunctionName.{FunctionName}
 use Rattle.task_ast.specs.declared.names.TaskName.{TaskName}
 use Rattle.image_map.specs.declared.parts.RuntimeWords.{RuntimeWords}
 use Rattle.image_map.specs.declared.parts.Place.{Place}
@@ -20,7 +21,8 @@ use Rattle.source_maps.specs.Maps.{map_words, map_list, map_buffer, map_copies, 
 use Rattle.source_maps.specs.Adding.{bare_map, with_variables, with_tasks}
 use Rattle.source_maps.proofs.Takes.{all_variables, all_tasks}
 
-pub names_back : (P : Span → Type 0) (ts : List (TaskDeclaration VariableName TaskName)) → All (λ t. P t.name) (map task_of ts) → All (λ t. P t.name) ts
+pub names_back : (P : Span → Type 0) (ts : List (TaskDeclaration VariableName TaskName FunctionName)) → All (λ t. P t.name) (map task_of ts)
+    → All (λ t. P t.name) ts
 names_back P [] h = All-nil (λ t. P t.name)
 names_back P (t ∷ ts) h =
     All-cons (λ t. P t.name) t ts (All-head (λ t. P t.name) (task_of t) (map task_of ts) h)

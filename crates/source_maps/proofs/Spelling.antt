@@ -251,7 +251,7 @@ module _ (source : List ℕ) where
   shared_named _ _ (shared h t n z of ts found a b is c e) all = all.1.1.0 is
   shared_named _ _ (long h t l n z ts found a b c is e f) all = all.1.1.1.0 is
 
-  task_named : (ts : List Token) (k : Task Span Span) → IsTask ts k → AllNamed ts → HasName k.name
+  task_named : (ts : List Token) (k : Task Span Span Span) → IsTask ts k → AllNamed ts → HasName k.name
   task_named _ _ (task h n ts body a is b) all = all.1.0 is
 
   row_named : {A : Type 0} (R : List Token → A → Type 0) (P : A → Type 0) → ((ts : List Token) (x : A) → R ts x → AllNamed ts → P x)
@@ -261,16 +261,17 @@ module _ (source : List ℕ) where
       let both = subst AllNamed is all in
       All-cons P x xs (one front x first (front_named front back both)) (row_named R P one back xs more (back_named front back both))
 
-  pub record ProgramNamed (p : Program Span Span) : Type 0 where
+  pub record ProgramNamed (p : Program Span Span Span) : Type 0 where
     pub shared_variables : All (λ d. HasName d.name) p.shared
     pub all_tasks : All (λ k. HasName k.name) p.tasks
 
-  pub program_named : (ts : List Token) (p : Program Span Span) → IsProgram ts p → AllNamed ts → ProgramNamed p
-  program_named _ _ (program xs ys zs h n z shareds first others rows one more a b c) all =
-      let rest = back_named xs (ys ++ (zs ++ (h ∷ n ∷ z ∷ []))) all in
+  pub program_named : (ts : List Token) (p : Program Span Span Span) → IsProgram ts p → AllNamed ts → ProgramNamed p
+  program_named _ _ (program xs fs ys zs h n z shareds functions first others rows calls one more a b c) all =
+      let behind = back_named xs (fs ++ (ys ++ (zs ++ (h ∷ n ∷ z ∷ [])))) all in
+      let rest = back_named fs (ys ++ (zs ++ (h ∷ n ∷ z ∷ []))) behind in
       let later = back_named ys (zs ++ (h ∷ n ∷ z ∷ [])) rest in
       record {
-        shared_variables = row_named IsShared (λ d. HasName d.name) shared_named xs shareds rows (front_named xs (ys ++ (zs ++ (h ∷ n ∷ z ∷ []))) all);
+        shared_variables = row_named IsShared (λ d. HasName d.name) shared_named xs shareds rows (front_named xs (fs ++ (ys ++ (zs ++ (h ∷ n ∷ z ∷ [])))) all);
         all_tasks = All-cons (λ k. HasName k.name) first others (task_named ys first one (front_named ys (zs ++ (h ∷ n ∷ z ∷ [])) rest))
             (row_named IsTask (λ k. HasName k.name) task_named zs others more (front_named zs (h ∷ n ∷ z ∷ []) later));
       }

@@ -20,7 +20,8 @@ use memory_map::{Layout, Logging, PrivateScalar, Region, RuntimeWord, TaskLayout
 use source_report::spelled;
 use std::alloc::{AllocError, Global};
 use task_ast::{
-    CheckedSource, Extent, SharedDeclaration, TaskDeclaration, TaskName, VariableName, WordType,
+    CheckedSource, Extent, FunctionName, SharedDeclaration, TaskDeclaration, TaskName,
+    VariableName, WordType,
 };
 
 // The name that stands at a span of the text.
@@ -134,7 +135,7 @@ fn add_task(
     added: &mut Map,
     text: &[u8],
     shared: &[SharedDeclaration],
-    task: &TaskDeclaration<VariableName, TaskName>,
+    task: &TaskDeclaration<VariableName, TaskName, FunctionName>,
     layout: &TaskLayout,
 ) -> Result<(), AllocError>
     requires declared { All (λ s. s.number < length shared.now) layout.now.privates }
@@ -154,7 +155,7 @@ fn add_tasks(
     added: &mut Map,
     text: &[u8],
     shared: &[SharedDeclaration],
-    tasks: &[TaskDeclaration<VariableName, TaskName>],
+    tasks: &[TaskDeclaration<VariableName, TaskName, FunctionName>],
     layouts: &[TaskLayout],
 ) -> Result<(), AllocError>
     requires count { length tasks.now ≡ length layouts.now }

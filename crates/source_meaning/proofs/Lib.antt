@@ -1,5 +1,6 @@
 mod Emits
 mod Paths
+mod Ends
 mod Targets
 mod Runnable
 mod Lines
@@ -7,4 +8,5 @@ mod Refusals
 mod Unique
 mod OneAnswer
 mod FirstEvent
+mod Uncompiled
 pub mod Interface

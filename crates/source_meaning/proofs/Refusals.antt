@@ -6,7 +6,7 @@ use Rattle.task_check.specs.declared.fault.CheckFault.{CheckFault}
 use Rattle.task_check.specs.declared.fault.CheckFault.TheVariants.{Memory}
 use Rattle.task_check.specs.Answers.{IsRefused, IsRefusedOrMemory}
 
-pub refused_unless_memory : (text : List ℕ) (tree : Program Span Span) (e : CheckFault) → (e ≡ Memory → ⊥) → IsRefusedOrMemory text tree e
+pub refused_unless_memory : (text : List ℕ) (tree : Program Span Span Span) (e : CheckFault) → (e ≡ Memory → ⊥) → IsRefusedOrMemory text tree e
     → IsRefused text tree e
 refused_unless_memory text tree e some (inl memory) = absurd (some memory)
 refused_unless_memory text tree e some (inr refused) = refused

@@ -3,9 +3,8 @@
 use Rattle.std.specs.Prelude.{◌≡◌, ℕ, List, map, Result, Err}
 use Rattle.std.specs.Global.{Vec}
 use Rattle.source_values.specs.alp_text.declared.lines.Span.{Span}
+use Rattle.task_ast.specs.Paths.{CheckedProgram}
 use Rattle.task_ast.specs.Tree.{Program}
-use Rattle.task_ast.specs.declared.names.VariableName.{VariableName}
-use Rattle.task_ast.specs.declared.names.TaskName.{TaskName}
 use Rattle.task_lex.specs.declared.token.Token.{Token}
 use Rattle.task_lex.specs.declared.fault.LexFault.{LexFault}
 use Rattle.task_lex.specs.declared.fault.LexFault.TheVariants as lex_fault
@@ -23,23 +22,23 @@ use Rattle.source_meaning.specs.declared.fault.SourceFault.{SourceFault}
 use Rattle.source_meaning.specs.declared.fault.SourceFault.TheVariants as source_fault
 
 -- the text spells tokens that are this program of the grammar
-pub record Parses (text : List ℕ) (tree : Program Span Span) : Type 0 where
+pub record Parses (text : List ℕ) (tree : Program Span Span Span) : Type 0 where
   pub words : List Token
   pub lexes : lexed text ≡ tokens words
   pub grammar : IsProgram words tree
 
 -- the text parses, and no check refuses its names and paths: this is the source with its names looked up
-pub record Checks (text : List ℕ) (program : Program VariableName TaskName) : Type 0 where
-  pub tree : Program Span Span
+pub record Checks (text : List ℕ) (program : CheckedProgram) : Type 0 where
+  pub tree : Program Span Span Span
   pub parses : Parses text tree
   pub checks : IsAccepted text tree program
 
 -- the lines of the tasks' names in their declarations, from 1
-abbrev pub task_lines : List ℕ → Program VariableName TaskName → List ℕ
+abbrev pub task_lines : List ℕ → CheckedProgram → List ℕ
 task_lines text program = map (λ t. line_of text t.name.from) program.tasks
 
 -- the text is accepted as this program: no check refuses it, and it costs no more than it may: this is its allowance
-pub record IsAcceptedText (text : List ℕ) (program : Program VariableName TaskName) (allow : Allow) : Type 0 where
+pub record IsAcceptedText (text : List ℕ) (program : CheckedProgram) (allow : Allow) : Type 0 where
   pub checks : Checks text program
   pub allowed : IsAllowed program allow
 
@@ -53,20 +52,22 @@ pub record IsNoProgram (text : List ℕ) (line : ℕ) : Type 0 where
 
 -- it parses, and a check refuses it
 pub record IsUnchecked (text : List ℕ) (fault : CheckFault) : Type 0 where
-  pub tree : Program Span Span
+  pub tree : Program Span Span Span
   pub parses : Parses text tree
   pub refused : IsRefused text tree fault
 
 -- no check refuses it, and it costs too much
 pub record IsTooCostly (text : List ℕ) (over : Over) : Type 0 where
-  pub program : Program VariableName TaskName
+  pub program : CheckedProgram
   pub checks : Checks text program
   pub costs : IsOver program (task_lines text program) over
 
--- the first pass that refuses a text does so by this fault; nothing is said where memory runs out, which stands alone
+-- the first pass that refuses a text does so by this fault; nothing is said where memory runs out, which stands alone. No pass says that
+-- something isn't compiled yet: it is accepted
 abbrev pub IsRefusedText : List ℕ → SourceFault → Type 0
 IsRefusedText text (source_fault.Lex fault) = (fault ≡ lex_fault.Memory → ⊥) × (let answer : Result (Vec Token) LexFault = Err fault in Lexes text answer)
 IsRefusedText text (source_fault.Syntax line) = IsNoProgram text line
 IsRefusedText text (source_fault.Check fault) = (fault ≡ check_fault.Memory → ⊥) × IsUnchecked text fault
 IsRefusedText text (source_fault.Over over) = IsTooCostly text over
+IsRefusedText text (source_fault.NotYet line) = ⊥
 IsRefusedText text source_fault.Memory = Unit {0}

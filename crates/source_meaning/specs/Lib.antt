@@ -2,4 +2,5 @@ pub mod Acceptance
 pub mod Props
 pub mod Laws
 pub mod Events
+pub mod Plain
 pub use Rattle.task_parse.specs as task_parse

@@ -6,7 +6,8 @@ use task_check::CheckFault;
 use task_lex::LexFault;
 use thiserror::Error;
 
-/// The refusal of the first pass that refuses a text, at its first place. Want of memory stands alone: no other variant holds it.
+/// The refusal of the first pass that refuses a text, at its first place; or what can't be done with an accepted one. Want of memory
+/// stands alone: no other variant holds it.
 #[derive(Clone, Copy, Debug, Error)]
 pub enum SourceFault {
     /// A text that isn't cut into tokens.
@@ -21,6 +22,9 @@ pub enum SourceFault {
     /// A source that costs more than it may.
     #[error("{0}")]
     Over(Over),
+    /// An accepted source that isn't compiled yet; the line of its first function's name, counted from 1.
+    #[error("line {line}: functions aren't compiled yet")]
+    NotYet { line: u32 },
     #[error("out of memory")]
     Memory,
 }

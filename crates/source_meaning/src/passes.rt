@@ -2,10 +2,9 @@
 
 ghost use Rattle.std.specs.Prelude.{◌≡◌, ◌<◌, ◌^◌, ◌-◌, length, map, All, IfOk, IfErr};
 ghost use Rattle.source_values.specs.alp_text.declared.lines.Span.{Span};
+ghost use Rattle.task_ast.specs.Paths.{CheckedProgram};
 ghost use Rattle.task_ast.specs.Tree.{Program};
 ghost use Rattle.task_ast.specs.View.{program_of};
-ghost use Rattle.task_ast.specs.declared.names.VariableName.{VariableName};
-ghost use Rattle.task_ast.specs.declared.names.TaskName.{TaskName};
 ghost use Rattle.cost_bound.specs.declared.allowance.Allow.{Allow};
 ghost use Rattle.task_lex.specs.Lex.{lexed, tokens};
 ghost use Rattle.task_lex.specs.Faults.{line_of};
@@ -74,7 +73,7 @@ fn tokens_of(alloc: Global, text: &[u8]) -> Result<Vec<Token>, SourceFault>
 fn tree_of(alloc: Global, text: &[u8]) -> Result<Tree, SourceFault>
     requires { length text.now < 2 ^ 32 - 1 }
     ensures parses { IfOk result (λ tree. Parses text.now (program_of tree)) }
-    ensures only { IfOk result (λ tree. (other : Program Span Span) → Parses text.now other → other ≡ program_of tree) }
+    ensures only { IfOk result (λ tree. (other : Program Span Span Span) → Parses text.now other → other ≡ program_of tree) }
     ensures refused { IfErr result (λ f. IsRefusedText text.now f) }
 {
     let tokens = tokens_of(alloc, text)?;
@@ -88,7 +87,7 @@ fn tree_of(alloc: Global, text: &[u8]) -> Result<Tree, SourceFault>
 fn checked_of(alloc: Global, text: &[u8]) -> Result<Checked, SourceFault>
     requires { length text.now < 2 ^ 32 - 1 }
     ensures checks { IfOk result (λ c. Checks text.now (program_of c.source)) }
-    ensures only { IfOk result (λ c. (other : Program VariableName TaskName) → Checks text.now other → other ≡ program_of c.source) }
+    ensures only { IfOk result (λ c. (other : CheckedProgram) → Checks text.now other → other ≡ program_of c.source) }
     ensures lines { IfOk result (λ c. c.task_lines.items ≡ task_lines text.now (program_of c.source)) }
     ensures refused { IfErr result (λ f. IsRefusedText text.now f) }
 {
@@ -106,7 +105,7 @@ pub fn accept(alloc: Global, text: &[u8]) -> Result<Accepted, SourceFault>
     requires { length text.now < 2 ^ 32 - 1 }
     ensures text { IfOk result (λ a. a.text.items ≡ text.now) }
     ensures accepted { IfOk result (λ a. IsAcceptedText text.now (program_of a.checked.source) a.allow) }
-    ensures only { IfOk result (λ a. (program : Program VariableName TaskName) (allow : Allow)
+    ensures only { IfOk result (λ a. (program : CheckedProgram) (allow : Allow)
         → IsAcceptedText text.now program allow → (program ≡ program_of a.checked.source) × (allow ≡ a.allow)) }
     ensures refused { IfErr result (λ f. IsRefusedText text.now f) }
 {

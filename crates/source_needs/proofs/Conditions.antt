@@ -20,7 +20,8 @@ mutual
   statement_few p (t.assign x e) = omega arith
   statement_few p (t.store x index e) = omega arith
   statement_few p (t.emit e) = omega arith
-  statement_few p (t.transition task) = omega arith
+  statement_few p (t.give at e) = omega arith
+  statement_few p (t.transition at task) = omega arith
 
   choice_few : (p : Places) (c : CheckedChoice) → choice_conditions c ≤ program_choices (lowered_choice p c)
   choice_few p t.nothing = omega arith

@@ -8,8 +8,10 @@ use Rattle.std.specs.Prelude.{slice_get}
 use Rattle.std.proofs.lemmas.Option.{get_or_from_slice_get}
 use Rattle.task_ast.specs.declared.TaskDeclaration.{TaskDeclaration}
 use Rattle.task_ast.specs.declared.names.VariableName.{VariableName}
+use Rattle.task_ast.specs.declared.names.FunctionName.{FunctionName}
 use Rattle.task_ast.specs.declared.names.TaskName.{TaskName}
 use Rattle.task_ast.specs.View.{block_view, task_of}
+use Rattle.cost_bound.specs.Summaries.{function_summaries, summaries}
 use Rattle.cost_bound.specs.declared.allowance.Allow.{Allow}
 use Rattle.cost_bound.specs.Allowance.{CheckedTask, scalars_of, task_bound, task_words, uses_events, versions_of}
 use Rattle.code_paths.specs.Paths.{capped}
@@ -17,10 +19,11 @@ use Rattle.source_values.specs.Runs.{CheckedProgram}
 use Rattle.war_analysis.specs.PlanValue.{TaskPlanValue}
 use Rattle.war_analysis.specs.Plans.{IsPlan}
 use Rattle.war_analysis.specs.Laws.{OnePlan}
-use Rattle.privatise.specs.Layouts.{IsLayout}
-use Rattle.privatise.specs.Laws.{OneLayout}
+use Rattle.privatise.specs.Layouts.{IsLayoutFor, IsLayout}
+use Rattle.privatise.specs.Laws.{OneLayoutFor, OneLayout, LayoutsAreLogged}
+use Rattle.memory_map.specs.declared.runtime.Logging.TheVariants.{Undo}
 use Rattle.war_analysis.proofs.Interface.{element}
-use Rattle.memory_map.specs.MemoryMap.{MemoryMap, TaskPlace}
+use Rattle.memory_map.specs.MemoryMap.{MemoryMap, TaskPlace, logged_map}
 use Rattle.memory_map.specs.Spots.{places_of, private_words}
 use Rattle.array_versions.specs.Form.{IsWhole}
 use Rattle.array_versions.specs.Cost.{words_of}
@@ -32,7 +35,8 @@ use Rattle.compiled_model.specs.Parts.{task_program}
 use Rattle.dearest_ways.proofs.Interface.{program_few}
 use Rattle.condition_lines.specs.Conditions.{block_conditions, block_ifs}
 use Rattle.need_lines.specs.Rows.{NeedRow}
-use Rattle.source_needs.specs.Needs.{AreNeedsOf, need_row, need_rows, rows_from, ways_gone}
+use Rattle.need_lines.specs.declared.needs.UndoNeed.{UndoNeed}
+use Rattle.source_needs.specs.Needs.{AreNeedsOf, AreUndoNeeds, need_row, need_rows, rows_from, ways_gone}
 use Rattle.source_needs.proofs.Conditions.{block_few}
 use Rattle.source_needs.proofs.Tables.{at_most_greatest, at_most_total}
 
@@ -45,12 +49,13 @@ pub record TaskHolds (text : List ℕ) (p : CheckedProgram) (allow : Allow) (l :
   pub events : l.runtime.events ≡ uses_events p
   pub versions : allow.versions ≡ versions_of p
   pub cleared : l.versions.words ≡ allow.versions
-  pub bound : task_bound (uses_events p) (versions_of p) p.shared task.body < 2 ^ 32
-  pub words : task_words p.shared task.body ≤ 22000
+  pub bound : task_bound (summaries p) (uses_events p) (versions_of p) p.shared task.body < 2 ^ 32
+  pub words : task_words (summaries p) p.shared task.body ≤ 22000
   pub whole : IsWhole (task_program p l k)
   pub room : words_of (task_program p l k) ≤ 0x7FFF
-  pub privates : private_words place.privates ≤ scalars_of p.shared task.body
+  pub privates : private_words place.privates ≤ scalars_of (summaries p) p.shared task.body
   pub conditions : block_conditions task.body < 2 ^ 32
+  pub none : [] ≡ summaries p
 
 pub task_holds : TasksAreWhole → (text : List ℕ) (p : CheckedProgram) (allow : Allow) (plans : List TaskPlanValue) (l : MemoryMap)
     → PrivatesAreFew → IsLaidOutText text p allow plans l
@@ -62,12 +67,13 @@ task_holds whole text p allow plans l few laid k inside =
     let program : task_program p l k ≡ _ = program_at l p.tasks l.tasks k t.0 place.0 t.1 place.1 in
     let privates = few text p allow plans l laid k t.0 place.0 t.1 place.1 in
     let allowed = laid.accepted.allowed in
-    let bound = at_most_greatest (task_bound (uses_events p) (versions_of p) p.shared) p.tasks k t.0 t.1 in
-    let words = at_most_total (task_words p.shared) p.tasks k t.0 t.1 in
+    let bound = at_most_greatest (task_bound (summaries p) (uses_events p) (versions_of p) p.shared) p.tasks k t.0 t.1 in
+    let words = at_most_total (task_words (summaries p) p.shared) p.tasks k t.0 t.1 in
     let own = task_seen l.runtime.logging place.0 in
     let no_more = seen_words l.runtime.logging place.0 in
-    let code = blocks_keep_to_words (places_of (map_seen t.0.body l) own) (scalars_of p.shared t.0.body) t.0.body (omega (arith, privates, no_more)) in
-    let small : task_words p.shared t.0.body ≤ 22000 = omega (arith, words, allowed.within_size) in
+    let code = blocks_keep_to_words (summaries p) (places_of (map_seen t.0.body l) own) (scalars_of (summaries p) p.shared t.0.body) t.0.body
+    (omega (arith, privates, no_more)) in
+    let small : task_words (summaries p) p.shared t.0.body ≤ 22000 = omega (arith, words, allowed.within_size) in
     let places = places_of (map_seen t.0.body l) own in
     let conditions = block_few places t.0.body in
     let choices = program_few (lowered_block places t.0.body) in
@@ -85,6 +91,7 @@ task_holds whole text p allow plans l few laid k inside =
       room = omega (arith, ap words_of program, code, small);
       privates = privates;
       conditions = omega (arith, conditions, choices, code, small);
+      none = ap function_summaries (sym laid.layout.plain);
     }
 
 -- ways that are cut at 2^64 - 1 are cut by a bound of 32 bits
@@ -121,17 +128,19 @@ as_many l (task ∷ tasks) [] e = absurd (omega (arith, e))
 as_many l (task ∷ tasks) (t ∷ ts) e = ap suc (as_many l tasks ts (omega (arith, e)))
 
 -- a task as it is declared, where it stands
-pub task_at : (ts : List (TaskDeclaration VariableName TaskName)) (k : ℕ) (t : TaskDeclaration VariableName TaskName) (task : CheckedTask)
+pub task_at : (ts : List (TaskDeclaration VariableName TaskName FunctionName)) (k : ℕ) (t : TaskDeclaration VariableName TaskName FunctionName)
+    (task : CheckedTask)
     → slice_get (map task_of ts) k ≡ Some task
     → t ≡ get_or ts k t → (t.name ≡ task.name) × (block_view t.body.items ≡ task.body)
 task_at ts k t task there is =
     let a : task_of t ≡ task = ap task_of is ∙ sym (get_or-map task_of ts k t) ∙ get_or_from_slice_get (map task_of ts) k task (task_of t) there in
     (ap (λ u. u.name) a, ap (λ u. u.body) a)
 
--- the needs of a source by one layout are its needs, since it has no other
+-- the needs of a source by one layout are its needs, since it has no other, nor one in place with other places
 pub needs_are : (text : List ℕ) (p : CheckedProgram) (allow : Allow) (plans : List TaskPlanValue) (l : MemoryMap) (rows : List NeedRow) → OnePlan p
-    → OneLayout p allow → IsPlan p plans → IsLayout p allow plans l → rows ≡ need_rows text p l → AreNeedsOf text p allow rows
-needs_are text p allow plans l rows one_plan one_layout planned laid is = record {
+    → OneLayout p allow → OneLayoutFor Undo p allow → LayoutsAreLogged → IsPlan p plans → IsLayout p allow plans l → rows ≡ need_rows text p l
+    → AreNeedsOf text p allow rows
+needs_are text p allow plans l rows one_plan one_layout one_logged logged planned laid is = record {
   plans = plans;
   layout = l;
   is_plan = planned;
@@ -139,5 +148,17 @@ needs_are text p allow plans l rows one_plan one_layout planned laid is = record
   only = λ others m is_plan is_layout.
       let P : List TaskPlanValue → Type 0 = λ ps. IsLayout p allow ps m in
       one_layout plans m l planned (subst P (one_plan others plans is_plan planned) is_layout) laid;
+  only_in_place = λ others m is_plan is_layout.
+      let P : List TaskPlanValue → Type 0 = λ ps. IsLayoutFor Undo p allow ps m in
+      one_logged plans m (logged_map l) planned (subst P (one_plan others plans is_plan planned) is_layout) (logged p allow plans l laid);
   rows_are = is;
 }
+
+-- ---- in place
+
+-- what is needed in place by one layout is by the other
+pub needs_by_layout : (p : CheckedProgram) (allow : Allow) (plans : List TaskPlanValue) (l : MemoryMap) (needs : List UndoNeed) → OneLayout p allow
+    → IsPlan p plans → IsLayout p allow plans l → AreUndoNeeds p (logged_map l) needs
+    → (m : MemoryMap) → IsLayout p allow plans m → AreUndoNeeds p (logged_map m) needs
+needs_by_layout p allow plans l needs one planned laid are m is =
+    subst (λ k. AreUndoNeeds p (logged_map k) needs) (one plans l m planned laid is) are

@@ -8,12 +8,9 @@ use Rattle.std.proofs.Math.Seq.{take-append_seam, drop-append_seam}
 use Rattle.alp_io.specs.declared.report.Reason.{Reason}
 use Rattle.alp_io.specs.declared.report.Reason.TheVariants.{Readings, Limit}
 use Rattle.alp_io.specs.Report.{end_line}
-use Rattle.task_ast.specs.Tree.{Task}
-use Rattle.task_ast.specs.declared.names.VariableName.{VariableName}
-use Rattle.task_ast.specs.declared.names.TaskName.{TaskName}
 use Rattle.source_values.specs.Values.{◌>>?◌}
-use Rattle.source_values.specs.Statements.{Attempt, Outcome, goes_on, to_task, short, run_block}
-use Rattle.source_values.specs.Runs.{CheckedProgram, EndsWell, TransitionComes, without_answers, fresh_attempt, body_of, attempt_of, Completion}
+use Rattle.source_values.specs.Statements.{Attempt, Outcome, goes_on, to_task, returns, short, run_block, meanings}
+use Rattle.source_values.specs.Runs.{CheckedTask, CheckedProgram, EndsWell, TransitionComes, without_answers, fresh_attempt, body_of, attempt_of, Completion}
 use Rattle.source_values.specs.Runs.{completion_of}
 use Rattle.source_values.specs.Running.{IsRunnable}
 use Rattle.source_values.specs.Runs.{State, Transition, exactly, transition_of, source_run, state_after, state_behind, first_state}
@@ -55,9 +52,9 @@ found P (x ∷ xs) i h all = (get_or (x ∷ xs) i x, slice_get-get_or (x ∷ xs)
 attempt_ends : (program : CheckedProgram) (task : ℕ) (shared : List (List ℕ)) (readings : List ℕ) → IsRunnable program → task < length program.tasks
     → EndsWell (length program.tasks) (attempt_of program task shared (without_answers readings))
 attempt_ends program task shared readings r h =
-    let f = found (TransitionComes (length program.tasks)) program.tasks task h r.transition_comes in
+    let f = found (TransitionComes program) program.tasks task h r.transition_comes in
     let start : Attempt = fresh_attempt shared (without_answers readings) in
-    let P : Option (Task VariableName TaskName) → Type 0 = λ o. EndsWell (length program.tasks) (run_block (body_of o) start) in
+    let P : Option CheckedTask → Type 0 = λ o. EndsWell (length program.tasks) (run_block (meanings program) (body_of o) start) in
     subst P (sym f.1) (f.2 start)
 
 -- what `report_from` gives: the lines of further transitions on spans from `at` on, and the end
@@ -102,6 +99,9 @@ from_here (suc n) text program trace k accepted at s left r i h e =
         (o : Outcome) → attempt_of program s.task s.shared (without_answers left) ≡ o
         → IsReportFrom (suc n) text program trace k accepted at s (report_from (suc n) text program (length trace) k accepted s.task s.shared left)
     go ih (goes_on a) o =
+        let P : Outcome → Type 0 = EndsWell (length program.tasks) in
+        absurd (subst P o (attempt_ends program s.task s.shared left r i))
+    go ih (returns w a) o =
         let P : Outcome → Type 0 = EndsWell (length program.tasks) in
         absurd (subst P o (attempt_ends program s.task s.shared left r i))
     go ih short o = record {

@@ -3,16 +3,14 @@ use Rattle.std.proofs.Common.{◌≡◌, ℕ, ◌≤◌, refl, ap, ◌∙◌, su
 use Rattle.std.proofs.lemmas.List.Elements.{All-get_or}
 use Rattle.std.proofs.lemmas.Option.{slice_get_within, get_or_from_slice_get}
 use Rattle.std.specs.Prelude.{slice_get}
-use Rattle.task_ast.specs.Tree.{Task}
-use Rattle.task_ast.specs.declared.names.VariableName.{VariableName}
-use Rattle.task_ast.specs.declared.names.TaskName.{TaskName}
+use Rattle.task_ast.specs.Paths.{CheckedTask}
 use Rattle.image_map.specs.MapValue.{MapValue}
 use Rattle.source_values.specs.Values.{◌>>?◌}
-use Rattle.source_values.specs.Statements.{Outcome, goes_on, to_task, short, block_emits}
+use Rattle.source_values.specs.Statements.{Outcome, goes_on, to_task, returns, short, block_emits, emit_counts}
 use Rattle.source_values.specs.Runs.{CheckedProgram, State, Transition, Completion, EmitsFit, body_of, task_body, fresh_attempt, attempt_of}
 use Rattle.source_values.specs.Runs.{TaskInputs, completion_of}
 use Rattle.source_values.specs.Runs.{exactly, transition_of, source_run, state_after, state_behind}
-use Rattle.source_values.proofs.Interface.{EmitsUpTo, block_up_to}
+use Rattle.source_values.proofs.Interface.{EmitsUpTo, attempt_up_to}
 use Rattle.crash_rules.specs.Model.{Model}
 use Rattle.crash_rules.specs.History.{Done, done_given}
 use Rattle.crash_rules.specs.Laws.{SourceRun}
@@ -41,22 +39,24 @@ outcome_made : (s : State) (o : Outcome) (t : Transition) → EmitsUpTo 256 o �
 outcome_made s (goes_on m) t few e = absurd (cc e)
 outcome_made s (to_task next m) t few e =
     exact_made s (record { next = next; shared = m.variables.shared; emitted = m.emitted; left = m.left; answers = m.answers }) t few e
+outcome_made s (returns w m) t few e = absurd (cc e)
 outcome_made s short t few e = absurd (cc e)
 
-body_fits : (o : Option (Task VariableName TaskName)) → ((task : Task VariableName TaskName) → o ≡ Some task → EmitsFit task) → block_emits (body_of o) ≤ 256
-body_fits None h = omega arith
-body_fits (Some task) h = h task refl
+body_fits : (p : CheckedProgram) (o : Option CheckedTask) → ((task : CheckedTask) → o ≡ Some task → EmitsFit p task)
+    → block_emits (emit_counts p) (body_of o) ≤ 256
+body_fits p None h = omega arith
+body_fits p (Some task) h = h task refl
 
 -- in a source whose tasks emit at most 256 words
-module _ (program : CheckedProgram) (fit : All EmitsFit program.tasks) where
-  fits : (task : ℕ) → block_emits (task_body program task) ≤ 256
-  fits task = body_fits (slice_get program.tasks task) (λ t e. subst EmitsFit (get_or_from_slice_get program.tasks task t t e)
-      (All-get_or EmitsFit program.tasks task t (slice_get_within program.tasks task t e) fit))
+module _ (program : CheckedProgram) (fit : All (EmitsFit program) program.tasks) where
+  fits : (task : ℕ) → block_emits (emit_counts program) (task_body program task) ≤ 256
+  fits task = body_fits program (slice_get program.tasks task) (λ t e. subst (EmitsFit program) (get_or_from_slice_get program.tasks task t t e)
+      (All-get_or (EmitsFit program) program.tasks task t (slice_get_within program.tasks task t e) fit))
 
   pub made : (s : State) (given : TaskInputs) (t : Transition) → transition_of program s given ≡ Some t → IsMadeBy s t
   made s given t e =
       outcome_made s (attempt_of program s.task s.shared given) t
-      (block_up_to (task_body program s.task) (fresh_attempt s.shared given) 256 (let f = fits s.task in omega (arith, f))) e
+      (attempt_up_to program (task_body program s.task) (fresh_attempt s.shared given) 256 (let f = fits s.task in omega (arith, f))) e
 
 module _ (text : List ℕ) (program : CheckedProgram) (m : MapValue) (model : Model State) (is : IsOfSource text program m model) where
   -- dones of a run from a state to a state, as transitions

@@ -31,7 +31,7 @@ pub record IsOfSource (text : List ℕ) (program : CheckedProgram) (m : MapValue
   pub front : IsInFront m
   pub of_source : IsMapOf text program m
   pub ring : uses_events program ≡ false → m.ring ≡ None
-  pub emits_fit : All EmitsFit program.tasks
+  pub emits_fit : All (EmitsFit program) program.tasks
   pub marks : model.marks ≡ marks_of m
   pub task_number : (s : State) → model.task_number s ≡ s.task
   pub bound : bound model ≡ m.bound

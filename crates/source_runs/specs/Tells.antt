@@ -15,6 +15,7 @@ use Rattle.board_run.specs.History.{History, start_with, is_decide, is_done, wor
 use Rattle.board_run.specs.Events.{event_counts, none_accepted}
 use Rattle.board_run.specs.Report.{after_all, events_lines}
 use Rattle.source_values.specs.Statements.{Outcome, short}
+use Rattle.cost_bound.specs.Summaries.{summaries}
 use Rattle.cost_bound.specs.Allowance.{task_bound, uses_events, versions_of}
 use Rattle.source_values.specs.Runs.{CheckedProgram, Transition, TaskInputs, first_state, state_behind, source_run, task_body, attempt_of}
 use Rattle.source_report.specs.Apart.{AreApart}
@@ -86,7 +87,7 @@ at_first m b = start_with b.fram (Some m)
 
 -- the cycles that a task takes at most, by its number: from a boot or from the end of a commit on, up to the end of its own commit
 abbrev pub cost_of : CheckedProgram → ℕ → ℕ
-cost_of p t = task_bound (uses_events p) (versions_of p) p.shared (task_body p t)
+cost_of p t = task_bound (summaries p) (uses_events p) (versions_of p) p.shared (task_body p t)
 
 -- what the transition to come costs at most, by what is known of a run: that of its task, which CUR names since the last done. A commit that was
 -- pending at the start costs the bound

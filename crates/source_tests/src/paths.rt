@@ -6,10 +6,11 @@ use path_checks::first_unassigned;
 use std::alloc::{AllocError, Global};
 use std::test::Fail;
 use task_ast::{
-    CheckedSource, Expr, Stmt, TaskDeclaration, TaskName, Variable, VariableName, WordType,
+    CheckedSource, Expr, FunctionName, Stmt, TaskDeclaration, TaskName, Variable, VariableName,
+    WordType,
 };
 
-type Statement = Stmt<VariableName, TaskName>;
+type Statement = Stmt<VariableName, TaskName, FunctionName>;
 
 fn place(from: usize) -> Span
     requires { from < 1000000 }
@@ -38,6 +39,7 @@ fn source(alloc: Global, body: Vec<Statement>) -> Result<CheckedSource, AllocErr
     };
     Ok(CheckedSource {
         shared: vec![in alloc]?,
+        functions: vec![in alloc]?,
         tasks: vec![in alloc; task]?,
         entry: TaskName {
             span: place(9),

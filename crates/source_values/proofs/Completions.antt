@@ -1,10 +1,10 @@
 -- Whole tasks, and the readings and the answers that they take.
 use Rattle.std.proofs.Common.{◌≡◌, ℕ, ◌++◌, ap, sym, ◌∙◌, subst, Some}
-use Rattle.source_values.specs.Statements.{Attempt, Outcome, goes_on, to_task, short}
+use Rattle.source_values.specs.Statements.{Attempt, Outcome, goes_on, to_task, returns, short, meanings}
 use Rattle.source_values.specs.Runs.{attempt_of, fresh_attempt, task_body, Completion, completion_of}
 use Rattle.source_values.specs.Values.{AreTaken}
 use Rattle.source_values.specs.Laws.{ReadingsLeftOver, AnswersLeftOver}
-use Rattle.source_values.proofs.Uses.{block_uses}
+use Rattle.source_values.proofs.Uses.{block_uses, meanings_take}
 
 -- what outlives a task at a transition
 abbrev completed : ℕ → Attempt → Completion
@@ -18,6 +18,7 @@ pub record ToTask (o : Outcome) (c : Completion) : Type 0 where
 
 pub to_task_of : (o : Outcome) (c : Completion) → completion_of o ≡ Some c → ToTask o c
 to_task_of (goes_on s) c e = absurd (cc)
+to_task_of (returns w s) c e = absurd (cc)
 to_task_of short c e = absurd (cc)
 to_task_of (to_task t s) c e =
     let n : t ≡ c.next = cc in
@@ -32,7 +33,7 @@ to_task_of (to_task t s) c e =
 pub readings_left_over_lem : ReadingsLeftOver
 readings_left_over_lem program task shared given c e =
     let t = to_task_of (attempt_of program task shared given) c e in
-    let uses = block_uses (task_body program task) (fresh_attempt shared given) (to_task c.next t.state) t.is tt in (
+    let uses = block_uses (meanings program) (meanings_take program) (task_body program task) (fresh_attempt shared given) (to_task c.next t.state) t.is tt in (
       uses.used,
       uses.front ∙ ap (λ c. uses.used ++ c.left) t.completion,
       λ others. ap completion_of (uses.same others)
@@ -44,7 +45,7 @@ readings_left_over_lem program task shared given c e =
 pub answers_left_over_lem : AnswersLeftOver
 answers_left_over_lem program task shared given c e =
     let t = to_task_of (attempt_of program task shared given) c e in
-    let uses = block_uses (task_body program task) (fresh_attempt shared given) (to_task c.next t.state) t.is tt in (
+    let uses = block_uses (meanings program) (meanings_take program) (task_body program task) (fresh_attempt shared given) (to_task c.next t.state) t.is tt in (
       uses.answered,
       subst (λ (d : Completion). AreTaken given.answers uses.answered d.answers) t.completion uses.answers,
       λ others. ap completion_of (uses.same_answered others)

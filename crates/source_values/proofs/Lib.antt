@@ -1,8 +1,14 @@
+mod Blocks
+mod Called
 mod Choices
 mod Completions
 mod Emitted
+mod Functions
+mod Kept
 mod Marked
+mod Placed
 mod Rows
+mod Sizes
 mod Takes
 mod Tasks
 mod Turns

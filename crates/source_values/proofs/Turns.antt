@@ -1,11 +1,13 @@
 -- One turn of a loop.
-use Rattle.std.proofs.Common.{◌≡◌, ◌+◌, ◌*◌, ℕ, zero, suc, ap, ◌∙◌, refl, arith, sym, List, [], add_comm, IsSome, is_some, false, Option, Some, None}
+use Rattle.std.proofs.Common.{◌≡◌, ◌+◌, ◌*◌, ℕ, zero, suc, ap, ◌∙◌, refl, arith, sym, List, [], add_comm, true, false}
 use Rattle.std.proofs.Math.Nat.{suc-mul}
 use Rattle.task_ast.specs.declared.names.Variable.{Variable}
 use Rattle.source_values.specs.declared.scratch.Scratch.{Scratch}
+use Rattle.source_values.specs.declared.statements.End.{End}
+use Rattle.source_values.specs.declared.statements.End.TheVariants.{GoesOn, ToTask, Returns}
 use Rattle.source_values.specs.Values.{with_word}
 use Rattle.source_values.specs.Statements.{Attempt, Outcome, and_then, assigned, turns}
-use Rattle.source_values.specs.View.{attempt_in, variables_of, ended}
+use Rattle.source_values.specs.View.{attempt_in, variables_of, ended, leaves}
 
 pub turns_step : (n m k : ℕ) (x : Variable) (body : Attempt → Outcome) (s : Attempt) (o : Outcome) → n ≡ m + 1 → body (assigned s x 0 k) ≡ o
     → turns n k x body s ≡ and_then o (turns m (k + 1) x body)
@@ -28,11 +30,13 @@ turn_emits (suc n) m e h =
     let same : n ≡ m = omega arith in
     suc-mul n e ∙ add_comm (n * e) e ∙ ap (λ j. e + j * e) same
 
--- nothing runs behind a transition
-pub ended_stays : (next : Option ℕ) (s : Attempt) (more : Attempt → Outcome) → IsSome next → and_then (ended next s) more ≡ ended next s
-ended_stays None s more h = absurd (cc)
-ended_stays (Some t) s more h = refl
+-- nothing runs behind an end that leaves
+pub ended_stays : (end : End) (s : Attempt) (more : Attempt → Outcome) → leaves end ≡ true → and_then (ended end s) more ≡ ended end s
+ended_stays GoesOn s more h = absurd (cc)
+ended_stays (ToTask t) s more h = refl
+ended_stays (Returns w) s more h = refl
 
-pub ended_goes_on : (next : Option ℕ) (s : Attempt) (more : Attempt → Outcome) → is_some next ≡ false → and_then (ended next s) more ≡ more s
-ended_goes_on None s more h = refl
-ended_goes_on (Some t) s more h = absurd (cc)
+pub ended_goes_on : (end : End) (s : Attempt) (more : Attempt → Outcome) → leaves end ≡ false → and_then (ended end s) more ≡ more s
+ended_goes_on GoesOn s more h = refl
+ended_goes_on (ToTask t) s more h = absurd (cc)
+ended_goes_on (Returns w) s more h = absurd (cc)

@@ -1,44 +1,49 @@
--- What statements do depends on the readings and the answers that they take, and on no others.
+-- What statements and functions do depends on the readings and the answers that they take, and on no others.
 use Rattle.std.proofs.Common.{◌≡◌, ℕ, zero, suc, ◌+◌, ◌-◌, ◌/◌, ◌%◌, List, [], ◌∷◌, ◌++◌, Bool, true, false, refl, ap, sym, ◌∙◌, subst, Option, Some, None}
 use Rattle.std.proofs.Common.{append_assoc, if◌then◌else◌}
-use Rattle.task_ast.specs.Tree.{Expression, Statement, declare, assign, store, choose, loop, emit, transition, Choice, nothing, otherwise, test, Block, end}
-use Rattle.task_ast.specs.Tree.{step}
+use Rattle.task_ast.specs.Paths.{CheckedStatement, CheckedChoice, CheckedBlock, CheckedFunction, CheckedProgram}
+use Rattle.task_ast.specs.Tree.{declare, assign, store, choose, loop, emit, give, transition, nothing, otherwise, test, end, step}
 use Rattle.task_ast.specs.declared.WordType.{WordType}
 use Rattle.task_ast.specs.declared.WordType.TheVariants.{Unsigned, Int, Long}
 use Rattle.task_ast.specs.declared.names.Variable.{Variable}
 use Rattle.task_ast.specs.declared.names.VariableName.{VariableName}
-use Rattle.task_ast.specs.declared.names.TaskName.{TaskName}
-use Rattle.source_values.specs.Values.{Evaluated, by_width, type_of, converted, AreTaken, value_of, holds}
-use Rattle.source_values.specs.Statements.{Attempt, Outcome, goes_on, to_task, short, and_then, if_value, with_value, assigned, assigned_to, assigned_value}
-use Rattle.source_values.specs.Statements.{word_of, turns, run_statement}
-use Rattle.source_values.specs.Statements.{run_choice, run_block}
-use Rattle.source_values.proofs.Takes.{taken_then, value_takes}
+use Rattle.source_values.specs.Values.{CheckedExpression, Evaluated, Meaning, by_width, type_of, converted, AreTaken, value_of, holds}
+use Rattle.source_values.specs.Statements.{Attempt, Outcome, goes_on, to_task, returns, short, and_then, if_value, with_value, assigned, assigned_to}
+use Rattle.source_values.specs.Statements.{assigned_value, word_of, turns, run_statement, run_choice, run_block, entered, left_with, meaning_of}
+use Rattle.source_values.specs.Statements.{meanings}
+use Rattle.source_values.proofs.Functions.{each_answer}
+use Rattle.source_values.proofs.Takes.{taken_then, Takes, TakesItsOwn, OfValue, FunctionTakes, KnownTake, value_takes}
 
 abbrev pub IsWhole : Outcome → Type 0
 IsWhole (goes_on s) = Unit {0}
 IsWhole (to_task t s) = Unit {0}
+IsWhole (returns w s) = Unit {0}
 IsWhole short = ⊥
 
 abbrev pub left_of : Outcome → List ℕ
 left_of (goes_on s) = s.left
 left_of (to_task t s) = s.left
+left_of (returns w s) = s.left
 left_of short = []
 
 abbrev pub answers_of : Outcome → List ℕ
 answers_of (goes_on s) = s.answers
 answers_of (to_task t s) = s.answers
+answers_of (returns w s) = s.answers
 answers_of short = []
 
 -- the same outcome with other readings left
 abbrev pub leaving : Outcome → List ℕ → Outcome
 leaving (goes_on s) more = goes_on (record s { left = more })
 leaving (to_task t s) more = to_task t (record s { left = more })
+leaving (returns w s) more = returns w (record s { left = more })
 leaving short more = short
 
 -- and with other answers left
 abbrev pub answering : Outcome → List ℕ → Outcome
 answering (goes_on s) more = goes_on (record s { answers = more })
 answering (to_task t s) more = to_task t (record s { answers = more })
+answering (returns w s) more = returns w (record s { answers = more })
 answering short more = short
 
 -- the readings and the answers that were taken, and that any others may stand behind either; and of no answers none are left
@@ -98,6 +103,9 @@ uses_emitted v s o e w = uses_none (λ s. goes_on (record s { emitted = s.emitte
 uses_to_task : (t : ℕ) → UsesItsOwn (to_task t)
 uses_to_task t s o e w = uses_none (to_task t) s (to_task t s) (refl, refl) (λ more. refl) (λ more. refl) o e
 
+uses_returns : (w : ℕ) → UsesItsOwn (returns w)
+uses_returns v s o e w = uses_none (returns v) s (returns v s) (refl, refl) (λ more. refl) (λ more. refl) o e
+
 uses_then : (first second : Attempt → Outcome) → UsesItsOwn first → UsesItsOwn second → UsesItsOwn (λ s. and_then (first s) second)
 uses_then first second p q s o e w = go (first s) refl e
   where
@@ -128,27 +136,45 @@ uses_then first second p q s o e w = go (first s) refl e
           same_answered = λ more. ap (λ o. and_then o second) (one.same_answered more);
           no_answers = one.no_answers;
         })
+    go (returns v m) h e =
+        let one = p s (returns v m) h tt in
+        let P : Outcome → Type 0 = λ o. Uses (λ s. and_then (first s) second) s o in
+        subst P e (record {
+          used = one.used;
+          front = one.front;
+          same = λ more. ap (λ o. and_then o second) (one.same more);
+          answered = one.answered;
+          answers = one.answers;
+          same_answered = λ more. ap (λ o. and_then o second) (one.same_answered more);
+          no_answers = one.no_answers;
+        })
     go short h e = absurd (not_short o e w)
 
-uses_value : (e : Expression VariableName) (next : ℕ → Attempt → Outcome) → ((v : ℕ) → UsesItsOwn (next v)) → UsesItsOwn (λ s. with_value e s next)
-uses_value e next p s o h w = go (value_of e s) refl h
+uses_value : (known : List Meaning) → KnownTake known → (e : CheckedExpression) (next : ℕ → Attempt → Outcome) → ((v : ℕ) → UsesItsOwn (next v))
+    → UsesItsOwn (λ s. with_value known e s next)
+uses_value known k e next p s o h w = go (value_of known e s) refl h
   where
-    go : (v : Option Evaluated) → value_of e s ≡ v → if_value v next ≡ o → Uses (λ s. with_value e s next) s o
-    go None k h = absurd (not_short o h w)
-    go (Some x) k h =
-        let one = value_takes e s x k in
+    go : (v : Option Evaluated) → value_of known e s ≡ v → if_value v next ≡ o → Uses (λ s. with_value known e s next) s o
+    go None v h = absurd (not_short o h w)
+    go (Some x) v h =
+        let one = value_takes known k e s x v in
         let two = p x.value x.behind o h w in
         record {
           used = one.used ++ two.used;
           front = one.front ∙ ap (λ t. one.used ++ t) two.front ∙ sym (append_assoc one.used two.used (left_of o));
-          same = λ more. ap (λ t. with_value e (record s { left = t }) next) (append_assoc one.used two.used more)
+          same = λ more. ap (λ t. with_value known e (record s { left = t }) next) (append_assoc one.used two.used more)
               ∙ ap (λ v. if_value v next) (one.same (two.used ++ more)) ∙ two.same more;
           answered = one.answered ++ two.answered;
           answers = taken_then s.answers one.answered x.behind.answers two.answered (answers_of o) one.answers two.answers;
-          same_answered = λ more. ap (λ t. with_value e (record s { answers = t }) next) (append_assoc one.answered two.answered more)
+          same_answered = λ more. ap (λ t. with_value known e (record s { answers = t }) next) (append_assoc one.answered two.answered more)
               ∙ ap (λ v. if_value v next) (one.same_answered (two.answered ++ more)) ∙ two.same_answered more;
-          no_answers = λ none. two.no_answers (one.keeps.no_answers none);
+          no_answers = λ none. two.no_answers (one.no_answers none);
         }
+
+-- the value of a scalar
+uses_set : (known : List Meaning) → KnownTake known → (x : VariableName) (e : CheckedExpression)
+    → UsesItsOwn (λ s. with_value known e s (λ w s. goes_on (assigned_value s x e w)))
+uses_set known k x e = uses_value known k e (λ w s. goes_on (assigned_value s x e w)) (λ w. uses_assigned_to x (converted (type_of e) x.word_type w))
 
 uses_if : (b : Bool) (first second : Attempt → Outcome) → UsesItsOwn first → UsesItsOwn second → UsesItsOwn (λ s. if b then first s else second s)
 uses_if true first second p q = p
@@ -172,23 +198,59 @@ uses_turns (suc n) k x body p = uses_then (λ s. body (assigned s x 0 k)) (turns
         }
 
 mutual
-  pub statement_uses : (s : Statement VariableName TaskName) → UsesItsOwn (run_statement s)
-  statement_uses (declare t x None) = uses_on
-  statement_uses (declare t x (Some e)) = uses_value e (λ w s. goes_on (assigned_value s x e w)) (λ w. uses_assigned_to x (converted (type_of e) x.word_type w))
-  statement_uses (assign x e) = uses_value e (λ w s. goes_on (assigned_value s x e w)) (λ w. uses_assigned_to x (converted (type_of e) x.word_type w))
-  statement_uses (store x index e) = uses_value index (λ i s. with_value e s (λ w s. goes_on (assigned s x.variable i (word_of e w))))
-      (λ i. uses_value e (λ w s. goes_on (assigned s x.variable i (word_of e w))) (λ w. uses_assigned x.variable i (word_of e w)))
-  statement_uses (choose choice) = choice_uses choice
-  statement_uses (loop x from tested below stepped body) = uses_turns (below - from) from x.variable (run_block body) (block_uses body)
-  statement_uses (emit e) = uses_value e (λ w s. goes_on (record s { emitted = s.emitted ++ word_of e w ∷ [] })) (λ w. uses_emitted (word_of e w))
-  statement_uses (transition t) = uses_to_task t.task
+  pub statement_uses : (known : List Meaning) → KnownTake known → (s : CheckedStatement) → UsesItsOwn (run_statement known s)
+  statement_uses known k (declare t x None) = uses_on
+  statement_uses known k (declare t x (Some e)) = uses_set known k x e
+  statement_uses known k (assign x e) = uses_set known k x e
+  statement_uses known k (store x index e) =
+      uses_value known k index (λ i s. with_value known e s (λ w s. goes_on (assigned s x.variable i (word_of e w))))
+      (λ i. uses_value known k e (λ w s. goes_on (assigned s x.variable i (word_of e w))) (λ w. uses_assigned x.variable i (word_of e w)))
+  statement_uses known k (choose choice) = choice_uses known k choice
+  statement_uses known k (loop x from tested below stepped body) =
+      uses_turns (below - from) from x.variable (run_block known body) (block_uses known k body)
+  statement_uses known k (emit e) =
+      uses_value known k e (λ w s. goes_on (record s { emitted = s.emitted ++ word_of e w ∷ [] })) (λ w. uses_emitted (word_of e w))
+  statement_uses known k (give at e) = uses_value known k e (λ w s. returns (word_of e w) s) (λ w. uses_returns (word_of e w))
+  statement_uses known k (transition at t) = uses_to_task t.task
 
-  pub choice_uses : (c : Choice VariableName TaskName) → UsesItsOwn (run_choice c)
-  choice_uses nothing = uses_on
-  choice_uses (otherwise block) = block_uses block
-  choice_uses (test condition block more) = uses_value condition (λ w s. if holds w then run_block block s else run_choice more s)
-      (λ w. uses_if (holds w) (run_block block) (run_choice more) (block_uses block) (choice_uses more))
+  pub choice_uses : (known : List Meaning) → KnownTake known → (c : CheckedChoice) → UsesItsOwn (run_choice known c)
+  choice_uses known k nothing = uses_on
+  choice_uses known k (otherwise block) = block_uses known k block
+  choice_uses known k (test condition block more) =
+      uses_value known k condition (λ w s. if holds w then run_block known block s else run_choice known more s)
+      (λ w. uses_if (holds w) (run_block known block) (run_choice known more) (block_uses known k block) (choice_uses known k more))
 
-  pub block_uses : (b : Block VariableName TaskName) → UsesItsOwn (run_block b)
-  block_uses end = uses_on
-  block_uses (step statement more) = uses_then (run_statement statement) (run_block more) (statement_uses statement) (block_uses more)
+  pub block_uses : (known : List Meaning) → KnownTake known → (b : CheckedBlock) → UsesItsOwn (run_block known b)
+  block_uses known k end = uses_on
+  block_uses known k (step statement more) =
+      uses_then (run_statement known statement) (run_block known more) (statement_uses known k statement) (block_uses known k more)
+
+-- ---- functions
+
+-- what a body leaves is what its function leaves
+left_takes : (known : List Meaning) → KnownTake known → (f : CheckedFunction) (words : List ℕ) (s : Attempt) (o : Outcome) (x : Evaluated)
+    → run_block known f.body (entered words s) ≡ o → left_with s.variables.locals o ≡ Some x → Takes (meaning_of known f words) s x
+left_takes known k f words s (goes_on u) x h e = absurd (cc e)
+left_takes known k f words s (to_task t u) x h e = absurd (cc e)
+left_takes known k f words s short x h e = absurd (cc e)
+left_takes known k f words s (returns w u) x h e =
+    let uses = block_uses known k f.body (entered words s) (returns w u) h tt in
+    subst (OfValue (Takes (meaning_of known f words) s)) e (record {
+      used = uses.used;
+      front = uses.front;
+      same = λ more. ap (left_with s.variables.locals) (uses.same more);
+      answered = uses.answered;
+      answers = uses.answers;
+      same_answered = λ more. ap (left_with s.variables.locals) (uses.same_answered more);
+      no_answers = uses.no_answers;
+    })
+
+function_takes : (known : List Meaning) → KnownTake known → (f : CheckedFunction) (words : List ℕ) → TakesItsOwn (meaning_of known f words)
+function_takes known k f words s x e = left_takes known k f words s (run_block known f.body (entered words s)) x refl e
+
+-- the functions of a source depend on what they take alone
+pub meanings_take : (p : CheckedProgram) → KnownTake (meanings p)
+meanings_take p = each_answer FunctionTakes meaning_of function_takes_by [] p.functions tt
+  where
+    function_takes_by : (known : List Meaning) (f : CheckedFunction) → KnownTake known → FunctionTakes (meaning_of known f)
+    function_takes_by known f k = function_takes known k f

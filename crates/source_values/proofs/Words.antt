@@ -3,7 +3,7 @@ use Rattle.std.proofs.Common.{◌≡◌, ℕ, refl, ap, ◌∙◌}
 use Rattle.task_ast.specs.declared.WordType.{WordType}
 use Rattle.task_ast.specs.declared.WordType.TheVariants.{Unsigned, Int, Long}
 use Rattle.task_ast.specs.declared.names.VariableName.{VariableName}
-use Rattle.task_ast.specs.Tree.{Expression}
+use Rattle.task_ast.specs.Paths.{CheckedExpression}
 use Rattle.task_ast.specs.Types.{IsOneWord}
 use Rattle.task_ast.proofs.Interface.{by_one_word}
 use Rattle.source_values.specs.Values.{Variables, word_at, scalar_value, converted, type_of}
@@ -19,9 +19,9 @@ converted_word Int Long w h k = absurd k
 converted_word Int Int w h k = refl
 converted_word Int Unsigned w h k = refl
 
-pub assigned_word : (s : Attempt) (x : VariableName) (e : Expression VariableName) (w : ℕ) → IsOneWord (type_of e) → IsOneWord x.word_type
+pub assigned_word : (s : Attempt) (x : VariableName) (e : CheckedExpression) (w : ℕ) → IsOneWord (type_of e) → IsOneWord x.word_type
     → assigned_value s x e w ≡ assigned s x.variable 0 w
 assigned_word s x e w h k = by_one_word x.word_type _ _ k ∙ ap (assigned s x.variable 0) (converted_word (type_of e) x.word_type w h k)
 
-pub word_as_it_is : (e : Expression VariableName) (w : ℕ) → IsOneWord (type_of e) → word_of e w ≡ w
+pub word_as_it_is : (e : CheckedExpression) (w : ℕ) → IsOneWord (type_of e) → word_of e w ≡ w
 word_as_it_is e w h = converted_word (type_of e) Unsigned w h tt

@@ -7,6 +7,7 @@ pub mod Statements
 pub mod Runs
 pub mod Running
 pub mod View
+pub mod WorkedCalls
 pub mod WorkedRows
 pub use Rattle.task_ast.specs.alp_text as alp_text
 pub use Rattle.alp_words.specs as alp_words

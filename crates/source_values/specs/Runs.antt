@@ -1,13 +1,13 @@
 -- The run of a source: whole tasks, one after another, each on its own readings and answers of `next_event()`.
-use Rattle.std.specs.Prelude.{ℕ, ◌<◌, ◌≤◌, ◌/◌, ◌%◌, Bool, true, false, List, [], ◌∷◌, ◌++◌, map, replicate, Option, Some, None, slice_get}
-use Rattle.task_ast.specs.Tree.{Task, Block, end}
-pub use Rattle.task_ast.specs.Paths.{CheckedProgram}
+use Rattle.std.specs.Prelude.{◌≡◌, ℕ, ◌<◌, ◌≤◌, ◌/◌, ◌%◌, Bool, true, false, List, [], ◌∷◌, ◌++◌, map, length, take, replicate, Option, Some, None}
+use Rattle.std.specs.Prelude.{slice_get}
+use Rattle.task_ast.specs.Tree.{end}
+pub use Rattle.task_ast.specs.Paths.{CheckedBlock, CheckedFunction, CheckedTask, CheckedProgram}
 use Rattle.task_ast.specs.declared.Extent.{Extent}
 use Rattle.task_ast.specs.declared.Extent.TheVariants.{Scalar, Long, Array}
-use Rattle.task_ast.specs.declared.names.VariableName.{VariableName}
-use Rattle.task_ast.specs.declared.names.TaskName.{TaskName}
+pub use Rattle.source_values.specs.Values.{new_locals}
 use Rattle.source_values.specs.Values.{◌>>?◌}
-use Rattle.source_values.specs.Statements.{Attempt, Outcome, goes_on, to_task, short, run_block, block_emits}
+use Rattle.source_values.specs.Statements.{Attempt, Outcome, goes_on, to_task, returns, short, run_block, meanings, block_emits, emit_counts}
 
 -- whether a shared variable is a long
 abbrev pub is_long_extent : Extent → Bool
@@ -25,16 +25,12 @@ initial_words (Array n) = replicate n 0
 abbrev pub initial_rows : CheckedProgram → List (List ℕ)
 initial_rows program = map (λ d. initial_words d.extent) program.shared
 
--- the locals at the start of an attempt. A task has at most 256, and reads none before it has assigned it
-abbrev pub new_locals : List ℕ
-new_locals = replicate 256 0
-
 -- what a task does; nothing where no task has this number
-abbrev pub body_of : Option (Task VariableName TaskName) → Block VariableName TaskName
+abbrev pub body_of : Option CheckedTask → CheckedBlock
 body_of None = end
 body_of (Some task) = task.body
 
-abbrev pub task_body : CheckedProgram → ℕ → Block VariableName TaskName
+abbrev pub task_body : CheckedProgram → ℕ → CheckedBlock
 task_body program task = body_of (slice_get program.tasks task)
 
 -- what a task is given: readings, and answers of `next_event()`
@@ -57,7 +53,7 @@ fresh_attempt shared given = record {
 
 -- one attempt of a task on these shared words, readings and answers
 abbrev pub attempt_of : CheckedProgram → ℕ → List (List ℕ) → TaskInputs → Outcome
-attempt_of program task shared given = run_block (task_body program task) (fresh_attempt shared given)
+attempt_of program task shared given = run_block (meanings program) (task_body program task) (fresh_attempt shared given)
 
 -- what outlives a whole task: the next task, the shared words, the words emitted, the readings and answers left
 pub record Completion : Type 0 where
@@ -71,6 +67,7 @@ pub record Completion : Type 0 where
 abbrev pub completion_of : Outcome → Option Completion
 completion_of (goes_on s) = None
 completion_of (to_task t s) = Some (record { next = t; shared = s.variables.shared; emitted = s.emitted; left = s.left; answers = s.answers })
+completion_of (returns w s) = None
 completion_of short = None
 
 -- a state of a source: the shared words, the current task, and the words emitted so far
@@ -119,16 +116,29 @@ source_run program s [] = Some []
 source_run program s (given ∷ more) =
     transition_of program s given >>? λ t. source_run program (state_after s t) more >>? λ ts. Some (t ∷ ts)
 
--- an outcome that is no end without a transition, and whose transition goes to a task
+-- an outcome of a task that is no end without a transition, and whose transition goes to a task
 abbrev pub EndsWell : ℕ → Outcome → Type 0
 EndsWell tasks (goes_on s) = ⊥
 EndsWell tasks (to_task t s) = t < tasks
+EndsWell tasks (returns w s) = ⊥
 EndsWell tasks short = Unit {0}
 
--- each attempt of a task comes to a transition to a task, or is short
-abbrev pub TransitionComes : ℕ → Task VariableName TaskName → Type 0
-TransitionComes tasks task = (s : Attempt) → EndsWell tasks (run_block task.body s)
+-- each attempt of a task of the program comes to a transition to a task, or is short
+abbrev pub TransitionComes : CheckedProgram → CheckedTask → Type 0
+TransitionComes program task = (s : Attempt) → EndsWell (length program.tasks) (run_block (meanings program) task.body s)
 
--- the task emits at most 256 words
-abbrev pub EmitsFit : Task VariableName TaskName → Type 0
-EmitsFit task = block_emits task.body ≤ 256
+-- an outcome of a function that is no end without a `return`
+abbrev pub EndsReturning : Outcome → Type 0
+EndsReturning (goes_on s) = ⊥
+EndsReturning (to_task t s) = ⊥
+EndsReturning (returns w s) = Unit {0}
+EndsReturning short = Unit {0}
+
+-- each call of the function of this number comes to a `return`, or is short
+abbrev pub ReturnComes : CheckedProgram → ℕ → Type 0
+ReturnComes program k = (f : CheckedFunction) → slice_get program.functions k ≡ Some f
+    → (s : Attempt) → EndsReturning (run_block (take k (meanings program)) f.body s)
+
+-- the task emits at most 256 words, those of its calls among them
+abbrev pub EmitsFit : CheckedProgram → CheckedTask → Type 0
+EmitsFit program task = block_emits (emit_counts program) task.body ≤ 256

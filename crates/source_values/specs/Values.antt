@@ -2,12 +2,14 @@
 -- where C leaves one open.
 use Rattle.std.specs.Prelude.{◌≡◌, ℕ, ◌^◌, ◌+◌, ◌-◌, ◌*◌, ◌/◌, ◌%◌, List, [], ◌∷◌, Bool, not, ◌==◌, nat_le, nat_lt, bit_and, bit_or, bit_xor, if◌then◌else◌}
 use Rattle.std.specs.Prelude.{Option, Some, None}
-use Rattle.std.specs.Prelude.{slice_index, slice_index_or, slice_set, drop}
+use Rattle.std.specs.Prelude.{slice_get, slice_index, slice_index_or, slice_set, drop, replicate}
 pub use Rattle.task_ast.specs.alp_text.Sequence.{◌>>?◌}
 use Rattle.alp_words.specs.Words.{word_sum, word_difference, word_product, quotient, remainder, arithmetic_shift, biased, bit}
 pub use Rattle.alp_words.specs.Words.{two_words, sign_word}
 pub use Rattle.task_ast.specs.Types.{by_width, is_long, joined_type, binary_type, unary_type, literal_type, type_of}
-use Rattle.task_ast.specs.Tree.{Expression, number, long_number, name, element, sense, next_event, unary, binary, shift, short_circuit}
+pub use Rattle.task_ast.specs.Paths.{CheckedExpression, CheckedValues}
+use Rattle.task_ast.specs.Tree.{number, long_number, name, element, sense, next_event, call, unary, binary, shift, short_circuit}
+use Rattle.task_ast.specs.Tree as t
 use Rattle.task_ast.specs.declared.WordType.{WordType}
 use Rattle.task_ast.specs.declared.WordType.TheVariants.{Unsigned, Int, Long}
 use Rattle.task_ast.specs.declared.UnaryOperator.{UnaryOperator}
@@ -28,6 +30,10 @@ use Rattle.task_ast.specs.declared.names.VariableName.{VariableName}
 pub record Variables : Type 0 where
   pub shared : List (List ℕ)
   pub locals : List ℕ
+
+-- the locals at the start of a task. A task or a function has at most 256, and reads none before it has assigned it
+abbrev pub new_locals : List ℕ
+new_locals = replicate 256 0
 
 -- word i of a variable; 0 where the variable has no such word. A local has one word, whatever the index
 abbrev pub word_at : Variables → Variable → ℕ → ℕ
@@ -209,18 +215,49 @@ abbrev pub is_settled : ShortCircuitOperator → ℕ → Bool
 is_settled BothHold w = not (holds w)
 is_settled OneHolds w = holds w
 
--- the value of an expression in an attempt, and the attempt behind it; None where the readings run out. What stands further left is
--- evaluated first
-abbrev pub value_of : Expression VariableName → Attempt → Option Evaluated
-value_of (number n) s = gives n s
-value_of (long_number n) s = gives n s
-value_of (name x) s = gives (scalar_value s.variables x) s
-value_of (element x index) s = value_of index s >>? λ i. gives (word_at i.behind.variables x.variable i.value) i.behind
-value_of sense s = next_reading s
-value_of next_event s = next_answer s
-value_of (unary op e) s = made_of (λ w. unary_result op (type_of e) w) (value_of e s)
-value_of (binary op a b) s =
-    value_of a s >>? λ x. made_of (λ w. binary_result op.operator (type_of a) (type_of b) x.value w) (value_of b x.behind)
-value_of (shift op e count) s = made_of (λ w. shift_result op (type_of e) w count.value) (value_of e s)
-value_of (short_circuit op a b) s =
-    value_of a s >>? λ x. if is_settled op x.value then gives (truth_word x.value) x.behind else made_of truth_word (value_of b x.behind)
+-- the value of an expression as one word
+abbrev pub word_of : CheckedExpression → ℕ → ℕ
+word_of e w = converted (type_of e) Unsigned w
+
+-- what a function is: from the words that it is called with, in an attempt, the word that it gives, and the attempt behind it; None where
+-- the readings run out
+abbrev pub Meaning : Type 0
+Meaning = List ℕ → Attempt → Option Evaluated
+
+-- the function of a number among those that are known; None where there is none
+abbrev pub meaning_in : List Meaning → ℕ → Meaning
+meaning_in known k words s = slice_get known k >>? λ m. m words s
+
+-- the words of several expressions, and the attempt behind them
+pub record EvaluatedWords : Type 0 where
+  pub words : List ℕ
+  pub behind : Attempt
+
+-- one word more in front of others
+abbrev pub word_before : ℕ → EvaluatedWords → EvaluatedWords
+word_before w more = record { words = w ∷ more.words; behind = more.behind }
+
+abbrev mutual
+  -- the value of an expression in an attempt, by the functions that are known, and the attempt behind it; None where the readings run
+  -- out. What stands further left is evaluated first, so each part sees what those before it changed
+  pub value_of : List Meaning → CheckedExpression → Attempt → Option Evaluated
+  value_of known (number n) s = gives n s
+  value_of known (long_number n) s = gives n s
+  value_of known (name x) s = gives (scalar_value s.variables x) s
+  value_of known (element x index) s =
+      value_of known index s >>? λ i. gives (word_at i.behind.variables x.variable i.value) i.behind
+  value_of known sense s = next_reading s
+  value_of known next_event s = next_answer s
+  value_of known (call f values) s = words_of known values s >>? λ x. meaning_in known f.function x.words x.behind
+  value_of known (unary op e) s = made_of (λ w. unary_result op (type_of e) w) (value_of known e s)
+  value_of known (binary op a b) s = value_of known a s
+      >>? λ x. made_of (λ w. binary_result op.operator (type_of a) (type_of b) x.value w) (value_of known b x.behind)
+  value_of known (shift op e count) s = made_of (λ w. shift_result op (type_of e) w count.value) (value_of known e s)
+  value_of known (short_circuit op a b) s = value_of known a s
+      >>? λ x. if is_settled op x.value then gives (truth_word x.value) x.behind else made_of truth_word (value_of known b x.behind)
+
+  -- the values of a call, from left to right, each as one word
+  pub words_of : List Meaning → CheckedValues → Attempt → Option EvaluatedWords
+  words_of known t.no_value s = Some (record { words = []; behind = s })
+  words_of known (t.value e more) s = value_of known e s
+      >>? λ x. words_of known more x.behind >>? λ ws. Some (word_before (word_of e x.value) ws)

@@ -2,6 +2,7 @@
 //! whole tasks, one after another.
 #![tactic(auto)]
 
+mod frame;
 pub mod laws;
 mod marks;
 mod numbers;
@@ -12,6 +13,6 @@ mod statements;
 mod tracked;
 mod values;
 
-pub use laws::{answers_left_over, readings_left_over, worked_rows};
+pub use laws::{answers_left_over, readings_left_over, worked_calls, worked_rows};
 pub use numbers::two_words;
 pub use run::{Done, Short, SourceRun, initial_words};

@@ -1,15 +1,16 @@
 //! The run of a source: whole tasks, one after another.
 
 ghost use Rattle.std.specs.Prelude.{◌≡◌, ◌+◌, ◌≤◌, ◌<◌, ◌^◌, ℕ, [], map, length, drop, All, IfOk, OnOk, OnErr, IfSome, IfNone, OnSome, IsSome, None, Some};
-ghost use Rattle.std.specs.Prelude.{slice_index, slice_index_or, replicate, vec_len};
-ghost use Rattle.task_ast.specs.View.{block_view, program_of};
+ghost use Rattle.std.specs.Prelude.{slice_index, slice_index_or};
+ghost use Rattle.task_ast.specs.View.{program_of};
 ghost use Rattle.task_ast.specs.declared.Extent.TheVariants.{Long};
-ghost use Rattle.source_values.specs.Statements.{Attempt, run_block, block_emits, short, to_task};
-ghost use Rattle.source_values.specs.Runs.{initial_words, initial_rows, new_locals, without_answers, fresh_attempt, attempt_of, completion_of, EndsWell};
+ghost use Rattle.source_values.specs.Statements.{meanings, run_block, short, to_task};
+ghost use Rattle.source_values.specs.Runs.{initial_words, initial_rows, new_locals, without_answers, task_body, attempt_of, completion_of};
 ghost use Rattle.source_values.specs.Marks.{IsMarked};
 ghost use Rattle.source_values.specs.Running.{IsRunnable, fresh_run};
-ghost use Rattle.source_values.specs.View.{rows_of, attempt_in, outcome_of};
+ghost use Rattle.source_values.specs.View.{rows_of, attempt_in};
 
+use crate::frame::Frame;
 use crate::marks::Marks;
 use crate::scratch::Scratch;
 use crate::statements::run_block;
@@ -18,7 +19,7 @@ use arrayvec::ArrayVec;
 use std::alloc::{AllocError, Global};
 use std::marker::Model;
 use std::mem;
-use task_ast::{CheckedSource, Extent, SharedDeclaration, Stmt, TaskName, VariableName};
+use task_ast::{CheckedSource, Extent, SharedDeclaration};
 use thiserror::Error;
 
 /// The readings ran out before the task's transition.
@@ -43,6 +44,7 @@ pub struct SourceRun {
     emitted: ArrayVec<u16, 256>,
     task: u16,
     scratch: Scratch,
+    frames: Vec<Frame>,
 }
 
 impl Model for SourceRun {
@@ -64,7 +66,7 @@ impl Model for SourceRun {
     ghost invariant = { λ r. (map length (rows_of r.before.items) ≡ map length r.scratch.shared.base)
         × (r.scratch.shared.rows ≡ r.scratch.shared.base)
         × Covers r.written (rows_of r.before.items) r.scratch.shared.base
-        × (length r.scratch.locals.items ≡ 256) };
+        × (length r.frames.items ≡ 64) };
 }
 
 // The two words of a long, the low one first.
@@ -99,38 +101,59 @@ fn initial_rows(alloc: Global, shared: &[SharedDeclaration]) -> Result<Vec<Vec<u
     Ok(rows)
 }
 
+// The most functions that a source has, so the longest chain of calls.
+const MOST_FUNCTIONS: usize = 64;
+
+// The locals of each function of a chain of calls.
+fn all_frames(alloc: Global) -> Result<Vec<Frame>, AllocError>
+    ensures { IfOk result (λ frames. length frames.items ≡ 64) }
+{
+    let mut frames = Vec::with_capacity(alloc, MOST_FUNCTIONS)?;
+    for _ in 0..MOST_FUNCTIONS {
+        frames.push(Frame::new(alloc)?)?;
+    }
+    Ok(frames)
+}
+
 // Makes ready for an attempt.
 fn restart(scratch: &mut Scratch)
-    requires locals { length scratch.old.locals.items ≡ 256 }
     ensures shared { scratch.new.shared ≡ scratch.old.shared }
-    ensures locals { scratch.new.locals.items ≡ new_locals }
+    ensures locals { scratch.new.locals ≡ new_locals }
     ensures emitted { scratch.new.emitted.items ≡ [] }
 {
-    scratch.locals.fill(0);
+    scratch.locals.clear();
     scratch.emitted.clear();
 }
 
-// Runs a task from its start. None where the readings run out before its transition.
+// Runs a task of a source from its start. None where the readings run out before its transition.
 fn run_task<'r>(
-    body: &[Stmt<VariableName, TaskName>],
+    source: &CheckedSource,
+    task: usize,
     scratch: &mut Scratch,
+    frames: &mut [Frame],
     readings: &'r [u16],
-    tasks: usize,
 ) -> Option<(u16, &'r [u16])>
-    requires emits { block_emits (block_view body.now) ≤ 256 }
+    requires runnable { IsRunnable (program_of source.now) }
+    requires task { task < length (program_of source.now).tasks }
+    requires frames { length frames.old ≡ 64 }
     requires fresh { scratch.old.emitted.items ≡ [] }
-    requires transition_comes { (s : Attempt) → EndsWell tasks (run_block (block_view body.now) s) }
-    requires few_tasks { tasks ≤ 64 }
-    ensures done { IfSome result (λ x. run_block (block_view body.now) (attempt_in scratch.old readings.now) ≡ to_task x.0 (attempt_in scratch.new x.1.now)) }
-    ensures next { IfSome result (λ x. x.0 < tasks) }
+    ensures done { IfSome result (λ x. run_block (meanings (program_of source.now)) (task_body (program_of source.now) task)
+        (attempt_in scratch.old readings.now) ≡ to_task x.0 (attempt_in scratch.new x.1.now)) }
+    ensures next { IfSome result (λ x. x.0 < length (program_of source.now).tasks) }
     ensures left { IfSome result (λ x. length x.1.now ≤ length readings.now) }
     ensures few_emitted { OnSome result (length scratch.new.emitted.items ≤ 256) }
-    ensures short { IfNone result (run_block (block_view body.now) (attempt_in scratch.old readings.now) ≡ short) }
+    ensures short { IfNone result (run_block (meanings (program_of source.now)) (task_body (program_of source.now) task)
+        (attempt_in scratch.old readings.now) ≡ short) }
     ensures same_base { scratch.new.shared.base ≡ scratch.old.shared.base }
-    ensures same_locals { length scratch.new.locals.items ≡ length scratch.old.locals.items }
 {
-    let ran = run_block(body, scratch, readings)?;
-    let next = ran.next?;
+    let ran = run_block(
+        &source.functions,
+        &source.tasks[task].body,
+        scratch,
+        frames,
+        readings,
+    )?;
+    let next = ran.end.task()?;
     Some((next as u16, ran.left))
 }
 
@@ -149,9 +172,10 @@ impl SourceRun {
             task: source.entry.task as u16,
             scratch: Scratch {
                 shared: Tracked::new(base, rows, Marks::new(alloc)?),
-                locals: vec![in alloc; 0; 256]?,
+                locals: Frame::new(alloc)?,
                 emitted: ArrayVec::new(),
             },
+            frames: all_frames(alloc)?,
         })
     }
 
@@ -174,8 +198,13 @@ impl SourceRun {
     {
         restart(&mut self.scratch);
         let from = self.task;
-        let body = &source.tasks[from as usize].body;
-        match run_task(body, &mut self.scratch, readings, source.tasks.len()) {
+        match run_task(
+            source,
+            from as usize,
+            &mut self.scratch,
+            &mut self.frames,
+            readings,
+        ) {
             None => {
                 self.scratch.shared.undo();
                 Err(Short)

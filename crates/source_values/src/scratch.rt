@@ -1,24 +1,25 @@
 //! The words that an attempt works on.
 
-ghost use Rattle.std.specs.Prelude.{◌≡◌, ℕ, List, length};
+ghost use Rattle.std.specs.Prelude.{◌≡◌, ℕ, List};
 ghost use Rattle.source_values.specs.Values.{word_at, with_word, scalar_value, converted};
 ghost use Rattle.source_values.specs.Numbers.{number_type, number_value};
 ghost use Rattle.source_values.specs.Statements.{assigned_to};
 ghost use Rattle.source_values.specs.View.{variables_of, attempt_in};
 
+use crate::frame::Frame;
 use crate::numbers::{Number, number_of, two_words};
-use crate::tracked::{Tracked, set_word, word_of};
+use crate::tracked::Tracked;
 use arrayvec::ArrayVec;
 use task_ast::{Variable, VariableName, WordType};
 
 /// The most words that a task may emit.
 pub const MOST_EMITS: usize = 256;
 
-/// The words of an attempt: of each shared variable its words, the locals, and the words emitted so far.
+/// The words of an attempt: of each shared variable its words, the locals of what runs, and the words emitted so far.
 #[derive(Drop)]
 pub struct Scratch {
     pub shared: Tracked,
-    pub locals: Vec<u16>,
+    pub locals: Frame,
     pub emitted: ArrayVec<u16, 256>,
 }
 
@@ -29,7 +30,7 @@ impl Scratch {
     {
         match variable {
             Variable::Shared(v) => self.shared.word(v as usize, i as usize),
-            Variable::Local(n) => word_of(&self.locals, n as usize),
+            Variable::Local(n) => self.locals.word(n as usize),
         }
     }
 
@@ -50,11 +51,10 @@ impl Scratch {
         ensures variables { variables_of self.new ≡ with_word (variables_of self.old) variable i w }
         ensures emitted { self.new.emitted ≡ self.old.emitted }
         ensures same_base { self.new.shared.base ≡ self.old.shared.base }
-        ensures same_locals { length self.new.locals.items ≡ length self.old.locals.items }
     {
         match variable {
             Variable::Shared(v) => self.shared.set(v as usize, i as usize, w),
-            Variable::Local(n) => set_word(&mut self.locals, n as usize, w),
+            Variable::Local(n) => self.locals.set(n as usize, w),
         }
     }
 
@@ -64,7 +64,6 @@ impl Scratch {
             ≡ assigned_to (attempt_in self.old left) x.now (converted (number_type n) x.now.word_type (number_value n)) }
         ensures emitted { self.new.emitted ≡ self.old.emitted }
         ensures same_base { self.new.shared.base ≡ self.old.shared.base }
-        ensures same_locals { length self.new.locals.items ≡ length self.old.locals.items }
     {
         match x.word_type {
             WordType::Long => {

@@ -2,6 +2,7 @@
 ghost use Rattle.std.specs.Prelude.{◌≡◌, ◌≤◌, IfOk, IfErr, IfSome, Some, option_map};
 ghost use Rattle.plain_commands.specs.alp_io.Shelf.{NeverFall};
 ghost use Rattle.plain_commands.specs.source_report.task_ast.View.{program_of};
+ghost use Rattle.plain_commands.specs.source_meaning.Plain.{IsPlain};
 ghost use Rattle.fram_state.specs.declared.migration.MigrateFault.{MigrateFault};
 ghost use Rattle.fram_state.specs.Suits.{Suits};
 ghost use Rattle.fram_state.specs.Migrated.{IsStateOf, IsMigrated, IsFault};
@@ -25,7 +26,9 @@ use plain_commands::answers::{
     read_file, refused_plainly,
 };
 use plain_commands::outside::{Shelf, Sink};
-use plain_commands::texts::{Accepted, Image, State, image_of, print_state, source_of, state_of};
+use plain_commands::texts::{
+    Accepted, Image, State, compiled_source_of, image_of, print_state, state_of,
+};
 use std::alloc::Global;
 
 /// The names of the files of `migrate SRC IMAGE STATE NEWSRC NEWIMAGE NEWSTATE`.
@@ -93,7 +96,7 @@ fn old_said_by<'t>(
     ensures said { IfOk result (AreOldRead (editions_of texts.entry)) }
     ensures refused { IfErr result (FailsAt (read_by names.entry) (MigrateRefuses (editions_of texts.entry))) }
 {
-    let source = source_of(alloc, names.source, texts.source)?;
+    let source = compiled_source_of(alloc, names.source, texts.source)?;
     let image = image_of(alloc, names.image, texts.image)?;
     let state = state_of(alloc, names.state, texts.state)?;
     Ok(OldSaid {
@@ -114,7 +117,7 @@ fn said_by<'t>(
     ensures refused { IfErr result (FailsAt (read_by names.entry) (MigrateRefuses (editions_of texts.entry))) }
 {
     let old_said = old_said_by(alloc, names, texts)?;
-    let new_source = source_of(alloc, names.new_source, texts.new_source)?;
+    let new_source = compiled_source_of(alloc, names.new_source, texts.new_source)?;
     let new_image = image_of(alloc, names.new_image, texts.new_image)?;
     let OldSaid {
         source,
@@ -139,6 +142,7 @@ fn check_suits<'t>(
     source: &Accepted,
     image: &Image,
 ) -> Result<(), Failure<'t>>
+    requires plain { IsPlain (program_of source.now.checked.source) }
     ensures suits { IfOk result (λ _. Suits source.now.text.items (program_of source.now.checked.source) image.now) }
     ensures refused { IfErr result (FailsRefused file.now (λ r. (r ≡ other_source)
         × (Suits source.now.text.items (program_of source.now.checked.source) image.now → ⊥))) }
@@ -177,6 +181,8 @@ fn migrated_of<'t>(
     texts: EditionTexts<'t>,
     said: Said,
 ) -> Result<State, Failure<'t>>
+    requires old_plain { IsPlain (program_of said.source.checked.source) }
+    requires new_plain { IsPlain (program_of said.new_source.checked.source) }
     requires old { IsStateOf said.source.text.items (program_of said.source.checked.source) said.state }
     requires new { Suits said.new_source.text.items (program_of said.new_source.checked.source) said.new_image }
     ensures migrated { IfOk result (λ s. OfEditions said (λ old new. IsMigrated old new said.state.receiver s)) }
@@ -224,9 +230,9 @@ fn migrated_text<'t>(
 /// Puts the state of the new edition that goes on in place of the old state. All memory but that of the put is taken before it.
 ///
 /// # Errors
-/// `Refused` for the first text that is refused; then for an image that doesn't suit its source, a state that doesn't belong to its image, and one
-/// that doesn't go on in the new edition. `Memory` where memory was refused; no file is changed then. `Put` where the put failed, and the
-/// file of the new state may hold anything or be absent.
+/// `Refused` for the first text that is refused, a source that is accepted and has functions as `NotYet`; then for an image that doesn't suit its
+/// source, a state that doesn't belong to its image, and one that doesn't go on in the new edition. `Memory` where memory was refused; no file is
+/// changed then. `Put` where the put failed, and the file of the new state may hold anything or be absent.
 pub fn migrate_texts<'t, H: Shelf>(
     alloc: Global,
     names: MigrateNames<'t>,

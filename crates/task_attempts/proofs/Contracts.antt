@@ -42,6 +42,9 @@ use Rattle.task_attempts.proofs.Tame.{Tame, task_tame, emits_fit}
 use Rattle.task_attempts.proofs.Starts.{held_attempt, held_runs, readings_and}
 use Rattle.task_attempts.proofs.Started.{Attempting, scene}
 use Rattle.task_attempts.proofs.Leaving.{StoresOf, setting, bounds, Transition, before, effects_are, tame_before, next, few, z, z_behind}
+use Rattle.cost_bound.specs.Summaries.{summaries}
+use Rattle.source_values.specs.Statements.{meanings}
+use Rattle.task_attempts.proofs.Plain.{no_counts, no_meanings}
 
 -- what a runtime's model asks beside, of a started attempt: the state stands for the source's attempt; what statements do keeps the world undecided
 -- throughout, also up to a transition; and behind its last store the world is decided
@@ -226,23 +229,27 @@ module _ (logging : Logging) (role : Role) (run : Attempting) (keeps_to : Keeps 
   abbrev attempt : Attempt
   attempt = fresh_attempt s.shared (readings_and run told)
 
-  few_emits : block_emits code ≤ emits_of code
-  few_emits = let e = emits_same code in omega (arith, e)
+  few_emits : block_emits [] code ≤ emits_of (summaries p) code
+  few_emits =
+      let same = emits_same p code in
+      let none = ap (λ counts. block_emits counts code) (no_counts p given.plain) in
+      omega (arith, same, none)
 
-  ends_well : EndsWell (length p.tasks) (run_block code attempt)
+  ends_well : EndsWell (length p.tasks) (run_block [] code attempt)
   ends_well =
-      subst (TransitionComes (length p.tasks)) (get_or_from_slice_get p.tasks s.task i.task i.task i.task_is)
-      (given.runnable.transition_comes s.task i.task undecided.is_open.is_task) attempt
+      subst (λ known. EndsWell (length p.tasks) (run_block known code attempt)) (no_meanings p given.plain)
+      (subst (TransitionComes p) (get_or_from_slice_get p.tasks s.task i.task i.task i.task_is)
+      (given.runnable.transition_comes s.task i.task undecided.is_open.is_task) attempt)
 
   meets : BlocksAgree → InputsAreWords inputs → Meets (behaviour program (started x.fram inputs)).effects (behaviour program (started x.fram inputs)).end
-      (run_block code attempt)
+      (run_block [] code attempt)
   meets agree small =
       let w = started x.fram inputs in
       let b = behaviour program w in
       record {
         -- the program agrees with the attempt from what FRAM has, which comes to what the source's attempt comes to
         agrees = subst (EndsAs here (bounds run) [] [] b.effects b.end)
-            (ap (λ l. run_block code (answered_by l (held_attempt run))) (append-nil told) ∙ held_runs run told)
+            (ap (λ l. run_block [] code (answered_by l (held_attempt run))) (append-nil told) ∙ held_runs run told)
             (agree (setting run) code (held_attempt run) [] w refl facts.formed facts.admits (λ v h. h) keeps_to.stands
             (let f = few_emits in omega (arith, f)) (λ v. omega arith) []);
         by_effects = behaves_by_effects program w;
@@ -251,7 +258,8 @@ module _ (logging : Logging) (role : Role) (run : Attempting) (keeps_to : Keeps 
             (record { stack = tt; locals = λ n v e. cc e; fram = undecided.is_open.words; inputs = small });
         well = ends_well;
         rows = block_rows code attempt (length s.shared) refl;
-        source = ap (λ b. completion_of (run_block b attempt)) (body_is p l s.task i);
+        source = ap (λ b. completion_of (run_block (meanings p) b attempt)) (body_is p l s.task i)
+            ∙ ap (λ known. completion_of (run_block known code attempt)) (no_meanings p given.plain);
       }
 
   pub program_keeps : BlocksAgree → InputsAreWords inputs
@@ -259,19 +267,19 @@ module _ (logging : Logging) (role : Role) (run : Attempting) (keeps_to : Keeps 
   program_keeps agree small =
       let b = behaviour program (started x.fram inputs) in
       subst (λ q. AttemptContract model s inputs x (effects_of (behaviour q (started x.fram inputs)))) (sym (program_is p l s.task i own run.own_is))
-      (keeps b.effects b.end (run_block code attempt) (meets agree small))
+      (keeps b.effects b.end (run_block [] code attempt) (meets agree small))
 
   pub program_stores : BlocksAgree → InputsAreWords inputs → EachStore (IsBelowCode l) ((program_parts p l).body s.task x.fram inputs).effects
   program_stores agree small =
       let b = behaviour program (started x.fram inputs) in
       subst (λ q. EachStore (IsBelowCode l) (behaviour q (started x.fram inputs)).effects) (sym (program_is p l s.task i own run.own_is))
-      (stores_before_code b.effects b.end (run_block code attempt) (meets agree small))
+      (stores_before_code b.effects b.end (run_block [] code attempt) (meets agree small))
 
   pub program_leaves : BlocksAgree → InputsAreWords inputs → LeavesFor l.commit.address (behaviour (task_program p l s.task) (started x.fram inputs)).end
   program_leaves agree small =
       let b = behaviour program (started x.fram inputs) in
       subst (λ q. LeavesFor l.commit.address (behaviour q (started x.fram inputs)).end) (sym (program_is p l s.task i own run.own_is))
-      (leaves b.effects b.end (run_block code attempt) (meets agree small))
+      (leaves b.effects b.end (run_block [] code attempt) (meets agree small))
 
   pub program_ends : (P : (ℕ → ℕ) → End → Type 0) → ((t : Transition run) → P (z run t).fram (Jumps t.to t.end))
       → ((es : List Effect) → P (fram_after es x.fram) Starves) → BlocksAgree → InputsAreWords inputs
@@ -279,7 +287,7 @@ module _ (logging : Logging) (role : Role) (run : Attempting) (keeps_to : Keeps 
   program_ends P left none agree small =
       let b = behaviour program (started x.fram inputs) in
       subst (λ q. let done = behaviour q (started x.fram inputs) in P (fram_after done.effects x.fram) done.end)
-      (sym (program_is p l s.task i own run.own_is)) (ends_with P left none b.effects b.end (run_block code attempt) (meets agree small))
+      (sym (program_is p l s.task i own run.own_is)) (ends_with P left none b.effects b.end (run_block [] code attempt) (meets agree small))
 
   -- ---- words of the ring
 
@@ -336,7 +344,7 @@ module _ (logging : Logging) (role : Role) (run : Attempting) (keeps_to : Keeps 
       together (y ∷ es) e f g = ap (λ fs. y ∷ fs) (together es e f g)
 
   -- each of them is none to a word that counts events
-  ordinary : (task count base : ℕ) → count + length (runs_of own.privates) ≤ list_of p.shared code
+  ordinary : (task count base : ℕ) → count + length (runs_of own.privates) ≤ list_of (summaries p) p.shared code
       → EachStore (IsOffRing gate) (ordinary_part task count base)
   ordinary task count base few =
       let apart = facts.apart in
@@ -346,7 +354,7 @@ module _ (logging : Logging) (role : Role) (run : Attempting) (keeps_to : Keeps 
             ((omega (arith, apart), λ e. omega (arith, e)), tt),
       )
     where
-      entries_off : (rs : List Run) (k : ℕ) → k + length rs ≤ list_of p.shared code
+      entries_off : (rs : List Run) (k : ℕ) → k + length rs ≤ list_of (summaries p) p.shared code
           → EachStore (IsOffRing gate) (entry_effects (word_place l ListLength) l.list.address k rs)
       entries_off [] k few = tt
       entries_off (r ∷ rs) k few =
@@ -402,4 +410,4 @@ module _ (logging : Logging) (role : Role) (run : Attempting) (keeps_to : Keeps 
       let b = behaviour program w in
       subst (λ q. let r = effects_of (behaviour q w) in (u : Taking) × InOrder r.effects u × (r.ends ≡ true → u ≡ Before))
       (sym (program_is p l s.task i own run.own_is))
-      (task_in_order b.effects b.end (run_block code attempt) (meets agree small) on (program_asks program w))
+      (task_in_order b.effects b.end (run_block [] code attempt) (meets agree small) on (program_asks program w))

@@ -27,6 +27,7 @@ use Rattle.task_attempts.proofs.Leaving.{spot_stays, next_word, scalar_next, wor
 use Rattle.task_attempts.proofs.Stores.{task_quiet, transition_quiet}
 use Rattle.task_attempts.proofs.Words.{OwnWord, marked, unmarked, own_word_of, IsTaskWord, left_there, private, element as an_element, task_word, scalar_there}
 use Rattle.task_attempts.proofs.Words.{element_word}
+use Rattle.cost_bound.specs.Summaries.{summaries}
 
 module _ (st : Started) where
   abbrev pub run : Attempting
@@ -75,11 +76,11 @@ module _ (st : Started) where
     pub u : IsQuietAt sites view s ver y
     u = quiet_behind sites view s ver before x quiet_before quiet_start
 
-    few_words : length left.listed + private_words i.layout.privates ≤ list_of p.shared code
+    few_words : length left.listed + private_words i.layout.privates ≤ list_of (summaries p) p.shared code
     few_words = facts.has_room left.listed left.stands.list.are_listed (λ v. let k = left.few v in omega (arith, k))
 
     -- the elements alone
-    few_elements : length left.listed + scalars_of p.shared code ≤ list_of p.shared code
+    few_elements : length left.listed + scalars_of (summaries p) p.shared code ≤ list_of (summaries p) p.shared code
     few_elements = facts.elements left.listed left.stands.list.are_listed (λ v. let k = left.few v in omega (arith, k))
 
     private_next : (r : PrivateScalar) (n : ℕ) → Contains i.layout.privates r → n < scalar_words r.width
@@ -173,7 +174,8 @@ module _ (st : Started) where
     pub lists_within : ListsWithin p l s.task z.fram
     lists_within =
         let own : own_privates l s.task ≡ i.layout.privates = ap privates_of i.layout_is in
-        let same : elements_of p.shared (task_body p s.task) ≡ elements_of p.shared code = ap (elements_of p.shared) (body_is p l s.task i) in
+        let same : elements_of (summaries p) p.shared (task_body p s.task) ≡ elements_of (summaries p) p.shared code =
+        ap (elements_of (summaries p) p.shared) (body_is p l s.task i) in
         let elements = few_elements in
         let entries = few_entries here 0 left.listed left.there.fram facts.redo left.stands.list in
         let runs = ap (λ ps. length (runs_of ps)) own in
@@ -261,9 +263,9 @@ module _ (st : Started) where
         record {
           pairs_listed = refl;
           entries = entries_have_words;
-          within_list = subst (λ b. z.fram (word_place l ListLength) ≤ list_of p.shared b) (sym (body_is p l s.task i))
+          within_list = subst (λ b. z.fram (word_place l ListLength) ≤ list_of (summaries p) p.shared b) (sym (body_is p l s.task i))
               (let e = z_count in let f = few run t in omega (arith, e, f));
-          within_words = subst (λ b. length (listed sites.map z.fram) ≤ list_of p.shared b) (sym (body_is p l s.task i))
+          within_words = subst (λ b. length (listed sites.map z.fram) ≤ list_of (summaries p) p.shared b) (sym (body_is p l s.task i))
               (let e = list_words in let f = few_words in omega (arith, e, f));
           homes = λ q h. is_home q (pair_of_list q h);
           copies = λ q h. is_copy q (pair_of_list q h);

@@ -11,6 +11,7 @@ use Rattle.task_attempts.proofs.Names.{AreListed, listed_of, list_of, scalars_of
 use Rattle.task_attempts.proofs.Names.{lists_have_room, privates_are_theirs, elements_stand, task_places_are_apart, task_places_are_even, view_has_their_words}
 use Rattle.task_attempts.proofs.Names.{rows_fit_places, WellFormedBlock, AdmitsBlock, ap, tasks_are_admitted}
 use Rattle.memory_map.specs.Laws as memory
+use Rattle.cost_bound.specs.Summaries.{summaries}
 use Rattle.cost_bound.specs.declared.allowance.Allow.{Allow}
 use Rattle.war_analysis.specs.PlanValue.{TaskPlanValue}
 use Rattle.source_values.specs.Running.{IsRunnable}
@@ -37,6 +38,11 @@ use Rattle.task_attempts.proofs.Tasks.{IsAt, private_copy}
 use Rattle.task_attempts.proofs.LoggedActs.{ActsFit}
 use Rattle.task_attempts.proofs.LoggedFit.{IsOwn, acts_fit}
 use Rattle.task_attempts.proofs.Held.{scalar_block}
+use Rattle.std.specs.Prelude.{◌||◌}
+use Rattle.task_ast.specs.Calls.{BlockCallsBelow}
+use Rattle.cost_bound.specs.Allowance.{functions_use_events, use_events}
+use Rattle.layout_facts.proofs.Interface.{calls_none}
+use Rattle.task_attempts.proofs.Plain.{no_summaries}
 
 -- rows have the places' lengths
 abbrev pub FitPlaces : MemoryMap → List (List ℕ) → Type 0
@@ -78,6 +84,7 @@ pub record IsTaskSeen (p : CheckedProgram) (l : MemoryMap) (task : CheckedTask) 
   pub declared : AsDeclared p.shared (task_places l task own)
   pub copied : HasCopies p.shared (task_places l task own) (some_path_writes task.body)
   pub formed : WellFormedBlock p.shared task.body
+  pub calls : BlockCallsBelow 0 task.body
   pub admits : AdmitsBlock l.runtime.events task.body
   pub scalars : (v home copy : ℕ) (width : ScalarWidth) → slice_get l.variables v ≡ Some (Scalar home copy width)
       → IsScalarIn v (scalar_words width) task.body
@@ -88,21 +95,22 @@ pub record IsTaskSeen (p : CheckedProgram) (l : MemoryMap) (task : CheckedTask) 
 pub record IsTaskGiven (p : CheckedProgram) (l : MemoryMap) (task : CheckedTask) (t : TaskPlace) : Type 0 where
   pub seen : IsTaskSeen p l task t
   pub redo : l.runtime.logging ≡ Redo
-  pub has_room : HasRoom (task_places l task t) (λ v. stores_of v task.body) (task_room p task)
-  pub elements : (xs : List Element) → AreListed (task_places l task t) xs → ((v : ℕ) → listed_of v xs ≤ stores_of v task.body)
-      → length xs + scalars_of p.shared task.body ≤ list_of p.shared task.body
+  pub has_room : HasRoom (task_places l task t) (λ v. stores_of [] v task.body) (task_room p task)
+  pub elements : (xs : List Element) → AreListed (task_places l task t) xs → ((v : ℕ) → listed_of v xs ≤ stores_of [] v task.body)
+      → length xs + scalars_of (summaries p) p.shared task.body ≤ list_of (summaries p) p.shared task.body
   pub privates : ArePrivates l task.body t
 
 -- under undo: there is room behind the words that the start lists, and each scalar stands where it is
 pub record IsTaskLogged (p : CheckedProgram) (l : MemoryMap) (k : ℕ) (task : CheckedTask) (t : TaskPlace) : Type 0 where
   pub seen : IsTaskSeen p l task (task_seen Undo t)
-  pub has_room : HasRoomBehind (length (private_homes l k)) (task_places l task (task_seen Undo t)) (λ v. stores_of v task.body) (task_room p task)
+  pub has_room : HasRoomBehind (length (private_homes l k)) (task_places l task (task_seen Undo t)) (λ v. stores_of [] v task.body) (task_room p task)
   pub home : (v home copy : ℕ) (width : ScalarWidth) → slice_get l.variables v ≡ Some (Scalar home copy width)
       → address_of (task_places l task (task_seen Undo t)) v ≡ home
 
 -- what is asked of a source with its layout, under each runtime
 pub record IsSource (p : CheckedProgram) (l : MemoryMap) : Type 0 where
   pub runnable : IsRunnable p
+  pub plain : p.functions ≡ []
   pub variables : AreVariables p l.variables
   pub words : AreSharedWords p l
   pub apart : memory.AreApart l
@@ -143,7 +151,19 @@ module _ (text : List ℕ) (p : CheckedProgram) (allow : Allow) (plans : List Ta
     at = record { is_task = is_task; is_layout = is_layout }
 
     formed : WellFormedBlock p.shared task.body
-    formed = (task_checked text p laid.accepted.checks k task is_task).statements
+    formed = (task_checked text p laid.accepted.checks laid.layout.plain k task is_task).statements
+
+    -- it calls no function
+    calls : BlockCallsBelow 0 task.body
+    calls = subst (λ o. BlockCallsBelow 0 (body_of o)) is_task (calls_none p allow plans l has k)
+
+    known_none : summaries p ≡ []
+    known_none = no_summaries p laid.layout.plain
+
+    room : HasRoom (task_places l task t) (λ v. stores_of [] v task.body) (task_room p task)
+    room =
+        subst (λ known. HasRoom (task_places l task t) (λ v. stores_of known v task.body) (task_room p task)) known_none
+        (lists_have_room p allow plans l has k task t at)
 
     privates_of : ArePrivates l task.body t
     privates_of =
@@ -153,15 +173,15 @@ module _ (text : List ℕ) (p : CheckedProgram) (allow : Allow) (plans : List Ta
           private = a.private;
           left = a.left;
           each = a.each;
-          only = λ s c. let o = m.only s c in (is_private_of (Shared s.number) task.body o.0.owed, o.1);
+          only = λ s c. let o = m.only s c in (is_private_of (Shared s.number) task.body calls o.0.owed, o.1);
         }
 
     -- the buffer of emitted words ends in front of the version words
-    emits_end : l.emits.address + 2 * emits_of task.body ≤ l.versions.address
+    emits_end : l.emits.address + 2 * emits_of (summaries p) task.body ≤ l.versions.address
     emits_end =
         let room = (tasks_have_room p allow plans l has).emits k (slice_get_within p.tasks k task is_task) in
         let apart = places_are_apart p allow plans l has in
-        let same = ap (λ o. emits_of (body_of o)) is_task in
+        let same = ap (λ o. emits_of (summaries p) (body_of o)) is_task in
         omega (arith, room, apart, same)
 
     -- by the place that is the task's own
@@ -234,7 +254,9 @@ module _ (text : List ℕ) (p : CheckedProgram) (allow : Allow) (plans : List Ta
             };
             copied = λ v h written. let a = copied v h written in (a.0, a.1, a.2, record { place = a.3.place });
             formed = formed;
-            admits = tasks_are_admitted l.runtime.events p.tasks k task is_task (ap (λ r. r.events) laid.layout.runtime);
+            calls = calls;
+            admits = tasks_are_admitted l.runtime.events p.tasks k task is_task
+                (ap (λ r. r.events) laid.layout.runtime ∙ ap (λ fs. functions_use_events fs || use_events p.tasks) laid.layout.plain);
             scalars = λ v home copy width is.
                 let match = places_are_declared p allow plans l has in
                 let scalar = match.is_scalar v home copy width is in
@@ -280,8 +302,9 @@ module _ (text : List ℕ) (p : CheckedProgram) (allow : Allow) (plans : List Ta
     task_given redo = record {
       seen = task_is_seen t (redo_seen l.runtime.logging t redo) (by_place t given_below);
       redo = redo;
-      has_room = lists_have_room p allow plans l has k task t at;
-      elements = elements_are_stores p allow plans l has k task t at;
+      has_room = room;
+      elements = λ xs are few. elements_are_stores p allow plans l has k task t at xs are
+          (subst (λ known. (v : ℕ) → listed_of v xs ≤ stores_of known v task.body) (sym known_none) few);
       privates = privates_of;
     }
 
@@ -297,7 +320,7 @@ module _ (text : List ℕ) (p : CheckedProgram) (allow : Allow) (plans : List Ta
           seen = task_is_seen own own_is (by_place own (λ v at copy i width e below.
               subst (λ a. 2 * i + a < end_of l.copies) (sym (home v at copy width e)) (home_below v at copy i width e below)));
           has_room = λ xs are few.
-              let h = lists_have_room p allow plans l has k task t at xs (listed_as own own_is xs are) few in omega (arith, h, count);
+              let h = room xs (listed_as own own_is xs are) few in omega (arith, h, count);
           home = home;
         }
 
@@ -307,6 +330,7 @@ module _ (text : List ℕ) (p : CheckedProgram) (allow : Allow) (plans : List Ta
   source runnable =
       record {
         runnable = runnable;
+        plain = has.layout.plain;
         variables = has.layout.variables;
         words = record {
           each = shared_words_are_of_variables p allow plans l has;

@@ -187,8 +187,8 @@ module _ (holds : ℕ → Bool) (words : ℕ → ℕ) (word : ℕ → ℕ → �
       (cases_eq v n)
 
   -- a block that writes it first comes to the same
-  words_run : (b : CheckedBlock) (n : ℕ) → IsScalarIn n (words n) b → SomePath b (writes (Shared n)) → (IsPrivate b (Shared n) → ⊥)
-      → (j : ℕ) → j ≤ words n → (a : Attempt) → run_block b (record a { variables = with_words a.variables n j }) ≡ run_block b a
+  words_run : (b : CheckedBlock) (n : ℕ) → IsScalarIn n (words n) b → SomePath [] b (writes (Shared n)) → (IsPrivate [] b (Shared n) → ⊥)
+      → (j : ℕ) → j ≤ words n → (a : Attempt) → run_block [] b (record a { variables = with_words a.variables n j }) ≡ run_block [] b a
   words_run b n k written in_place zero h a = refl
   words_run b n k written in_place (suc j) h a =
       first_writes_forget b n (words n) j (word n j) (record a { variables = with_words a.variables n j }) k (omega (arith, h)) written in_place
@@ -196,12 +196,12 @@ module _ (holds : ℕ → Bool) (words : ℕ → ℕ) (word : ℕ → ℕ → �
 
   -- and so one that writes each of them first
   pub refreshed_runs : (b : CheckedBlock)
-      → ((v : ℕ) → holds v ≡ true → IsScalarIn v (words v) b × SomePath b (writes (Shared v)) × (IsPrivate b (Shared v) → ⊥))
-      → (n : ℕ) (a : Attempt) → run_block b (record a { variables = refreshed n a.variables }) ≡ run_block b a
+      → ((v : ℕ) → holds v ≡ true → IsScalarIn v (words v) b × SomePath [] b (writes (Shared v)) × (IsPrivate [] b (Shared v) → ⊥))
+      → (n : ℕ) (a : Attempt) → run_block [] b (record a { variables = refreshed n a.variables }) ≡ run_block [] b a
   refreshed_runs b f zero a = refl
   refreshed_runs b f (suc n) a = by (holds n) refl ∙ refreshed_runs b f n a
     where
       by : (c : Bool) → holds n ≡ c
-          → run_block b (record a { variables = one c (refreshed n a.variables) n }) ≡ run_block b (record a { variables = refreshed n a.variables })
+          → run_block [] b (record a { variables = one c (refreshed n a.variables) n }) ≡ run_block [] b (record a { variables = refreshed n a.variables })
       by true e = let k = f n e in words_run b n k.0 k.1 k.2 (words n) (omega arith) (record a { variables = refreshed n a.variables })
       by false e = refl

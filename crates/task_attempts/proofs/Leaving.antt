@@ -21,6 +21,7 @@ use Rattle.task_attempts.proofs.Tasks.{body_is}
 use Rattle.task_attempts.proofs.Started.{Attempting, scene}
 use Rattle.task_attempts.proofs.Tame.{Tame, emits_fit, task_tame, transition_tame}
 use Rattle.task_attempts.proofs.Words.{own_small, scalar_there, element_there, element_word}
+use Rattle.cost_bound.specs.Summaries.{summaries}
 
 -- words that are stored where words are
 words_after : (es : List Effect) (f : ℕ → ℕ) → StoresWords es → HoldsWords f → HoldsWords (fram_after es f)
@@ -52,7 +53,7 @@ module _ (run : Attempting) where
     p = here;
     written = some_path_writes code;
     room = space;
-    stores = λ v. stores_of v code;
+    stores = λ v. stores_of [] v code;
     first = run.first;
     ver = x.fram (word_place here.map Version);
     apart = facts.apart;
@@ -64,7 +65,7 @@ module _ (run : Attempting) where
 
   -- the bounds of the task's statements
   abbrev pub bounds : Bounds
-  bounds = agreement.bounds setting x.fram (λ v. listed_of v [] + stores_of v code)
+  bounds = agreement.bounds setting x.fram (λ v. listed_of v [] + stores_of [] v code)
 
   -- statements that came to a transition: their effects, where they jump and with which state, the task that they name, and the attempt behind them
   pub record Transition : Type 0 where
@@ -105,10 +106,10 @@ module _ (run : Attempting) where
     effects_are = left.effects ∙ sym (append_assoc left.body transition (Store (word_place l Gate) 1 ∷ []))
 
     -- the list has room for what the transition lists
-    pub few : count + length (runs_of own.privates) ≤ list_of p.shared code
+    pub few : count + length (runs_of own.privates) ≤ list_of (summaries p) p.shared code
     few = by here.map.runtime.logging refl
       where
-        by : (logging : Logging) → here.map.runtime.logging ≡ logging → count + length (runs_of own.privates) ≤ list_of p.shared code
+        by : (logging : Logging) → here.map.runtime.logging ≡ logging → count + length (runs_of own.privates) ≤ list_of (summaries p) p.shared code
         by Redo redo =
             let words = run.has_room left.listed left.stands.list.are_listed (λ v. let k = left.few v in omega (arith, k)) in
             let entries = few_entries here run.first left.listed left.there.fram redo left.stands.list in
@@ -257,7 +258,7 @@ module _ (run : Attempting) where
         let below = slice_get_within p.shared v d e in
         let count = given.variables.count in
         let place = item_at l.variables v (omega (arith, below, count)) in
-        row_fits v place.0 place.1 ∙ declared_length (is_written p.tasks v) d.extent place.0 (given.variables.each v d place.0 e place.1)
+        row_fits v place.0 place.1 ∙ declared_length (is_written (summaries p) p.tasks v) d.extent place.0 (given.variables.each v d place.0 e place.1)
 
     next_is_state : are_rows p.shared m.variables.shared ≡ true
     next_is_state = rows_are p.shared m.variables.shared (same_count ∙ given.variables.count) row_length row_small
@@ -297,12 +298,13 @@ module _ (run : Attempting) where
           entries = λ lo hi. omega (arith, apart, lo);
         }) ∙ left.stands.emitted.emit_count
 
-    few_emits : length m.emitted ≤ emits_of code
+    few_emits : length m.emitted ≤ emits_of (summaries p) code
     few_emits =
         let apart = given.apart in
         let none = run.emit_count in
         let most =
-        stays_within (Tame run) (word_place l EmitCount) (emits_of code) (λ w q. q.emit_count refl) before x.fram tame_before (omega (arith, none)) in
+        stays_within (Tame run) (word_place l EmitCount) (emits_of (summaries p) code) (λ w q. q.emit_count refl) before x.fram tame_before
+        (omega (arith, none)) in
         let there = ap (λ f. f (word_place l EmitCount)) (world_fram before x) in
         let here = z_before (word_place l EmitCount) (λ e. omega (arith, apart, e)) in
         let counted = emit_count_is in
@@ -333,7 +335,7 @@ module _ (run : Attempting) where
           current_task = inl (z_before (word_place l CurrentTask) (λ e. omega (arith, apart, e)) ∙ o.current_task);
           emitted = refl;
           emit_count = emit_count_is;
-          within_emits = subst (λ b. length m.emitted ≤ emits_of b) (sym (body_is p l s.task i)) few_emits;
+          within_emits = subst (λ b. length m.emitted ≤ emits_of (summaries p) b) (sym (body_is p l s.task i)) few_emits;
           buffer = buffer_is;
           sent_base = sent_is ∙ sym base_kept ∙ base_is o;
           base = inl (base_kept ∙ sym sent_is);

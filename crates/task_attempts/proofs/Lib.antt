@@ -1,4 +1,5 @@
 mod Names
+mod Plain
 mod Held
 mod Tasks
 mod LoggedActs

@@ -10,6 +10,7 @@ use Rattle.task_attempts.proofs.Names.{and_from, is_private_in, stays_in_place, 
 use Rattle.task_attempts.proofs.Names.{scalar_is}
 use Rattle.task_attempts.proofs.Names.{words_of_variables_are_shared, addresses_are, elements_stand, task_body, body_of, emits_of, list_of, CheckedTask}
 use Rattle.task_attempts.proofs.Names.{words_at}
+use Rattle.cost_bound.specs.Summaries.{summaries}
 use Rattle.cost_bound.specs.declared.allowance.Allow.{Allow}
 use Rattle.war_analysis.specs.PlanValue.{TaskPlanValue}
 use Rattle.source_values.specs.Runs.{CheckedProgram, State}
@@ -168,7 +169,7 @@ module _ (p : CheckedProgram) (allow : Allow) (plans : List TaskPlanValue) (l : 
   pub acts_fit : ActsFit p l s here (some_path_writes code) (task_room p task) Own
   acts_fit =
       let room = tasks_have_room p allow plans l h in
-      let emits = ap emits_of body_is in let lists = ap (list_of p.shared) body_is in
+      let emits = ap (emits_of (summaries p)) body_is in let lists = ap (list_of (summaries p) p.shared) body_is in
       let few = room.emits s.task (slice_get_within p.tasks s.task task at.is_task) in
       record {
         scalars = scalar_fits;

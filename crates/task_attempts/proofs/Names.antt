@@ -46,15 +46,15 @@ pub use Rattle.task_ast.specs.declared.WordType.{WordType}
 pub use Rattle.task_ast.specs.declared.WordType.TheVariants.{Int, Long, Unsigned}
 pub use Rattle.task_ast.specs.declared.names.Variable.{Variable}
 pub use Rattle.task_ast.specs.declared.names.Variable.TheVariants.{Local, Shared}
-pub use Rattle.path_sums.proofs.Interface.{is_private_of}
+pub use Rattle.lower.proofs.Interface.{is_private_of}
 pub use Rattle.cost_bound.specs.Allowance.{CheckedTask, is_written, list_of, scalars_of}
 pub use Rattle.cost_bound.specs.Counts.{CheckedBlock, emits_of, stores_of}
 pub use Rattle.privatise.specs.Layouts.{AreVariables, IsPlaceOf}
-pub use Rattle.source_values.proofs.Interface.{for_value, readings_left_over_lem}
+pub use Rattle.source_values.proofs.Interface.{for_kept_value, readings_left_over_lem}
 pub use Rattle.source_values.specs.Runs.{CheckedProgram, Completion, EndsWell, State, TransitionComes, attempt_of, body_of, completion_of, fresh_attempt}
 pub use Rattle.source_values.specs.Runs.{TaskInputs, initial_words, is_long_extent, task_body}
 pub use Rattle.source_values.specs.Statements.{Attempt, Outcome, and_then, assigned, assigned_to, assigned_value, block_emits, goes_on, run_block, run_choice}
-pub use Rattle.source_values.specs.Statements.{run_statement, short, to_task, turns, with_value, word_of}
+pub use Rattle.source_values.specs.Statements.{returns, run_statement, short, to_task, turns, with_value, word_of}
 pub use Rattle.source_values.specs.Values.{Variables, by_width, converted, holds, type_of, with_word, word_at}
 pub use Rattle.path_runs.specs.Laws.{IsScalarIn, IsScalarInChoice, IsScalarInStatement}
 pub use Rattle.checked_trees.specs.WellFormed.{IsArrayName, IsLocal, IsOfType, WellFormedBlock, WellFormedChoice, WellFormedStatement}

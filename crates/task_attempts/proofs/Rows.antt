@@ -2,9 +2,10 @@
 use Rattle.task_attempts.proofs.Names.{◌≡◌, ℕ, zero, suc, ◌+◌, ◌-◌, ◌/◌, ◌%◌, ◌<◌, List, [], ◌∷◌, ◌++◌, length, Some, None, Bool, true, false, get_or, refl}
 use Rattle.task_attempts.proofs.Names.{sym, ap, ◌∙◌, arith, eq-eqb, if◌then◌else◌, ◌&&◌, ◌==◌, nat_lt, slice_get, lt-ltb, and_from, and_parts, length-replicate}
 use Rattle.task_attempts.proofs.Names.{CheckedExpression, CheckedStatement, CheckedChoice, CheckedBlock, Extent, SharedDeclaration, WordType, Unsigned, Int}
-use Rattle.task_attempts.proofs.Names.{Long, Variable, Shared, Local, by_width, type_of, converted, holds, Attempt, Outcome, goes_on, to_task, short, and_then}
+use Rattle.task_attempts.proofs.Names.{Long, Variable, Shared, Local, by_width, type_of, converted, holds, Attempt, Outcome, goes_on, to_task, returns, short}
+use Rattle.task_attempts.proofs.Names.{and_then}
 use Rattle.task_attempts.proofs.Names.{with_value, assigned, assigned_to, assigned_value, word_of, turns, run_statement, run_choice, run_block, initial_words}
-use Rattle.task_attempts.proofs.Names.{VariablePlace, Scalar, Array, scalar_words, IsPlaceOf, place_length, are_words, are_rows, for_value}
+use Rattle.task_attempts.proofs.Names.{VariablePlace, Scalar, Array, scalar_words, IsPlaceOf, place_length, are_words, are_rows, for_kept_value}
 use Rattle.task_ast.specs.Tree as t
 use Rattle.task_ast.specs.declared.Extent.TheVariants as extent
 use Rattle.std.proofs.Math.ListN.{length-set}
@@ -14,17 +15,19 @@ use Rattle.task_ast.specs.declared.names.VariableName.{VariableName}
 abbrev pub HasRows : ℕ → Outcome → Type 0
 HasRows n (goes_on s) = length s.variables.shared ≡ n
 HasRows n (to_task task s) = length s.variables.shared ≡ n
+HasRows n (returns w s) = length s.variables.shared ≡ n
 HasRows n short = Unit {0}
 
 rows_then : (n : ℕ) (o : Outcome) (next : Attempt → Outcome) → HasRows n o → ((s : Attempt) → length s.variables.shared ≡ n → HasRows n (next s))
     → HasRows n (and_then o next)
 rows_then n (goes_on s) next h f = f s h
 rows_then n (to_task task s) next h f = h
+rows_then n (returns w s) next h f = h
 rows_then n short next h f = tt
 
 rows_value : (n : ℕ) (e : CheckedExpression) (m : Attempt) (next : ℕ → Attempt → Outcome) → length m.variables.shared ≡ n
-    → ((v : ℕ) (s : Attempt) → length s.variables.shared ≡ n → HasRows n (next v s)) → HasRows n (with_value e m next)
-rows_value n e m next h f = for_value (HasRows n) e m next tt (λ v s is. f v s (ap (λ u. length u.shared) is.variables ∙ h))
+    → ((v : ℕ) (s : Attempt) → length s.variables.shared ≡ n → HasRows n (next v s)) → HasRows n (with_value [] e m next)
+rows_value n e m next h f = for_kept_value (HasRows n) e m next tt (λ v s is. f v s (ap (λ u. length u.shared) is.variables ∙ h))
 
 rows_if : (n : ℕ) (b : Bool) (o q : Outcome) → HasRows n o → HasRows n q → HasRows n (if b then o else q)
 rows_if n true o q h k = h
@@ -50,33 +53,34 @@ rows_turns n x run f (suc j) k m h =
     rows_then n (run (assigned m x 0 k)) (turns j (k + 1) x run) (f (assigned m x 0 k) (rows_assigned m x 0 k n h)) (λ s g. rows_turns n x run f j (k + 1) s g)
 
 mutual
-  statement_rows : (s : CheckedStatement) (m : Attempt) (n : ℕ) → length m.variables.shared ≡ n → HasRows n (run_statement s m)
+  statement_rows : (s : CheckedStatement) (m : Attempt) (n : ℕ) → length m.variables.shared ≡ n → HasRows n (run_statement [] s m)
   statement_rows (t.declare of x None) m n h = h
   statement_rows (t.declare of x (Some e)) m n h =
       rows_value n e m (λ w s. goes_on (assigned_value s x e w)) h (λ v s k. rows_assigned_to s x (converted (type_of e) x.word_type v) n k)
   statement_rows (t.assign x e) m n h =
       rows_value n e m (λ w s. goes_on (assigned_value s x e w)) h (λ v s k. rows_assigned_to s x (converted (type_of e) x.word_type v) n k)
   statement_rows (t.store x index e) m n h =
-      rows_value n index m (λ i s. with_value e s (λ w s. goes_on (assigned s x.variable i (word_of e w)))) h
+      rows_value n index m (λ i s. with_value [] e s (λ w s. goes_on (assigned s x.variable i (word_of e w)))) h
       (λ i s k. rows_value n e s (λ w s. goes_on (assigned s x.variable i (word_of e w))) k
       (λ v u l. rows_assigned u x.variable i (word_of e v) n l))
   statement_rows (t.choose choice) m n h = choice_rows choice m n h
-  statement_rows (t.loop x from tested below stepped body) m n h = rows_turns n x.variable (run_block body) (λ u g. block_rows body u n g)
+  statement_rows (t.loop x from tested below stepped body) m n h = rows_turns n x.variable (run_block [] body) (λ u g. block_rows body u n g)
       (below - from) from m h
   statement_rows (t.emit e) m n h = rows_value n e m (λ w s. goes_on (record s { emitted = s.emitted ++ word_of e w ∷ [] })) h (λ v s k. k)
-  statement_rows (t.transition task) m n h = h
+  statement_rows (t.give at e) m n h = rows_value n e m (λ w s. returns (word_of e w) s) h (λ v s k. k)
+  statement_rows (t.transition at task) m n h = h
 
-  choice_rows : (c : CheckedChoice) (m : Attempt) (n : ℕ) → length m.variables.shared ≡ n → HasRows n (run_choice c m)
+  choice_rows : (c : CheckedChoice) (m : Attempt) (n : ℕ) → length m.variables.shared ≡ n → HasRows n (run_choice [] c m)
   choice_rows t.nothing m n h = h
   choice_rows (t.otherwise block) m n h = block_rows block m n h
   choice_rows (t.test e block more) m n h =
-      rows_value n e m (λ w s. if holds w then run_block block s else run_choice more s) h
-      (λ v s k. rows_if n (holds v) (run_block block s) (run_choice more s) (block_rows block s n k) (choice_rows more s n k))
+      rows_value n e m (λ w s. if holds w then run_block [] block s else run_choice [] more s) h
+      (λ v s k. rows_if n (holds v) (run_block [] block s) (run_choice [] more s) (block_rows block s n k) (choice_rows more s n k))
 
   -- statements keep how many shared variables there are
-  pub block_rows : (b : CheckedBlock) (m : Attempt) (n : ℕ) → length m.variables.shared ≡ n → HasRows n (run_block b m)
+  pub block_rows : (b : CheckedBlock) (m : Attempt) (n : ℕ) → length m.variables.shared ≡ n → HasRows n (run_block [] b m)
   block_rows t.end m n h = h
-  block_rows (t.step s more) m n h = rows_then n (run_statement s m) (run_block more) (statement_rows s m n h) (λ u g. block_rows more u n g)
+  block_rows (t.step s more) m n h = rows_then n (run_statement [] s m) (run_block [] more) (statement_rows s m n h) (λ u g. block_rows more u n g)
 
 words_are : (ws : List ℕ) → ((i : ℕ) → get_or ws i 0 < 0x10000) → are_words ws ≡ true
 words_are [] h = refl

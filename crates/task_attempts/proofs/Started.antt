@@ -9,6 +9,7 @@ use Rattle.compiled_model.specs.Parts.{private_homes}
 use Rattle.undo_states.specs.States.{LoggingAt}
 use Rattle.task_attempts.proofs.Given.{IsSource, IsTaskSeen, IsGiven, IsTaskGiven, IsLoggedGiven, IsTaskLogged}
 use Rattle.task_attempts.proofs.Tasks.{IsAt, task_at}
+use Rattle.cost_bound.specs.Summaries.{summaries}
 
 -- what is alike under each runtime: a source with its layout, a state of it, the state's task with its layout and the place that is its own, the world
 -- behind the start of an attempt, where no shared word has changed but those that are written in place, the inputs that are left, and how many words
@@ -25,7 +26,7 @@ pub record Attempting : Type 0 where
   pub world : World
   pub inputs : Inputs
   pub first : ℕ
-  pub has_room : HasRoomBehind first (task_places map task.task own) (λ v. stores_of v task.task.body) (task_room program task.task)
+  pub has_room : HasRoomBehind first (task_places map task.task own) (λ v. stores_of [] v task.task.body) (task_room program task.task)
   pub undecided : UndecidedAt (program_places program map) (state_view program map) state world
   pub emit_count : world.fram (word_place map EmitCount) ≡ 0
   pub versions : (i : ℕ) → i < map.versions.words → world.fram (map.versions.address + 2 * i) < world.fram (word_place map Version)

@@ -72,15 +72,15 @@ module _ (run : Attempting) where
 
   -- the task comes to the same from what FRAM has as from the state
   pub held_runs : (answers : List ℕ)
-      → run_block code (answered_by answers held_attempt) ≡ run_block code (fresh_attempt s.shared (readings_and answers))
+      → run_block [] code (answered_by answers held_attempt) ≡ run_block [] code (fresh_attempt s.shared (readings_and answers))
   held_runs answers =
       refreshed_runs is_held held_words held_word code (λ v h.
       let at = held_scalar v h in
       let place = at.0 in (
         subst (λ n. IsScalarIn v n code) (sym (ap words_at place.place)) (facts.scalars v place.home place.copy place.width place.place),
-        in_place_written code v at.1,
+        in_place_written code v facts.calls at.1,
         λ private.
-            let clash : true ≡ false = sym (is_private_of (Shared v) code private) ∙ in_place_not_private code v at.1 in absurd (cc),
+            let clash : true ≡ false = sym (is_private_of (Shared v) code facts.calls private) ∙ in_place_not_private code v at.1 in absurd (cc),
       ))
       (length l.variables) (fresh_attempt s.shared (readings_and answers))
 

@@ -13,6 +13,7 @@ use Rattle.task_attempts.proofs.Tasks.{body_is, private_copy}
 use Rattle.memory_map.specs.event_places.Places.{count_place}
 use Rattle.task_attempts.proofs.Started.{Attempting, scene, Started, redo_run}
 use Rattle.task_attempts.proofs.Tame.{emits_fit}
+use Rattle.cost_bound.specs.Summaries.{summaries}
 
 module _ (st : Started) where
   abbrev run : Attempting
@@ -98,8 +99,9 @@ module _ (st : Started) where
   before_list : (a : ℕ) → a < l.row + 16 → a < l.list.address
   before_list a h = let apart = given.source.apart in omega (arith, apart, h)
 
-  list_fits : list_of p.shared code ≤ l.entries
-  list_fits = subst (λ b. list_of p.shared b ≤ l.entries) (body_is p l s.task i) (given.source.room.list s.task st.start.undecided.is_open.is_task)
+  list_fits : list_of (summaries p) p.shared code ≤ l.entries
+  list_fits = subst (λ b. list_of (summaries p) p.shared b ≤ l.entries) (body_is p l s.task i)
+      (given.source.room.list s.task st.start.undecided.is_open.is_task)
 
   -- a scalar that the task writes is private, and then the task has its copy, or is written in place
   written_quiet : (v n w : ℕ) → IsScalarWord here v n → some_path_writes code v ≡ true → w < 0x10000 → Quiet (scalar_address here v n) w

@@ -9,6 +9,7 @@ use Rattle.task_attempts.proofs.Entries.{IsTransitionStore, at_next_task, at_sen
 use Rattle.task_attempts.proofs.Words.{element_word}
 use Rattle.task_attempts.proofs.Tasks.{body_is}
 use Rattle.task_attempts.proofs.Started.{Attempting, scene}
+use Rattle.cost_bound.specs.Summaries.{summaries}
 
 module _ (run : Attempting) where
   open run use {program as p, map as l, given, state as s, task as i, own, facts, undecided}
@@ -17,15 +18,15 @@ module _ (run : Attempting) where
   pub record Tame (a w : ℕ) : Type 0 where
     pub gate : a ≡ word_place l Gate → ⊥
     pub list_length : a ≡ word_place l ListLength → w ≤ l.entries
-    pub emit_count : a ≡ word_place l EmitCount → w ≤ emits_of code
+    pub emit_count : a ≡ word_place l EmitCount → w ≤ emits_of (summaries p) code
     pub from : 0x4400 ≤ a
     pub below : StoresBelow l (end_of l.copies) a w
 
-  list_fits : list_of p.shared code ≤ l.entries
-  list_fits = subst (λ b. list_of p.shared b ≤ l.entries) (body_is p l s.task i) (given.room.list s.task undecided.is_open.is_task)
+  list_fits : list_of (summaries p) p.shared code ≤ l.entries
+  list_fits = subst (λ b. list_of (summaries p) p.shared b ≤ l.entries) (body_is p l s.task i) (given.room.list s.task undecided.is_open.is_task)
 
-  pub emits_fit : emits_of code ≤ l.emits.words
-  emits_fit = subst (λ b. emits_of b ≤ l.emits.words) (body_is p l s.task i) (given.room.emits s.task undecided.is_open.is_task)
+  pub emits_fit : emits_of (summaries p) code ≤ l.emits.words
+  emits_fit = subst (λ b. emits_of (summaries p) b ≤ l.emits.words) (body_is p l s.task i) (given.room.emits s.task undecided.is_open.is_task)
 
   -- one behind the runtime's words
   behind : (a w : ℕ) → l.list.address ≤ a → a < end_of l.copies → Tame a w
@@ -41,7 +42,7 @@ module _ (run : Attempting) where
 
   -- one of the runtime's words behind GATE
   runtime_word : (a w : ℕ) → (a ≡ word_place l Gate → ⊥) → l.row ≤ a → a < l.list.address → (a ≡ word_place l ListLength → w ≤ l.entries)
-      → (a ≡ word_place l EmitCount → w ≤ emits_of code) → Tame a w
+      → (a ≡ word_place l EmitCount → w ≤ emits_of (summaries p) code) → Tame a w
   runtime_word a w gate low high list emits =
       let apart = given.apart in
       record { gate = gate; list_length = list; emit_count = emits; from = omega (arith, apart, low); below = inl (omega (arith, apart, high)) }

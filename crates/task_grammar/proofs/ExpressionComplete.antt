@@ -1,5 +1,5 @@
 -- What the grammar relates is read.
-use Rattle.std.proofs.Common.{◌≡◌, ℕ, zero, suc, ◌<◌, ◌≤◌, true, false, cond, ◌==◌, List, [], ◌∷◌, ◌++◌, Option, Some, None, refl, ap, ◌∙◌, arith, append_assoc}
+use Rattle.std.proofs.Common.{◌≡◌, ℕ, zero, suc, ◌<◌, ◌≤◌, Bool, true, false, cond, ◌==◌, List, [], ◌∷◌, ◌++◌, Option, Some, None, refl, ap, ◌∙◌, arith, append_assoc}
 use denote.Enum.Bare.{true_same}
 use Rattle.task_lex.specs.contracts.token.Kind.{the_type}
 use Rattle.task_lex.specs.declared.token.Token.{Token}
@@ -219,7 +219,7 @@ values_open _ ts h = refl
 more_ends : {ys : List Token} {more : Values} → IsMoreValues ys more → (c : Token) (rest : List Token) → c.kind ≡ k.Close
     → weakest < reach (kind_of (ys ++ c ∷ rest))
 more_ends grammar.no_more c rest is_c = closing c k.Close is_c refl
-more_ends (grammar.another_value t xs ys next more is is_next is_more) c rest is_c = closing t k.Comma is refl
+more_ends (grammar.another_value t xs ys next more is is_next are_more) c rest is_c = closing t k.Comma is refl
 
 mutual
   unfolding values
@@ -249,24 +249,24 @@ mutual
   pub reads_values : {ts : List Token} {given : Values} → IsValues ts given → (c : Token) (rest : List Token) → c.kind ≡ k.Close
       → values expression (ts ++ c ∷ rest) ≡ done given (c ∷ rest)
   reads_values grammar.no_values c rest is_c = ap (λ kd. values_by expression (Some kd) (c ∷ rest)) is_c
-  reads_values (grammar.values xs ys first more is_first is_more) c rest is_c =
+  reads_values (grammar.values xs ys first more is_first are_more) c rest is_c =
       let behind = ys ++ c ∷ rest in
       ap (values expression) (append_assoc xs ys (c ∷ rest)) ∙ values_open (kind_of (xs ++ behind)) (xs ++ behind) (begins_open is_first behind)
       ∙ ap (λ o. and_then o (λ first. more_values expression >>= λ more. pure (node.value first more)))
-      (ends weakest xs first (reads is_first) behind (more_ends is_more c rest is_c))
-      ∙ ap (λ o. and_then o (λ more. pure (node.value first more))) (reads_more is_more c rest is_c)
+      (ends weakest xs first (reads is_first) behind (more_ends are_more c rest is_c))
+      ∙ ap (λ o. and_then o (λ more. pure (node.value first more))) (reads_more are_more c rest is_c)
 
   pub reads_more : {ts : List Token} {more : Values} → IsMoreValues ts more → (c : Token) (rest : List Token) → c.kind ≡ k.Close
       → more_values expression (ts ++ c ∷ rest) ≡ done more (c ∷ rest)
   reads_more grammar.no_more c rest is_c = more_values_is (c ∷ rest)
       ∙ ap (λ kd. more_by expression (more_values expression) (Some kd) (c ∷ rest)) is_c
-  reads_more (grammar.another_value t xs ys next more is is_next is_more) c rest is_c =
+  reads_more (grammar.another_value t xs ys next more is is_next are_more) c rest is_c =
       let behind = ys ++ c ∷ rest in
       ap (λ x. more_values expression (t ∷ x)) (append_assoc xs ys (c ∷ rest)) ∙ more_values_is (t ∷ xs ++ behind)
       ∙ ap (λ kd. more_by expression (more_values expression) (Some kd) (t ∷ xs ++ behind)) is ∙ takes k.Comma t (xs ++ behind) _ is
       ∙ ap (λ o. and_then o (λ next. more_values expression >>= λ more. pure (node.value next more)))
-      (ends weakest xs next (reads is_next) behind (more_ends is_more c rest is_c))
-      ∙ ap (λ o. and_then o (λ more. pure (node.value next more))) (reads_more is_more c rest is_c)
+      (ends weakest xs next (reads is_next) behind (more_ends are_more c rest is_c))
+      ∙ ap (λ o. and_then o (λ more. pure (node.value next more))) (reads_more are_more c rest is_c)
 
 pub reads_to : (xs rest : List Token) (tree : Expression) (c : Token) (kind : Kind) → IsExpression weakest xs tree → c.kind ≡ kind
     → reach_by kind ≡ suc weakest → expression (xs ++ c ∷ rest) ≡ done tree (c ∷ rest)

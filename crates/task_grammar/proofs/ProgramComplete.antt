@@ -290,11 +290,11 @@ reads_parameters : (ps : List Token) (found : List Parameter) → IsParameters p
     → parameters (ps ++ c ∷ rest) ≡ done found (c ∷ rest)
 unfolding parameters some_parameters
 reads_parameters ps found grammar.no_parameter c rest is_c = ap (λ kd. parameters_by (Some kd) (c ∷ rest)) is_c
-reads_parameters ps found (grammar.parameters xs ys first more is_first is_more) c rest is_c =
+reads_parameters ps found (grammar.parameters xs ys first more is_first are_more) c rest is_c =
     let behind = ys ++ c ∷ rest in
     ap parameters (append_assoc xs ys (c ∷ rest)) ∙ parameter_open xs first is_first behind
     ∙ goes (parameter (xs ++ behind)) first behind _ (reads_parameter xs first is_first behind)
-    ∙ reads_many IsFurther is_comma further law_further further_some further_begun reads_further more ys is_more (first ∷ []) (c ∷ rest)
+    ∙ reads_many IsFurther is_comma further law_further further_some further_begun reads_further more ys are_more (first ∷ []) (c ∷ rest)
     (ap (λ kd. is_comma (Some kd)) is_c)
 
 reads_function : (xs : List Token) (x : Function) → IsFunction xs x → (rest : List Token) → function (xs ++ rest) ≡ done x rest

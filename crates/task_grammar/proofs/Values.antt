@@ -1,5 +1,5 @@
 -- The parsers of a call's values keep to the grammar, and more fuel changes no answer.
-use Rattle.std.proofs.Common.{◌≡◌, ℕ, zero, suc, ◌<◌, ◌≤◌, List, [], ◌∷◌, ◌++◌, length, Option, Some, refl, ap, arith}
+use Rattle.std.proofs.Common.{◌≡◌, ℕ, zero, suc, ◌<◌, ◌≤◌, List, [], ◌∷◌, length, Option, Some, refl, ap, arith}
 use Rattle.task_lex.specs.declared.token.Token.{Token}
 use Rattle.task_lex.specs.declared.token.Kind.{Kind}
 use Rattle.task_lex.specs.declared.token.Kind.TheVariants as k
@@ -26,7 +26,7 @@ module _ (m : ℕ) (p p' : Parser Expression) (same : Same m p p') (shorter : Sh
   same_more (suc n) zero ts fits le le' = absurd (omega arith)
   same_more (suc n) (suc n') [] fits le le' = refl
   same_more (suc n) (suc n') (t ∷ ts) fits le le' = same_more_by (more_within p n) (more_within p' n') (length ts) (omega arith)
-      (λ xs le. same_more n n' xs (omega arith) (omega arith) (omega arith)) (Some t.kind) (t ∷ ts) (omega arith)
+      (λ xs short. same_more n n' xs (omega arith) (omega arith) (omega arith)) (Some t.kind) (t ∷ ts) (omega arith)
 
   same_more_values : Same m (more_values p) (more_values p')
   unfolding more_values

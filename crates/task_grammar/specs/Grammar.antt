@@ -288,7 +288,7 @@ pub data IsParameters : List Token → List Parameter → Type 0 where
 
 -- a function
 abbrev pub function_from : WordType → Token → List Parameter → Block → Function
-function_from of n parameters body = record { word_type = of; name = n.span; parameters = parameters; body = body }
+function_from of n found body = record { word_type = of; name = n.span; parameters = found; body = body }
 
 -- `type name ( parameters ) block`
 pub data IsFunction : List Token → Function → Type 0 where

@@ -14,13 +14,19 @@ use crate::operators::{Infix, infix_at, prefix_of};
 use crate::tokens::{after, kind_of, long_worth, place_of, take};
 use alp_text::Span;
 use std::alloc::{AllocError, Global};
-use task_ast::{Args, Expr, Literal, PlacedOperator, ShiftOperator, ShortCircuitOperator, UnaryOperator};
+use task_ast::{
+    Args, Expr, Literal, PlacedOperator, ShiftOperator, ShortCircuitOperator, UnaryOperator,
+};
 use task_lex::{Kind, Token};
 
 // The precedence of the operators that bind least.
 const WEAKEST: u8 = 10;
 
-fn element_node(alloc: Global, name: Token, index: Expr<Span, Span>) -> Result<Expr<Span, Span>, AllocError>
+fn element_node(
+    alloc: Global,
+    name: Token,
+    index: Expr<Span, Span>,
+) -> Result<Expr<Span, Span>, AllocError>
     ensures { IfOk result (λ e. expression_of e ≡ node.element name.span (expression_of index)) }
 {
     Ok(Expr::Element(name.span, Box::new(alloc, index)?))
@@ -37,7 +43,11 @@ fn value_node(
     Ok(Args::Value(Box::new(alloc, first)?, Box::new(alloc, more)?))
 }
 
-fn unary_node(alloc: Global, op: UnaryOperator, inner: Expr<Span, Span>) -> Result<Expr<Span, Span>, AllocError>
+fn unary_node(
+    alloc: Global,
+    op: UnaryOperator,
+    inner: Expr<Span, Span>,
+) -> Result<Expr<Span, Span>, AllocError>
     ensures { IfOk result (λ e. expression_of e ≡ node.unary op (expression_of inner)) }
 {
     Ok(Expr::Unary(op, Box::new(alloc, inner)?))
@@ -91,7 +101,10 @@ fn prefix_in_front(tokens: &[Token]) -> Option<UnaryOperator>
 // An operand with the operators in front of it.
 #[cycle(expression)]
 #[tactic(auto, using(crate::proofs::ExpressionSame::unary_is), unfolding(crate::specs::Expressions::prefixed))]
-fn unary<'a>(alloc: Global, tokens: &'a [Token]) -> Result<(Expr<Span, Span>, &'a [Token]), Stop<'a>>
+fn unary<'a>(
+    alloc: Global,
+    tokens: &'a [Token],
+) -> Result<(Expr<Span, Span>, &'a [Token]), Stop<'a>>
     ensures value { Gives (λ x. reading.done (expression_of x.0) x.1.now) (spec.unary tokens.now) result }
     ensures shorter { IfOk result (λ x. length x.1.now < length tokens.now) }
     ensures nests { IfOk result (λ x. nesting x.1.now ≤ nesting tokens.now) }
@@ -161,7 +174,10 @@ fn next_event<'a>(tokens: &'a [Token]) -> Result<(Expr<Span, Span>, &'a [Token])
 // A number, a name with an index, with values or alone, `sense()`, `next_event()`, or an expression in brackets.
 #[cycle(expression)]
 #[tactic(auto, unfolding(crate::specs::Expressions::primary, crate::specs::Expressions::bracketed))]
-fn primary<'a>(alloc: Global, tokens: &'a [Token]) -> Result<(Expr<Span, Span>, &'a [Token]), Stop<'a>>
+fn primary<'a>(
+    alloc: Global,
+    tokens: &'a [Token],
+) -> Result<(Expr<Span, Span>, &'a [Token]), Stop<'a>>
     ensures value { Gives (λ x. reading.done (expression_of x.0) x.1.now)
         (spec.primary spec.expression tokens.now) result }
     ensures shorter { IfOk result (λ x. length x.1.now < length tokens.now) }
@@ -186,7 +202,10 @@ fn primary<'a>(alloc: Global, tokens: &'a [Token]) -> Result<(Expr<Span, Span>, 
 
 #[cycle(expression)]
 #[tactic(auto, unfolding(crate::specs::Expressions::named))]
-fn named<'a>(alloc: Global, tokens: &'a [Token]) -> Result<(Expr<Span, Span>, &'a [Token]), Stop<'a>>
+fn named<'a>(
+    alloc: Global,
+    tokens: &'a [Token],
+) -> Result<(Expr<Span, Span>, &'a [Token]), Stop<'a>>
     ensures value { Gives (λ x. reading.done (expression_of x.0) x.1.now)
         (spec.named spec.expression tokens.now) result }
     ensures shorter { IfOk result (λ x. length x.1.now < length tokens.now) }

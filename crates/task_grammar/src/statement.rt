@@ -19,7 +19,10 @@ use task_lex::{Kind, Token};
 
 // `= value ;`
 #[tactic(auto, unfolding(crate::specs::Statements::given))]
-fn given<'a>(alloc: Global, tokens: &'a [Token]) -> Result<(Expr<Span, Span>, &'a [Token]), Stop<'a>>
+fn given<'a>(
+    alloc: Global,
+    tokens: &'a [Token],
+) -> Result<(Expr<Span, Span>, &'a [Token]), Stop<'a>>
     ensures value { Gives (λ x. reading.done (expression_of x.0) x.1.now) (spec.given tokens.now) result }
     ensures shorter { IfOk result (λ x. length x.1.now < length tokens.now) }
     ensures nests { IfOk result (λ x. nesting x.1.now ≤ nesting tokens.now) }
@@ -171,7 +174,10 @@ fn begins(kind: Option<Kind>) -> bool
 // `if (condition) block`
 #[cycle(block)]
 #[tactic(auto, unfolding(crate::specs::Statements::arm))]
-fn arm<'a>(alloc: Global, tokens: &'a [Token]) -> Result<(Arm<Span, Span, Span>, &'a [Token]), Stop<'a>>
+fn arm<'a>(
+    alloc: Global,
+    tokens: &'a [Token],
+) -> Result<(Arm<Span, Span, Span>, &'a [Token]), Stop<'a>>
     ensures value { Gives (λ x. reading.done (tested_of x.0) x.1.now) (spec.arm spec.block tokens.now) result }
     ensures shorter { IfOk result (λ x. length x.1.now < length tokens.now) }
     ensures nests { IfOk result (λ x. nesting x.1.now ≤ nesting tokens.now) }

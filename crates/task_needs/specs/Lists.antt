@@ -1,19 +1,20 @@
 -- That tasks list no more than what their needs have cycles for.
-use Rattle.std.specs.Prelude.{ℕ, suc, ◌+◌, ◌<◌, ◌≤◌, nat_lt, if◌then◌else◌, length}
+use Rattle.std.specs.Prelude.{◌≡◌, ℕ, suc, ◌+◌, ◌<◌, ◌≤◌, nat_lt, if◌then◌else◌, length}
 use Rattle.alp_words.specs.Words.{HoldsWords}
 use Rattle.machine_effects.specs.World.{World, fram_after}
 use Rattle.machine_effects.specs.Inputs.{Inputs, InputsAreWords}
 use Rattle.source_values.specs.Runs.{CheckedProgram, State}
 use Rattle.array_versions.specs.Behaviour.{End, Jumps, GoesOn, Short, Strays, Broken, behaviour, started}
 use Rattle.word_code.specs.Code.{code_spent}
+use Rattle.memory_map.specs.declared.runtime.Logging.{Logging}
+use Rattle.memory_map.specs.declared.runtime.Logging.TheVariants.{Redo}
 use Rattle.memory_map.specs.declared.words.RuntimeWord.TheVariants.{ListLength}
 use Rattle.memory_map.specs.MemoryMap.{MemoryMap, word_place}
 use Rattle.runtime_effects.specs.Places.{listed}
-use Rattle.commit_runtime.specs.Listing.{commit_cycles}
 use Rattle.crash_rules.specs.Model.{Model}
 use Rattle.compiled_model.specs.Parts.{task_program, program_parts, IsStarted}
 use Rattle.compiled_model.specs.Needs.{boot_cycles}
-use Rattle.task_needs.specs.Needs.{own_entries, own_words, beside_path, need_of}
+use Rattle.task_needs.specs.Needs.{own_entries, own_words, commit_time, beside_path, need_of}
 
 -- the commit list of FRAM has no more entries, and names no more words, than a task's
 pub record ListsWithin (p : CheckedProgram) (l : MemoryMap) (t : ℕ) (f : ℕ → ℕ) : Type 0 where
@@ -28,24 +29,29 @@ ListsAtEnd p l t f Short = Unit {0}
 ListsAtEnd p l t f Strays = Unit {0}
 ListsAtEnd p l t f Broken = Unit {0}
 
--- from each started attempt on
+-- from each attempt on that redo started
 pub record TasksListFew (p : CheckedProgram) (l : MemoryMap) : Type 0 where
   pub few : (s : State) (x : World) (inputs : Inputs) → InputsAreWords inputs → IsStarted p l s x
       → let b = behaviour (task_program p l s.task) (started x.fram inputs) in ListsAtEnd p l s.task (fram_after b.effects x.fram) b.end
 
--- the table of allowances has the cycles of what each task needs beside its code, and of its code, whatever FRAM holds and whatever the inputs are
-pub record NeedsAreWithin (p : CheckedProgram) (l : MemoryMap) : Type 0 where
+-- the table of allowances has the cycles of what each task needs beside its code under a runtime, and of its code, whatever FRAM holds and whatever the inputs
+-- are
+pub record NeedsAreWithin (logging : Logging) (p : CheckedProgram) (l : MemoryMap) : Type 0 where
   pub within : (t : ℕ) (fram : ℕ → ℕ) (inputs : Inputs) → t < length p.tasks → HoldsWords fram → InputsAreWords inputs
-      → beside_path p l t + code_spent (task_program p l t) (started fram inputs) ≤ (program_parts p l).cost t
+      → beside_path logging p l t + code_spent (task_program p l t) (started fram inputs) ≤ (program_parts p l).cost t
 
 -- a boot and the commit of a full list and a full buffer, of whatever tasks
-abbrev pub pending_need : MemoryMap → ℕ
-pending_need l = boot_cycles l + commit_cycles l.runtime.events l.entries l.entries l.emits.words
+abbrev pub pending_under : Logging → MemoryMap → ℕ
+pending_under logging l = boot_cycles l + commit_time logging l.runtime.events l.entries l.entries l.emits.words
 
--- decided as a model has it, with a list of the task's
+-- under the runtime that the memory map names
+abbrev pub pending_need : MemoryMap → ℕ
+pending_need l = pending_under l.runtime.logging l
+
+-- decided as a model has it, under redo with a list of the task's
 pub record DecidedWithin (m : Model State) (p : CheckedProgram) (l : MemoryMap) (s next : State) (x : World) : Type 0 where
   pub decided : m.Decided s next x
-  pub lists : ListsWithin p l s.task x.fram
+  pub lists : l.runtime.logging ≡ Redo → ListsWithin p l s.task x.fram
 
 -- A model of a source with its layout, and with its tasks' needs as their costs. One task more, which no state has, stands for a commit that was pending
 -- at the start, of which nobody knows the task

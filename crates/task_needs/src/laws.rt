@@ -7,7 +7,8 @@ pub fn tasks_keep_to_their_ways()
     ensures { TasksKeepToTheirWays }
 {}
 
-/// A need has the cycles of a boot, of a start, of the task's code as far as its path goes, and of its commit.
+/// A need has the cycles of a boot, under undo with the entries put back that an attempt of the task left which was cut; of a start, of the task's code as far
+/// as its path goes, and of its commit.
 pub fn attempts_are_counted()
     ensures { AttemptsAreCounted }
 {}

@@ -1,3 +1,4 @@
 mod Attempts
+mod Functions
 mod Transitions
 pub mod Interface

@@ -1,10 +1,11 @@
 -- What one turn of the loops of the analysis finds.
 use Rattle.std.proofs.Common.{◌≡◌, ℕ, zero, suc, ◌+◌, ◌<◌, Bool, true, false, ◌&&◌, not, if◌then◌else◌, List, [], ◌∷◌, ◌++◌, length, map, get_or, refl, ap, sym}
 use Rattle.std.proofs.Common.{◌∙◌, subst, inl, inr, arith, Option, Some, None}
-use Rattle.std.specs.Prelude.{slice_get, IsSomeAnd, IsTrue, ◌↔◌}
+use Rattle.std.specs.Prelude.{All, slice_get, IsSomeAnd, IsTrue, ◌↔◌}
 use Rattle.std.specs.Option.{option_map}
 use Rattle.std.proofs.lemmas.Option.{slice_get_read, slice_get_past, get_or_from_slice_get, slice_get-map, same_Some}
-use Rattle.std.proofs.lemmas.List.{length_push, length-map}
+use Rattle.std.proofs.lemmas.List.{length_push, length-map, get_or-map}
+use Rattle.std.proofs.lemmas.List.Elements.{All-get_or}
 use Rattle.std.proofs.lemmas.Bool.{cases_lt, and_parts, and_from, not-true}
 use Rattle.task_ast.specs.declared.Extent.{Extent}
 use Rattle.task_ast.specs.declared.SharedDeclaration.{SharedDeclaration}
@@ -12,6 +13,9 @@ use Rattle.task_ast.specs.declared.TaskDeclaration.{TaskDeclaration}
 use Rattle.task_ast.specs.declared.Stmt.{Stmt}
 use Rattle.task_ast.specs.declared.names.VariableName.{VariableName}
 use Rattle.task_ast.specs.declared.names.TaskName.{TaskName}
+use Rattle.task_ast.specs.declared.names.FunctionName.{FunctionName}
+use Rattle.task_ast.specs.Paths.{CheckedFunction}
+use Rattle.task_ast.specs.Calls.{BlockCallsBelow}
 use Rattle.task_ast.specs.View.{block_view, task_of}
 use Rattle.task_ast.specs.declared.names.Variable.TheVariants.{Shared}
 use Rattle.cost_bound.specs.path_sums.Access.{writes, SomePath, IsPrivate}
@@ -33,18 +37,20 @@ within xs i P h = elim (cases_lt i (length xs)) [
   | inr past ↦ absurd (subst (λ o. IsSomeAnd o P) (slice_get_past xs i past) h)
 ]
 
-pub private_within : (shared : List SharedDeclaration) (code : CheckedBlock) (i : ℕ) → IsPrivateIn shared code i → i < length shared
-private_within shared code i h = within shared i (λ d. is_scalar d.extent ≡ true) h.scalar
+pub private_within : (fs : List CheckedFunction) (shared : List SharedDeclaration) (code : CheckedBlock) (i : ℕ) → IsPrivateIn fs shared code i
+    → i < length shared
+private_within fs shared code i h = within shared i (λ d. is_scalar d.extent ≡ true) h.scalar
 
-pub versioned_within : (shared : List SharedDeclaration) (code : CheckedBlock) (i : ℕ) → IsVersionedIn shared code i → i < length shared
-versioned_within shared code i h = within shared i (λ d. is_scalar d.extent ≡ false) h.array
+pub versioned_within : (fs : List CheckedFunction) (shared : List SharedDeclaration) (code : CheckedBlock) (i : ℕ) → IsVersionedIn fs shared code i
+    → i < length shared
+versioned_within fs shared code i h = within shared i (λ d. is_scalar d.extent ≡ false) h.array
 
 -- one variable, what the paths say of it, and whether it is found
-module _ (shared : List SharedDeclaration) (code : CheckedBlock) (i : ℕ) (extent : Extent) (mark r : Bool)
+module _ (fs : List CheckedFunction) (shared : List SharedDeclaration) (code : CheckedBlock) (i : ℕ) (extent : Extent) (mark r : Bool)
     (at : (d : SharedDeclaration) → slice_get shared i ≡ Some d → extent ≡ d.extent) where
-  pub private_found : IsTrue mark ↔ IsPrivate code (Shared i) → (d : SharedDeclaration) → slice_get shared i ≡ Some d → r ≡ (mark && is_scalar extent)
+  pub private_found : IsTrue mark ↔ IsPrivate fs code (Shared i) → (d : SharedDeclaration) → slice_get shared i ≡ Some d → r ≡ (mark && is_scalar extent)
       → r ≡ true
-      → IsPrivateIn shared code i
+      → IsPrivateIn fs shared code i
   private_found marked d there e h =
       let found : (mark && is_scalar extent) ≡ true = sym e ∙ h in
       record {
@@ -54,18 +60,18 @@ module _ (shared : List SharedDeclaration) (code : CheckedBlock) (i : ℕ) (exte
         owed = marked.0 (and_parts mark (is_scalar extent) found).0;
       }
 
-  pub private_missed : IsTrue mark ↔ IsPrivate code (Shared i) → (d : SharedDeclaration) → slice_get shared i ≡ Some d → r ≡ (mark && is_scalar extent)
+  pub private_missed : IsTrue mark ↔ IsPrivate fs code (Shared i) → (d : SharedDeclaration) → slice_get shared i ≡ Some d → r ≡ (mark && is_scalar extent)
       → r ≡ false
-      → IsPrivateIn shared code i → ⊥
+      → IsPrivateIn fs shared code i → ⊥
   private_missed marked d there e h p =
       let found =
       and_from mark (is_scalar extent) (marked.1 p.owed)
       (ap is_scalar (at d there) ∙ and_some (slice_get shared i) (λ d. is_scalar d.extent ≡ true) d there p.scalar) in
       let clash : true ≡ false = sym found ∙ sym e ∙ h in cc
 
-  pub versioned_found : IsTrue mark ↔ SomePath code (writes (Shared i)) → (d : SharedDeclaration) → slice_get shared i ≡ Some d
+  pub versioned_found : IsTrue mark ↔ SomePath fs code (writes (Shared i)) → (d : SharedDeclaration) → slice_get shared i ≡ Some d
       → r ≡ (mark && not (is_scalar extent))
-      → r ≡ true → IsVersionedIn shared code i
+      → r ≡ true → IsVersionedIn fs shared code i
   versioned_found marked d there e h =
       let found : (mark && not (is_scalar extent)) ≡ true = sym e ∙ h in
       record {
@@ -75,9 +81,9 @@ module _ (shared : List SharedDeclaration) (code : CheckedBlock) (i : ℕ) (exte
         written = marked.0 (and_parts mark (not (is_scalar extent)) found).0;
       }
 
-  pub versioned_missed : IsTrue mark ↔ SomePath code (writes (Shared i)) → (d : SharedDeclaration) → slice_get shared i ≡ Some d
+  pub versioned_missed : IsTrue mark ↔ SomePath fs code (writes (Shared i)) → (d : SharedDeclaration) → slice_get shared i ≡ Some d
       → r ≡ (mark && not (is_scalar extent))
-      → r ≡ false → IsVersionedIn shared code i → ⊥
+      → r ≡ false → IsVersionedIn fs shared code i → ⊥
   versioned_missed marked d there e h p =
       let found =
       and_from mark (not (is_scalar extent)) (marked.1 p.written)
@@ -100,24 +106,24 @@ extent_at : (shared : List SharedDeclaration) (i : ℕ) (extent : Extent) → ((
     → (d : SharedDeclaration) → slice_get shared i ≡ Some d → extent ≡ d.extent
 extent_at shared i extent h d e = h d ∙ ap (λ x. x.extent) (get_or_from_slice_get shared i d d e)
 
-module _ (shared : List SharedDeclaration) (code : CheckedBlock) (n : ℕ) (extent : Extent) (mark r : Bool) (xs ys : List ℕ)
+module _ (fs : List CheckedFunction) (shared : List SharedDeclaration) (code : CheckedBlock) (n : ℕ) (extent : Extent) (mark r : Bool) (xs ys : List ℕ)
     (lt : n < length shared) (at : (d : SharedDeclaration) → extent ≡ (get_or shared n d).extent) (e : ys ≡ (if r then xs ++ n ∷ [] else xs)) where
-  pub next_private : IsTrue mark ↔ IsPrivate code (Shared n) → r ≡ (mark && is_scalar extent) → AreNumbersBelow (IsPrivateIn shared code) n xs
-      → AreNumbersBelow (IsPrivateIn shared code) (n + 1) ys
+  pub next_private : IsTrue mark ↔ IsPrivate fs code (Shared n) → r ≡ (mark && is_scalar extent) → AreNumbersBelow (IsPrivateIn fs shared code) n xs
+      → AreNumbersBelow (IsPrivateIn fs shared code) (n + 1) ys
   next_private marked is h =
       let d = element shared n lt in
       let here = extent_at shared n extent at in
-      next (IsPrivateIn shared code) n xs ys r (private_found shared code n extent mark r here marked d.0 d.1 is)
-      (private_missed shared code n extent mark r here marked d.0 d.1 is) e h
+      next (IsPrivateIn fs shared code) n xs ys r (private_found fs shared code n extent mark r here marked d.0 d.1 is)
+      (private_missed fs shared code n extent mark r here marked d.0 d.1 is) e h
 
-  pub next_versioned : IsTrue mark ↔ SomePath code (writes (Shared n)) → r ≡ (mark && not (is_scalar extent))
-      → AreNumbersBelow (IsVersionedIn shared code) n xs
-      → AreNumbersBelow (IsVersionedIn shared code) (n + 1) ys
+  pub next_versioned : IsTrue mark ↔ SomePath fs code (writes (Shared n)) → r ≡ (mark && not (is_scalar extent))
+      → AreNumbersBelow (IsVersionedIn fs shared code) n xs
+      → AreNumbersBelow (IsVersionedIn fs shared code) (n + 1) ys
   next_versioned marked is h =
       let d = element shared n lt in
       let here = extent_at shared n extent at in
-      next (IsVersionedIn shared code) n xs ys r (versioned_found shared code n extent mark r here marked d.0 d.1 is)
-      (versioned_missed shared code n extent mark r here marked d.0 d.1 is) e h
+      next (IsVersionedIn fs shared code) n xs ys r (versioned_found fs shared code n extent mark r here marked d.0 d.1 is)
+      (versioned_missed fs shared code n extent mark r here marked d.0 d.1 is) e h
 
 -- ---- one more plan
 
@@ -129,31 +135,44 @@ plan_push P [] y each new (suc k) x e = let no : None ≡ Some x = e in cc
 plan_push P (z ∷ zs) y each new zero x e = each zero x e
 plan_push P (z ∷ zs) y each new (suc k) x e = plan_push (λ n. P (suc n)) zs y (λ k x h. each (suc k) x h) new k x e
 
+-- a task of those that call nothing
+pub calls_at : (tasks : List (TaskDeclaration VariableName TaskName FunctionName)) (n : ℕ) (task : TaskDeclaration VariableName TaskName FunctionName)
+    (body : List (Stmt VariableName TaskName FunctionName)) → n < length tasks → task ≡ get_or tasks n task → body ≡ task.body.items
+    → All (λ t. BlockCallsBelow 0 t.body) (map task_of tasks) → BlockCallsBelow 0 (block_view body)
+calls_at tasks n task body lt at b calls =
+    let under : n < length (map task_of tasks) = subst (λ k. n < k) (sym (length-map tasks task_of)) lt in
+    let here = All-get_or (λ t. BlockCallsBelow 0 t.body) (map task_of tasks) n (task_of task) under calls in
+    let same : get_or (map task_of tasks) n (task_of task) ≡ task_of task = get_or-map task_of tasks n task (task_of task) lt ∙ ap task_of (sym at) in
+    subst (λ x. BlockCallsBelow 0 (block_view x)) (sym b) (subst (λ t. BlockCallsBelow 0 t.body) same here)
+
 -- the plans of the first tasks
-pub record PlansBelow (shared : List SharedDeclaration) (tasks : List CheckedTask) (n : ℕ) (plans : List TaskPlanValue) : Type 0 where
-  pub count : length plans ≡ n
-  pub each : (k : ℕ) (plan : TaskPlanValue) → slice_get plans k ≡ Some plan → (task : CheckedTask) → slice_get tasks k ≡ Some task
-      → IsTaskPlan shared task.body plan
+pub record PlansBelow (fs : List CheckedFunction) (shared : List SharedDeclaration) (tasks : List CheckedTask) (n : ℕ) (plans : List TaskPlanValue) : Type 0
+  where
+    pub count : length plans ≡ n
+    pub each : (k : ℕ) (plan : TaskPlanValue) → slice_get plans k ≡ Some plan → (task : CheckedTask) → slice_get tasks k ≡ Some task
+        → IsTaskPlan fs shared task.body plan
 
-pub no_plans : (shared : List SharedDeclaration) (tasks : List CheckedTask) → PlansBelow shared tasks 0 []
-no_plans shared tasks = record { count = refl; each = λ k plan e. let no : None ≡ Some plan = e in cc }
+pub no_plans : (fs : List CheckedFunction) (shared : List SharedDeclaration) (tasks : List CheckedTask) → PlansBelow fs shared tasks 0 []
+no_plans fs shared tasks = record { count = refl; each = λ k plan e. let no : None ≡ Some plan = e in cc }
 
-pub next_plan : (shared : List SharedDeclaration) (tasks : List (TaskDeclaration VariableName TaskName)) (n : ℕ) (task : TaskDeclaration VariableName TaskName)
-    (body : List (Stmt VariableName TaskName))
+pub next_plan : (fs : List CheckedFunction) (shared : List SharedDeclaration) (tasks : List (TaskDeclaration VariableName TaskName FunctionName)) (n : ℕ)
+    (task : TaskDeclaration VariableName TaskName FunctionName)
+    (body : List (Stmt VariableName TaskName FunctionName))
     (plan : TaskPlanValue) (xs ys : List TaskPlanValue) → n < length tasks → task ≡ get_or tasks n task → body ≡ task.body.items
-    → IsTaskPlan shared (block_view body) plan → ys ≡ xs ++ plan ∷ []
-    → PlansBelow shared (map task_of tasks) n xs → PlansBelow shared (map task_of tasks) (n + 1) ys
-next_plan shared tasks n task body plan xs ys lt at b is e h = subst (λ zs. PlansBelow shared (map task_of tasks) (n + 1) zs) (sym e) (record {
+    → IsTaskPlan fs shared (block_view body) plan → ys ≡ xs ++ plan ∷ []
+    → PlansBelow fs shared (map task_of tasks) n xs → PlansBelow fs shared (map task_of tasks) (n + 1) ys
+next_plan fs shared tasks n task body plan xs ys lt at b is e h = subst (λ zs. PlansBelow fs shared (map task_of tasks) (n + 1) zs) (sym e) (record {
   count = length_push xs plan ∙ ap (λ k. k + 1) h.count;
-  each = plan_push (λ k x. (t : CheckedTask) → slice_get (map task_of tasks) k ≡ Some t → IsTaskPlan shared t.body x) xs plan h.each
+  each = plan_push (λ k x. (t : CheckedTask) → slice_get (map task_of tasks) k ≡ Some t → IsTaskPlan fs shared t.body x) xs plan h.each
       (λ t found. let there : slice_get (map task_of tasks) n ≡ Some (task_of task) = slice_get-map task_of tasks n
       ∙ ap (option_map task_of) (slice_get_read tasks (length tasks) n task refl lt at) in
       let here : slice_get (map task_of tasks) n ≡ Some t = ap (λ k. slice_get (map task_of tasks) k) (sym h.count) ∙ found in
       let same : task_of task ≡ t = same_Some (task_of task) t (sym there ∙ here) in
-      subst (λ c. IsTaskPlan shared c plan) (ap block_view b ∙ ap (λ t. t.body) same) is);
+      subst (λ c. IsTaskPlan fs shared c plan) (ap block_view b ∙ ap (λ t. t.body) same) is);
 })
 
-pub all_plans : (shared : List SharedDeclaration) (tasks : List (TaskDeclaration VariableName TaskName)) (n : ℕ) (plans : List TaskPlanValue) → n ≡ length tasks
-    → PlansBelow shared (map task_of tasks) n plans
-    → ArePlans shared (map task_of tasks) plans
-all_plans shared tasks n plans e h = record { count = h.count ∙ e ∙ sym (length-map tasks task_of); each = λ k task plan t p. h.each k plan p task t }
+pub all_plans : (fs : List CheckedFunction) (shared : List SharedDeclaration) (tasks : List (TaskDeclaration VariableName TaskName FunctionName)) (n : ℕ)
+    (plans : List TaskPlanValue) → n ≡ length tasks
+    → PlansBelow fs shared (map task_of tasks) n plans
+    → ArePlans fs shared (map task_of tasks) plans
+all_plans fs shared tasks n plans e h = record { count = h.count ∙ e ∙ sym (length-map tasks task_of); each = λ k task plan t p. h.each k plan p task t }

@@ -1,14 +1,15 @@
 //! The analysis of the tasks of a source.
-ghost use Rattle.std.specs.Prelude.{◌≡◌, ◌≤◌, ◌&&◌, ◌++◌, ◌∷◌, [], IfOk, OnOk, length, map, not, if◌then◌else◌};
+ghost use Rattle.std.specs.Prelude.{◌≡◌, ◌≤◌, ◌&&◌, ◌++◌, ◌∷◌, [], IfOk, OnOk, All, length, map, not, if◌then◌else◌};
 ghost use Rattle.task_ast.specs.View.{block_view, task_of, program_of};
+ghost use Rattle.task_ast.specs.Calls.{BlockCallsBelow};
 ghost use Rattle.war_analysis.specs.Plans.{is_scalar, IsPrivateIn, IsVersionedIn, AreNumbers, IsTaskPlan, ArePlans, IsPlan};
 
 use crate::plan::{Plan, TaskPlan};
 use path_sums::{is_private, is_written};
 use std::alloc::{AllocError, Global};
 use task_ast::{
-    CheckedSource, Extent, SharedDeclaration, Stmt, TaskDeclaration, TaskName, Variable,
-    VariableName,
+    CheckedSource, Extent, FunctionName, SharedDeclaration, Stmt, TaskDeclaration, TaskName,
+    Variable, VariableName,
 };
 use task_check::Checked;
 
@@ -46,17 +47,19 @@ fn push_if(numbers: &mut Vec<u32>, number: u32, found: bool) -> Result<(), Alloc
     Ok(())
 }
 
+// Of a task that calls no function.
 fn private_scalars(
     alloc: Global,
     shared: &[SharedDeclaration],
-    body: &[Stmt<VariableName, TaskName>],
+    body: &[Stmt<VariableName, TaskName, FunctionName>],
 ) -> Result<Vec<u32>, AllocError>
-    requires { length shared.now ≤ 256 }
-    ensures { IfOk result (λ v. AreNumbers (IsPrivateIn shared.now (block_view body.now)) v.items) }
+    requires few { length shared.now ≤ 256 }
+    requires calls { BlockCallsBelow 0 (block_view body.now) }
+    ensures { IfOk result (λ v. AreNumbers (IsPrivateIn [] shared.now (block_view body.now)) v.items) }
 {
     let mut numbers = Vec::new(alloc);
     for i in 0..shared.len() {
-        let private = is_private(Variable::Shared(i as u32), body);
+        let private = is_private(&[], Variable::Shared(i as u32), body);
         let found = is_private_scalar(private, shared[i].extent);
         push_if(&mut numbers, i as u32, found)?;
     }
@@ -66,14 +69,15 @@ fn private_scalars(
 fn versioned_arrays(
     alloc: Global,
     shared: &[SharedDeclaration],
-    body: &[Stmt<VariableName, TaskName>],
+    body: &[Stmt<VariableName, TaskName, FunctionName>],
 ) -> Result<Vec<u32>, AllocError>
-    requires { length shared.now ≤ 256 }
-    ensures { IfOk result (λ v. AreNumbers (IsVersionedIn shared.now (block_view body.now)) v.items) }
+    requires few { length shared.now ≤ 256 }
+    requires calls { BlockCallsBelow 0 (block_view body.now) }
+    ensures { IfOk result (λ v. AreNumbers (IsVersionedIn [] shared.now (block_view body.now)) v.items) }
 {
     let mut numbers = Vec::new(alloc);
     for i in 0..shared.len() {
-        let written = is_written(Variable::Shared(i as u32), body);
+        let written = is_written(&[], Variable::Shared(i as u32), body);
         let found = is_versioned_array(written, shared[i].extent);
         push_if(&mut numbers, i as u32, found)?;
     }
@@ -83,10 +87,11 @@ fn versioned_arrays(
 fn task_plan(
     alloc: Global,
     shared: &[SharedDeclaration],
-    body: &[Stmt<VariableName, TaskName>],
+    body: &[Stmt<VariableName, TaskName, FunctionName>],
 ) -> Result<TaskPlan, AllocError>
-    requires { length shared.now ≤ 256 }
-    ensures { IfOk result (IsTaskPlan shared.now (block_view body.now)) }
+    requires few { length shared.now ≤ 256 }
+    requires calls { BlockCallsBelow 0 (block_view body.now) }
+    ensures { IfOk result (IsTaskPlan [] shared.now (block_view body.now)) }
 {
     let private_scalars = private_scalars(alloc, shared, body)?;
     let versioned_arrays = versioned_arrays(alloc, shared, body)?;
@@ -99,10 +104,11 @@ fn task_plan(
 fn task_plans(
     alloc: Global,
     shared: &[SharedDeclaration],
-    tasks: &[TaskDeclaration<VariableName, TaskName>],
+    tasks: &[TaskDeclaration<VariableName, TaskName, FunctionName>],
 ) -> Result<Vec<TaskPlan>, AllocError>
-    requires { length shared.now ≤ 256 }
-    ensures { IfOk result (λ v. ArePlans shared.now (map task_of tasks.now) v.items) }
+    requires few { length shared.now ≤ 256 }
+    requires calls { All (λ task. BlockCallsBelow 0 task.body) (map task_of tasks.now) }
+    ensures { IfOk result (λ v. ArePlans [] shared.now (map task_of tasks.now) v.items) }
 {
     let mut plans = Vec::new(alloc);
     for task in tasks {
@@ -112,18 +118,21 @@ fn task_plans(
 }
 
 fn plan_of(alloc: Global, source: &CheckedSource) -> Result<Plan, AllocError>
-    requires { length source.now.shared.items ≤ 256 }
+    requires few { length source.now.shared.items ≤ 256 }
+    requires plain { (program_of source.now).functions ≡ [] }
+    requires calls { All (λ task. BlockCallsBelow 0 task.body) (program_of source.now).tasks }
     ensures { IfOk result (IsPlan (program_of source.now)) }
 {
     let tasks = task_plans(alloc, &source.shared, &source.tasks)?;
     Ok(Plan { tasks })
 }
 
-/// What each task of the source works on in copies; or no memory is left.
+/// What each task of a source without functions works on in copies; or no memory is left.
 ///
 /// A task's private scalars are exactly the shared scalars that some path of it writes, and that not every path writes before it
 /// reads them and before its transition; its versioned arrays are exactly those that some path writes.
 pub fn analyse(alloc: Global, checked: &Checked) -> Result<Plan, AllocError>
+    requires plain { (program_of checked.now.source).functions ≡ [] }
     ensures { IfOk result (IsPlan (program_of checked.now.source)) }
 {
     let plan = plan_of(alloc, checked.source())?;

@@ -110,6 +110,7 @@ Reads F (t.name x) = ReadOf F x.variable
 Reads F (t.element x index) = Reads F index
 Reads F t.sense = Unit {0}
 Reads F t.next_event = Unit {0}
+Reads F (t.call f values) = Unit {0}
 Reads F (t.unary op e) = Reads F e
 Reads F (t.binary op a b) = Reads F a × Reads F b
 Reads F (t.shift op e count) = Reads F e
@@ -123,6 +124,7 @@ two_needed (t.name x) = omega arith
 two_needed (t.element x index) = two_needed index
 two_needed t.sense = omega arith
 two_needed t.next_event = omega arith
+two_needed (t.call f values) = omega arith
 two_needed (t.unary op e) = omega arith
 two_needed (t.binary op a b) = let few = two_needed a in omega (arith, few)
 two_needed (t.shift op e count) = two_needed e
@@ -365,6 +367,7 @@ module _ {ℓ} {room : ℕ} (F : Fact {ℓ} room) where
     lowering_has d t.next_event is few r =
         let two = two_fit room d t.next_event few in word_built d _ two (single d (suc d) next_event an_event tt (omega (arith, two)))
     lowering_has d t.sense is few r = let two = two_fit room d t.sense few in word_built d _ two (single d (suc d) sense a_reading tt (omega (arith, two)))
+    lowering_has d (t.call f values) is few r = absurd is
     lowering_has d (t.unary op e) is few r =
         let own : stack_words e + d ≤ room = omega (arith, few) in
         operand_has d (type_of e) op (lowering p e) (two_fit room d e own) (lowering_has d e is own r)
@@ -462,6 +465,7 @@ reads_low shared (t.name x) is = by_variable x.variable is.0
 reads_low shared (t.element x index) is = reads_low shared index is.1
 reads_low shared t.sense is = tt
 reads_low shared t.next_event is = tt
+reads_low shared (t.call f values) is = tt
 reads_low shared (t.unary op e) is = reads_low shared e is
 reads_low shared (t.binary op a b) is = (reads_low shared a is.0, reads_low shared b is.1)
 reads_low shared (t.shift op e count) is = reads_low shared e is.0
@@ -647,7 +651,8 @@ module _ (p : Places) (G : EachStep p) (words : PlacesOfWords p) (shared : List 
       statement_has (t.emit e) a is =
           let emits = emit_word (word_place p.map EmitCount) p.map.emits.address in
           then_step (lowered_expression p e) emits (word_has 0 e is) (G.stores emits an_emission (words.words EmitCount, words.emits))
-      statement_has (t.transition task) a is = transition_has task.task
+      statement_has (t.give at e) a is = absurd is
+      statement_has (t.transition at task) a is = transition_has task.task
 
       choice_has : (c : CheckedChoice) → LeavesAlone (λ v. choice_assigns v c) → WellFormedChoice shared c → G.of_program (lowered_choice p c)
       choice_has t.nothing a is = G.empty

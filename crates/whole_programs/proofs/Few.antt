@@ -1,15 +1,18 @@
 -- The private scalars of a task have at most as many words as its allowance counts.
-use Rattle.std.proofs.Common.{◌≡◌, ℕ, ◌≤◌, List, [], ◌∷◌, map, ap, arith, true, Some, None, refl}
+use Rattle.std.proofs.Common.{◌≡◌, ℕ, ◌≤◌, List, [], ◌∷◌, map, ap, sym, subst, arith, true, Some, None, refl}
 use Rattle.std.specs.Prelude.{All, Bool, Option, IsSomeAnd, slice_get}
 use Rattle.std.proofs.lemmas.List.Elements.{All-weaker, All-head, All-tail}
 use Rattle.std.proofs.lemmas.Option.{slice_get_within}
-use Rattle.path_sums.proofs.Interface.{writes_some}
+use Rattle.path_sums.specs.Access.{IsPrivate}
+use Rattle.path_sums.proofs.Interface.{no_calls, writes_some}
+use Rattle.task_ast.specs.Calls.{BlockCallsBelow}
 use Rattle.task_ast.specs.declared.Extent.{Extent}
 use Rattle.task_ast.specs.declared.Extent.TheVariants as extent
 use Rattle.task_ast.specs.declared.SharedDeclaration.{SharedDeclaration}
 use Rattle.task_ast.specs.declared.names.Variable.TheVariants.{Shared}
 use Rattle.cost_bound.specs.Counts.{block_assigns}
-use Rattle.cost_bound.specs.Allowance.{scalar_part}
+use Rattle.cost_bound.specs.Summaries.{summaries, function_summaries}
+use Rattle.cost_bound.specs.Allowance.{scalar_part, scalars_of}
 use Rattle.memory_map.specs.declared.place.VariablePlace.{VariablePlace}
 use Rattle.memory_map.specs.declared.place.VariablePlace.TheVariants.{Scalar, Array}
 use Rattle.memory_map.specs.declared.place.PrivateScalar.{PrivateScalar}
@@ -42,18 +45,25 @@ words_by_number variables (s ∷ more) h =
 
 pub privates_are_few : PrivatesAreFew
 privates_are_few text program allow plans l laid k task t e f =
-    let formed = (task_checked text program laid.accepted.checks k task e).statements in
+    let plain = laid.layout.plain in
+    let formed = (task_checked text program laid.accepted.checks plain k task e).statements in
+    let calls = all_at (λ task. BlockCallsBelow 0 task.body) program.tasks k task laid.layout.calls e in
     let inside = slice_get_within program.tasks k task e in
     let count = laid.plan.count in
     let plan = element plans k (omega (arith, inside, count)) in
     let is = (laid.plan.each k task plan.0 e plan.1).private_scalars in
-    let few = marked_are_counted (λ i. block_assigns i task.body) words program.shared plan.0.private_scalars is.ascending
-    (All-weaker (IsPrivateIn program.shared task.body) (λ i. HasWords program.shared i (words i) × (block_assigns i task.body ≡ true))
-    (λ i h. (has_words i h.scalar, block_assigned i program.shared task.body formed (writes_some (Shared i) task.body h.owed.0)))
-    plan.0.private_scalars is.only) in
+    let assigned : (i : ℕ) → IsPrivateIn program.functions program.shared task.body i → block_assigns i task.body ≡ true =
+    λ i h. block_assigned i program.shared task.body formed
+    (writes_some (Shared i) [] [] (no_calls (Shared i)) task.body calls (subst (λ fs. IsPrivate fs task.body (Shared i)) plain h.owed).0) in
+    let few : words_of_all words plan.0.private_scalars ≤ scalars_of [] program.shared task.body =
+    marked_are_counted (λ i. block_assigns i task.body) words program.shared plan.0.private_scalars is.ascending
+    (All-weaker (IsPrivateIn program.functions program.shared task.body) (λ i. HasWords program.shared i (words i) × (block_assigns i task.body ≡ true))
+    (λ i h. (has_words i h.scalar, assigned i h)) plan.0.private_scalars is.only) in
     let numbers = ap (words_of_all words) (laid.layout.tasks.each k task plan.0 t e plan.1 f).privates in
     let their = words_by_number l.variables t.privates (all_at (λ t. All (HasItsPlace l.variables) t.privates) l.tasks k t laid.layout.rules.privates f) in
-    omega (arith, few, numbers, their)
+    let none : summaries program ≡ [] = ap function_summaries plain in
+    let bound : private_words t.privates ≤ scalars_of [] program.shared task.body = omega (arith, few, numbers, their) in
+    subst (λ known. private_words t.privates ≤ scalars_of known program.shared task.body) (sym none) bound
   where
     words : ℕ → ℕ
     words i = words_at (slice_get l.variables i)

@@ -5,7 +5,7 @@ use Rattle.std.proofs.Common.{None, refl, sym, ap, subst, ◌∙◌, arith, if�
 use Rattle.std.proofs.lemmas.Bool.Decides.{nat_tests}
 use Rattle.task_ast.specs.Tree as t
 use Rattle.task_ast.specs.Paths.{CheckedExpression, CheckedStatement, CheckedChoice, CheckedBlock, Access, read, write, unset, End, goes_on}
-use Rattle.task_ast.specs.Paths.{goes_to, StatementPath, ChoicePath, TurnsPath, BlockPath}
+use Rattle.task_ast.specs.Paths.{goes_to, returns, StatementPath, ChoicePath, TurnsPath, BlockPath}
 use Rattle.task_ast.specs.Paths as path
 use Rattle.task_ast.specs.declared.SharedDeclaration.{SharedDeclaration}
 use Rattle.task_ast.specs.declared.WordType.{WordType}
@@ -45,7 +45,7 @@ use Rattle.whole_programs.proofs.Built.{Leaf, a_number, a_load, a_reading, an_ev
 use Rattle.whole_programs.proofs.Built.{a_low_word}
 use Rattle.whole_programs.proofs.Built.{a_complement, a_left_shift, a_right_shift, a_calculation, is_below, is_above, ReadOf, Reads, two_fit, Fact}
 use Rattle.whole_programs.proofs.Built.{FitsAbove, right_fits, lowering_has, long_has}
-use Rattle.checked_trees.proofs.Interface.{names_read, is_path, some_turns, some_block, written, forgotten, behind, behind_both, behind_names}
+use Rattle.checked_trees.proofs.Interface.{HasPath, names_read, is_path, some_turns, some_block, written, forgotten, behind, behind_both, behind_names}
 use Rattle.checked_trees.proofs.Interface.{behind_expression, IsAssigned, Safe, safe_both, safe_expression}
 
 -- ---- ways
@@ -208,6 +208,7 @@ reads_assigned shared u a (t.name x) c n s = by_variable x.variable n.0 s.0
 reads_assigned shared u a (t.element x index) c n s = reads_assigned shared u a index c n.1 (safe_both u (names_read index) (read x ∷ []) s).0
 reads_assigned shared u a t.sense c n s = tt
 reads_assigned shared u a t.next_event c n s = tt
+reads_assigned shared u a (t.call f values) c n s = tt
 reads_assigned shared u a (t.unary op e) c n s = reads_assigned shared u a e c n s
 reads_assigned shared u a (t.binary op x y) c n s =
     let r = safe_expression u x (names_read y) s in (reads_assigned shared u a x c n.0 r.0, reads_assigned shared u a y c n.1 r.1)
@@ -224,30 +225,31 @@ record Follows (Path : List Access → End → Type 0) (u : ℕ → Bool) (next 
 
 -- the body of a loop
 abbrev BodyWay : ℕ → Program → CheckedBlock → Type 1
-BodyWay room code body = (u a : ℕ → Bool) (next : Place → Type 0) → Covers u a → Follows (BlockPath body) u next → EachWay room code next (at 0 a)
+BodyWay room code body = (u a : ℕ → Bool) (next : Place → Type 0) → Covers u a → Follows (BlockPath [] body) u next → EachWay room code next (at 0 a)
 
-module _ (room : ℕ) (x : VariableName) (code : Program) (body : CheckedBlock) (way : BodyWay room code body) where
+module _ (room : ℕ) (x : VariableName) (code : Program) (body : CheckedBlock) (way : BodyWay room code body) (some : HasPath (BlockPath [] body)) where
   -- what follows the body, with turns left
-  turn_follows : (m : ℕ) (u : ℕ → Bool) (next : Place → Type 0) (rest : Place → Type 0) → Follows (TurnsPath x (suc m) body) u next
-      → ((xs : List Access) → BlockPath body xs goes_on → (a : ℕ → Bool) → Covers (behind u xs) a → rest (at 0 a)) → Follows (BlockPath body) u rest
+  turn_follows : (m : ℕ) (u : ℕ → Bool) (next : Place → Type 0) (rest : Place → Type 0) → Follows (TurnsPath [] x (suc m) body) u next
+      → ((xs : List Access) → BlockPath [] body xs goes_on → (a : ℕ → Bool) → Covers (behind u xs) a → rest (at 0 a)) → Follows (BlockPath [] body) u rest
   turn_follows m u next rest h k = record { safe = λ xs end q. by_end xs end q; on = k }
     where
-      by_end : (xs : List Access) (end : End) → BlockPath body xs end → Safe u xs
+      by_end : (xs : List Access) (end : End) → BlockPath [] body xs end → Safe u xs
       by_end xs goes_on q =
-          let more = some_turns x m body (some_block body) in
+          let more = some_turns [] x m body some in
           let r = path.turn x m body xs more.accesses more.end q more.is in
           (safe_both u xs (write x ∷ more.accesses) (h.safe (xs ++ write x ∷ more.accesses) more.end r)).0
-      by_end xs (goes_to task) q = h.safe xs (goes_to task) (path.cut x m body xs task q)
+      by_end xs (goes_to task) q = h.safe xs (goes_to task) (path.cut x m body xs (goes_to task) tt q)
+      by_end xs returns q = h.safe xs returns (path.cut x m body xs returns tt q)
 
   -- what follows a turn
-  turns_follow : (m : ℕ) (u : ℕ → Bool) (next : Place → Type 0) (xs : List Access) → Follows (TurnsPath x (suc m) body) u next → BlockPath body xs goes_on
-      → Follows (TurnsPath x m body) (written (behind u xs) x) next
+  turns_follow : (m : ℕ) (u : ℕ → Bool) (next : Place → Type 0) (xs : List Access) → Follows (TurnsPath [] x (suc m) body) u next → BlockPath [] body xs goes_on
+      → Follows (TurnsPath [] x m body) (written (behind u xs) x) next
   turns_follow m u next xs h q = record {
     safe = λ ys end r. (safe_both u xs (write x ∷ ys) (h.safe (xs ++ write x ∷ ys) end (path.turn x m body xs ys end q r))).1;
     on = λ ys r a c. h.on (xs ++ write x ∷ ys) (path.turn x m body xs ys goes_on q r) a (subst (λ v. Covers v a) (sym (behind_both u xs (write x ∷ ys))) c);
   }
 
-  turns_way : (m : ℕ) (u a : ℕ → Bool) (next : Place → Type 0) → Covers u a → Follows (TurnsPath x m body) (written u x) next
+  turns_way : (m : ℕ) (u a : ℕ → Bool) (next : Place → Type 0) → Covers u a → Follows (TurnsPath [] x m body) (written u x) next
       → EachTurn m (loop_local x.variable) (EachWay room code) next (at 0 a)
   turns_way zero u a next c h = h.on [] (path.over x body) _ (covers_written u a x c)
   turns_way (suc m) u a next c h =
@@ -422,19 +424,21 @@ module _ (p : Places) (words : PlacesOfWords p) (shared : List SharedDeclaration
       by_variable (Local v) is k = absurd k
 
   -- what follows a statement, where others stand behind it
-  step_follows : (s : CheckedStatement) (more : CheckedBlock) (u : ℕ → Bool) (next rest : Place → Type 0) → Follows (BlockPath (t.step s more)) u next
-      → ((xs : List Access) → StatementPath s xs goes_on → (a : ℕ → Bool) → Covers (behind u xs) a → rest (at 0 a)) → Follows (StatementPath s) u rest
-  step_follows s more u next rest h k = record { safe = λ xs end q. by_end xs end q; on = k }
+  step_follows : (s : CheckedStatement) (more : CheckedBlock) (u : ℕ → Bool) (next rest : Place → Type 0) → WellFormedBlock shared more
+      → Follows (BlockPath [] (t.step s more)) u next
+      → ((xs : List Access) → StatementPath [] s xs goes_on → (a : ℕ → Bool) → Covers (behind u xs) a → rest (at 0 a)) → Follows (StatementPath [] s) u rest
+  step_follows s more u next rest is h k = record { safe = λ xs end q. by_end xs end q; on = k }
     where
-      by_end : (xs : List Access) (end : End) → StatementPath s xs end → Safe u xs
+      by_end : (xs : List Access) (end : End) → StatementPath [] s xs end → Safe u xs
       by_end xs goes_on q =
-          let m = some_block more in (safe_both u xs m.accesses (h.safe (xs ++ m.accesses) m.end (path.step s more xs m.accesses m.end q m.is))).0
-      by_end xs (goes_to task) q = h.safe xs (goes_to task) (path.stopped s more xs task q)
+          let m = some_block [] shared more is in (safe_both u xs m.accesses (h.safe (xs ++ m.accesses) m.end (path.step s more xs m.accesses m.end q m.is))).0
+      by_end xs (goes_to task) q = h.safe xs (goes_to task) (path.stopped s more xs (goes_to task) tt q)
+      by_end xs returns q = h.safe xs returns (path.stopped s more xs returns tt q)
 
   -- what follows those
   block_follows : (s : CheckedStatement) (more : CheckedBlock) (u : ℕ → Bool) (next : Place → Type 0) (xs : List Access)
-      → Follows (BlockPath (t.step s more)) u next → StatementPath s xs goes_on
-      → Follows (BlockPath more) (behind u xs) next
+      → Follows (BlockPath [] (t.step s more)) u next → StatementPath [] s xs goes_on
+      → Follows (BlockPath [] more) (behind u xs) next
   block_follows s more u next xs h q = record {
     safe = λ ys end r. (safe_both u xs ys (h.safe (xs ++ ys) end (path.step s more xs ys end q r))).1;
     on = λ ys r a c. h.on (xs ++ ys) (path.step s more xs ys goes_on q r) a (subst (λ v. Covers v a) (sym (behind_both u xs ys)) c);
@@ -442,35 +446,35 @@ module _ (p : Places) (words : PlacesOfWords p) (shared : List SharedDeclaration
 
   -- what follows a block that an `if` takes, and what the conditions that come next
   taken_follows : (e : CheckedExpression) (b : CheckedBlock) (more : CheckedChoice) (u : ℕ → Bool) (next : Place → Type 0)
-      → Follows (ChoicePath (t.test e b more)) u next → Follows (BlockPath b) u next
-  taken_follows e b more u next h = record {
-    safe = λ ys end r. (safe_expression u e ys (h.safe (names_read e ++ ys) end (path.taken e b more (names_read e) ys end (is_path e) r))).1;
+      → WellFormedExpression shared e → Follows (ChoicePath [] (t.test e b more)) u next → Follows (BlockPath [] b) u next
+  taken_follows e b more u next is h = record {
+    safe = λ ys end r. (safe_expression u e ys (h.safe (names_read e ++ ys) end (path.taken e b more (names_read e) ys end (is_path [] shared e is) r))).1;
     on =
-        λ ys r a c. h.on (names_read e ++ ys) (path.taken e b more (names_read e) ys goes_on (is_path e) r) a
+        λ ys r a c. h.on (names_read e ++ ys) (path.taken e b more (names_read e) ys goes_on (is_path [] shared e is) r) a
         (subst (λ v. Covers v a) (sym (behind_expression u e ys)) c);
   }
 
   passed_follows : (e : CheckedExpression) (b : CheckedBlock) (more : CheckedChoice) (u : ℕ → Bool) (next : Place → Type 0)
-      → Follows (ChoicePath (t.test e b more)) u next → Follows (ChoicePath more) u next
-  passed_follows e b more u next h = record {
-    safe = λ ys end r. (safe_expression u e ys (h.safe (names_read e ++ ys) end (path.passed e b more (names_read e) ys end (is_path e) r))).1;
+      → WellFormedExpression shared e → Follows (ChoicePath [] (t.test e b more)) u next → Follows (ChoicePath [] more) u next
+  passed_follows e b more u next is h = record {
+    safe = λ ys end r. (safe_expression u e ys (h.safe (names_read e ++ ys) end (path.passed e b more (names_read e) ys end (is_path [] shared e is) r))).1;
     on =
-        λ ys r a c. h.on (names_read e ++ ys) (path.passed e b more (names_read e) ys goes_on (is_path e) r) a
+        λ ys r a c. h.on (names_read e ++ ys) (path.passed e b more (names_read e) ys goes_on (is_path [] shared e is) r) a
         (subst (λ v. Covers v a) (sym (behind_expression u e ys)) c);
   }
 
   mutual
     statement_way : (s : CheckedStatement) (u a : ℕ → Bool) (next : Place → Type 0) → WellFormedStatement shared s → Covers u a
-        → Follows (StatementPath s) u next → EachWay enough (lowered_statement p s) next (at 0 a)
+        → Follows (StatementPath [] s) u next → EachWay enough (lowered_statement p s) next (at 0 a)
     statement_way (t.declare of x None) u a next is c h = h.on (unset x ∷ []) (path.declare_unset of x) a (covers_forgotten u a x c)
     statement_way (t.declare of x (Some e)) u a next is c h =
-        let q = path.declare_set of x e (names_read e) (is_path e) in
+        let q = path.declare_set of x e (names_read e) (is_path [] shared e is.1) in
         assigned_way u a Unsigned x e next (is.1, is.3) c (h.safe (names_read e ++ write x ∷ []) goes_on q) (h.on (names_read e ++ write x ∷ []) q)
     statement_way (t.assign x e) u a next is c h =
-        let q = path.assign x e (names_read e) (is_path e) in
+        let q = path.assign x e (names_read e) (is_path [] shared e is.1) in
         assigned_way u a x.word_type x e next (is.1, is.3) c (h.safe (names_read e ++ write x ∷ []) goes_on q) (h.on (names_read e ++ write x ∷ []) q)
     statement_way (t.store x index e) u a next is c h =
-        let q = path.store x index e (names_read index) (names_read e) (is_path index) (is_path e) in
+        let q = path.store x index e (names_read index) (names_read e) (is_path [] shared index is.1) (is_path [] shared e is.2) in
         let xs = names_read index ++ (names_read e ++ write x ∷ []) in
         element_assigned_way u a x index e next (is.1, is.4) (is.2, is.5) is.0 c (h.safe xs goes_on q) (h.on xs q)
     statement_way (t.choose choice) u a next is c h =
@@ -479,43 +483,46 @@ module _ (p : Places) (words : PlacesOfWords p) (shared : List SharedDeclaration
           on = λ xs q. h.on xs (path.choose choice xs goes_on q);
         })
     statement_way (t.loop x from tested below stepped body) u a next is c h =
-        turns_way enough x (lowered_block p body) body (λ v b rest d k. block_way body v b rest is.1 d k) (below - from) u a next c (record {
+        turns_way enough x (lowered_block p body) body (λ v b rest d k. block_way body v b rest is.1 d k) (some_block [] shared body is.1)
+        (below - from) u a next c (record {
           safe = λ xs end q. h.safe (write x ∷ xs) end (path.loop x from tested below stepped body xs end q);
           on = λ xs q. h.on (write x ∷ xs) (path.loop x from tested below stepped body xs goes_on q);
         })
     statement_way (t.emit e) u a next is c h =
-        let q = path.emit e (names_read e) (is_path e) in
+        let q = path.emit e (names_read e) (is_path [] shared e is.0) in
         joined_way enough (lowered_expression p e) (one (emit_word (word_place p.map EmitCount) p.map.emits.address)) next (at 0 a)
         (expression_way p words shared 0 a e _ (is, reads_assigned shared u a e c is.0 (h.safe (names_read e) goes_on q))
         (moves enough 1 0 1 0 a next (omega arith) (omega arith) (omega arith) (h.on (names_read e) q a (subst (λ v. Covers v a) (sym (behind_names u e)) c))))
-    statement_way (t.transition task) u a next is c h = transition_way task.task next (at 0 a)
+    statement_way (t.give place e) u a next is c h = absurd is
+    statement_way (t.transition place task) u a next is c h = transition_way task.task next (at 0 a)
 
     choice_way : (choice : CheckedChoice) (u a : ℕ → Bool) (next : Place → Type 0) → WellFormedChoice shared choice → Covers u a
-        → Follows (ChoicePath choice) u next → EachWay enough (lowered_choice p choice) next (at 0 a)
+        → Follows (ChoicePath [] choice) u next → EachWay enough (lowered_choice p choice) next (at 0 a)
     choice_way t.nothing u a next is c h = h.on [] path.nothing a c
     choice_way (t.otherwise b) u a next is c h =
         block_way b u a next is c
         (record { safe = λ xs end q. h.safe xs end (path.otherwise b xs end q); on = λ xs q. h.on xs (path.otherwise b xs goes_on q) })
     choice_way (t.test e b more) u a next is c h =
-        let some = some_block b in
-        let s = h.safe (names_read e ++ some.accesses) some.end (path.taken e b more (names_read e) some.accesses some.end (is_path e) some.is) in
+        let some = some_block [] shared b is.1 in
+        let s = h.safe (names_read e ++ some.accesses) some.end
+        (path.taken e b more (names_read e) some.accesses some.end (is_path [] shared e is.0) some.is) in
         let reads = reads_assigned shared u a e c is.0 (safe_expression u e some.accesses s).0 in
         (lowering_has (ways enough a) p words shared 0 e is.0 is.3 reads).test (EachWay enough (lowered_block p b) next)
         (EachWay enough (lowered_choice p more) next)
-        (block_way b u a next is.1 c (taken_follows e b more u next h)) (choice_way more u a next is.2 c (passed_follows e b more u next h))
+        (block_way b u a next is.1 c (taken_follows e b more u next is.0 h)) (choice_way more u a next is.2 c (passed_follows e b more u next is.0 h))
 
     block_way : (b : CheckedBlock) (u a : ℕ → Bool) (next : Place → Type 0) → WellFormedBlock shared b → Covers u a
-        → Follows (BlockPath b) u next → EachWay enough (lowered_block p b) next (at 0 a)
+        → Follows (BlockPath [] b) u next → EachWay enough (lowered_block p b) next (at 0 a)
     block_way t.end u a next is c h = h.on [] path.finished a c
     block_way (t.step s more) u a next is c h =
         joined_way enough (lowered_statement p s) (lowered_block p more) next (at 0 a)
         (statement_way s u a (EachWay enough (lowered_block p more) next) is.0 c
-        (step_follows s more u next (EachWay enough (lowered_block p more) next) h
+        (step_follows s more u next (EachWay enough (lowered_block p more) next) is.1 h
         (λ xs q b d. block_way more (behind u xs) b next is.1 d (block_follows s more u next xs h q))))
 
   -- from the start of a task, of which no path reads an unassigned local or goes on behind its end
-  pub task_way : (b : CheckedBlock) → WellFormedBlock shared b → ((xs : List Access) (end : End) → BlockPath b xs end → Safe (λ x. true) xs)
-      → ((xs : List Access) → BlockPath b xs goes_on → ⊥)
+  pub task_way : (b : CheckedBlock) → WellFormedBlock shared b → ((xs : List Access) (end : End) → BlockPath [] b xs end → Safe (λ x. true) xs)
+      → ((xs : List Access) → BlockPath [] b xs goes_on → ⊥)
       → EachWay enough (lowered_block p b) (λ q. ⊥) start
   task_way b is safe none =
       block_way b (λ x. true) (λ x. false) (λ q. ⊥) is (λ x l h. absurd (cc)) (record { safe = safe; on = λ xs q a c. none xs q })

@@ -2,11 +2,8 @@
 use Rattle.std.proofs.Common.{◌≡◌, ◌%◌, ℕ, suc, List, [], ◌∷◌, Some, refl, arith, slice_get}
 use Rattle.std.specs.Prelude.{All}
 use Rattle.std.proofs.lemmas.List.Elements.{All-nil, All-cons}
-use Rattle.task_ast.specs.Tree.{Task}
-use Rattle.task_ast.specs.Paths.{CheckedBlock}
+use Rattle.task_ast.specs.Paths.{CheckedTask, CheckedBlock}
 use Rattle.task_ast.specs.declared.SharedDeclaration.{SharedDeclaration}
-use Rattle.task_ast.specs.declared.names.VariableName.{VariableName}
-use Rattle.task_ast.specs.declared.names.TaskName.{TaskName}
 use Rattle.memory_map.specs.MemoryMap.{MemoryMap, TaskPlace}
 use Rattle.memory_map.specs.Places.{HasItsPlace}
 use Rattle.memory_map.proofs.Interface.{even_of}
@@ -51,11 +48,11 @@ tasks_are_whole text program allow plans l laid k task t e f =
     block_whole (places_of (map_seen task.body l) own) program.shared task.body
     (task_places (map_seen task.body l) seen own (privates_seen (some_path_writes task.body) l.variables own.privates
     (seen_all (HasItsPlace l.variables) l.runtime.logging t privates))) (even_of l rules).commit
-    (task_checked text program laid.accepted.checks k task e)
+    (task_checked text program laid.accepted.checks laid.layout.plain k task e)
 
 -- what holds of each task's program by number holds of all
-all_lowered : (P : word.Program → Type 0) (l : MemoryMap) (tasks : List (Task VariableName TaskName)) (layouts : List TaskPlace)
-    → ((k : ℕ) (task : Task VariableName TaskName) (t : TaskPlace) → slice_get tasks k ≡ Some task → slice_get layouts k ≡ Some t
+all_lowered : (P : word.Program → Type 0) (l : MemoryMap) (tasks : List CheckedTask) (layouts : List TaskPlace)
+    → ((k : ℕ) (task : CheckedTask) (t : TaskPlace) → slice_get tasks k ≡ Some task → slice_get layouts k ≡ Some t
     → P (lowered_task l t task.body)) → All P (lowered_tasks l tasks layouts)
 all_lowered P l [] layouts h = All-nil P
 all_lowered P l (task ∷ tasks) [] h = All-nil P

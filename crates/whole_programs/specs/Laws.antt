@@ -1,9 +1,8 @@
 -- What holds of the word programs of accepted sources.
 use Rattle.std.specs.Prelude.{◌≡◌, ◌≤◌, ℕ, List, All, Some, slice_get}
-use Rattle.task_ast.specs.Tree.{Program, Task}
-use Rattle.task_ast.specs.declared.names.VariableName.{VariableName}
-use Rattle.task_ast.specs.declared.names.TaskName.{TaskName}
+use Rattle.task_ast.specs.Paths.{CheckedProgram, CheckedTask}
 use Rattle.cost_bound.specs.declared.allowance.Allow.{Allow}
+use Rattle.cost_bound.specs.Summaries.{summaries}
 use Rattle.cost_bound.specs.Allowance.{scalars_of}
 use Rattle.source_meaning.specs.Acceptance.{IsAcceptedText}
 use Rattle.war_analysis.specs.PlanValue.{TaskPlanValue}
@@ -16,20 +15,20 @@ use Rattle.array_versions.specs.Form.{IsWhole, FitsTheStack, OfWords}
 use Rattle.lower.specs.Lowered.{lowered_task, lowered}
 
 -- an accepted text, with a plan and a layout of its source for some runtime
-pub record IsLaidOutText (text : List ℕ) (program : Program VariableName TaskName) (allow : Allow) (plans : List TaskPlanValue) (l : MemoryMap) : Type 0 where
+pub record IsLaidOutText (text : List ℕ) (program : CheckedProgram) (allow : Allow) (plans : List TaskPlanValue) (l : MemoryMap) : Type 0 where
   pub accepted : IsAcceptedText text program allow
   pub plan : IsPlan program plans
   pub logging : Logging
   pub layout : IsLayoutFor logging program allow plans l
 
 -- what holds of each accepted text with a plan and a layout
-abbrev OfTexts : (Program VariableName TaskName → MemoryMap → Type 0) → Type 0
-OfTexts F = (text : List ℕ) (program : Program VariableName TaskName) (allow : Allow) (plans : List TaskPlanValue) (l : MemoryMap)
+abbrev OfTexts : (CheckedProgram → MemoryMap → Type 0) → Type 0
+OfTexts F = (text : List ℕ) (program : CheckedProgram) (allow : Allow) (plans : List TaskPlanValue) (l : MemoryMap)
     → IsLaidOutText text program allow plans l → F program l
 
 -- what holds of each of its tasks, by number
-abbrev OfTasks : (Task VariableName TaskName → MemoryMap → TaskPlace → Type 0) → Type 0
-OfTasks F = OfTexts (λ program l. (k : ℕ) (task : Task VariableName TaskName) (t : TaskPlace)
+abbrev OfTasks : (CheckedTask → MemoryMap → TaskPlace → Type 0) → Type 0
+OfTasks F = OfTexts (λ program l. (k : ℕ) (task : CheckedTask) (t : TaskPlace)
     → slice_get program.tasks k ≡ Some task → slice_get l.tasks k ≡ Some t → F task l t)
 
 -- the word program of each task is whole, with room for its stack where that of compiled code begins, and of words
@@ -42,5 +41,5 @@ ProgramsAreWhole = OfTexts (λ program l. All IsWhole (lowered l program) × All
 
 -- the private scalars of each task have at most as many words as its allowance counts, which counts those on the left of an assignment
 abbrev pub PrivatesAreFew : Type 0
-PrivatesAreFew = OfTexts (λ program l. (k : ℕ) (task : Task VariableName TaskName) (t : TaskPlace)
-    → slice_get program.tasks k ≡ Some task → slice_get l.tasks k ≡ Some t → private_words t.privates ≤ scalars_of program.shared task.body)
+PrivatesAreFew = OfTexts (λ program l. (k : ℕ) (task : CheckedTask) (t : TaskPlace)
+    → slice_get program.tasks k ≡ Some task → slice_get l.tasks k ≡ Some t → private_words t.privates ≤ scalars_of (summaries program) program.shared task.body)

@@ -19,7 +19,7 @@ returns-clause-built c =
       reads_back = c.in_ok-text.ensures.reads_back;
       map = map_of source.text.items (program_of source.checked.source) compiled.layout source.allow;
       mapped = compiled.map;
-      names = c.images_are_mapped.ensures _ _ _ _ _ c.requires compiled;
+      names = c.images_are_mapped.ensures _ _ _ _ _ c.requires.accepted compiled;
       bound = refl;
       compiled = compiled;
     }

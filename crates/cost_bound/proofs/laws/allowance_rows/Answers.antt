@@ -21,4 +21,11 @@ returns c = record {
   several_bound = refl;
   long_sum_bound = refl;
   long_sum_words = refl;
+  one_call_bound = refl;
+  one_call_words = refl;
+  one_call_stack = refl;
+  chain_emits = refl;
+  chain_routines = refl;
+  chain_stack = refl;
+  chain_versions = refl;
 }

@@ -3,6 +3,7 @@ use Rattle.std.proofs.lemmas.List.{length-map}
 use Rattle.task_ast.specs.View.{program_of}
 use Rattle.task_ast.specs.declared.Source.{Source}
 use Rattle.task_ast.specs.declared.names.VariableName.{VariableName}
+use Rattle.task_ast.specs.declared.names.FunctionName.{FunctionName}
 use Rattle.task_ast.specs.declared.names.TaskName.{TaskName}
 use Rattle.cost_bound.specs.declared.allowance.Allow.{Allow}
 use Rattle.source_values.specs.Runs.{CheckedProgram}
@@ -21,10 +22,10 @@ as_many text p allow l h =
     sym (length-map (map_of text p l allow).tasks (λ (t : TaskValue). t.name)) ∙ ap length h.of_source.tasks ∙ length-map p.tasks _
 
 -- the map of what is equal
-map_same : (t text : List ℕ) (s source : Source VariableName TaskName) (l : MemoryMap) (a allow : Allow) → t ≡ text → s ≡ source → a ≡ allow
+map_same : (t text : List ℕ) (s source : Source VariableName TaskName FunctionName) (l : MemoryMap) (a allow : Allow) → t ≡ text → s ≡ source → a ≡ allow
     → map_of t (program_of s) l a ≡ map_of text (program_of source) l allow
 map_same t text s source l a allow e f g =
-    ap (λ x. map_of x (program_of s) l a) e ∙ ap (λ (x : Source VariableName TaskName). map_of text (program_of x) l a) f
+    ap (λ x. map_of x (program_of s) l a) e ∙ ap (λ (x : Source VariableName TaskName FunctionName). map_of text (program_of x) l a) f
     ∙ ap (λ x. map_of text (program_of source) l x) g
 
 pub with_map-requires : goal.with_map-requires

@@ -9,7 +9,8 @@ use Rattle.need_lines.proofs.lines.push_tasks.Goals as goal
 pub loop-task-preserved : goal.loop-task-preserved
 loop-task-preserved c =
     let ways = c.in_ok-push_ways.ensures ∙ ap (λ ws. c.push_parts.new.out.items ++ printed (map way_fields ws)) c.deref.ensures.value in
-    task_written c.args.tasks.now c.loop-task.task-index _ _ _ _ _ c.loop-task-test.true c.task-item.is c.in_ok-push_task.ensures c.in_ok-push_parts.ensures ways
+    task_written c.args.tasks.now c.loop-task.task-index _ _ _ _ _ _ c.loop-task-test.true c.task-item.is c.in_ok-push_task.ensures
+    c.in_ok-push_parts.ensures ways c.in_ok-push_undo.ensures
     ∙ c.loop-task.invariant
 
 pub returns : goal.returns

@@ -1,4 +1,4 @@
-use Rattle.std.proofs.Common.{◌≡◌, ◌+◌, ◌*◌, ◌≤◌, ℕ, length, drop, map}
+use Rattle.std.proofs.Common.{◌≡◌, ◌+◌, ◌*◌, ◌≤◌, ℕ, [], length, drop, map}
 use Rattle.task_ast.specs.View.{task_of}
 use Rattle.cost_bound.specs.Allowance.{total}
 use Rattle.privatise.specs.Sizes.{entry_words, own_boot_words}
@@ -9,4 +9,4 @@ pub record Summed (n i all sum : ℕ) : Type 0 where
   pub low : n + 8392 * i ≤ own_boot_words + 8392 * all
 
 abbrev pub invariant-loop-i : goal.invariant-loop-i
-invariant-loop-i l = Summed l.n l.i (length l.tasks) (total (entry_words l.shared) (map task_of (drop l.i l.tasks)))
+invariant-loop-i l = Summed l.n l.i (length l.tasks) (total (entry_words [] l.shared) (map task_of (drop l.i l.tasks)))

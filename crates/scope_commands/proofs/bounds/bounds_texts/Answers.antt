@@ -15,9 +15,11 @@ returns-in_err-text-clause-failure g c =
 pub returns-clause-whole : goal.returns-clause-whole
 returns-clause-whole g c =
     let source = c.in_ok-source.ensures in
-    scope_whole _ _ _ _ _ _ _ _ source.text source.accepted c.in_ok-text.ensures.text (rw c.as_slice.ensures.value at c.write_text.ensures.whole)
+    scope_whole _ _ _ _ _ (record { text = _; program = _; allow = _; kept = source.text; accepted = source.accepted; scope = c.in_ok-text.ensures.text })
+    (rw c.as_slice.ensures.value at c.write_text.ensures.whole)
 
 pub returns-clause-failure : goal.returns-clause-failure
 returns-clause-failure g c =
     let source = c.in_ok-source.ensures in
-    scope_fails _ _ _ _ _ _ _ _ source.text source.accepted c.in_ok-text.ensures.text (rw c.as_slice.ensures.value at c.write_text.ensures.failure)
+    scope_fails _ _ _ _ _ (record { text = _; program = _; allow = _; kept = source.text; accepted = source.accepted; scope = c.in_ok-text.ensures.text })
+    (rw c.as_slice.ensures.value at c.write_text.ensures.failure)

@@ -9,5 +9,5 @@ returns-clause-text c =
     let source = c.args.source.now in
     let needs = c.in_ok-needs.needs in
     let lines = rw (c.new-text.ensures.items, c.deref.ensures.value, c.allow.ensures) at c.in_ok-push_needs.ensures in
-    scoped c.images_keep_the_laws.ensures source.text.items (program_of source.checked.source) source.allow (map row_of needs.items) _ c.requires
+    scoped c.images_keep_the_laws.ensures source.text.items (program_of source.checked.source) source.allow (map row_of needs.items) _ c.requires.accepted
     c.in_ok-needs.ensures lines

@@ -5,7 +5,12 @@ use Rattle.source_meaning.proofs.Unique.{one_program}
 use Rattle.source_meaning.proofs.passes.accept.Goals as goal
 
 pub invariant_of-result : goal.invariant_of-result
-invariant_of-result c = record { runnable = checked_runnable c.in_ok-checked.checked c.in-Ok.ensures.ok.few_emits; short = search rules }
+invariant_of-result c =
+    let program = program_of c.in_ok-checked.checked.source in
+    record {
+      runnable = checked_runnable c.args.text.now program c.in_ok-checked.ensures.checks c.in-Ok.ensures.ok.few_emits;
+      short = search rules;
+    }
 
 pub returns-in_ok-to_vec-in-Ok-clause-only : goal.returns-in_ok-to_vec-in-Ok-clause-only
 returns-in_ok-to_vec-in-Ok-clause-only c =

@@ -16,11 +16,12 @@ returns c =
     let allow = c.args.accepted.now.allow in
     let plans = c.in_ok-plan.plan in
     let l = c.in_ok-layout.layout in
-    let planned : IsPlan p plans = rw c.checked-checked.ensures at c.in_ok-plan.ensures in
-    let laid : IsLayout p allow plans l = rw (c.checked-checked.ensures, c.allow.ensures) at c.in_ok-layout.ensures in
+    let planned : IsPlan p plans = rw c.checked.ensures at c.in_ok-plan.ensures in
+    let laid : IsLayout p allow plans l = c.in_ok-layout.ensures in
     let lines : c.deref.result.now ≡ if_lines text = c.deref.ensures.value ∙ c.in_ok-lines.ensures ∙ ap if_lines c.source.ensures in
     IfOk-weaker c.tasks_need.result (λ needs. map row_of needs.items ≡ rows_from text p l c.deref.result.now 0 p.tasks)
     (λ needs. AreNeedsOf text p allow (map row_of needs.items))
-    (λ needs is. needs_are text p allow plans l (map row_of needs.items) (c.one_plan.ensures p) (c.one_layout.ensures p allow c.requires.allowed) planned
-    laid (is ∙ ap (λ ls. rows_from text p l ls 0 p.tasks) lines))
+    (λ needs is. needs_are text p allow plans l (map row_of needs.items) (c.one_plan.ensures p) (c.one_layout.ensures p allow c.requires.accepted.allowed)
+    (c.one_logged_layout.ensures p allow c.requires.accepted.allowed) c.layouts_are_logged.ensures planned laid
+    (is ∙ ap (λ ls. rows_from text p l ls 0 p.tasks) lines))
     c.tasks_need.ensures

@@ -1,123 +1,15 @@
-use Rattle.std.proofs.Common.{◌≡◌, ◌∙◌, ◌-◌, ◌^◌, ◌<◌, min, length, get_or, sym, ap, subst, arith}
-use Rattle.std.proofs.lemmas.Option.{get_or_from_slice_get, same_Some}
-use Rattle.task_ast.specs.View.{block_view, program_of}
+use Rattle.std.proofs.Common.{◌≡◌, ◌∙◌, get_or, ap}
+use Rattle.task_ast.specs.View.{program_of}
 use Rattle.source_report.specs.SourceReport.{spelled}
-use Rattle.source_values.specs.Runs.{body_of}
-use Rattle.cost_bound.specs.Counts.{emits_of}
-use Rattle.cost_bound.specs.Allowance.{CheckedTask, task_bound, task_words, uses_events, versions_of}
-use Rattle.code_costs.specs.Dearest.{most_spent}
-use Rattle.memory_map.proofs.Interface.{privates_few}
-use Rattle.compiled_model.specs.Parts.{program_parts, task_program}
-use Rattle.task_needs.specs.Needs.{beside_path, elements_of, need_parts, own_privates, privates_of}
-use Rattle.need_lines.specs.Rows.{row_of}
-use Rattle.source_needs.specs.Needs.{need_row}
-use Rattle.source_needs.proofs.Rows.{path_cut, task_at, task_holds}
+use Rattle.memory_map.specs.declared.runtime.Logging.TheVariants.{Redo}
+use Rattle.memory_map.specs.MemoryMap.{logged_map}
+use Rattle.compiled_model.specs.Parts.{program_parts}
+use Rattle.task_needs.specs.Needs.{need_parts}
+use Rattle.cost_bound.specs.Summaries.{summaries}
+use Rattle.cost_bound.specs.Allowance.{task_words}
+use Rattle.source_needs.specs.Needs.{parts_in, undo_need}
+use Rattle.source_needs.proofs.Rows.{task_at}
 use Rattle.source_needs.proofs.needs.task_need.Goals as goal
-
-pub table_of-table-requires-clause-small : goal.table_of-table-requires-clause-small
-table_of-table-requires-clause-small c =
-    let text = c.args.accepted.now.text.items in
-    let p = program_of c.args.accepted.now.checked.source in
-    let l = c.args.layout.now in
-    let k = c.args.number in
-    let h = task_holds c.tasks_are_whole.ensures text p c.args.accepted.now.allow c.args.plan.now l c.privates_are_few.ensures c.requires.laid_out k
-    c.requires.task in
-    let source = c.source-source.ensures ∙ ap (λ x. x.source) c.checked.ensures in
-    let at = task_at c.args.accepted.now.checked.source.tasks.items k c.index-task.result.now h.task h.there
-    (c.index-task.ensures ∙ ap (λ s. get_or s.tasks.items k c.index-task.result.now) source) in
-    let shared : c.deref.result.now ≡ p.shared = c.deref.ensures.value ∙ ap (λ s. s.shared.items) source in
-    let body : block_view c.deref-2.result.now ≡ h.task.body = ap block_view c.deref-2.ensures.value ∙ at.1 in
-    let events : c.runtime-events.result.events ≡ uses_events p = ap (λ r. r.events) c.runtime-events.ensures ∙ h.events in
-    let versions : c.allow.result.now.versions ≡ versions_of p = ap (λ a. a.versions) c.allow.ensures ∙ h.versions in
-    rw (events, versions, shared, body) h.bound
-
-pub table_of-table-requires-clause-short : goal.table_of-table-requires-clause-short
-table_of-table-requires-clause-short c =
-    let text = c.args.accepted.now.text.items in
-    let p = program_of c.args.accepted.now.checked.source in
-    let l = c.args.layout.now in
-    let k = c.args.number in
-    let h = task_holds c.tasks_are_whole.ensures text p c.args.accepted.now.allow c.args.plan.now l c.privates_are_few.ensures c.requires.laid_out k
-    c.requires.task in
-    let source = c.source-source.ensures ∙ ap (λ x. x.source) c.checked.ensures in
-    let at = task_at c.args.accepted.now.checked.source.tasks.items k c.index-task.result.now h.task h.there
-    (c.index-task.ensures ∙ ap (λ s. get_or s.tasks.items k c.index-task.result.now) source) in
-    let shared : c.deref.result.now ≡ p.shared = c.deref.ensures.value ∙ ap (λ s. s.shared.items) source in
-    let body : block_view c.deref-2.result.now ≡ h.task.body = ap block_view c.deref-2.ensures.value ∙ at.1 in
-    let small : task_words p.shared h.task.body < 2 ^ 32 = omega (arith, h.words) in
-    rw (shared, body) small
-
-pub parts_of-parts-requires-clause-few : goal.parts_of-parts-requires-clause-few
-parts_of-parts-requires-clause-few c =
-    let text = c.args.accepted.now.text.items in
-    let p = program_of c.args.accepted.now.checked.source in
-    let l = c.args.layout.now in
-    let k = c.args.number in
-    let h = task_holds c.tasks_are_whole.ensures text p c.args.accepted.now.allow c.args.plan.now l c.privates_are_few.ensures c.requires.laid_out k
-    c.requires.task in
-    let source = c.source-source.ensures ∙ ap (λ x. x.source) c.checked.ensures in
-    let at = task_at c.args.accepted.now.checked.source.tasks.items k c.index-task.result.now h.task h.there
-    (c.index-task.ensures ∙ ap (λ s. get_or s.tasks.items k c.index-task.result.now) source) in
-    let shared : c.deref.result.now ≡ p.shared = c.deref.ensures.value ∙ ap (λ s. s.shared.items) source in
-    let body : block_view c.deref-2.result.now ≡ h.task.body = ap block_view c.deref-2.ensures.value ∙ at.1 in
-    let place : c.index-tasks-number.result ≡ h.place =
-    c.index-tasks-number.is ∙ ap (λ ts. get_or ts k c.index-tasks-number.result) c.tasks.ensures
-    ∙ get_or_from_slice_get l.tasks k h.place c.index-tasks-number.result h.placed in
-    let own : c.privates.result.now ≡ h.place.privates = c.privates.ensures ∙ ap (λ t. t.privates) place in
-    let few = rw (shared, body) at c.table_of-table.ensures.scalars in
-    omega (arith, ap length own, privates_few h.place.privates, h.privates, few)
-
-pub parts_of-parts-requires-clause-bounded : goal.parts_of-parts-requires-clause-bounded
-parts_of-parts-requires-clause-bounded c =
-    let text = c.args.accepted.now.text.items in
-    let p = program_of c.args.accepted.now.checked.source in
-    let l = c.args.layout.now in
-    let k = c.args.number in
-    let h = task_holds c.tasks_are_whole.ensures text p c.args.accepted.now.allow c.args.plan.now l c.privates_are_few.ensures c.requires.laid_out k
-    c.requires.task in
-    let source = c.source-source.ensures ∙ ap (λ x. x.source) c.checked.ensures in
-    let at = task_at c.args.accepted.now.checked.source.tasks.items k c.index-task.result.now h.task h.there
-    (c.index-task.ensures ∙ ap (λ s. get_or s.tasks.items k c.index-task.result.now) source) in
-    let shared : c.deref.result.now ≡ p.shared = c.deref.ensures.value ∙ ap (λ s. s.shared.items) source in
-    let body : block_view c.deref-2.result.now ≡ h.task.body = ap block_view c.deref-2.ensures.value ∙ at.1 in
-    let events : c.runtime-events.result.events ≡ uses_events p = ap (λ r. r.events) c.runtime-events.ensures ∙ h.events in
-    let versions : c.allow.result.now.versions ≡ versions_of p = ap (λ a. a.versions) c.allow.ensures ∙ h.versions in
-    let is = rw (events, versions, shared, body) at c.table_of-table.ensures.bound in
-    omega (arith, is, h.bound)
-
-pub overflow_cast-result-5 : goal.overflow_cast-result-5
-overflow_cast-result-5 c =
-    let text = c.args.accepted.now.text.items in
-    let p = program_of c.args.accepted.now.checked.source in
-    let l = c.args.layout.now in
-    let k = c.args.number in
-    let h = task_holds c.tasks_are_whole.ensures text p c.args.accepted.now.allow c.args.plan.now l c.privates_are_few.ensures c.requires.laid_out k
-    c.requires.task in
-    let source = c.source-source.ensures ∙ ap (λ x. x.source) c.checked.ensures in
-    let at = task_at c.args.accepted.now.checked.source.tasks.items k c.index-task.result.now h.task h.there
-    (c.index-task.ensures ∙ ap (λ s. get_or s.tasks.items k c.index-task.result.now) source) in
-    let shared : c.deref.result.now ≡ p.shared = c.deref.ensures.value ∙ ap (λ s. s.shared.items) source in
-    let body : block_view c.deref-2.result.now ≡ h.task.body = ap block_view c.deref-2.ensures.value ∙ at.1 in
-    let events : c.runtime-events.result.events ≡ uses_events p = ap (λ r. r.events) c.runtime-events.ensures ∙ h.events in
-    let versions : c.allow.result.now.versions ≡ versions_of p = ap (λ a. a.versions) c.allow.ensures ∙ h.versions in
-    let is = rw (events, versions, shared, body) at c.table_of-table.ensures.bound in
-    omega (arith, is, h.bound)
-
-pub overflow_cast-result-6 : goal.overflow_cast-result-6
-overflow_cast-result-6 c =
-    let text = c.args.accepted.now.text.items in
-    let p = program_of c.args.accepted.now.checked.source in
-    let l = c.args.layout.now in
-    let k = c.args.number in
-    let h = task_holds c.tasks_are_whole.ensures text p c.args.accepted.now.allow c.args.plan.now l c.privates_are_few.ensures c.requires.laid_out k
-    c.requires.task in
-    let source = c.source-source.ensures ∙ ap (λ x. x.source) c.checked.ensures in
-    let at = task_at c.args.accepted.now.checked.source.tasks.items k c.index-task.result.now h.task h.there
-    (c.index-task.ensures ∙ ap (λ s. get_or s.tasks.items k c.index-task.result.now) source) in
-    let shared : c.deref.result.now ≡ p.shared = c.deref.ensures.value ∙ ap (λ s. s.shared.items) source in
-    let body : block_view c.deref-2.result.now ≡ h.task.body = ap block_view c.deref-2.ensures.value ∙ at.1 in
-    let is = rw (shared, body) at c.table_of-table.ensures.words in
-    omega (arith, is, h.words)
 
 pub returns : goal.returns
 returns c = λ task there.
@@ -125,52 +17,21 @@ returns c = λ task there.
     let p = program_of c.args.accepted.now.checked.source in
     let l = c.args.layout.now in
     let k = c.args.number in
-    let h = task_holds c.tasks_are_whole.ensures text p c.args.accepted.now.allow c.args.plan.now l c.privates_are_few.ensures c.requires.laid_out k
-    c.requires.task in
-    let source = c.source-source.ensures ∙ ap (λ x. x.source) c.checked.ensures in
-    let at = task_at c.args.accepted.now.checked.source.tasks.items k c.index-task.result.now h.task h.there
+    let source = c.source.ensures ∙ ap (λ x. x.source) c.checked.ensures in
+    let at = task_at c.args.accepted.now.checked.source.tasks.items k c.index-task.result.now task there
     (c.index-task.ensures ∙ ap (λ s. get_or s.tasks.items k c.index-task.result.now) source) in
-    let shared : c.deref.result.now ≡ p.shared = c.deref.ensures.value ∙ ap (λ s. s.shared.items) source in
-    let body : block_view c.deref-2.result.now ≡ h.task.body = ap block_view c.deref-2.ensures.value ∙ at.1 in
-    let events : c.runtime-events.result.events ≡ uses_events p = ap (λ r. r.events) c.runtime-events.ensures ∙ h.events in
-    let versions : c.allow.result.now.versions ≡ versions_of p = ap (λ a. a.versions) c.allow.ensures ∙ h.versions in
-    let place : c.index-tasks-number.result ≡ h.place =
-    c.index-tasks-number.is ∙ ap (λ ts. get_or ts k c.index-tasks-number.result) c.tasks.ensures
-    ∙ get_or_from_slice_get l.tasks k h.place c.index-tasks-number.result h.placed in
-    let own : c.privates.result.now ≡ h.place.privates = c.privates.ensures ∙ ap (λ t. t.privates) place in
-    let n = need_parts p l k in
-    let table = c.table_of-table.result in
-    let at_runtime : c.runtime-events.result.events ≡ l.runtime.events = ap (λ r. r.events) c.runtime-events.ensures in
-    let cleared : c.allow.result.now.versions ≡ l.versions.words = ap (λ a. a.versions) c.allow.ensures ∙ sym h.cleared in
-    let privates : c.privates.result.now ≡ own_privates l k = own ∙ sym (ap privates_of h.placed) in
-    let block = sym (ap body_of h.there) in
-    let elements = (rw (shared, body) at c.table_of-table.ensures.elements) ∙ ap (λ b. elements_of p.shared b) block in
-    let emits = (rw body at c.table_of-table.ensures.emits) ∙ ap emits_of block in
-    let bound : table.bound ≡ (program_parts p l).cost k =
-    (rw (events, versions, shared, body) at c.table_of-table.ensures.bound) ∙ ap (λ b. task_bound (uses_events p) (versions_of p) p.shared b) block in
-    let small : table.bound < 2 ^ 32 = omega (arith, rw (events, versions, shared, body) at c.table_of-table.ensures.bound, h.bound) in
-    let name : c.spelled.result.now ≡ spelled text h.task.name =
-    c.spelled.ensures ∙ ap (λ t. spelled t c.index-task.result.now.name) c.source.ensures ∙ ap (spelled text) at.0 in
-    let boot : c.parts_of-parts.result.boot ≡ n.boot = rw at_runtime at c.parts_of-parts.ensures.boot in
-    let start : c.parts_of-parts.result.start ≡ n.start = rw (at_runtime, cleared, privates) at c.parts_of-parts.ensures.start in
-    let commit : c.parts_of-parts.result.commit ≡ n.commit = rw (at_runtime, privates, elements, emits) at c.parts_of-parts.ensures.commit in
-    let cut = path_cut c.args.most (most_spent l.runtime.events (task_program p l k)) table.bound (beside_path p l k) small c.requires.most in
-    let path : c.parts_of-parts.result.path ≡ n.path =
-    (rw (at_runtime, cleared, privates, elements, emits) at c.parts_of-parts.ensures.path) ∙ cut
-    ∙ ap (λ b. min (most_spent l.runtime.events (task_program p l k)) (b - beside_path p l k)) bound in
-    let words : table.words ≡ task_words p.shared h.task.body = rw (shared, body) at c.table_of-table.ensures.words in
-    let same : h.task ≡ task = same_Some h.task task (sym h.there ∙ there) in
-    let P : CheckedTask → Type 0 = λ t. row_of (record {
-      name = c.spelled.result;
-      boot = c.parts_of-parts.result.boot;
-      start = c.parts_of-parts.result.start;
-      path = c.parts_of-parts.result.path;
-      commit = c.parts_of-parts.result.commit;
-      table = table.bound;
-      words = table.words;
-      ways = c.args.ways;
-    }) ≡ need_row text p l k c.args.ways.items t in
-    subst P same (λ i. record {
+    let priced = c.price_task-priced.result in
+    let parts : parts_in priced.parts ≡ need_parts Redo p l k = c.price_task-priced.ensures.parts ∙ ap (λ g. need_parts g p l k) c.requires.redo in
+    let name : c.spelled.result.now ≡ spelled text task.name =
+    c.spelled.ensures ∙ ap (λ t. spelled t c.index-task.result.now.name) c.source-2.ensures ∙ ap (spelled text) at.0 in
+    let boot = ap (λ n. n.boot) parts in
+    let start = ap (λ n. n.start) parts in
+    let path = ap (λ n. n.path) parts in
+    let commit = ap (λ n. n.commit) parts in
+    let bound : priced.bound ≡ (program_parts p l).cost k = c.price_task-priced.ensures.bound in
+    let words : priced.words ≡ task_words (summaries p) p.shared task.body = c.price_task-priced.ensures.words task there in
+    let undo : c.args.undo ≡ undo_need p (logged_map l) k = c.requires.undo in
+    λ i. record {
       name = name i;
       boot = boot i;
       start = start i;
@@ -179,4 +40,5 @@ returns c = λ task there.
       table = bound i;
       words = words i;
       ways = c.args.ways.items;
-    })
+      undo = undo i;
+    }

@@ -59,6 +59,7 @@ fn summary(
     requires few { length functions.now ≤ 64 }
     ensures { IsSame (summary_of result) (function_summary (known_of functions.now) (function_of function.now)) }
 {
+    let parameters = function.parameters.as_slice();
     let body = function.body.as_slice();
     FunctionSummary {
         cycles: block_price(functions, &CYCLES, body),
@@ -68,7 +69,7 @@ fn summary(
         assigns: assigned_variables(functions, body),
         reaches: reached_functions(functions, body),
         depth: plus(
-            frame(function.parameters.len() as u64, body),
+            frame(parameters.len() as u64, body),
             deepest(functions, body),
         ),
     }
