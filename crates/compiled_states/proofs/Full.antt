@@ -65,7 +65,7 @@ pub layout_is_full : {logging : Logging} (p : CheckedProgram) (allow : Allow) (p
     → IsFull l
 layout_is_full p allow plans l h laid =
     let a = apart_of l laid.rules in
-    let starts = total (entry_words p.shared) p.tasks in
+    let starts = total (entry_words (summaries p) p.shared) p.tasks in
     let bodies = total (body_words (summaries p) p.shared) p.tasks in
     let homes = home_words p.shared in
     let copies = copy_words p in
@@ -73,7 +73,7 @@ layout_is_full p allow plans l h laid =
     let list = greatest (list_of (summaries p) p.shared) p.tasks in
     let emits = greatest (emits_of (summaries p)) p.tasks in
     let code : total (task_words (summaries p) p.shared) p.tasks ≤ starts + bodies =
-    total_within (task_words (summaries p) p.shared) (entry_words p.shared) (body_words (summaries p) p.shared) p.tasks (λ c. omega arith) in
+    total_within (task_words (summaries p) p.shared) (entry_words (summaries p) p.shared) (body_words (summaries p) p.shared) p.tasks (λ c. omega arith) in
     let places = places_within (is_written (summaries p) p.tasks) 0 p.shared in
     let all : plain_words_of p ≤ 600 + (starts + bodies) + (homes + copies + versions) + 3 * list + emits = omega (arith, code, places) in
     let commit = a.commit in let begin = a.code in let size = laid.size in
