@@ -22,10 +22,16 @@ use Rattle.task_check.specs.Walks.{IsWalked}
 use Rattle.task_check.proofs.Standing.{is_placed}
 use Rattle.task_check.specs.Answers.{IsLookedUp, IsNamed, IsAccepted, IsCleanOnPaths, IsRefusedOnPaths, on_paths, at_limits, IsRefusedOrMemory, limits_fault}
 
+-- a refusal of a source whose parts stand where they may
+pub placed_refusal : (r : Result Checked CheckFault) (p : CheckedProgram) (P : CheckFault → Type 0) → IsPlaced p
+    → IfErr r (λ e. (e ≡ fault.Memory) ⊎ P e) → IfErr r (λ e. (e ≡ fault.Memory) ⊎ (IsPlaced p × P e))
+placed_refusal (Ok c) p P placed h = tt
+placed_refusal (Err e) p P placed h = elim h [ inl m ↦ inl m | inr x ↦ inr (placed, x) ]
+
 module _ (source : List ℕ) (tree : Program Span Span Span) (names : List Occurrence) (w : Walk) (same : names ≡ program_names source tree)
     (walked : IsWalked source names names w) where
   -- what was built from the names that were walked over
-  record IsBuilt (checked : CheckedProgram) : Type 0 where
+  pub record IsBuilt (checked : CheckedProgram) : Type 0 where
     pub fine : w.wrong_use ≡ None
     pub back : program_back checked ≡ tree
     pub variables : program_variables checked ≡ w.variables.items

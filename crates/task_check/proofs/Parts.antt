@@ -1,13 +1,13 @@
 -- The parts of a looked-up source as lists.
-use Rattle.std.proofs.Common.{◌≡◌, ℕ, List, [], ◌∷◌, ◌++◌, map, Some, None, refl, sym, ap, ◌∙◌}
-use Rattle.std.proofs.lemmas.List.{map-append, map-id}
+use Rattle.std.proofs.Common.{◌≡◌, ◌+◌, ◌<◌, ℕ, List, [], ◌∷◌, ◌++◌, length, get_or, take, map, Some, None, refl, sym, ap, ap₂, ◌∙◌}
+use Rattle.std.proofs.lemmas.List.{map-append, map-id, take_more}
 use Rattle.task_ast.specs.declared.Stmt.{Stmt}
 use Rattle.task_ast.specs.declared.Arm.{Arm}
 use Rattle.task_ast.specs.declared.Parameter.{Parameter}
 use Rattle.task_ast.specs.View.{statement_of, tested_of}
 use Rattle.alp_text.specs.declared.lines.Span.{Span}
 use Rattle.task_ast.specs.declared.names.FunctionName.{FunctionName}
-use Rattle.task_ast.specs.Paths.{CheckedStatement, CheckedBlock, CheckedTask}
+use Rattle.task_ast.specs.Paths.{CheckedStatement, CheckedBlock, CheckedFunction, CheckedTask}
 use Rattle.task_ast.specs.declared.names.VariableName.{VariableName}
 use Rattle.task_ast.specs.declared.names.TaskName.{TaskName}
 use Rattle.task_ast.specs.Tree.{Block, block_of, Tested, choice_of}
@@ -17,7 +17,7 @@ use Rattle.task_check.specs.declared.symbol.TypedFunction.{TypedFunction}
 use Rattle.task_check.specs.LookedUp.{expression_back, statement_back, block_back, choice_back, expression_variables, statement_variables, block_variables}
 use Rattle.task_check.specs.LookedUp.{choice_variables, statement_targets, block_targets, choice_targets, task_variables, task_targets}
 use Rattle.task_check.specs.LookedUp.{expression_calls, statement_calls, choice_calls, block_calls, task_calls, function_variables, function_calls}
-use Rattle.task_check.specs.LookedUp.{function_targets, inner_variables, parameter_variables, typed}
+use Rattle.task_check.specs.LookedUp.{function_targets, inner_variables, parameter_variables, parameter_back, typed}
 use Rattle.task_check.specs.Parts.{tested_back, list_variables, list_calls, list_targets, arms_variables, arms_calls, arms_targets}
 
 pub block_back_list : (xs : List CheckedStatement) → block_back (block_of xs) ≡ block_of (map statement_back xs)
@@ -188,21 +188,21 @@ all_read g zs xs ys all h = h ∙ ap (map g) (sym (map-id xs) ∙ all)
 -- ---- functions and tasks
 
 -- what is left to take, of any parts that are taken one after another
-pub taken_push : {A U : Type 0} (use : A → List U → List U) (uses : List A → List U → List U) → ((more : List U) → uses [] more ≡ more)
-    → ((x : A) (xs : List A) (more : List U) → uses (x ∷ xs) more ≡ use x (uses xs more))
-    → (xs : List A) (x : A) (more : List U) → uses (xs ++ x ∷ []) more ≡ uses xs (use x more)
-taken_push use uses none some [] x more = some x [] more ∙ ap (use x) (none more) ∙ sym (none (use x more))
-taken_push use uses none some (y ∷ xs) x more =
-    some y (xs ++ x ∷ []) more ∙ ap (use y) (taken_push use uses none some xs x more) ∙ sym (some y xs (use x more))
+pub taken_push : {A U : Type 0} (one : A → List U → List U) (all_of : List A → List U → List U) → ((more : List U) → all_of [] more ≡ more)
+    → ((x : A) (xs : List A) (more : List U) → all_of (x ∷ xs) more ≡ one x (all_of xs more))
+    → (xs : List A) (x : A) (more : List U) → all_of (xs ++ x ∷ []) more ≡ all_of xs (one x more)
+taken_push one all_of none some [] x more = some x [] more ∙ ap (one x) (none more) ∙ sym (none (one x more))
+taken_push one all_of none some (y ∷ xs) x more =
+    some y (xs ++ x ∷ []) more ∙ ap (one y) (taken_push one all_of none some xs x more) ∙ sym (some y xs (one x more))
 
 -- one more of them
-pub push_taken : {A D U : Type 0} (view : D → A) (use : A → List U → List U) (uses : List A → List U → List U)
-    → ((xs : List A) (x : A) (more : List U) → uses (xs ++ x ∷ []) more ≡ uses xs (use x more))
-    → (xs new : List D) (x : D) (all rest left : List U) → new ≡ xs ++ x ∷ [] → all ≡ uses (map view xs) rest → rest ≡ use (view x) left
-    → all ≡ uses (map view new) left
-push_taken view use uses push xs new x all rest left is h k =
-    h ∙ ap (uses (map view xs)) k ∙ sym (push (map view xs) (view x) left)
-    ∙ ap (λ v. uses v left) (sym (map-append view xs (x ∷ [])) ∙ ap (map view) (sym is))
+pub push_taken : {A D U : Type 0} (view : D → A) (one : A → List U → List U) (all_of : List A → List U → List U)
+    → ((xs : List A) (x : A) (more : List U) → all_of (xs ++ x ∷ []) more ≡ all_of xs (one x more))
+    → (xs new : List D) (x : D) (whole rest left : List U) → new ≡ xs ++ x ∷ [] → whole ≡ all_of (map view xs) rest → rest ≡ one (view x) left
+    → whole ≡ all_of (map view new) left
+push_taken view one all_of push xs new x all rest left is h k =
+    h ∙ ap (all_of (map view xs)) k ∙ sym (push (map view xs) (view x) left)
+    ∙ ap (λ v. all_of v left) (sym (map-append view xs (x ∷ [])) ∙ ap (map view) (sym is))
 
 pub tasks_variables_push : (xs : List CheckedTask) (x : CheckedTask) (more : List TypedVariable)
     → task_variables (xs ++ x ∷ []) more ≡ task_variables xs (block_variables x.body more)
@@ -232,3 +232,12 @@ functions_targets_push xs x more = taken_push (λ f. block_targets f.body) funct
 pub parameters_push : (xs : List (Parameter VariableName)) (x : Parameter VariableName) (more : List TypedVariable)
     → parameter_variables (xs ++ x ∷ []) more ≡ parameter_variables xs (typed x.name ∷ more)
 parameters_push xs x more = taken_push (λ p more. typed p.name ∷ more) parameter_variables (λ more. refl) (λ x xs more. refl) xs x more
+
+-- one more of them with its name looked up
+pub parameter_step : (found new : List (Parameter VariableName)) (v : VariableName) (all : List (Parameter Span)) (i : ℕ) (p : Parameter Span) → i < length all
+    → p ≡ get_or all i p → new ≡ found ++ record { word_type = p.word_type; name = v } ∷ [] → v.span ≡ p.name → map parameter_back found ≡ take i all
+    → map parameter_back new ≡ take (i + 1) all
+parameter_step found new v all i p below at is place back =
+    let here : record { word_type = p.word_type; name = v.span } ≡ p = λ j. record { word_type = p.word_type; name = place j } in
+    ap (map parameter_back) is ∙ map-append parameter_back found (record { word_type = p.word_type; name = v } ∷ [])
+    ∙ ap₂ (λ xs x. xs ++ x ∷ []) back (here ∙ at) ∙ sym (take_more all i p below)

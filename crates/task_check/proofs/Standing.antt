@@ -89,8 +89,7 @@ tasks_are n [] h = (λ k d l. absurd (omega arith), λ k d l. absurd (omega arit
 tasks_are n (k ∷ more) h =
     let parts = and_parts (block_stands n true k.body) (tasks_stand n more) h in
     let here = block_is n true k.body parts.0 in
-    let rest = tasks_are n more parts.1 in
-    (
+    let rest = tasks_are n more parts.1 in (
       All-cons (λ k. BlockCallsBelow n k.body) k more here.0 rest.0,
       All-cons (λ k. block_ends true k.body ≡ true) k more here.1 rest.1,
     )

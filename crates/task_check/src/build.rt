@@ -481,7 +481,8 @@ fn parameters<'a>(
 {
     let mut found = Vec::with_capacity(alloc, all.len())?;
     let mut rest = names;
-    for parameter in all {
+    for i in 0..all.len() {
+        let parameter = all[i];
         let (name, left) = variable(parameter.name, rest)?;
         let word_type = parameter.word_type;
         found.push(Parameter { word_type, name })?;

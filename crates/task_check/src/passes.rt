@@ -107,7 +107,6 @@ fn check_paths(
 
 // The same, of a source with its names looked up. The walk over the names has seen that all of it stands where it may; this is said of the source by
 // looking once more.
-#[tactic(auto, using(crate::proofs::Standing::is_placed))]
 fn check_placed(
     alloc: Global,
     source: &[u8],

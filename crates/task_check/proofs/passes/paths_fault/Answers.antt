@@ -16,8 +16,7 @@ pub returns-in-Some-first_open_function : goal.returns-in-Some-first_open_functi
 returns-in-Some-first_open_function c =
     let program = program_of c.args.checked.now in
     let known = calls_known program c.requires.placed in
-    let assigned = subst (λ o. IsFirst o (UnassignedAt program)) c.in_default-2.is (c.in_ok-name.ensures known) in
-    (
+    let assigned = subst (λ o. IsFirst o (UnassignedAt program)) c.in_default-2.is (c.in_ok-name.ensures known) in (
       c.in_default.ensures,
       assigned,
       c.in-Some-first_open_function.ensures known,
@@ -28,8 +27,7 @@ pub returns-in-Some-first_open_task : goal.returns-in-Some-first_open_task
 returns-in-Some-first_open_task c =
     let program = program_of c.args.checked.now in
     let known = calls_known program c.requires.placed in
-    let assigned = subst (λ o. IsFirst o (UnassignedAt program)) c.in_default-2.is (c.in_ok-name.ensures known) in
-    (
+    let assigned = subst (λ o. IsFirst o (UnassignedAt program)) c.in_default-2.is (c.in_ok-name.ensures known) in (
       c.in_default.ensures,
       assigned,
       c.in_default-first_open_function.ensures known,
