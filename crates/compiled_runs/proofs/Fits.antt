@@ -1,7 +1,8 @@
 -- The layout of a source has room for the code of its programs.
 use Rattle.std.proofs.Common.{◌≡◌, ◌≤◌, ℕ, suc, List, [], ◌∷◌, length, Some, slice_get, refl, arith}
 use Rattle.task_ast.specs.declared.SharedDeclaration.{SharedDeclaration}
-use Rattle.cost_bound.specs.Summaries.{Summary, summaries}
+use Rattle.cost_bound.specs.Summary.{Summary}
+use Rattle.cost_bound.specs.Summaries.{summaries}
 use Rattle.cost_bound.specs.Allowance.{CheckedTask, scalars_of}
 use Rattle.memory_map.specs.MemoryMap.{MemoryMap, TaskPlace}
 use Rattle.memory_map.specs.Spots.{places_of, private_words}
