@@ -1,6 +1,7 @@
 -- Where the runtime works in place each version word is below VER behind what is put back and the start.
 use Rattle.image_reports.proofs.Names.{◌≡◌, ℕ, Bool, true, false, sym, subst, refl, World, fram_after, CheckedProgram, State, Gate}
-use Rattle.image_reports.proofs.Names.{MemoryMap, word_place, ModelLaws, Origin, world_fram, program_places, compiled_model, start_under, under_map, VersionsBelow}
+use Rattle.image_reports.proofs.Names.{MemoryMap, word_place, ModelLaws, Origin, world_fram, program_places, compiled_model, start_under, under_map}
+use Rattle.image_reports.proofs.Names.{VersionsBelow}
 use Rattle.machine_effects.specs.World.{world_after}
 use Rattle.machine_effects.proofs.Interface.{fram_after-append}
 use Rattle.memory_map.specs.Laws.{AreApart}
