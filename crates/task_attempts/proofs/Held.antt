@@ -205,5 +205,5 @@ module _ (holds : ℕ → Bool) (words : ℕ → ℕ) (word : ℕ → ℕ → �
     where
       by : (c : Bool) → holds n ≡ c
           → run_block [] b (record a { variables = one c (refreshed n a.variables) n }) ≡ run_block [] b (record a { variables = refreshed n a.variables })
-      by true e = let k = f n e in words_run b n k.0 k.1 k.2 (words n) (omega arith) (record a { variables = refreshed n a.variables })
+      by true e = let k = f n e in words_run b calls n k.0 k.1 k.2 (words n) (omega arith) (record a { variables = refreshed n a.variables })
       by false e = refl
