@@ -71,7 +71,7 @@ push_tasks-requires-clause-order c =
     let commit = after_commit l ps c.requires.fits c.boot-start.result.address c.commit.result.address c.push_part.new.words.items
     c.push_part-2.new.words.items c.as_slice-2.result.now
     start (ap (λ r. r.address) c.commit.ensures) (c.as_slice-2.ensures.value ∙ c.in_ok-commit.ensures ∙ ap (λ g. commit_code g l) logs) boot
-      c.in_ok-push_part-2.ensures in
+    c.in_ok-push_part-2.ensures in
     let end = c.boot-start.result.address + 2 * length c.push_part-2.new.words.items in
     subst (λ ts. PartsInOrder end (task_parts c.runtime-events.result.events ts ps) reset_vector) (sym c.tasks.ensures)
     (subst (λ events. PartsInOrder end (task_parts events l.tasks ps) reset_vector) (sym (ap (λ r. r.events) c.runtime-events.ensures))
@@ -97,7 +97,7 @@ returns c =
     let commit = after_commit l ps c.requires.fits c.boot-start.result.address c.commit.result.address c.push_part.new.words.items
     c.push_part-2.new.words.items c.as_slice-2.result.now
     start (ap (λ r. r.address) c.commit.ensures) (c.as_slice-2.ensures.value ∙ c.in_ok-commit.ensures ∙ ap (λ g. commit_code g l) logs) boot
-      c.in_ok-push_part-2.ensures in
+    c.in_ok-push_part-2.ensures in
     let behind : Bool → List TaskPlace → List ℕ = λ events ts. c.push_part-2.new.words.items ++ words_in
     (chained (c.boot-start.result.address + 2 * length c.push_part-2.new.words.items) (task_parts events ts ps)) in
     c.in_ok-push_tasks.ensures
