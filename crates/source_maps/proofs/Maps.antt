@@ -23,7 +23,8 @@ use Rattle.memory_map.specs.Places.{end_of, list_entry_room, HasItsPlace, IsLaid
 use Rattle.memory_map.proofs.Interface.{parts_in_fram, words_stand}
 use Rattle.privatise.specs.Layouts.{IsTaskLayout}
 use Rattle.memory_map.specs.event_places.Places.{head_place, tail_place, count_place, sent_place, answer_place, ring_place}
-use Rattle.source_maps.specs.Maps.{map_words, map_list, map_buffer, copied_words, map_copies, event_ring, variables_of, private_names, shared_name, tasks_of, map_of}
+use Rattle.source_maps.specs.Maps.{map_words, map_list, map_buffer, copied_words, map_copies, event_ring, variables_of, private_names, shared_name, tasks_of}
+use Rattle.source_maps.specs.Maps.{map_of}
 use Rattle.memory_map.specs.declared.runtime.Logging.{Logging}
 use Rattle.memory_map.specs.declared.runtime.Logging.TheVariants.{Redo, Undo}
 use Rattle.source_maps.specs.Adding.{TakesTasks}
