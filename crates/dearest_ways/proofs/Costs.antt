@@ -44,10 +44,10 @@ mutual
       let within = suc k + test_choices t in
       let later = within + program_choices taken in
       let passed = behind_are (block_most bs taken) (λ n. on + n) _ _
-        (ended_are bs taken _ (further_are bs [] within (λ n. n) (straight_ways 0) taken none_are)) (straight_are on) in
+      (ended_are bs taken _ (further_are bs [] within (λ n. n) (straight_ways 0) taken none_are)) (straight_are on) in
       let held = behind_are (λ n. n) (λ n. block_most bs taken (on + n)) _ _ (choice_are k true) passed in
       let failed = behind_are (λ n. n) (block_most bs otherwise) _ _ (choice_are k false)
-        (ended_are bs otherwise _ (further_are bs [] later (λ n. n) (straight_ways 0) otherwise none_are)) in
+      (ended_are bs otherwise _ (further_are bs [] later (λ n. n) (straight_ways 0) otherwise none_are)) in
       let choice = chosen_are (test_most bs t false first) (λ n. block_most bs taken (on + n)) (block_most bs otherwise) (test_forks bs (suc k) t false first)
       (ways_behind (choice_ways k true) (ways_behind (block_ways bs within taken) (straight_cost on)))
       (ways_behind (choice_ways k false) (block_ways bs later otherwise)) (test_are bs (suc k) t false first) held failed in
@@ -59,7 +59,7 @@ mutual
       let set = forward_most (number_code n from) 5 in
       let made : ℕ → ℕ = block_most inner body in
       let turn = behind_are made (λ x. end + x) _ _ (ended_are inner body _ (further_are inner [] k (λ n. n) (straight_ways 0) body none_are))
-        (straight_are end) in
+      (straight_are end) in
       let turns = turns_are (λ m. turns_most m made end) (λ x. made (end + x)) (ways_behind (block_ways inner k body) (straight_cost end)) (λ x. refl)
       (λ m x. refl) turn (below - from) in
       let begun = behind_are (λ x. set + x) (turns_most (below - from) made end) _ _ (straight_are set) turns in

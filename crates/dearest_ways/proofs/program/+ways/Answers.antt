@@ -92,7 +92,7 @@ step_ways-returns-in_ok-chosen-in-Choose-clause-ways t c =
     let forks = test_forks bs (suc k) test false passed in
     let asked : forks_of c.in_ok-asked-in-Choose.asked ≡ forks =
     c.in_ok-asked-in-Choose.ensures.forks ∙ ap (λ j. test_forks bs j test false c.in_ok-jumps-in-Choose.jumps.first) number
-      ∙ ap (test_forks bs (suc k) test false) further in
+    ∙ ap (test_forks bs (suc k) test false) further in
     let one = ways_behind (choice_ways k true) (ways_behind (block_ways bs (suc k + test_choices test) p) on) in
     let held : ways_of c.in_ok-held-in-Choose.held ≡ one =
     c.in_ok-held-in-Choose.ensures.ways
