@@ -6,7 +6,7 @@ use Rattle.plain_commands.specs.alp_io.Shelf.{Files, Counts}
 use Rattle.plain_commands.specs.command_answers.declared.status.Status.{Status}
 use Rattle.plain_commands.specs.command_answers.declared.status.Status.TheVariants.{Done, Refused, Usage, Unreadable, Unwritable, OutOfMemory, MachineFault}
 use Rattle.plain_commands.specs.command_answers.declared.status.Status.TheVariants.{TooLong, Differs}
-use Rattle.plain_commands.specs.command_answers.CommandAnswers.{CommandAnswers, TextAnswers, OfTexts}
+use Rattle.plain_commands.specs.command_answers.CommandAnswers.{CommandAnswers}
 use Rattle.plain_commands.specs.command_answers.Ending.{Ending, well, at_fault, differs}
 use Rattle.plain_commands.specs.command_answers.InputFiles.{AreHeld, IsFirstUnfit, here, behind, IsOverlong}
 use Rattle.plain_commands.specs.command_answers.Outside.{Shelved, Written}
