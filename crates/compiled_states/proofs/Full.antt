@@ -5,9 +5,10 @@ use Rattle.compiled_states.proofs.Names.{versions_of, TaskPlanValue, MemoryMap, 
 use Rattle.memory_map.specs.declared.runtime.Logging.{Logging}
 use Rattle.privatise.specs.Layouts.{IsLayoutFor}
 use Rattle.task_ast.specs.declared.Extent.TheVariants.{Scalar, Long, Array}
+use Rattle.cost_bound.specs.Summary.{Summary}
 use Rattle.cost_bound.specs.Summaries.{summaries}
-use Rattle.cost_bound.specs.Counts.{CheckedBlock, emits_of}
-use Rattle.cost_bound.specs.Allowance.{plain_words_of}
+use Rattle.cost_bound.specs.Counts.{CheckedBlock, emits_of, routine_words}
+use Rattle.cost_bound.specs.Allowance.{own_words, plain_words_of, scalars_of}
 use Rattle.privatise.specs.Sizes.{home_part, home_words, copy_part, copy_words, body_words, entry_words}
 
 -- each part in front of the code begins where the one before ends
@@ -47,6 +48,13 @@ total_within f g h (t ∷ ts) e =
     let rest : total f ts ≤ total g ts + total h ts = total_within f g h ts e in
     omega (arith, here, rest)
 
+regrouped : (a s o r : ℕ) → a + s + o + r ≤ (a + s) + (o + r)
+regrouped a s o r = omega arith
+
+task_within : (known : List Summary) (shared : List SharedDeclaration) (c : CheckedBlock)
+    → task_words known shared c ≤ entry_words known shared c + body_words known shared c
+task_within known shared c = regrouped 200 (16 * scalars_of known shared c) (own_words known shared c) (routine_words known c)
+
 -- nothing is left between the parts, where the boot begins no later than they need
 no_room : (l : MemoryMap) → AreApart l → l.boot.address ≤ 17424 + 2 * (3 * l.entries + l.emits.words + l.versions.words + l.homes.words + l.copies.words)
     → IsFull l
@@ -65,7 +73,7 @@ pub layout_is_full : {logging : Logging} (p : CheckedProgram) (allow : Allow) (p
     → IsFull l
 layout_is_full p allow plans l h laid =
     let a = apart_of l laid.rules in
-    let starts = total (entry_words p.shared) p.tasks in
+    let starts = total (entry_words (summaries p) p.shared) p.tasks in
     let bodies = total (body_words (summaries p) p.shared) p.tasks in
     let homes = home_words p.shared in
     let copies = copy_words p in
@@ -73,7 +81,8 @@ layout_is_full p allow plans l h laid =
     let list = greatest (list_of (summaries p) p.shared) p.tasks in
     let emits = greatest (emits_of (summaries p)) p.tasks in
     let code : total (task_words (summaries p) p.shared) p.tasks ≤ starts + bodies =
-    total_within (task_words (summaries p) p.shared) (entry_words p.shared) (body_words (summaries p) p.shared) p.tasks (λ c. omega arith) in
+    total_within (task_words (summaries p) p.shared) (entry_words (summaries p) p.shared) (body_words (summaries p) p.shared) p.tasks
+    (task_within (summaries p) p.shared) in
     let places = places_within (is_written (summaries p) p.tasks) 0 p.shared in
     let all : plain_words_of p ≤ 600 + (starts + bodies) + (homes + copies + versions) + 3 * list + emits = omega (arith, code, places) in
     let commit = a.commit in let begin = a.code in let size = laid.size in

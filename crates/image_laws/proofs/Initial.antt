@@ -71,8 +71,8 @@ rows_start ts (d ∷ ds) r h =
     All-cons StartsSo d ds (shared_word_starts xs d r.3 (front_words xs ys k)) (rows_start ys ds r.4 (back_words xs ys k))
 
 program_starts : (ts : List Token) (p : Program) → IsProgram ts p → HaveWords ts → All StartsSo p.shared
-program_starts ts p (grammar.program xs ys zs h n z shareds first others is_shareds is_first is_others is_h is_n is_z) w =
-    rows_start xs shareds is_shareds (front_words xs (ys ++ (zs ++ (h ∷ n ∷ z ∷ []))) w)
+program_starts ts p (grammar.program xs fs ys zs h n z shareds functions first others is_shareds is_functions is_first is_others is_h is_n is_z) w =
+    rows_start xs shareds is_shareds (front_words xs (fs ++ (ys ++ (zs ++ (h ∷ n ∷ z ∷ [])))) w)
 
 pub scalars_start_with_words : (text : List ℕ) (p : CheckedProgram) → Checks text p → All StartsSo p.shared
 scalars_start_with_words text p checks =

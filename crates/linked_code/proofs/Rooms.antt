@@ -4,7 +4,8 @@ use Rattle.std.specs.Prelude.{All}
 use Rattle.std.proofs.lemmas.List.Elements.{All-nil, All-cons}
 use Rattle.std.proofs.lemmas.Option.{slice_get_within, slice_get-get_or}
 use Rattle.boot_runtime.specs.task_ast.declared.SharedDeclaration.{SharedDeclaration}
-use Rattle.boot_runtime.specs.cost_bound.Summaries.{Summary, summaries}
+use Rattle.boot_runtime.specs.cost_bound.Summary.{Summary}
+use Rattle.boot_runtime.specs.cost_bound.Summaries.{summaries}
 use Rattle.boot_runtime.specs.cost_bound.Allowance.{CheckedTask, scalars_of, list_of, greatest, total}
 use Rattle.boot_runtime.specs.war_analysis.PlanValue.{TaskPlanValue}
 use Rattle.word_code.specs.array_versions.Program.{Program}

@@ -2,7 +2,8 @@
 use Rattle.std.specs.Prelude.{◌≡◌, ℕ, ◌≤◌, List, [], ◌∷◌, length, Some, slice_get}
 use Rattle.boot_runtime.specs.task_ast.declared.SharedDeclaration.{SharedDeclaration}
 use Rattle.boot_runtime.specs.cost_bound.declared.allowance.Allow.{Allow}
-use Rattle.boot_runtime.specs.cost_bound.Summaries.{Summary, summaries}
+use Rattle.boot_runtime.specs.cost_bound.Summary.{Summary}
+use Rattle.boot_runtime.specs.cost_bound.Summaries.{summaries}
 use Rattle.boot_runtime.specs.cost_bound.Allowance.{CheckedProgram, CheckedTask, IsAllowed, scalars_of}
 use Rattle.boot_runtime.specs.war_analysis.PlanValue.{TaskPlanValue}
 use Rattle.word_code.specs.array_versions.Program.{Program}

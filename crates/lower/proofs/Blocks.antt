@@ -804,7 +804,7 @@ module _ (z : Scene) where
           within = here.within;
         } in
         subst Q there.stack_kept
-        (block_does more behind fits.1 admits.1 (λ v k. writes v (others_write v s more (runs_go_on_along_paths s (answered_by answers m) n is) k)))))
+        (block_does more behind fits.1 admits.1 (λ v k. writes v (others_write v s more (runs_go_on_along_paths [] s (answered_by answers m) n is) k)))))
 
 pub blocks_agree : BlocksAgree
 unfolding stores_of

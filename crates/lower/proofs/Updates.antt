@@ -1,5 +1,5 @@
 -- An assignment in place: `x = x + e`, `a[i] = a[i] + e` and their like.
-use Rattle.lower.proofs.Names.{◌≡◌, ℕ, Bool, true, false, ◌&&◌, Option, Some, None, refl, sym, ap, subst, ◌∙◌, if◌then◌else◌, eqb-true, and_parts}
+use Rattle.lower.proofs.Names.{[], ◌≡◌, ℕ, Bool, true, false, ◌&&◌, Option, Some, None, refl, sym, ap, subst, ◌∙◌, if◌then◌else◌, eqb-true, and_parts}
 use Rattle.lower.proofs.Names.{CheckedExpression, WordType, Unsigned, Int, Long, BinaryOperator, Variable, Shared, Local, VariableName, PlacedOperator}
 use Rattle.lower.proofs.Names.{IsOneWord, by_one_word, joined_word, ◌>>?◌, Evaluated, gives, made_of, word_at, scalar_value, binary_value, binary_result}
 use Rattle.lower.proofs.Names.{value_of, scalar_word, value_keeps, Outcome, if_value, with_value, PlainOperation, plain_word, plain_operation, is_same}

@@ -64,7 +64,7 @@ not_refused exclude f name (a ∷ b ∷ more) others place r held takes also ref
 -- what is made of texts ends well
 ends_well : (name : List ℕ) (texts : List (List ℕ)) (product : Product) → (bounds_promise name).makes texts product → product.ending ≡ well
 ends_well name [] product made = absurd made
-ends_well name (a ∷ []) product made = made.2.1
+ends_well name (a ∷ []) product made = made.2
 ends_well name (a ∷ b ∷ more) product made = absurd made
 
 not_at_fault : (e : Ending) → e ≡ well → e ≡ at_fault → ⊥
@@ -90,7 +90,7 @@ command_done exclude MachineFault name texts f now old new out err held takes fi
 command_done exclude Differs name texts f now old new out err held takes fine a =
     let whole = a.2.0 in absurd (not_differing whole.product.ending (ends_well name a.0 whole.product whole.is) whole.ends)
 command_done exclude Refused name texts f now old new out err held takes fine a =
-    let first = a.2.2.2.0 in absurd (not_refused exclude f name texts a.0 first.place a.2.1 held takes a.1 first.refused)
+    let first = a.2.2 in absurd (not_refused exclude f name texts a.0 first.place a.2.1 held takes a.1 first.refused)
 command_done exclude Unreadable name texts f now old new out err held takes fine a = absurd (cause a.1.cause)
   where
     cause : Rose old.failed_reads new.failed_reads ⊎ (Rose old.missing_reads new.missing_reads × IsFirstUnfit f (λ file. file ≡ None) (name ∷ []) a.0) → ⊥

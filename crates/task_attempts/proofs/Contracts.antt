@@ -42,9 +42,10 @@ use Rattle.task_attempts.proofs.Tame.{Tame, task_tame, emits_fit}
 use Rattle.task_attempts.proofs.Starts.{held_attempt, held_runs, readings_and}
 use Rattle.task_attempts.proofs.Started.{Attempting, scene}
 use Rattle.task_attempts.proofs.Leaving.{StoresOf, setting, bounds, Transition, before, effects_are, tame_before, next, few, z, z_behind}
+use Rattle.cost_bound.specs.Counts.{called_emits}
 use Rattle.cost_bound.specs.Summaries.{summaries}
 use Rattle.source_values.specs.Statements.{meanings}
-use Rattle.task_attempts.proofs.Plain.{no_counts, no_meanings}
+use Rattle.task_attempts.proofs.Plain.{no_summaries, no_meanings}
 
 -- what a runtime's model asks beside, of a started attempt: the state stands for the source's attempt; what statements do keeps the world undecided
 -- throughout, also up to a transition; and behind its last store the world is decided
@@ -231,8 +232,8 @@ module _ (logging : Logging) (role : Role) (run : Attempting) (keeps_to : Keeps 
 
   few_emits : block_emits [] code ≤ emits_of (summaries p) code
   few_emits =
-      let same = emits_same p code in
-      let none = ap (λ counts. block_emits counts code) (no_counts p given.plain) in
+      let same = emits_same (summaries p) code in
+      let none = ap (λ known. block_emits (called_emits known) code) (no_summaries p given.plain) in
       omega (arith, same, none)
 
   ends_well : EndsWell (length p.tasks) (run_block [] code attempt)

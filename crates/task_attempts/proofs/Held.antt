@@ -10,6 +10,7 @@ use Rattle.task_attempts.proofs.Names.{IsScalarInStatement, IsScalarInChoice, Is
 use Rattle.task_ast.specs.Tree as t
 use Rattle.task_ast.specs.declared.Extent.TheVariants as extent
 use Rattle.task_ast.specs.Types.{is_long}
+use Rattle.task_ast.specs.Calls.{BlockCallsBelow}
 use Rattle.path_sums.specs.Access.{is_same, writes, SomePath, IsPrivate}
 use Rattle.war_analysis.specs.Plans.{is_scalar, IsScalarAt, IsArrayAt}
 use Rattle.privatise.specs.Sizes.{home_part}
@@ -65,7 +66,8 @@ module _ (shared : List SharedDeclaration) (v : ℕ) (scalar : IsScalarAt shared
     scalar_statement (t.choose choice) u = scalar_choice choice u
     scalar_statement (t.loop x from tested below stepped body) u = (λ h. absurd (no_local x.variable u.0 h), scalar_block body u.1)
     scalar_statement (t.emit e) u = tt
-    scalar_statement (t.transition task) u = tt
+    scalar_statement (t.give at e) u = absurd u
+    scalar_statement (t.transition at task) u = tt
 
     scalar_choice : (c : CheckedChoice) → WellFormedChoice shared c → IsScalarInChoice v n c
     scalar_choice t.nothing u = tt
@@ -187,21 +189,21 @@ module _ (holds : ℕ → Bool) (words : ℕ → ℕ) (word : ℕ → ℕ → �
       (cases_eq v n)
 
   -- a block that writes it first comes to the same
-  words_run : (b : CheckedBlock) (n : ℕ) → IsScalarIn n (words n) b → SomePath [] b (writes (Shared n)) → (IsPrivate [] b (Shared n) → ⊥)
+  words_run : (b : CheckedBlock) → BlockCallsBelow 0 b → (n : ℕ) → IsScalarIn n (words n) b → SomePath [] b (writes (Shared n)) → (IsPrivate [] b (Shared n) → ⊥)
       → (j : ℕ) → j ≤ words n → (a : Attempt) → run_block [] b (record a { variables = with_words a.variables n j }) ≡ run_block [] b a
-  words_run b n k written in_place zero h a = refl
-  words_run b n k written in_place (suc j) h a =
-      first_writes_forget b n (words n) j (word n j) (record a { variables = with_words a.variables n j }) k (omega (arith, h)) written in_place
-      ∙ words_run b n k written in_place j (omega (arith, h)) a
+  words_run b calls n k written in_place zero h a = refl
+  words_run b calls n k written in_place (suc j) h a =
+      first_writes_forget b calls n (words n) j (word n j) (record a { variables = with_words a.variables n j }) k (omega (arith, h)) written in_place
+      ∙ words_run b calls n k written in_place j (omega (arith, h)) a
 
   -- and so one that writes each of them first
-  pub refreshed_runs : (b : CheckedBlock)
+  pub refreshed_runs : (b : CheckedBlock) → BlockCallsBelow 0 b
       → ((v : ℕ) → holds v ≡ true → IsScalarIn v (words v) b × SomePath [] b (writes (Shared v)) × (IsPrivate [] b (Shared v) → ⊥))
       → (n : ℕ) (a : Attempt) → run_block [] b (record a { variables = refreshed n a.variables }) ≡ run_block [] b a
-  refreshed_runs b f zero a = refl
-  refreshed_runs b f (suc n) a = by (holds n) refl ∙ refreshed_runs b f n a
+  refreshed_runs b calls f zero a = refl
+  refreshed_runs b calls f (suc n) a = by (holds n) refl ∙ refreshed_runs b calls f n a
     where
       by : (c : Bool) → holds n ≡ c
           → run_block [] b (record a { variables = one c (refreshed n a.variables) n }) ≡ run_block [] b (record a { variables = refreshed n a.variables })
-      by true e = let k = f n e in words_run b n k.0 k.1 k.2 (words n) (omega arith) (record a { variables = refreshed n a.variables })
+      by true e = let k = f n e in words_run b calls n k.0 k.1 k.2 (words n) (omega arith) (record a { variables = refreshed n a.variables })
       by false e = refl

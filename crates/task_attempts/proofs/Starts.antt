@@ -74,7 +74,7 @@ module _ (run : Attempting) where
   pub held_runs : (answers : List ℕ)
       → run_block [] code (answered_by answers held_attempt) ≡ run_block [] code (fresh_attempt s.shared (readings_and answers))
   held_runs answers =
-      refreshed_runs is_held held_words held_word code (λ v h.
+      refreshed_runs is_held held_words held_word code facts.calls (λ v h.
       let at = held_scalar v h in
       let place = at.0 in (
         subst (λ n. IsScalarIn v n code) (sym (ap words_at place.place)) (facts.scalars v place.home place.copy place.width place.place),

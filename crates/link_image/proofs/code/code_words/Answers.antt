@@ -1,4 +1,5 @@
-use Rattle.link_image.proofs.Names.{◌≡◌, ◌∙◌, ◌+◌, ◌*◌, ◌++◌, ◌<◌, ◌≤◌, ap, sym, subst, length, map, arith, length-map, reset_vector, end_of, instructions, program_of}
+use Rattle.link_image.proofs.Names.{◌≡◌, ◌∙◌, ◌+◌, ◌*◌, ◌++◌, ◌<◌, ◌≤◌, ap, sym, subst, length, map, arith, length-map, reset_vector, end_of, instructions}
+use Rattle.link_image.proofs.Names.{program_of}
 use Rattle.link_image.proofs.Names.{apart_of, chained, PartsInOrder, task_parts, Bool, List, ℕ, TaskPlace}
 use Rattle.link_image.proofs.code.code_words.Goals as goal
 use Rattle.linked_code.specs.Linked.{boot_code, commit_code, bytes_of_boot, bytes_of_commit, StartsFit}
@@ -69,7 +70,8 @@ push_tasks-requires-clause-order c =
     ∙ ap (λ g. boot_code g l) logs) c.in_ok-push_part.ensures in
     let commit = after_commit l ps c.requires.fits c.boot-start.result.address c.commit.result.address c.push_part.new.words.items
     c.push_part-2.new.words.items c.as_slice-2.result.now
-    start (ap (λ r. r.address) c.commit.ensures) (c.as_slice-2.ensures.value ∙ c.in_ok-commit.ensures ∙ ap (λ g. commit_code g l) logs) boot c.in_ok-push_part-2.ensures in
+    start (ap (λ r. r.address) c.commit.ensures) (c.as_slice-2.ensures.value ∙ c.in_ok-commit.ensures ∙ ap (λ g. commit_code g l) logs) boot
+      c.in_ok-push_part-2.ensures in
     let end = c.boot-start.result.address + 2 * length c.push_part-2.new.words.items in
     subst (λ ts. PartsInOrder end (task_parts c.runtime-events.result.events ts ps) reset_vector) (sym c.tasks.ensures)
     (subst (λ events. PartsInOrder end (task_parts events l.tasks ps) reset_vector) (sym (ap (λ r. r.events) c.runtime-events.ensures))
@@ -94,7 +96,8 @@ returns c =
     ∙ ap (λ g. boot_code g l) logs) c.in_ok-push_part.ensures in
     let commit = after_commit l ps c.requires.fits c.boot-start.result.address c.commit.result.address c.push_part.new.words.items
     c.push_part-2.new.words.items c.as_slice-2.result.now
-    start (ap (λ r. r.address) c.commit.ensures) (c.as_slice-2.ensures.value ∙ c.in_ok-commit.ensures ∙ ap (λ g. commit_code g l) logs) boot c.in_ok-push_part-2.ensures in
+    start (ap (λ r. r.address) c.commit.ensures) (c.as_slice-2.ensures.value ∙ c.in_ok-commit.ensures ∙ ap (λ g. commit_code g l) logs) boot
+      c.in_ok-push_part-2.ensures in
     let behind : Bool → List TaskPlace → List ℕ = λ events ts. c.push_part-2.new.words.items ++ words_in
     (chained (c.boot-start.result.address + 2 * length c.push_part-2.new.words.items) (task_parts events ts ps)) in
     c.in_ok-push_tasks.ensures
