@@ -1,5 +1,6 @@
 -- Whether some path goes on is a sum over paths.
-use Rattle.std.proofs.Common.{◌≡◌, ◌==◌, ◌-◌, Bool, true, false, ◌&&◌, ◌||◌, List, refl, ap, ap₂, sym, ◌∙◌, if◌then◌else◌, Some, None, [], ◌∷◌, length, map, subst}
+use Rattle.std.proofs.Common.{◌≡◌, ◌==◌, ◌-◌, Bool, true, false, ◌&&◌, ◌||◌, List, refl, ap, ap₂, sym, ◌∙◌, if◌then◌else◌, Some, None, [], ◌∷◌, length, map}
+use Rattle.std.proofs.Common.{subst}
 use Rattle.std.proofs.lemmas.List.{length-map}
 use Rattle.std.specs.Prelude.{IsTrue, ◌↔◌}
 use Rattle.task_ast.specs.Tree as t

@@ -287,43 +287,52 @@ module _ {S : Type 0} (A : Algebra S) (law : Lawful A) where
 
           back : (zs : List Access) (end : End) → Going (ExpressionPath fs t.next_event) zs end → Only [] zs end
           back _ _ (going _ p.next_event) = only
-      joins_expression (t.unary op a) calls = joins_same (Going (ExpressionPath fs a)) (Going (ExpressionPath fs (t.unary op a))) _ there back (joins_expression a calls)
+      joins_expression (t.unary op a) calls = joins_same (Going (ExpressionPath fs a)) (Going (ExpressionPath fs (t.unary op a))) _ there back
+          (joins_expression a calls)
         where
           there : (zs : List Access) (end : End) → Going (ExpressionPath fs a) zs end → Going (ExpressionPath fs (t.unary op a)) zs end
           there _ _ (going xs h) = going xs (p.unary op a xs h)
 
           back : (zs : List Access) (end : End) → Going (ExpressionPath fs (t.unary op a)) zs end → Going (ExpressionPath fs a) zs end
           back _ _ (going _ (p.unary _ _ xs h)) = going xs h
-      joins_expression (t.shift op a count) calls = joins_same (Going (ExpressionPath fs a)) (Going (ExpressionPath fs (t.shift op a count))) _ there back (joins_expression a calls)
+      joins_expression (t.shift op a count) calls =
+          joins_same (Going (ExpressionPath fs a)) (Going (ExpressionPath fs (t.shift op a count))) _ there back (joins_expression a calls)
         where
           there : (zs : List Access) (end : End) → Going (ExpressionPath fs a) zs end → Going (ExpressionPath fs (t.shift op a count)) zs end
           there _ _ (going xs h) = going xs (p.shift op a count xs h)
 
           back : (zs : List Access) (end : End) → Going (ExpressionPath fs (t.shift op a count)) zs end → Going (ExpressionPath fs a) zs end
           back _ _ (going _ (p.shift _ _ _ xs h)) = going xs h
-      joins_expression (t.name n) calls = joins_same (Only (read n ∷ [])) (Going (ExpressionPath fs (t.name n))) (A.one (read n)) there back (joins_one (read n))
+      joins_expression (t.name n) calls = joins_same (Only (read n ∷ [])) (Going (ExpressionPath fs (t.name n))) (A.one (read n)) there back
+          (joins_one (read n))
         where
           there : (zs : List Access) (end : End) → Only (read n ∷ []) zs end → Going (ExpressionPath fs (t.name n)) zs end
           there _ _ only = going (read n ∷ []) (p.name n)
 
           back : (zs : List Access) (end : End) → Going (ExpressionPath fs (t.name n)) zs end → Only (read n ∷ []) zs end
           back _ _ (going _ (p.name _)) = only
-      joins_expression (t.element n e) calls = joins_same (Then (Going (ExpressionPath fs e)) (Only (read n ∷ []))) (Going (ExpressionPath fs (t.element n e))) _ there back
+      joins_expression (t.element n e) calls = joins_same (Then (Going (ExpressionPath fs e)) (Only (read n ∷ [])))
+          (Going (ExpressionPath fs (t.element n e))) _ there back
           (joins_then _ _ _ _ (joins_expression e calls) (joins_one (read n)))
         where
-          there : (zs : List Access) (end : End) → Then (Going (ExpressionPath fs e)) (Only (read n ∷ [])) zs end → Going (ExpressionPath fs (t.element n e)) zs end
+          there : (zs : List Access) (end : End) → Then (Going (ExpressionPath fs e)) (Only (read n ∷ [])) zs end
+              → Going (ExpressionPath fs (t.element n e)) zs end
           there _ _ (both _ _ _ (going xs h) only) = going (xs ++ read n ∷ []) (p.element n e xs h)
           there _ _ (cut _ _ l (going _ _)) = absurd l
 
-          back : (zs : List Access) (end : End) → Going (ExpressionPath fs (t.element n e)) zs end → Then (Going (ExpressionPath fs e)) (Only (read n ∷ [])) zs end
+          back : (zs : List Access) (end : End) → Going (ExpressionPath fs (t.element n e)) zs end
+              → Then (Going (ExpressionPath fs e)) (Only (read n ∷ [])) zs end
           back _ _ (going _ (p.element _ _ xs h)) = both xs (read n ∷ []) goes_on (going xs h) only
-      joins_expression (t.binary op a b) calls = exp_then (ExpressionPath fs a) (ExpressionPath fs b) (ExpressionPath fs (t.binary op a b)) (expression_sum known A a)
+      joins_expression (t.binary op a b) calls = exp_then (ExpressionPath fs a) (ExpressionPath fs b) (ExpressionPath fs (t.binary op a b))
+          (expression_sum known A a)
           (expression_sum known A b) (λ xs ys h k. p.binary op a b xs ys h k) back (joins_expression a calls.0) (joins_expression b calls.1)
         where
-          back : (zs : List Access) → ExpressionPath fs (t.binary op a b) zs → (xs : List Access) × (ys : List Access) × (zs ≡ xs ++ ys) × ExpressionPath fs a xs
+          back : (zs : List Access) → ExpressionPath fs (t.binary op a b) zs → (xs : List Access) × (ys : List Access) × (zs ≡ xs ++ ys)
+              × ExpressionPath fs a xs
               × ExpressionPath fs b ys
           back _ (p.binary _ _ _ xs ys h k) = (xs, ys, refl, h, k)
-      joins_expression (t.short_circuit op a b) calls = joins_either (Going (ExpressionPath fs a)) (Then (Going (ExpressionPath fs a)) (Going (ExpressionPath fs b)))
+      joins_expression (t.short_circuit op a b) calls =
+          joins_either (Going (ExpressionPath fs a)) (Then (Going (ExpressionPath fs a)) (Going (ExpressionPath fs b)))
           (Going (ExpressionPath fs (t.short_circuit op a b))) _ _ alone with_right split (joins_expression a calls.0)
           (joins_then _ _ _ _ (joins_expression a calls.0) (joins_expression b calls.1))
         where
@@ -371,7 +380,8 @@ module _ {S : Type 0} (A : Algebra S) (law : Lawful A) where
     unfolding Turned
     turned x body j = joins_then (BlockPath fs body) (Only (write x ∷ [])) _ _ j (joins_one (write x))
 
-    turns_there : (x : VariableName) (n : ℕ) (body : CheckedBlock) (zs : List Access) (end : End) → Turns n (Turned fs x body) zs end → TurnsPath fs x n body zs end
+    turns_there : (x : VariableName) (n : ℕ) (body : CheckedBlock) (zs : List Access) (end : End) → Turns n (Turned fs x body) zs end
+        → TurnsPath fs x n body zs end
     unfolding Turned
     turns_there x zero body _ _ only = p.over x body
     turns_there x (suc n) body _ _ (both _ ys end (both xs _ _ h only) k) =
@@ -380,7 +390,8 @@ module _ {S : Type 0} (A : Algebra S) (law : Lawful A) where
     turns_there x (suc n) body _ _ (cut _ _ l (cut xs end m h)) = p.cut x n body xs end m h
     turns_there x (suc n) body _ _ (cut _ _ l (both _ _ _ _ only)) = absurd l
 
-    turns_back : (x : VariableName) (n : ℕ) (body : CheckedBlock) (zs : List Access) (end : End) → TurnsPath fs x n body zs end → Turns n (Turned fs x body) zs end
+    turns_back : (x : VariableName) (n : ℕ) (body : CheckedBlock) (zs : List Access) (end : End) → TurnsPath fs x n body zs end
+        → Turns n (Turned fs x body) zs end
     unfolding Turned
     turns_back x _ body _ _ (p.over _ _) = only
     turns_back x _ body _ _ (p.turn _ n _ xs ys end h k) =
@@ -397,16 +408,20 @@ module _ {S : Type 0} (A : Algebra S) (law : Lawful A) where
 
           back : (zs : List Access) (end : End) → StatementPath fs (t.declare of x None) zs end → Only (unset x ∷ []) zs end
           back _ _ (p.declare_unset _ _) = only
-      joins_statement (t.declare of x (Some e)) calls = joins_same (Then (Going (ExpressionPath fs e)) (Only (write x ∷ []))) (StatementPath fs (t.declare of x (Some e)))
+      joins_statement (t.declare of x (Some e)) calls =
+          joins_same (Then (Going (ExpressionPath fs e)) (Only (write x ∷ []))) (StatementPath fs (t.declare of x (Some e)))
           _ there back (joins_then _ _ _ _ (joins_expression e calls) (joins_one (write x)))
         where
-          there : (zs : List Access) (end : End) → Then (Going (ExpressionPath fs e)) (Only (write x ∷ [])) zs end → StatementPath fs (t.declare of x (Some e)) zs end
+          there : (zs : List Access) (end : End) → Then (Going (ExpressionPath fs e)) (Only (write x ∷ [])) zs end
+              → StatementPath fs (t.declare of x (Some e)) zs end
           there _ _ (both _ _ _ (going xs h) only) = p.declare_set of x e xs h
           there _ _ (cut _ _ l (going _ _)) = absurd l
 
-          back : (zs : List Access) (end : End) → StatementPath fs (t.declare of x (Some e)) zs end → Then (Going (ExpressionPath fs e)) (Only (write x ∷ [])) zs end
+          back : (zs : List Access) (end : End) → StatementPath fs (t.declare of x (Some e)) zs end
+              → Then (Going (ExpressionPath fs e)) (Only (write x ∷ [])) zs end
           back _ _ (p.declare_set _ _ _ xs h) = both xs (write x ∷ []) goes_on (going xs h) only
-      joins_statement (t.assign x e) calls = joins_same (Then (Going (ExpressionPath fs e)) (Only (write x ∷ []))) (StatementPath fs (t.assign x e)) _ there back
+      joins_statement (t.assign x e) calls = joins_same (Then (Going (ExpressionPath fs e)) (Only (write x ∷ []))) (StatementPath fs (t.assign x e)) _ there
+          back
           (joins_then _ _ _ _ (joins_expression e calls) (joins_one (write x)))
         where
           there : (zs : List Access) (end : End) → Then (Going (ExpressionPath fs e)) (Only (write x ∷ [])) zs end → StatementPath fs (t.assign x e) zs end
@@ -416,7 +431,8 @@ module _ {S : Type 0} (A : Algebra S) (law : Lawful A) where
           back : (zs : List Access) (end : End) → StatementPath fs (t.assign x e) zs end → Then (Going (ExpressionPath fs e)) (Only (write x ∷ [])) zs end
           back _ _ (p.assign _ _ xs h) = both xs (write x ∷ []) goes_on (going xs h) only
       joins_statement (t.store a i e) calls =
-          joins_same (Then (Going (ExpressionPath fs i)) (Then (Going (ExpressionPath fs e)) (Only (write a ∷ [])))) (StatementPath fs (t.store a i e)) _ there back
+          joins_same (Then (Going (ExpressionPath fs i)) (Then (Going (ExpressionPath fs e)) (Only (write a ∷ [])))) (StatementPath fs (t.store a i e)) _
+          there back
           (joins_then _ _ _ _ (joins_expression i calls.0) (joins_then _ _ _ _ (joins_expression e calls.1) (joins_one (write a))))
         where
           there : (zs : List Access) (end : End) → Then (Going (ExpressionPath fs i)) (Then (Going (ExpressionPath fs e)) (Only (write a ∷ []))) zs end
@@ -428,12 +444,14 @@ module _ {S : Type 0} (A : Algebra S) (law : Lawful A) where
           back : (zs : List Access) (end : End) → StatementPath fs (t.store a i e) zs end
               → Then (Going (ExpressionPath fs i)) (Then (Going (ExpressionPath fs e)) (Only (write a ∷ []))) zs end
           back _ _ (p.store _ _ _ xs ys h k) = both xs (ys ++ write a ∷ []) goes_on (going xs h) (both ys (write a ∷ []) goes_on (going ys k) only)
-      joins_statement (t.choose c) calls = joins_same (ChoicePath fs c) (StatementPath fs (t.choose c)) _ (λ zs end h. p.choose c zs end h) back (joins_choice c calls)
+      joins_statement (t.choose c) calls = joins_same (ChoicePath fs c) (StatementPath fs (t.choose c)) _ (λ zs end h. p.choose c zs end h) back
+          (joins_choice c calls)
         where
           back : (zs : List Access) (end : End) → StatementPath fs (t.choose c) zs end → ChoicePath fs c zs end
           back _ _ (p.choose _ _ _ h) = h
       joins_statement (t.loop x from tested below stepped body) calls =
-          joins_same (Then (Only (write x ∷ [])) (Turns (below - from) (Turned fs x body))) (StatementPath fs (t.loop x from tested below stepped body)) _ there back
+          joins_same (Then (Only (write x ∷ [])) (Turns (below - from) (Turned fs x body))) (StatementPath fs (t.loop x from tested below stepped body)) _
+          there back
           (joins_then _ _ _ _ (joins_one (write x)) (joins_turns (below - from) (Turned fs x body) _ (turned x body (joins_block body calls))))
         where
           there : (zs : List Access) (end : End) → Then (Only (write x ∷ [])) (Turns (below - from) (Turned fs x body)) zs end
@@ -474,12 +492,14 @@ module _ {S : Type 0} (A : Algebra S) (law : Lawful A) where
 
           back : (zs : List Access) (end : End) → ChoicePath fs t.nothing zs end → Only [] zs end
           back _ _ p.nothing = only
-      joins_choice (t.otherwise b) calls = joins_same (BlockPath fs b) (ChoicePath fs (t.otherwise b)) _ (λ zs end h. p.otherwise b zs end h) back (joins_block b calls)
+      joins_choice (t.otherwise b) calls = joins_same (BlockPath fs b) (ChoicePath fs (t.otherwise b)) _ (λ zs end h. p.otherwise b zs end h) back
+          (joins_block b calls)
         where
           back : (zs : List Access) (end : End) → ChoicePath fs (t.otherwise b) zs end → BlockPath fs b zs end
           back _ _ (p.otherwise _ _ _ h) = h
       joins_choice (t.test e b more) calls = joins_same (Then (Going (ExpressionPath fs e)) (Or fs b more)) (ChoicePath fs (t.test e b more)) _ there back
-          (joins_then _ _ _ _ (joins_expression e calls.0) (joins_either (BlockPath fs b) (ChoicePath fs more) (Or fs b more) _ _ (λ zs end h. inl h) (λ zs end h. inr h)
+          (joins_then _ _ _ _ (joins_expression e calls.0)
+          (joins_either (BlockPath fs b) (ChoicePath fs more) (Or fs b more) _ _ (λ zs end h. inl h) (λ zs end h. inr h)
           (λ zs end h. h) (joins_block b calls.1.0) (joins_choice more calls.1.1)))
         where
           there : (zs : List Access) (end : End) → Then (Going (ExpressionPath fs e)) (Or fs b more) zs end → ChoicePath fs (t.test e b more) zs end
