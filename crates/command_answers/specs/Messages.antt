@@ -43,4 +43,5 @@ unfoldable pub usage_line : List ℕ
 usage_line =
     texts
     (codes "usage: alpaca mean SRC TRACE | try SRC TRACE IMAGE | build SRC IMAGE | run IMAGE TRACE | asm ASM IMAGE | dis IMAGE | gen N IMAGE"
-    ∷ codes " | save IMAGE TRACE STATE | resume IMAGE STATE TRACE | migrate SRC IMAGE STATE NEWSRC NEWIMAGE NEWSTATE | undo SRC TRACE IMAGE | audit SRC REPORT TRACE\n" ∷ [])
+    ∷ codes " | save IMAGE TRACE STATE | resume IMAGE STATE TRACE | migrate SRC IMAGE STATE NEWSRC NEWIMAGE NEWSTATE"
+    ∷ codes " | undo SRC TRACE IMAGE | audit SRC REPORT TRACE\n" ∷ [])

@@ -188,7 +188,8 @@ pub fn tell_usage<E: Sink>(err: &mut E)
         err,
         &[
             b"usage: alpaca mean SRC TRACE | try SRC TRACE IMAGE | build SRC IMAGE | run IMAGE TRACE | asm ASM IMAGE | dis IMAGE | gen N IMAGE \
-              | save IMAGE TRACE STATE | resume IMAGE STATE TRACE | migrate SRC IMAGE STATE NEWSRC NEWIMAGE NEWSTATE | undo SRC TRACE IMAGE | audit SRC REPORT TRACE\n",
+              | save IMAGE TRACE STATE | resume IMAGE STATE TRACE | migrate SRC IMAGE STATE NEWSRC NEWIMAGE NEWSTATE \
+              | undo SRC TRACE IMAGE | audit SRC REPORT TRACE\n",
         ],
     );
 }

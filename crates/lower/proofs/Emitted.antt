@@ -1,5 +1,6 @@
 -- Statements emit no more words than they count.
-use Rattle.lower.proofs.Names.{ℕ, ◌+◌, ◌≤◌, [], length, CheckedStatement, CheckedBlock, Outcome, to_task, returns, short, run_statement, run_block, statement_emits}
+use Rattle.lower.proofs.Names.{ℕ, ◌+◌, ◌≤◌, [], length, CheckedStatement, CheckedBlock, Outcome, to_task, returns, short, run_statement, run_block}
+use Rattle.lower.proofs.Names.{statement_emits}
 use Rattle.lower.proofs.Names.{block_emits, EmitsUpTo, statement_up_to, block_up_to}
 use Rattle.source_values.specs.Statements.{Attempt, goes_on}
 

@@ -116,7 +116,8 @@ pub record Way (before : Walk) (start : Start) (ends both : Ends) (w v : Walk) (
   pub end : IsWayEnd start.mark start.comes ends both walked v
 
 module _ (before w v : Walk) (ends both : Ends) (start : Start) (whole R : Family) (a : Arm VariableName TaskName FunctionName)
-    (s : SoFar before w ends whole (λ x p. assignment_seq (expression_sum [] (assignment x p) (expression_of (out-Arm VariableName TaskName FunctionName a).condition))
+    (s : SoFar before w ends whole (λ x p. assignment_seq
+    (expression_sum [] (assignment x p) (expression_of (out-Arm VariableName TaskName FunctionName a).condition))
     (assignment_join (block_sum [] (assignment x p) (block_view (out-Arm VariableName TaskName FunctionName a).block.items)) (R x p))))
     (way : Way before start ends both w v a) where
   E : Family
@@ -197,7 +198,8 @@ tested_is : (a : Arm VariableName TaskName FunctionName) → tested_of a ≡ rec
 tested_is a = search (rules, the_lemmas)
 
 -- what is to come, with the next arm at its front
-arm_front : (arms : List (Arm VariableName TaskName FunctionName)) (i : ℕ) (a : Arm VariableName TaskName FunctionName) (last : Option CheckedBlock) (x : ℕ) (p : Span)
+arm_front : (arms : List (Arm VariableName TaskName FunctionName)) (i : ℕ) (a : Arm VariableName TaskName FunctionName) (last : Option CheckedBlock) (x : ℕ)
+    (p : Span)
     → i < length arms → a ≡ get_or arms i a → choice_sum [] (assignment x p) (choice_of (map tested_of (drop i arms)) last)
     ≡ assignment_seq (expression_sum [] (assignment x p) (expression_of (out-Arm VariableName TaskName FunctionName a).condition))
     (assignment_join (block_sum [] (assignment x p) (block_view (out-Arm VariableName TaskName FunctionName a).block.items))
@@ -221,7 +223,8 @@ to_come arms last i x p = choice_sum [] (assignment x p) (choice_of (map tested_
 abbrev pub Passed : Walk → Walk → Ends → List (Arm VariableName TaskName FunctionName) → ℕ → Type 0
 Passed before w ends arms i = (last : Option CheckedBlock) → SoFar before w ends (to_come arms last 0) (to_come arms last i)
 
-pub one_way : (before w v : Walk) (ends both : Ends) (start : Start) (arms : List (Arm VariableName TaskName FunctionName)) (i : ℕ) (a : Arm VariableName TaskName FunctionName)
+pub one_way : (before w v : Walk) (ends both : Ends) (start : Start) (arms : List (Arm VariableName TaskName FunctionName)) (i : ℕ)
+    (a : Arm VariableName TaskName FunctionName)
     → (i < length arms) × (a ≡ get_or arms i a) → Way before start ends both w v a → Passed before w ends arms i → Passed before v both arms (i + 1)
 one_way before w v ends both start arms i a next way s = λ last.
     way_ended before w v ends both start (to_come arms last 0) (to_come arms last (i + 1)) a

@@ -1,5 +1,6 @@
 -- Parts that are walked one after another.
-use Rattle.std.proofs.Common.{◌≡◌, ◌==◌, ◌+◌, ◌-◌, ◌<◌, ◌≤◌, ℕ, Bool, List, [], ◌∷◌, length, drop, drop-cons, get_or, ap, sym, ◌∙◌, if◌then◌else◌, arith, add-one}
+use Rattle.std.proofs.Common.{◌≡◌, ◌==◌, ◌+◌, ◌-◌, ◌<◌, ◌≤◌, ℕ, Bool, List, [], ◌∷◌, length, drop, drop-cons, get_or, ap, sym, ◌∙◌, if◌then◌else◌, arith}
+use Rattle.std.proofs.Common.{add-one}
 use Rattle.std.proofs.lemmas.List.{drop_all, get_or_default}
 use Rattle.task_ast.specs.declared.names.FunctionName.{FunctionName}
 use Rattle.task_ast.specs.declared.names.VariableName.{VariableName}
@@ -27,7 +28,8 @@ put_step es i d old now new pos h inv put x =
     ∙ ap (λ us. ended us x (old x)) (sym (drop_back es i e pos h (get_or_default es (i - 1) d e below)))
 
 -- one more statement in front of the rest of a block
-pub block_step : (body : List (Stmt VariableName TaskName FunctionName)) (i : ℕ) (s : Stmt VariableName TaskName FunctionName) (w v u : Walk) → i < length body → s ≡ get_or body i s
+pub block_step : (body : List (Stmt VariableName TaskName FunctionName)) (i : ℕ) (s : Stmt VariableName TaskName FunctionName) (w v u : Walk)
+    → i < length body → s ≡ get_or body i s
     → Does w v (λ x p. statement_sum [] (assignment x p) (statement_of s))
     → Does v u (λ x p. block_sum [] (assignment x p) (block_view (drop (i + 1) body)))
     → Does w u (λ x p. block_sum [] (assignment x p) (block_view (drop i body)))

@@ -1,6 +1,7 @@
 -- Steps of a walk.
 use Rattle.std.proofs.Common.{◌≡◌, ◌==◌, ℕ, Bool, true, false, ◌&&◌, ◌||◌, not, List, [], ◌∷◌, ◌++◌, take, drop, length, refl, ap, ap₂, sym, ◌∙◌, subst}
-use Rattle.std.proofs.Common.{if◌then◌else◌, Option, None, Some, Result, Ok, Err, IfOk, append-nil, append_assoc, ◌⊎◌, inl, inr, get_or, nat_lt, replicate, arith}
+use Rattle.std.proofs.Common.{if◌then◌else◌, Option, None, Some, Result, Ok, Err, IfOk, append-nil, append_assoc, ◌⊎◌, inl, inr, get_or, nat_lt, replicate}
+use Rattle.std.proofs.Common.{arith}
 use Rattle.std.proofs.lemmas.Bool.{and_parts, and_from, or_cases, or_left, or_right, ltb-true, ltb-false}
 use Rattle.std.proofs.lemmas.List.{get_or-replicate, get_or_past, length-replicate}
 use Rattle.std.specs.declared.alloc.AllocError.{AllocError}
@@ -302,7 +303,8 @@ pub first_short : (w : Walk) (a b : CheckedExpression) (q r : Option Span)
     → IsFirst r (SomeLocal (λ x p. not (is_assigned w x) && (expression_sum [] (assignment x p) b).exposed))
     → IsFirst (first_of q r) (SomeLocal (λ x p. not (is_assigned w x) && (assignment_join (expression_sum [] (assignment x p) a)
     (assignment_seq (expression_sum [] (assignment x p) a) (expression_sum [] (assignment x p) b))).exposed))
-first_short w a b q r = first_two (is_assigned w) (λ x p. (expression_sum [] (assignment x p) a).exposed) (λ x p. (expression_sum [] (assignment x p) b).exposed)
+first_short w a b q r = first_two (is_assigned w) (λ x p. (expression_sum [] (assignment x p) a).exposed)
+    (λ x p. (expression_sum [] (assignment x p) b).exposed)
     (λ x p. (assignment_join (expression_sum [] (assignment x p) a) (assignment_seq (expression_sum [] (assignment x p) a)
     (expression_sum [] (assignment x p) b))).exposed) q r
     (λ x p. ap (λ c. (expression_sum [] (assignment x p) a).exposed || c)

@@ -189,7 +189,8 @@ module _ (holds : ℕ → Bool) (words : ℕ → ℕ) (word : ℕ → ℕ → �
       (cases_eq v n)
 
   -- a block that writes it first comes to the same
-  words_run : (b : CheckedBlock) → BlockCallsBelow 0 b → (n : ℕ) → IsScalarIn n (words n) b → SomePath [] b (writes (Shared n)) → (IsPrivate [] b (Shared n) → ⊥)
+  words_run : (b : CheckedBlock) → BlockCallsBelow 0 b → (n : ℕ) → IsScalarIn n (words n) b → SomePath [] b (writes (Shared n))
+      → (IsPrivate [] b (Shared n) → ⊥)
       → (j : ℕ) → j ≤ words n → (a : Attempt) → run_block [] b (record a { variables = with_words a.variables n j }) ≡ run_block [] b a
   words_run b calls n k written in_place zero h a = refl
   words_run b calls n k written in_place (suc j) h a =

@@ -27,7 +27,8 @@ record Filled (A : Type 0) : Type 0 where
   cs : List TypedFunction
   ts : List ℕ
 
-abbrev name_from : {A : Type 0} → Span → List TypedVariable → List TypedFunction → List ℕ → (VariableName → List TypedVariable → List TypedFunction → List ℕ → A) → A
+abbrev name_from : {A : Type 0} → Span → List TypedVariable → List TypedFunction → List ℕ
+    → (VariableName → List TypedVariable → List TypedFunction → List ℕ → A) → A
 name_from s [] cs ts go = go (record { span = s; variable = variable.Shared 0; word_type = word_type.Unsigned }) [] cs ts
 name_from s (v ∷ vs) cs ts go = go (record { span = s; variable = v.variable; word_type = v.word_type }) vs cs ts
 
@@ -50,7 +51,8 @@ abbrev mutual
   fill_expression (t.unary op a) vs cs ts = let r = fill_expression a vs cs ts in record { part = t.unary op r.part; vs = r.vs; cs = r.cs; ts = r.ts }
   fill_expression (t.binary op a b) vs cs ts = let r = fill_expression a vs cs ts in let q = fill_expression b r.vs r.cs r.ts in
       record { part = t.binary op r.part q.part; vs = q.vs; cs = q.cs; ts = q.ts }
-  fill_expression (t.shift op a count) vs cs ts = let r = fill_expression a vs cs ts in record { part = t.shift op r.part count; vs = r.vs; cs = r.cs; ts = r.ts }
+  fill_expression (t.shift op a count) vs cs ts = let r = fill_expression a vs cs ts in
+      record { part = t.shift op r.part count; vs = r.vs; cs = r.cs; ts = r.ts }
   fill_expression (t.short_circuit op a b) vs cs ts = let r = fill_expression a vs cs ts in let q = fill_expression b r.vs r.cs r.ts in
       record { part = t.short_circuit op r.part q.part; vs = q.vs; cs = q.cs; ts = q.ts }
 
@@ -65,7 +67,8 @@ mutual
   filled_expression (t.number n) vs cs ts = refl
   filled_expression (t.long_number n) vs cs ts = refl
   filled_expression (t.name v) vs cs ts = refl
-  filled_expression (t.element v index) vs cs ts = ap (λ r. record { part = t.element v r.part; vs = r.vs; cs = r.cs; ts = r.ts }) (filled_expression index vs cs ts)
+  filled_expression (t.element v index) vs cs ts = ap (λ r. record { part = t.element v r.part; vs = r.vs; cs = r.cs; ts = r.ts })
+      (filled_expression index vs cs ts)
   filled_expression t.sense vs cs ts = refl
   filled_expression t.next_event vs cs ts = refl
   filled_expression (t.call f values) vs cs ts =
@@ -75,9 +78,11 @@ mutual
       ap (λ r. let q = fill_expression (expression_back b) r.vs r.cs r.ts in record { part = t.binary op r.part q.part; vs = q.vs; cs = q.cs; ts = q.ts })
       (filled_expression a (expression_variables b vs) (expression_calls b cs) ts)
       ∙ ap (λ q. record { part = t.binary op a q.part; vs = q.vs; cs = q.cs; ts = q.ts }) (filled_expression b vs cs ts)
-  filled_expression (t.shift op a count) vs cs ts = ap (λ r. record { part = t.shift op r.part count; vs = r.vs; cs = r.cs; ts = r.ts }) (filled_expression a vs cs ts)
+  filled_expression (t.shift op a count) vs cs ts =
+      ap (λ r. record { part = t.shift op r.part count; vs = r.vs; cs = r.cs; ts = r.ts }) (filled_expression a vs cs ts)
   filled_expression (t.short_circuit op a b) vs cs ts =
-      ap (λ r. let q = fill_expression (expression_back b) r.vs r.cs r.ts in record { part = t.short_circuit op r.part q.part; vs = q.vs; cs = q.cs; ts = q.ts })
+      ap (λ r. let q = fill_expression (expression_back b) r.vs r.cs r.ts in
+      record { part = t.short_circuit op r.part q.part; vs = q.vs; cs = q.cs; ts = q.ts })
       (filled_expression a (expression_variables b vs) (expression_calls b cs) ts)
       ∙ ap (λ q. record { part = t.short_circuit op a q.part; vs = q.vs; cs = q.cs; ts = q.ts }) (filled_expression b vs cs ts)
 
@@ -98,7 +103,8 @@ filled_value : (e : Option CheckedExpression) (vs : List TypedVariable) (cs : Li
 filled_value None vs cs ts = refl
 filled_value (Some e) vs cs ts = ap (λ r. record { part = Some r.part; vs = r.vs; cs = r.cs; ts = r.ts }) (filled_expression e vs cs ts)
 
-abbrev task_from : {A : Type 0} → Span → List TypedVariable → List TypedFunction → List ℕ → (TaskName → List TypedVariable → List TypedFunction → List ℕ → A) → A
+abbrev task_from : {A : Type 0} → Span → List TypedVariable → List TypedFunction → List ℕ → (TaskName → List TypedVariable → List TypedFunction → List ℕ → A)
+    → A
 task_from s vs cs [] go = go (record { span = s; task = 0 }) vs cs []
 task_from s vs cs (n ∷ ts) go = go (record { span = s; task = n }) vs cs ts
 
@@ -109,9 +115,11 @@ abbrev mutual
   fill_statement (t.assign s e) vs cs ts = name_from s vs cs ts (λ v vs cs ts. let r = fill_expression e vs cs ts in
       record { part = t.assign v r.part; vs = r.vs; cs = r.cs; ts = r.ts })
   fill_statement (t.store s index e) vs cs ts = name_from s vs cs ts (λ v vs cs ts.
-      let r = fill_expression index vs cs ts in let q = fill_expression e r.vs r.cs r.ts in record { part = t.store v r.part q.part; vs = q.vs; cs = q.cs; ts = q.ts })
+      let r = fill_expression index vs cs ts in let q = fill_expression e r.vs r.cs r.ts in
+      record { part = t.store v r.part q.part; vs = q.vs; cs = q.cs; ts = q.ts })
   fill_statement (t.choose c) vs cs ts = let r = fill_choice c vs cs ts in record { part = t.choose r.part; vs = r.vs; cs = r.cs; ts = r.ts }
-  fill_statement (t.loop a from b below c body) vs cs ts = name_from a vs cs ts (λ x vs cs ts. name_from b vs cs ts (λ y vs cs ts. name_from c vs cs ts (λ z vs cs ts.
+  fill_statement (t.loop a from b below c body) vs cs ts =
+      name_from a vs cs ts (λ x vs cs ts. name_from b vs cs ts (λ y vs cs ts. name_from c vs cs ts (λ z vs cs ts.
       let r = fill_block body vs cs ts in record { part = t.loop x from y below z r.part; vs = r.vs; cs = r.cs; ts = r.ts })))
   fill_statement (t.emit e) vs cs ts = let r = fill_expression e vs cs ts in record { part = t.emit r.part; vs = r.vs; cs = r.cs; ts = r.ts }
   fill_statement (t.give at e) vs cs ts = let r = fill_expression e vs cs ts in record { part = t.give at r.part; vs = r.vs; cs = r.cs; ts = r.ts }
@@ -120,7 +128,8 @@ abbrev mutual
   fill_choice : Choice Span Span Span → List TypedVariable → List TypedFunction → List ℕ → Filled CheckedChoice
   fill_choice t.nothing vs cs ts = record { part = t.nothing; vs = vs; cs = cs; ts = ts }
   fill_choice (t.otherwise b) vs cs ts = let r = fill_block b vs cs ts in record { part = t.otherwise r.part; vs = r.vs; cs = r.cs; ts = r.ts }
-  fill_choice (t.test e b more) vs cs ts = let r = fill_expression e vs cs ts in let q = fill_block b r.vs r.cs r.ts in let p = fill_choice more q.vs q.cs q.ts in
+  fill_choice (t.test e b more) vs cs ts = let r = fill_expression e vs cs ts in let q = fill_block b r.vs r.cs r.ts in let p =
+      fill_choice more q.vs q.cs q.ts in
       record { part = t.test r.part q.part p.part; vs = p.vs; cs = p.cs; ts = p.ts }
 
   fill_block : Block Span Span Span → List TypedVariable → List TypedFunction → List ℕ → Filled CheckedBlock
@@ -130,7 +139,8 @@ abbrev mutual
 
 mutual
   filled_statement : (s : CheckedStatement) (vs : List TypedVariable) (cs : List TypedFunction) (ts : List ℕ)
-      → fill_statement (statement_back s) (statement_variables s vs) (statement_calls s cs) (statement_targets s ts) ≡ record { part = s; vs = vs; cs = cs; ts = ts }
+      → fill_statement (statement_back s) (statement_variables s vs) (statement_calls s cs) (statement_targets s ts)
+      ≡ record { part = s; vs = vs; cs = cs; ts = ts }
   filled_statement (t.declare of v e) vs cs ts = ap (λ r. record { part = t.declare of v r.part; vs = r.vs; cs = r.cs; ts = r.ts }) (filled_value e vs cs ts)
   filled_statement (t.assign v e) vs cs ts = ap (λ r. record { part = t.assign v r.part; vs = r.vs; cs = r.cs; ts = r.ts }) (filled_expression e vs cs ts)
   filled_statement (t.store v index e) vs cs ts =
@@ -173,7 +183,8 @@ filled_tasks : (ks : List CheckedTask) (vs : List TypedVariable) (cs : List Type
     → fill_tasks (map task_back ks) (task_variables ks vs) (task_calls ks cs) (task_targets ks ts) ≡ record { part = ks; vs = vs; cs = cs; ts = ts }
 filled_tasks [] vs cs ts = refl
 filled_tasks (k ∷ more) vs cs ts =
-    ap (λ r. let q = fill_tasks (map task_back more) r.vs r.cs r.ts in record { part = record { name = k.name; body = r.part } ∷ q.part; vs = q.vs; cs = q.cs; ts = q.ts })
+    ap (λ r. let q = fill_tasks (map task_back more) r.vs r.cs r.ts in
+    record { part = record { name = k.name; body = r.part } ∷ q.part; vs = q.vs; cs = q.cs; ts = q.ts })
     (filled_block k.body (task_variables more vs) (task_calls more cs) (task_targets more ts))
     ∙ ap (λ q. record { part = k ∷ q.part; vs = q.vs; cs = q.cs; ts = q.ts }) (filled_tasks more vs cs ts)
 

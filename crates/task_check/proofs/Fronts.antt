@@ -147,9 +147,11 @@ module _ (source : List ℕ) (names : List Occurrence) (globals : BTreeMap (Bor 
 -- ---- the table of shared variables and tasks
 
 pub globals_none : (source : List ℕ) (names : List Occurrence) (table : BTreeMap (Bor (List ℕ)) Global) → ((q : List ℕ) → found table q ≡ None)
-    → HasGlobals source (drop (length names) names) table × (record { shared = 0; functions = 0; tasks = 0; locals = 0 } ≡ counts_in (drop (length names) names))
+    → HasGlobals source (drop (length names) names) table
+    × (record { shared = 0; functions = 0; tasks = 0; locals = 0 } ≡ counts_in (drop (length names) names))
 globals_none source names table none =
-    subst (λ xs. HasGlobals source xs table × (record { shared = 0; functions = 0; tasks = 0; locals = 0 } ≡ counts_in xs)) (sym (drop-length names)) (none, refl)
+    subst (λ xs. HasGlobals source xs table × (record { shared = 0; functions = 0; tasks = 0; locals = 0 } ≡ counts_in xs)) (sym (drop-length names))
+    (none, refl)
 
 counts_next : (c k : Counts) (o : Occurrence) (front : List Occurrence) → c ≡ counts_in front → k.shared ≡ c.shared + one_shared o.role
     → k.functions ≡ c.functions + one_function o.role → k.tasks ≡ c.tasks + one_task o.role → k.locals ≡ locals_after c.locals o.role
@@ -166,7 +168,8 @@ pub globals_back : (source : List ℕ) (names : List Occurrence) (i : ℕ) (o : 
     → k.locals ≡ locals_after c.locals o.role → n ≡ length names - 1 - (i - 1)
     → HasGlobals source (drop (i - 1) names) new × (k ≡ counts_in (drop (i - 1) names))
 globals_back source names i o pos within at n table new c k has is g gs t ts put e d f h ns =
-    subst (λ xs. HasGlobals source xs new × (k ≡ counts_in xs)) (sym (drop_back names i o pos within at)) (has_next, counts_next c k o (drop i names) is e d f h)
+    subst (λ xs. HasGlobals source xs new × (k ≡ counts_in xs)) (sym (drop_back names i o pos within at))
+    (has_next, counts_next c k o (drop i names) is e d f h)
   where
     g_is : g ≡ global_with o.role (length (drop i names)) (shared_in (drop i names)) (functions_in (drop i names)) (tasks_in (drop i names))
     g_is = gs ∙ (ap (λ n. global_with o.role n c.shared c.functions c.tasks) (front_is names i n pos within ns)

@@ -56,7 +56,8 @@ pub choice_variables_some : (xs : List (Tested VariableName TaskName FunctionNam
 choice_variables_some [] b more = refl
 choice_variables_some (x ∷ xs) b more = ap (λ r. expression_variables x.condition (block_variables x.block r)) (choice_variables_some xs b more)
 
-pub choice_targets_none : (xs : List (Tested VariableName TaskName FunctionName)) (more : List ℕ) → choice_targets (choice_of xs None) more ≡ arms_targets xs more
+pub choice_targets_none : (xs : List (Tested VariableName TaskName FunctionName)) (more : List ℕ)
+    → choice_targets (choice_of xs None) more ≡ arms_targets xs more
 choice_targets_none [] more = refl
 choice_targets_none (x ∷ xs) more = ap (block_targets x.block) (choice_targets_none xs more)
 
@@ -113,7 +114,8 @@ pub statements_push : (xs : List (Stmt VariableName TaskName FunctionName)) (x :
     → map statement_of (xs ++ x ∷ []) ≡ map statement_of xs ++ statement_of x ∷ []
 statements_push xs x = map-append statement_of xs (x ∷ [])
 
-pub tests_push : (xs : List (Arm VariableName TaskName FunctionName)) (x : Arm VariableName TaskName FunctionName) → map tested_of (xs ++ x ∷ []) ≡ map tested_of xs ++ tested_of x ∷ []
+pub tests_push : (xs : List (Arm VariableName TaskName FunctionName)) (x : Arm VariableName TaskName FunctionName)
+    → map tested_of (xs ++ x ∷ []) ≡ map tested_of xs ++ tested_of x ∷ []
 tests_push xs x = map-append tested_of xs (x ∷ [])
 
 -- ---- an `if` and its parts
@@ -140,14 +142,16 @@ read_on f h g xs new x ys y is e k =
     ∙ (ap (λ v. v ++ h (f x) ∷ []) e ∙ (ap (λ v. map g ys ++ v ∷ []) k ∙ sym (map-append g ys (y ∷ []))))))
 
 -- what is left to take after one more
-pub push_variables : (xs new : List (Stmt VariableName TaskName FunctionName)) (x : Stmt VariableName TaskName FunctionName) (all rest left : List TypedVariable) → new ≡ xs ++ x ∷ []
+pub push_variables : (xs new : List (Stmt VariableName TaskName FunctionName)) (x : Stmt VariableName TaskName FunctionName)
+    (all rest left : List TypedVariable) → new ≡ xs ++ x ∷ []
     → all ≡ list_variables (map statement_of xs) rest → rest ≡ statement_variables (statement_of x) left → all ≡ list_variables (map statement_of new) left
 push_variables xs new x all rest left is h k =
     h ∙ (ap (list_variables (map statement_of xs)) k
     ∙ (sym (list_variables_push (map statement_of xs) (statement_of x) left) ∙ ap (λ v. list_variables v left)
     (sym (statements_push xs x) ∙ ap (map statement_of) (sym is))))
 
-pub push_targets : (xs new : List (Stmt VariableName TaskName FunctionName)) (x : Stmt VariableName TaskName FunctionName) (all rest left : List ℕ) → new ≡ xs ++ x ∷ []
+pub push_targets : (xs new : List (Stmt VariableName TaskName FunctionName)) (x : Stmt VariableName TaskName FunctionName) (all rest left : List ℕ)
+    → new ≡ xs ++ x ∷ []
     → all ≡ list_targets (map statement_of xs) rest → rest ≡ statement_targets (statement_of x) left → all ≡ list_targets (map statement_of new) left
 push_targets xs new x all rest left is h k =
     h ∙ (ap (list_targets (map statement_of xs)) k ∙ (sym (list_targets_push (map statement_of xs) (statement_of x) left)
@@ -160,14 +164,16 @@ push_calls xs new x all rest left is h k =
     h ∙ (ap (list_calls (map statement_of xs)) k ∙ (sym (list_calls_push (map statement_of xs) (statement_of x) left)
     ∙ ap (λ v. list_calls v left) (sym (statements_push xs x) ∙ ap (map statement_of) (sym is))))
 
-pub push_arm_variables : (xs new : List (Arm VariableName TaskName FunctionName)) (x : Arm VariableName TaskName FunctionName) (all rest left : List TypedVariable) → new ≡ xs ++ x ∷ []
+pub push_arm_variables : (xs new : List (Arm VariableName TaskName FunctionName)) (x : Arm VariableName TaskName FunctionName)
+    (all rest left : List TypedVariable) → new ≡ xs ++ x ∷ []
     → all ≡ arms_variables (map tested_of xs) rest → rest ≡ expression_variables (tested_of x).condition (block_variables (tested_of x).block left)
     → all ≡ arms_variables (map tested_of new) left
 push_arm_variables xs new x all rest left is h k =
     h ∙ (ap (arms_variables (map tested_of xs)) k ∙ (sym (arms_variables_push (map tested_of xs) (tested_of x) left)
     ∙ ap (λ v. arms_variables v left) (sym (tests_push xs x) ∙ ap (map tested_of) (sym is))))
 
-pub push_arm_targets : (xs new : List (Arm VariableName TaskName FunctionName)) (x : Arm VariableName TaskName FunctionName) (all rest left : List ℕ) → new ≡ xs ++ x ∷ []
+pub push_arm_targets : (xs new : List (Arm VariableName TaskName FunctionName)) (x : Arm VariableName TaskName FunctionName) (all rest left : List ℕ)
+    → new ≡ xs ++ x ∷ []
     → all ≡ arms_targets (map tested_of xs) rest → rest ≡ block_targets (tested_of x).block left → all ≡ arms_targets (map tested_of new) left
 push_arm_targets xs new x all rest left is h k =
     h ∙ (ap (arms_targets (map tested_of xs)) k ∙ (sym (arms_targets_push (map tested_of xs) (tested_of x) left)

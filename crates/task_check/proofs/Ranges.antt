@@ -30,7 +30,8 @@ use Rattle.task_check.specs.Occurrences.{program_names}
 use Rattle.task_check.specs.Scope.{text_of, one_shared, one_function, one_task, shared_in, functions_in, tasks_in, locals_in, locals_after, local_in}
 use Rattle.task_check.specs.Scope.{local_with, global_in, global_with, known_functions, known_symbol}
 use Rattle.task_check.specs.Scope.{if_named, or_global, meaning}
-use Rattle.task_check.specs.LookedUp.{program_back, function_back, task_back, program_variables, program_targets, symbol_by, symbol_at, behind, variable_of, target_of, variable_by}
+use Rattle.task_check.specs.LookedUp.{program_back, function_back, task_back, program_variables, program_targets, symbol_by, symbol_at, behind, variable_of}
+use Rattle.task_check.specs.LookedUp.{target_of, variable_by}
 use Rattle.task_check.specs.LookedUp.{target_by, variables_in, targets_in}
 use Rattle.task_check.specs.Faults.{first_fault, name_fault, name_fault_if, use_fault, use_fault_by, limit_fault, fault_if, is_unknown, is_too_many}
 use Rattle.task_check.specs.Limits.{is_numbered, are_numbered}
@@ -309,7 +310,8 @@ module _ (source : List ℕ) where
         let known = known_functions (functions_in front) (tasks_in front) in
         symbol_in (shared_in all) (tasks_in all) o.role front (meaning known (behind all front) (local_in source name front) (global_in source name all))
         (one_here source o front (are_few source front h) k)
-        (meaning_in (shared_in all) (tasks_in all) known (behind all front) (local_in source name front) (global_in source name all) (local_in_range name front h)
+        (meaning_in (shared_in all) (tasks_in all) known (behind all front) (local_in source name front) (global_in source name all)
+        (local_in_range name front h)
         (global_in_range (shared_in all) (tasks_in all) name all (omega arith) (omega arith)))
 
     variables_in_range : (front : List Occurrence) → first_fault (limit_fault source) front ≡ None

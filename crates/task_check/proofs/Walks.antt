@@ -9,7 +9,8 @@ use Rattle.task_check.specs.declared.symbol.Global.{Global}
 use Rattle.task_check.specs.declared.symbol.Counts.{Counts}
 use Rattle.task_check.specs.declared.walk.Walk.{Walk}
 use Rattle.task_check.specs.declared.fault.CheckFault.TheVariants as fault
-use Rattle.task_check.specs.Scope.{text_of, shared_in, functions_in, tasks_in, locals_in, locals_after, one_shared, one_function, one_task, global_in, local_in, local_with, if_named}
+use Rattle.task_check.specs.Scope.{text_of, shared_in, functions_in, tasks_in, locals_in, locals_after, one_shared, one_function, one_task, global_in}
+use Rattle.task_check.specs.Scope.{local_in, local_with, if_named}
 use Rattle.task_check.specs.Scope.{known_functions, meaning, stands_in_front}
 use Rattle.task_check.specs.LookedUp.{symbol_by, symbol_at, behind, variable_by, call_by, target_by, variables_in, calls_in, targets_in}
 use Rattle.task_check.specs.Faults.{first_fault, name_fault, name_fault_if, use_fault, use_fault_by, limit_fault, is_repeated, is_unknown, is_too_many}
@@ -46,7 +47,8 @@ module _ (source : List ℕ) (all front : List Occurrence) (o : Occurrence) (glo
       (is_unknown o.role (symbol_of source globals w o b))) (has (text_of source o.span))
       ∙ (ap (λ c. name_fault_if source o (is_repeated o.role (stands_in_front (length front) (global_in source (text_of source o.span) all)) c.functions c.tasks
       (found w.locals (text_of source o.span))) (is_unknown o.role (symbol_of source globals w o b))) walked.counts
-      ∙ (ap (λ l. name_fault_if source o (is_repeated o.role (stands_in_front (length front) (global_in source (text_of source o.span) all)) (functions_in front)
+      ∙ (ap (λ l. name_fault_if source o (is_repeated o.role (stands_in_front (length front) (global_in source (text_of source o.span) all))
+      (functions_in front)
       (tasks_in front) l) (is_unknown o.role (symbol_of source globals w o b))) (walked.locals (text_of source o.span))
       ∙ ap (λ s. name_fault_if source o (is_repeated o.role (stands_in_front (length front) (global_in source (text_of source o.span) all)) (functions_in front)
       (tasks_in front) (local_in source (text_of source o.span) front)) (is_unknown o.role s)) same_symbol)))
@@ -64,7 +66,8 @@ module _ (source : List ℕ) (all front : List Occurrence) (o : Occurrence) (glo
     locals_on q = on.locals q
         ∙ (ap (λ c. option_or (if_named (bytes_eq (text_of source o.span) q) (local_with o.role c.functions c.tasks c.locals)) (found w.locals q))
         walked.counts
-        ∙ ap (λ r. option_or (if_named (bytes_eq (text_of source o.span) q) (local_with o.role (functions_in front) (tasks_in front) (locals_in front))) r) (walked.locals q))
+        ∙ ap (λ r. option_or (if_named (bytes_eq (text_of source o.span) q) (local_with o.role (functions_in front) (tasks_in front) (locals_in front))) r)
+        (walked.locals q))
 
     variables_on : v.variables.items ≡ variables_in source all (o ∷ front)
     variables_on = on.variables ∙ (ap (λ xs. xs ++ variable_by o.role (symbol_of source globals w o b)) walked.variables

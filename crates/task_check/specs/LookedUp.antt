@@ -301,7 +301,8 @@ behind all front = length all - suc (length front)
 -- what a name of a text stands for
 unfoldable pub symbol_at : List ℕ → List Occurrence → Occurrence → List Occurrence → Option Symbol
 symbol_at source all o front = symbol_by o.role (locals_in front)
-    (meaning (known_functions (functions_in front) (tasks_in front)) (behind all front) (local_in source (text_of source o.span) front) (global_in source (text_of source o.span) all))
+    (meaning (known_functions (functions_in front) (tasks_in front)) (behind all front) (local_in source (text_of source o.span) front)
+    (global_in source (text_of source o.span) all))
 
 -- its variable, if its role is that of one
 abbrev pub variable_by : Role → Option Symbol → List TypedVariable

@@ -12,7 +12,8 @@ use Rattle.task_check.specs.declared.fault.CheckFault.{CheckFault}
 use Rattle.task_check.specs.declared.fault.CheckFault.TheVariants as fault
 use Rattle.std.specs.Option.{option_or}
 use Rattle.std.specs.Str.{bytes_eq}
-use Rattle.task_check.specs.Scope.{text_of, shared_in, functions_in, tasks_in, locals_in, locals_after, one_shared, one_function, one_task, global_in, local_in, local_with, if_named}
+use Rattle.task_check.specs.Scope.{text_of, shared_in, functions_in, tasks_in, locals_in, locals_after, one_shared, one_function, one_task, global_in}
+use Rattle.task_check.specs.Scope.{local_in, local_with, if_named}
 use Rattle.task_check.specs.Scope.{known_functions, meaning, stands_in_front}
 use Rattle.task_check.specs.LookedUp.{symbol_by, variable_by, call_by, target_by, variables_in, calls_in, targets_in}
 use Rattle.task_check.specs.Faults.{first_fault, name_fault, name_fault_if, use_fault, use_fault_by, limit_fault, is_repeated, is_unknown, is_too_many}

@@ -1,5 +1,6 @@
 -- What the grammar relates is read.
-use Rattle.std.proofs.Common.{◌≡◌, ℕ, zero, suc, ◌<◌, ◌≤◌, Bool, true, false, cond, ◌==◌, List, [], ◌∷◌, ◌++◌, Option, Some, None, refl, ap, ◌∙◌, arith, append_assoc}
+use Rattle.std.proofs.Common.{◌≡◌, ℕ, zero, suc, ◌<◌, ◌≤◌, Bool, true, false, cond, ◌==◌, List, [], ◌∷◌, ◌++◌, Option, Some, None, refl, ap, ◌∙◌, arith}
+use Rattle.std.proofs.Common.{append_assoc}
 use denote.Enum.Bare.{true_same}
 use Rattle.task_lex.specs.contracts.token.Kind.{the_type}
 use Rattle.task_lex.specs.declared.token.Token.{Token}
@@ -10,7 +11,8 @@ use Rattle.task_grammar.specs.declared.operators.Infix.{Infix}
 use Rattle.task_grammar.specs.declared.operators.Infix.TheVariants.{Binary, Shift, ShortCircuit}
 use Rattle.task_grammar.specs.Parsed.{Expression, Values}
 use Rattle.task_ast.specs.Tree as node
-use Rattle.task_grammar.specs.Grammar.{prefix_of, infix_of, weakest, placed, long_worth, literal_of, IsExpression, IsValues, IsMoreValues, number, long_number, name, element, sense}
+use Rattle.task_grammar.specs.Grammar.{prefix_of, infix_of, weakest, placed, long_worth, literal_of, IsExpression, IsValues, IsMoreValues, number}
+use Rattle.task_grammar.specs.Grammar.{long_number, name, element, sense}
 use Rattle.task_grammar.specs.Grammar as grammar
 use Rattle.task_grammar.specs.Grammar.{next_event, call, brackets, prefixed, tighter}
 use Rattle.task_grammar.specs.Grammar.{joined, short_circuited, shifted}
@@ -236,7 +238,8 @@ mutual
   reads (next_event e o c is is_o is_c) = λ rest end. unary_is (e ∷ o ∷ c ∷ rest) ∙ reads_next_event expression unary e o c rest is is_o is_c
   reads (brackets o c ts inner is_o r is_c) = λ rest end. ap (λ x. unary (o ∷ x)) (append_assoc ts (c ∷ []) rest) ∙ unary_is (o ∷ ts ++ c ∷ rest)
       ∙ reads_brackets expression unary o c (ts ++ c ∷ rest) rest inner is_o (inside ts inner c k.Close (reads r) is_c refl rest) is_c
-  reads (prefixed t op ts inner is r) = λ rest end. unary_is (t ∷ ts ++ rest) ∙ reads_prefixed expression unary t op (ts ++ rest) rest inner is (reads r rest end)
+  reads (prefixed t op ts inner is r) = λ rest end. unary_is (t ∷ ts ++ rest) ∙ reads_prefixed expression unary t op (ts ++ rest) rest inner is
+      (reads r rest end)
   reads (tighter j ts inner r) = reads_tighter j ts inner (reads r)
   reads (joined j t op xs ys a b left is right) = reads_joined j t (Binary op) xs ys a (node.binary (placed op t.span) a b) (reads left) is
       (λ rest end. ap (λ o. and_then o (λ right. pure (node.binary (placed op t.span) a right))) (ends j ys b (reads right) rest end))

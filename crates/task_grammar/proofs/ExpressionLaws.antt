@@ -8,12 +8,14 @@ use Rattle.task_grammar.specs.declared.operators.Infix.{Infix}
 use Rattle.task_grammar.specs.declared.operators.Infix.TheVariants.{Binary, Shift, ShortCircuit}
 use Rattle.task_grammar.specs.Parsed.{Expression}
 use Rattle.task_ast.specs.Tree as node
-use Rattle.task_grammar.specs.Grammar.{prefix_of, infix_of, weakest, placed, long_worth, literal_of, IsExpression, IsValues, number, long_number, name, element, sense}
+use Rattle.task_grammar.specs.Grammar.{prefix_of, infix_of, weakest, placed, long_worth, literal_of, IsExpression, IsValues, number, long_number, name}
+use Rattle.task_grammar.specs.Grammar.{element, sense}
 use Rattle.task_grammar.specs.Grammar.{next_event, call, brackets, prefixed, tighter}
 use Rattle.task_grammar.specs.Grammar.{joined, short_circuited, shifted}
 use Rattle.task_grammar.specs.Expressions as reading
 use Rattle.task_grammar.specs.Reading.{Parser, pure, again, over}
-use Rattle.task_grammar.specs.Expressions.{of_precedence, infix_at, joined_with, climb_on, climb_turn, climb, up_to, values, named_by, named, bracketed, primary_by}
+use Rattle.task_grammar.specs.Expressions.{of_precedence, infix_at, joined_with, climb_on, climb_turn, climb, up_to, values, named_by, named, bracketed}
+use Rattle.task_grammar.specs.Expressions.{primary_by}
 use Rattle.task_grammar.specs.Expressions.{primary}
 use Rattle.task_grammar.specs.Expressions.{unary_within}
 use Rattle.task_grammar.proofs.ParserLaws.{Law, Sentence, law_pure, law_refuse, law_bind, law_by, law_accept, law_accept_at, law_take, law_map, law_weaken}

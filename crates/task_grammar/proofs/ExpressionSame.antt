@@ -10,7 +10,8 @@ use Rattle.task_grammar.specs.declared.operators.Infix.{Infix}
 use Rattle.task_grammar.specs.declared.operators.Infix.TheVariants.{Binary, Shift, ShortCircuit}
 use Rattle.task_grammar.specs.Grammar.{prefix_of, weakest, placed, IsExpression}
 use Rattle.task_grammar.specs.Reading.{Parser, and_then, pure, kind_of, again, over, turned}
-use Rattle.task_grammar.specs.Expressions.{more_by, more_values, infix_at, joined_with, climb_on, climb_turn, climb, up_to, values, named_by, named, bracketed, primary_by, primary}
+use Rattle.task_grammar.specs.Expressions.{more_by, more_values, infix_at, joined_with, climb_on, climb_turn, climb, up_to, values, named_by, named}
+use Rattle.task_grammar.specs.Expressions.{bracketed, primary_by, primary}
 use Rattle.task_grammar.specs.Expressions.{prefixed}
 use Rattle.task_grammar.specs.Expressions.{unary_within, unary, expression}
 use Rattle.task_grammar.proofs.ParserLaws.{Law}

@@ -9,7 +9,8 @@ use Rattle.task_grammar.specs.Grammar as grammar
 use Rattle.task_grammar.specs.Grammar.{weakest, IsExpression, arm_from, IsGiven, IsStatement, IsElses, IsArm, IsBlock, IsStatements, type_of}
 use Rattle.task_grammar.specs.Reading.{Outcome, done, Parser, and_then, pure, kind_of, token, again, over, turned, chosen, refuse}
 use Rattle.task_grammar.specs.Expressions.{expression}
-use Rattle.task_grammar.specs.Statements.{given, assigned_by, assigned, emitted, returned, transition, begins, arm, after_else, else_by, else_turn, elses, choice, looped}
+use Rattle.task_grammar.specs.Statements.{given, assigned_by, assigned, emitted, returned, transition, begins, arm, after_else, else_by, else_turn, elses}
+use Rattle.task_grammar.specs.Statements.{choice, looped}
 use Rattle.task_grammar.specs.Statements.{statement_by, statement, statement_if, statement_turn, statements, braced, block_within, block, typed, declared_by}
 use Rattle.task_grammar.specs.Statements.{declared}
 use Rattle.task_grammar.proofs.ParserLaws.{Law}

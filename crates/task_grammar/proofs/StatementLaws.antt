@@ -13,7 +13,8 @@ use Rattle.task_grammar.specs.Grammar as grammar
 use Rattle.task_grammar.specs.Grammar.{weakest, IsExpression, arm_from, IsGiven, IsStatement, IsElses, IsArm, IsBlock, IsStatements, type_of}
 use Rattle.task_grammar.specs.Reading.{Parser, again, over, refuse, pure, ◌>>=◌}
 use Rattle.task_grammar.specs.Expressions.{expression, unary}
-use Rattle.task_grammar.specs.Statements.{given, assigned_by, assigned, emitted, returned, transition, begins, arm, after_else, else_by, else_turn, elses, choice, looped}
+use Rattle.task_grammar.specs.Statements.{given, assigned_by, assigned, emitted, returned, transition, begins, arm, after_else, else_by, else_turn, elses}
+use Rattle.task_grammar.specs.Statements.{choice, looped}
 use Rattle.task_grammar.specs.Statements.{statement_by, statement, statement_if, statement_turn, statements, braced, block_within, typed, declared_by, declared}
 use Rattle.task_grammar.proofs.ParserLaws.{Law, Sentence, law_pure, law_refuse, law_bind, law_by, law_take, law_map, law_accept}
 use Rattle.task_grammar.proofs.ExpressionLaws.{law_up_to}

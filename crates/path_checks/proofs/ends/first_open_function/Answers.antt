@@ -18,5 +18,6 @@ loop-i-preserved c = λ calls.
     (c.loop-i.invariant calls)
 
 pub returns : goal.returns
-returns c = λ calls. first_whole function_of (λ f. OpenAt (map function_of c.args.source.now.functions.items) f.name f.body) c.args.source.now.functions.items c.loop-i.i _ (omega arith)
+returns c = λ calls. first_whole function_of (λ f. OpenAt (map function_of c.args.source.now.functions.items) f.name f.body)
+    c.args.source.now.functions.items c.loop-i.i _ (omega arith)
     (c.loop-i.invariant calls)

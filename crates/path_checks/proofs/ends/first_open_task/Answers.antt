@@ -17,5 +17,6 @@ loop-i-preserved c = λ calls.
     (c.loop-i.invariant calls)
 
 pub returns : goal.returns
-returns c = λ calls. first_whole task_of (λ task. OpenAt (map function_of c.args.source.now.functions.items) task.name task.body) c.args.source.now.tasks.items c.loop-i.i _ (omega arith)
+returns c = λ calls. first_whole task_of (λ task. OpenAt (map function_of c.args.source.now.functions.items) task.name task.body)
+    c.args.source.now.tasks.items c.loop-i.i _ (omega arith)
     (c.loop-i.invariant calls)

@@ -7,7 +7,8 @@ use Rattle.path_checks.proofs.loops.bad_in_functions.Goals as goal
 
 pub loop-i-preserved : goal.loop-i-preserved
 loop-i-preserved c =
-    first_back function_of (λ f. BadLoopIn f.body) c.args.functions.now c.loop-i.i c.index-functions-i.result _ _ _ c.loop-i-test.true (omega arith) c.index-functions-i.is
+    first_back function_of (λ f. BadLoopIn f.body) c.args.functions.now c.loop-i.i c.index-functions-i.result _ _ _ c.loop-i-test.true (omega arith)
+    c.index-functions-i.is
     c.first_of-first.ensures (found_is _ _ _ c.bad_in_block.ensures
     (c.deref.ensures.value ∙ ap (λ x. x.body.items) (sym c.index-functions-i.is))) c.loop-i.invariant
 

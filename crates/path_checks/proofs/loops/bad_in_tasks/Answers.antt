@@ -7,7 +7,8 @@ use Rattle.path_checks.proofs.loops.bad_in_tasks.Goals as goal
 
 pub loop-i-preserved : goal.loop-i-preserved
 loop-i-preserved c =
-    first_back task_of (λ task. BadLoopIn task.body) c.args.tasks.now c.loop-i.i c.index-tasks-i.result _ _ _ c.loop-i-test.true (omega arith) c.index-tasks-i.is
+    first_back task_of (λ task. BadLoopIn task.body) c.args.tasks.now c.loop-i.i c.index-tasks-i.result _ _ _ c.loop-i-test.true (omega arith)
+    c.index-tasks-i.is
     c.first_of-first.ensures (found_is _ _ _ c.bad_in_block.ensures
     (c.deref.ensures.value ∙ ap (λ x. x.body.items) (sym c.index-tasks-i.is))) c.loop-i.invariant
 

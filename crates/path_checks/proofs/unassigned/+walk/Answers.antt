@@ -96,7 +96,8 @@ walk_statement-returns-in-Emit t c =
 
 pub walk_statement-returns-in-TransitionTo : goal.walk_statement-returns-in-TransitionTo
 walk_statement-returns-in-TransitionTo t c =
-    statement_as c.args.walk.now _ (statement_of c.args.statement.now) (tree.transition c.in-TransitionTo.field-0 c.in-TransitionTo.field-1) (search (rules, the_lemmas))
+    statement_as c.args.walk.now _ (statement_of c.args.statement.now) (tree.transition c.in-TransitionTo.field-0 c.in-TransitionTo.field-1)
+    (search (rules, the_lemmas))
     (does_gone c.args.walk.now _ refl refl refl refl)
 
 pub walk_statement-returns-in-Return : goal.walk_statement-returns-in-Return

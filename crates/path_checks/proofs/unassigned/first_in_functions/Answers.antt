@@ -14,8 +14,10 @@ loop-i-preserved c = λ calls.
     c.loop-i-test.true (omega arith) c.index-function.ensures (functions_known (program_of c.args.source.now) calls) in
     let given : c.len.result ≡ length c.index-function.result.now.parameters.items =
     omega (arith, c.len.ensures, c.index-function.result.now.parameters.ok.0) in
-    first_back function_of (λ f. ReadsUnassigned all (length f.parameters) f.body) c.args.source.now.functions.items c.loop-i.i c.index-function.result.now _ _ _
-    c.loop-i-test.true (omega arith) c.index-function.ensures c.first_of-first.ensures (subst (λ n. IsFirst c.in_ok-here.here (ReadsUnassigned all n (block_view c.index-function.result.now.body.items))) given
+    first_back function_of (λ f. ReadsUnassigned all (length f.parameters) f.body) c.args.source.now.functions.items c.loop-i.i c.index-function.result.now _
+    _ _
+    c.loop-i-test.true (omega arith) c.index-function.ensures c.first_of-first.ensures
+    (subst (λ n. IsFirst c.in_ok-here.here (ReadsUnassigned all n (block_view c.index-function.result.now.body.items))) given
     (of_same (λ xs. BlockCallsBelow (length all) (block_view xs)) (λ xs. IsFirst c.in_ok-here.here (ReadsUnassigned all c.len.result (block_view xs))) _ _
     c.deref.ensures.value known (c.in_ok-here.ensures all)))
     (c.loop-i.invariant calls)
