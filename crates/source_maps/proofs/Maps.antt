@@ -8,7 +8,8 @@ use Rattle.std.proofs.lemmas.List.Elements.{All-nil, All-cons, All-weaker}
 use Rattle.task_ast.specs.declared.SharedDeclaration.{SharedDeclaration}
 use Rattle.image_map.specs.MapValue.{IsFramWord, AreFramWords, IsPlace, IsRing, are_different, are_scalars, task_names}
 use Rattle.image_map.specs.Kept.{IsMap}
-use Rattle.cost_bound.specs.Allowance.{CheckedTask, is_written}
+use Rattle.cost_bound.specs.Summaries.{summaries}
+use Rattle.cost_bound.specs.Allowance.{CheckedProgram, CheckedTask, is_written}
 use Rattle.privatise.specs.war_analysis.PlanValue.{TaskPlanValue}
 use Rattle.privatise.specs.war_analysis.Plans.{IsScalarAt, IsPrivateIn, IsTaskPlan}
 use Rattle.source_report.specs.SourceReport.{spelled}
@@ -113,12 +114,12 @@ record HasScalars (shared : List SharedDeclaration) (t : TaskPlace) : Type 0 whe
   pub from : AreFrom 0 (map (λ s. s.number) t.privates)
   pub scalars : All (IsScalarAt shared) (map (λ s. s.number) t.privates)
 
-scalars_of_plan : (shared : List SharedDeclaration) (task : CheckedTask) (plan : TaskPlanValue) (t : TaskPlace) → IsTaskPlan shared task.body plan
-    → IsTaskLayout shared task.body plan t → HasScalars shared t
-scalars_of_plan shared task plan t is has = record {
+scalars_of_plan : (p : CheckedProgram) (task : CheckedTask) (plan : TaskPlanValue) (t : TaskPlace) → IsTaskPlan p.functions p.shared task.body plan
+    → IsTaskLayout (summaries p) p.shared task.body plan t → HasScalars p.shared t
+scalars_of_plan p task plan t is has = record {
   from = subst (AreFrom 0) (sym has.privates) (from_pairs 0 plan.private_scalars is.private_scalars.ascending (starts_anywhere plan.private_scalars));
-  scalars = subst (All (IsScalarAt shared)) (sym has.privates)
-      (All-weaker (IsPrivateIn shared task.body) (IsScalarAt shared) (λ n h. h.scalar) plan.private_scalars is.private_scalars.only);
+  scalars = subst (All (IsScalarAt p.shared)) (sym has.privates)
+      (All-weaker (IsPrivateIn p.functions p.shared task.body) (IsScalarAt p.shared) (λ n h. h.scalar) plan.private_scalars is.private_scalars.only);
 }
 
 -- the same of each task
@@ -173,7 +174,7 @@ pub maps_are_of_sources : MapsAreOfSources
 maps_are_of_sources text p allow plans l h =
     let rules = h.layout.rules in
     let placed = are_placed l rules in
-    let places = places_by_number (is_written p.tasks) p.shared l.variables h.layout.variables.count h.layout.variables.each in
+    let places = places_by_number (is_written (summaries p) p.tasks) p.shared l.variables h.layout.variables.count h.layout.variables.each in
     let count = h.layout.tasks.count in
     let m = map_of text p l allow in
     let names = names_of_variables text p.shared l.variables places in
@@ -182,7 +183,7 @@ maps_are_of_sources text p allow plans l h =
     let within = slice_get_within p.tasks k task a in
     let planned = h.plan.count in
     let plan = slice_get-get_or plans k no_plan (omega (arith, within, planned)) in
-    scalars_of_plan p.shared task (get_or plans k no_plan) t (h.plan.each k task (get_or plans k no_plan) a plan)
+    scalars_of_plan p task (get_or plans k no_plan) t (h.plan.each k task (get_or plans k no_plan) a plan)
     (h.layout.tasks.each k task (get_or plans k no_plan) t a plan b)) in
     let few_shared = h.few_shared in
     let few_tasks = h.few_tasks in
