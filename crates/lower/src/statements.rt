@@ -426,7 +426,7 @@ fn lower_statement(
         }
         Stmt::Emit(e) => emit(alloc, e, places, program),
         // It stands in functions alone.
-        Stmt::Return(..) => Ok(()),
+        Stmt::Return(_keyword, _value) => Ok(()),
         Stmt::TransitionTo(_, t) => lower_transition(t.task, places, program),
     }
 }
