@@ -1,9 +1,10 @@
 use Rattle.std.proofs.Common.{◌+◌, ap, sym, ◌∙◌, drop}
-use Rattle.task_ast.specs.View.{block_view}
+use Rattle.task_ast.specs.View.{block_view, statement_of}
 use Rattle.array_versions.specs.Program.{joined}
+use Rattle.array_versions.proofs.Interface.{joined_nothing}
 use Rattle.array_versions.specs.View.{program_of}
 use Rattle.lower.specs.View.{places_in}
-use Rattle.lower.specs.Lowered.{lowered_block}
+use Rattle.lower.specs.Lowered.{lowered_statement, lowered_block}
 use Rattle.lower.proofs.Chains.{block_step, block_end}
 use Rattle.lower.proofs.statements.+lower.Goals as goal
 
@@ -20,3 +21,9 @@ lower_block-returns t c =
     sym (block_end (places_in c.args.places.now) c.args.body.now c.loop-statement.statement-index (program_of c.loop-statement.program)
     c.loop-statement-test.false)
     ∙ c.loop-statement.invariant
+
+-- a return adds nothing
+pub lower_statement-returns-in-Return : goal.lower_statement-returns-in-Return
+lower_statement-returns-in-Return t c =
+    let p = program_of c.args.program.now in let places = places_in c.args.places.now in
+    sym (ap (λ s. joined p (lowered_statement places (statement_of s))) c.in-Return.is ∙ joined_nothing p)
