@@ -1,6 +1,6 @@
-use Rattle.std.proofs.Common.{◌+◌, ap, sym, ◌∙◌, drop}
+use Rattle.std.proofs.Common.{◌≡◌, ◌+◌, ap, sym, ◌∙◌, drop}
 use Rattle.task_ast.specs.View.{block_view, statement_of}
-use Rattle.array_versions.specs.Program.{joined}
+use Rattle.array_versions.specs.Program.{joined, nothing}
 use Rattle.array_versions.proofs.Interface.{joined_nothing}
 use Rattle.array_versions.specs.View.{program_of}
 use Rattle.lower.specs.View.{places_in}
@@ -26,4 +26,5 @@ lower_block-returns t c =
 pub lower_statement-returns-in-Return : goal.lower_statement-returns-in-Return
 lower_statement-returns-in-Return t c =
     let p = program_of c.args.program.now in let places = places_in c.args.places.now in
-    sym (ap (λ s. joined p (lowered_statement places (statement_of s))) c.in-Return.is ∙ joined_nothing p)
+    let same : lowered_statement places (statement_of c.args.s.now) ≡ nothing = ap (λ s. lowered_statement places (statement_of s)) c.in-Return.is in
+    sym (ap (joined p) same ∙ joined_nothing p)
