@@ -18,7 +18,8 @@ mod shared;
 mod stores;
 
 pub use allowance::{
-    Allow, Needs, assigned_scalars, code_words, task_needs, uses_events, written_variables,
+    Allow, Needs, assigned_scalars, code_words, own_code_words, task_needs, uses_events,
+    written_variables,
 };
 pub use assigned::assigned_variables;
 pub use calls::{called_functions, reached_functions};
@@ -26,7 +27,6 @@ pub use fault::Over;
 pub use frames::{block_locals, stack};
 pub use function_summaries::{FunctionSummary, Summaries, summaries};
 pub use laws::{allowance_rows, allowed_is_small, long_price_rows, one_answer, price_rows};
-pub use prices::{block_price, words_column};
 use task_check::Checked;
 
 /// How many shared variables a source has at most.
