@@ -1,4 +1,6 @@
 mod Sums
+mod Locals
+mod Routines
 mod VariablesPlaced
 mod TasksPlaced
 mod Whole

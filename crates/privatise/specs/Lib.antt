@@ -1,4 +1,6 @@
 pub mod Sizes
+pub mod Frames
+pub mod View
 pub mod Layouts
 pub mod Placing
 pub mod Laws

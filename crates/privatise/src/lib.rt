@@ -2,8 +2,10 @@
 //! variable, each copy and each task's code begins.
 #![tactic(auto)]
 
+mod frames;
 mod laws;
 mod placing;
+mod routines;
 mod sizes;
 mod tasks;
 mod variables;

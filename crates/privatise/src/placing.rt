@@ -11,10 +11,12 @@ ghost use Rattle.privatise.specs.Sizes.{commit_words};
 ghost use Rattle.privatise.specs.Layouts.{IsLayout};
 ghost use Rattle.privatise.specs.Placing.{AreRegions};
 
+use crate::frames::all_locals;
+use crate::routines::Functions;
 use crate::sizes::{COMMIT, Sizes, sizes_of};
 use crate::tasks::place_tasks;
 use crate::variables::{Free, address_behind, place_variables};
-use cost_bound::{Allow, uses_events, written_variables};
+use cost_bound::{Allow, summaries, uses_events, written_variables};
 use memory_map::{FRAM_FIRST, Layout, Logging, ROW_WORDS, Region, Regions, Role, Runtime};
 use std::alloc::{AllocError, Global};
 use task_ast::CheckedSource;
@@ -74,6 +76,7 @@ fn layout_of(
     plan: &Plan,
 ) -> Result<Layout, AllocError>
     requires few { length source.now.shared.items ≤ 256 }
+    requires few_functions { length source.now.functions.items ≤ 64 }
     requires few_tasks { length source.now.tasks.items ≤ 64 }
     requires plain { (program_of source.now).functions ≡ [] }
     requires calls { All (λ task. BlockCallsBelow 0 task.body) (program_of source.now).tasks }
@@ -83,8 +86,14 @@ fn layout_of(
 {
     let shared = source.shared.as_slice();
     let tasks = source.tasks.as_slice();
-    let written = written_variables(&[], tasks);
-    let regions = regions_of(allow, sizes_of(source, &written));
+    let known = summaries(&source.functions);
+    let locals = all_locals(alloc, &source.functions)?;
+    let functions = Functions {
+        summaries: &known,
+        locals: locals.as_slice(),
+    };
+    let written = written_variables(&known, tasks);
+    let regions = regions_of(allow, sizes_of(&known, source, &written));
     let free = Free {
         home: regions.homes.address,
         copy: regions.copies.address,
@@ -93,6 +102,7 @@ fn layout_of(
     let variables = place_variables(alloc, shared, &written, free)?;
     let layouts = place_tasks(
         alloc,
+        functions,
         shared,
         variables.as_slice(),
         tasks,
