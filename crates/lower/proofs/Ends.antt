@@ -1,7 +1,7 @@
 -- Programs and statements one behind another: the ends of both agree where each step's do.
 use Rattle.lower.proofs.Names.{◌≡◌, ℕ, ◌<◌, ◌≤◌, List, [], ◌∷◌, ◌++◌, length, Bool, refl, sym, ap, ◌∙◌, subst, arith, append_assoc, append-nil, word_place}
 use Rattle.lower.proofs.Names.{ListLength, EmitCount, Version, Effect, Store, Take, Outside, put, fram_after, fram_after-append, put_other, Outcome, to_task}
-use Rattle.lower.proofs.Names.{short, and_then, Program, nothing, WordState, End, GoesOn, Jumps, Short, Strays, Broken, Behaviour, behind_effects, on_end}
+use Rattle.lower.proofs.Names.{short, returns, and_then, Program, nothing, WordState, End, GoesOn, Jumps, Gives, Returned, seen_from, Short, Strays, Broken, Behaviour, behind_effects, on_end}
 use Rattle.lower.proofs.Names.{then_on, behaviour, EndsByEffects, behaves_by_effects, Places, Element, scalar, element, copy, version, Room, AreApart}
 use Rattle.lower.proofs.Names.{listed_of, TakesAndStores, IsTaskStore, at_variable, at_copy, at_element, at_version, in_list, at_list_length, at_emit_count}
 use Rattle.lower.proofs.Names.{in_buffer, at_answer, StandsFor, Scene, bounds, Left, EndsAs, Agrees, ⊎_elim, Looked, Offered, answered_by, answers_told}
@@ -91,6 +91,14 @@ ends_behind z start from most stack left es fs (Jumps to s) (to_task task m) is 
   readings = k.readings;
   answers = k.answers;
 }
+ends_behind z start from most stack left es fs (Gives u s) (returns word m) is h k = record {
+  is = k.is;
+  did = did_append z start from es fs is h k.did;
+  listed = k.listed;
+  stands = k.stands;
+  few = k.few;
+  answers = k.answers;
+}
 ends_behind z start from most stack left es fs Short short is h k = did_append z start from es fs is h k
 ends_behind z start from most stack left es fs Broken o is h k = tt
 ends_behind z start from most stack left es fs e o is h k = absurd k
@@ -110,7 +118,7 @@ pub record Settles (z : Scene) (start most : ℕ → ℕ) (stack : List ℕ) (es
   pub untold : answers_told es ≡ []
   pub stack_kept : s.stack ≡ stack
   pub listed : List Element
-  pub stands : StandsFor z.p z.first m listed s
+  pub stands : StandsFor z.p z.first m listed (seen_from z.own s)
   pub few : (v : ℕ) → listed_of v listed ≤ most v
 
 pub settles : (z : Scene) (start most : ℕ → ℕ) (stack : List ℕ) (es : List Effect) (s : WordState) (m : Attempt) → Settles z start most stack es s m
@@ -141,12 +149,24 @@ left_with_fewer z start most few left es to s task m less k = record {
   answers = k.answers;
 }
 
+-- returned with fewer listed
+returned_with_fewer : (z : Scene) (start most few : ℕ → ℕ) (left : List ℕ) (es : List Effect) (given : ℕ) (s : WordState) (word : ℕ) (m : Attempt)
+    → ((v : ℕ) → few v ≤ most v) → Returned z.p (bounds z start few) left es given s word m → Returned z.p (bounds z start most) left es given s word m
+returned_with_fewer z start most few left es given s word m less k = record {
+  is = k.is;
+  did = k.did;
+  listed = k.listed;
+  stands = k.stands;
+  few = λ v. let a = k.few v in let b = less v in omega (arith, a, b);
+  answers = k.answers;
+}
+
 -- one behind the other
 
 -- the state behind the first: what is asked of the second
 pub record IsThere (z : Scene) (few : ℕ → ℕ) (stack : List ℕ) (n : ℕ) (s : WordState) (m : Attempt) (listed : List Element) : Type 0 where
   pub stack_kept : s.stack ≡ stack
-  pub stands : StandsFor z.p z.first m listed s
+  pub stands : StandsFor z.p z.first m listed (seen_from z.own s)
   pub number : s.fram (word_place z.p.map Version) ≡ z.ver
   pub few_emitted : length m.emitted ≤ n
   pub few_listed : (v : ℕ) → listed_of v listed ≤ few v
@@ -192,6 +212,12 @@ does_then z few most stack n o first next more less k =
     leaves es to s others (to_task task m) h = left_with_fewer z first.w.fram most few others es to s task m less h
     leaves es to s others v h = absurd h
 
+    -- where it returns
+    returning : (es : List Effect) (given : ℕ) (s : WordState) (others : List ℕ) (v : Outcome)
+        → Ends z first.w.fram few stack others es (Gives given s) v → Goal others es (Gives given s) v
+    returning es given s others (returns word m) h = returned_with_fewer z first.w.fram most few others es given s word m less h
+    returning es given s others v h = absurd h
+
     lacks : (es : List Effect) (others : List ℕ) (v : Outcome) → Ends z first.w.fram few stack others es Short v → Goal others es Short v
     lacks es others short h = h
     lacks es others v h = absurd h
@@ -206,6 +232,8 @@ does_then z few most stack n o first next more less k =
         (onward es s others answers (o answers) refl by.0 (h (answers_told fs ++ others)))
     go es (Jumps to s) by h others = subst (λ l. Goal others l (Jumps to s) (o (answers_told l ++ others))) (sym (append-nil es))
         (leaves es to s others (o (answers_told es ++ others)) (h others))
+    go es (Gives given s) by h others = subst (λ l. Goal others l (Gives given s) (o (answers_told l ++ others))) (sym (append-nil es))
+        (returning es given s others (o (answers_told es ++ others)) (h others))
     go es Short by h others = subst (λ l. Goal others l Short (o (answers_told l ++ others))) (sym (append-nil es))
         (lacks es others (o (answers_told es ++ others)) (h others))
     go es Broken by h others = tt

@@ -1,7 +1,8 @@
 -- What a program leaves with a value, and what goes on behind it: another value, or statements.
 use Rattle.lower.proofs.Names.{◌≡◌, ℕ, ◌+◌, ◌≤◌, List, [], ◌++◌, length, Option, Some, None, refl, sym, ap, ◌∙◌, subst, arith, append-nil, word_place, Version}
 use Rattle.lower.proofs.Names.{EmitCount, Effect, Looked, Outside, fram_after, fram_after-append, CheckedExpression, Evaluated, Outcome, if_value, ◌>>?◌}
-use Rattle.lower.proofs.Names.{expression_emits, expression_count, Look, look_effects, nothing, WordState, End, GoesOn, Jumps, Short, Strays, Broken}
+use Rattle.lower.proofs.Names.{expression_emits, expression_lists, Functions, seen_from, Look, look_effects, nothing, WordState, End, GoesOn, Jumps, Gives}
+use Rattle.lower.proofs.Names.{Short, Strays, Broken}
 use Rattle.lower.proofs.Names.{Behaviour, behaves, behind_effects, on_end, then_on, behaviour, with_stack, Places, Element, listed_of, Answering}
 use Rattle.lower.proofs.Names.{answered_by, answers_told, StandsFor, Scene, bounds, EndsWith, WentOn, AgreesWith}
 use Rattle.source_values.specs.Values.{Attempt, evaluated}
@@ -27,8 +28,8 @@ pub record Covers (from free : Spare) : Type 0 where
   pub lists : (v : ℕ) → free.lists v ≤ from.lists v
 
 -- what is wanted in front of an expression, that this is to spare behind it
-abbrev pub before : CheckedExpression → Spare → Spare
-before e free = record { emits = expression_emits [] e + free.emits; lists = λ v. expression_count [] e + free.lists v }
+abbrev pub before : Functions → CheckedExpression → Spare → Spare
+before fs e free = record { emits = expression_emits fs.emits e + free.emits; lists = λ v. expression_lists fs v e + free.lists v }
 
 -- ---- what states keep of an attempt
 
@@ -46,7 +47,7 @@ sparing free k = record k { free = free }
 -- a state stands for an attempt, VER is as it was, and this is to spare
 pub record KeepsAll (k : Keeping) (m : Attempt) (w : WordState) : Type 0 where
   pub listed : List Element
-  pub stands : StandsFor k.z.p k.z.first m listed w
+  pub stands : StandsFor k.z.p k.z.first m listed (seen_from k.z.own w)
   pub number : w.fram (word_place k.z.p.map Version) ≡ k.z.ver
   pub emits : length m.emitted + k.free.emits ≤ k.z.room.emits
   pub lists : (v : ℕ) → listed_of v listed + k.free.lists v ≤ k.most v
@@ -57,7 +58,7 @@ Keeps k m w = KeepsAll k (answered_by [] m) (with_stack [] w)
 
 -- it stands for the attempt with any stack and any answers
 pub stands_still : (k : Keeping) (m : Attempt) (w : WordState) (stack : List ℕ) (h : Keeps k m w)
-    → StandsFor k.z.p k.z.first m h.listed (with_stack stack w)
+    → StandsFor k.z.p k.z.first m h.listed (seen_from k.z.own (with_stack stack w))
 stands_still k m w stack h =
     record { variables = h.stands.variables; emitted = h.stands.emitted; list = h.stands.list; readings = h.stands.readings }
 
@@ -72,9 +73,9 @@ spared k free m w less h = record {
 }
 
 -- what is kept in front of an expression is kept behind it
-pub spared_behind : (k : Keeping) (e : CheckedExpression) (m : Attempt) (w : WordState) → Keeps (sparing (before e k.free) k) m w → Keeps k m w
+pub spared_behind : (k : Keeping) (e : CheckedExpression) (m : Attempt) (w : WordState) → Keeps (sparing (before k.z.fs e k.free) k) m w → Keeps k m w
 spared_behind k e m w h =
-    spared (sparing (before e k.free) k) k.free m w (record { emits = omega arith; lists = λ v. omega arith }) h
+    spared (sparing (before k.z.fs e k.free) k) k.free m w (record { emits = omega arith; lists = λ v. omega arith }) h
 
 -- ---- what a value leaves
 
@@ -91,6 +92,7 @@ abbrev pub Leaves : Keeping → (ℕ → List ℕ) → (ℕ → ℕ) → List �
 Leaves k words start stack left es (GoesOn s) (Some x) = IsLeftBy k words start stack left es s x
 Leaves k words start stack left es (GoesOn s) None = ⊥
 Leaves k words start stack left es (Jumps to s) o = ⊥
+Leaves k words start stack left es (Gives u s) o = ⊥
 Leaves k words start stack left es Short (Some x) = ⊥
 Leaves k words start stack left es Short None = DidFrom k.z start es
 Leaves k words start stack left es Strays o = ⊥

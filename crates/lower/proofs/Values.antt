@@ -14,7 +14,7 @@ use Rattle.lower.proofs.Names.{Array, word_even, first_word, Places, address_of,
 use Rattle.lower.proofs.Names.{scalar, element, copy, version, IsSpot, Spot, spot_address, BinaryMeaning, Calculates, CommonBits, Holds, Fails}
 use Rattle.lower.proofs.Names.{binary_meaning, shift_operation, one, read_step, element_read, element_step, Lowering, as_word, as_test, word_program}
 use Rattle.lower.proofs.Names.{value_test, unary_lowering, binary_lowering, sides_test, IsArray, own_word, HoldVariables, truth_of, Logging, Redo, Undo}
-use Rattle.lower.proofs.Names.{own_by, own_read, array_place, list_place}
+use Rattle.lower.proofs.Names.{own_by, own_read, array_place, list_place, code_places, locals_from}
 use Rattle.std.proofs.Common.{get_or}
 use Rattle.source_values.specs.Values.{Attempt}
 use Rattle.array_versions.specs.Behaviour.{goes_on}
@@ -22,7 +22,7 @@ use Rattle.lower.proofs.Declared.{IsKnown}
 use Rattle.lower.proofs.Addresses.{fram_place, placed, spot_place, first_address, element_is, copy_is, version_is, has_element}
 use Rattle.lower.proofs.Effects.{takes_weaker}
 use Rattle.lower.proofs.Acts.{plain_did}
-use Rattle.lower.proofs.Stored.{small_modulo, same_variables, same_list, same_emits, spots_low, list_low, emits_low}
+use Rattle.lower.proofs.Stored.{own_number, same_variables, same_list, same_emits, spots_low, list_low, emits_low}
 use Rattle.lower.proofs.Ends.{DidFrom}
 use Rattle.lower.proofs.Sequence.{Spare, Covers, Keeping, sparing, Keeps, spared, LeavesWords, as_value, comes_alone, comes_behind_looks, from_value, value_then}
 use Rattle.task_ast.specs.declared.UnaryOperator.TheVariants as unary_operator
@@ -228,12 +228,12 @@ module _ (k : Keeping) where
       (load_agrees (scalar_address k.z.p v i) word m w kept (spot_place k.z.p k.z.room (scalar v i) k.z.apart k.z.even is) (kept.stands.variables.words v i is))
 
   pub read_agrees : (x : Variable) (m : Attempt) (w : WordState) → Keeps k m w → IsKnown k.z.p x
-      → LeavesWord k w (behaviour (one (read_step k.z.p x)) w) (by_answers m (gives (word_at m.variables x 0)))
+      → LeavesWord k w (behaviour (one (read_step (code_places k.z) x)) w) (by_answers m (gives (word_at m.variables x 0)))
   read_agrees (Shared v) m w kept is = word_read_agrees v 0 (address_of k.z.p v) m w kept (sym (first_address k.z.p v)) (first_word k.z.p v is)
   read_agrees (Local n) m w kept is =
       let word = word_at m.variables (Local n) 0 in
-      subst (λ j. LeavesWord k w (behaviour (one (local j)) w) (by_answers m (gives word))) (sym (small_modulo n is))
-      (local_agrees (w.locals n) word m w kept (λ u e. kept.stands.variables.locals n u e))
+      subst (λ j. LeavesWord k w (behaviour (one (local j)) w) (by_answers m (gives word))) (sym (own_number k.z n is))
+      (local_agrees (w.locals (k.z.own + n)) word m w kept (λ u e. kept.stands.variables.locals n u e))
 
   -- a reading is taken
   taken : (r : ℕ) (rs : List ℕ) (m : Attempt) (w : WordState) → Keeps k m w
@@ -273,7 +273,7 @@ module _ (k : Keeping) where
       record {
         listed = kept.listed;
         stands = record {
-          variables = same_variables z.p m.variables w.fram f w.locals (spots_low z.p z.room w.fram f apart low) kept.stands.variables;
+          variables = same_variables z.p m.variables w.fram f (locals_from z.own w.locals) (spots_low z.p z.room w.fram f apart low) kept.stands.variables;
           emitted = same_emits z.p z.room m.emitted w.fram f few (emits_low z.p z.room w.fram f apart low) kept.stands.emitted;
           list = same_list z.p z.first z.room kept.listed w.fram f (omega (arith, fits)) (list_low z.p z.room w.fram f apart low) kept.stands.list;
           readings = kept.stands.readings;
@@ -374,7 +374,7 @@ module _ (k : Keeping) where
         word : ℕ
         word = word_at m.variables (Shared v) i
 
-        held : HoldVariables k.z.p m.variables w.fram w.locals
+        held : HoldVariables k.z.p m.variables w.fram (locals_from k.z.own w.locals)
         held = kept.stands.variables
 
         here : (s : Spot) (a : ℕ) → IsSpot k.z.p s → spot_address k.z.p s ≡ a → is_place a ≡ true
@@ -405,13 +405,13 @@ module _ (k : Keeping) where
             subst (λ b. Reads b word) (sym (at_version ∙ at_mark))
             (either_read (w.fram ver == w.fram n) o e (w.fram o) (w.fram e) word (here (copy x) o is (copy_is k.z.p x elements length c at))
             (here (element x) e (has_element k.z.p x is) (element_is k.z.p x elements length (Some c) at)) (own l)))
-            (past_end k.z.p v elements length i (Some c) m.variables w.fram w.locals at held)
+            (past_end k.z.p v elements length i (Some c) m.variables w.fram (locals_from k.z.own w.locals) at held)
         own_reads c at Undo own =
             let e = 2 * i + elements in
             index_read i length word (at_place e (pushes (w.fram e)))
             (λ l. one_read e (w.fram e) word
             (here (element x) e (has_element k.z.p x (copied c at l)) (element_is k.z.p x elements length (Some c) at)) (own l))
-            (past_end k.z.p v elements length i (Some c) m.variables w.fram w.locals at held)
+            (past_end k.z.p v elements length i (Some c) m.variables w.fram (locals_from k.z.own w.locals) at held)
 
         by : (copies : Option ArrayCopies) → IsArrayAt k.z.p v elements length copies
             → LeavesWord k (with_stack below w) (behaviour (one (element_read k.z.p (Some (Array elements length copies)))) (with_stack (i ∷ below) w))
@@ -423,7 +423,7 @@ module _ (k : Keeping) where
             let is : IsElement k.z.p x = record { elements = elements; length = length; copies = None; is_array = at; below = l } in
             one_read e (w.fram e) word (here (element x) e is (element_is k.z.p x elements length None at))
             (subst (λ o. own_word k.z.p w.fram o i ≡ word) at.place (held.elements x is)))
-            (past_end k.z.p v elements length i None m.variables w.fram w.locals at held)
+            (past_end k.z.p v elements length i None m.variables w.fram (locals_from k.z.own w.locals) at held)
         by (Some c) at =
             own_reads c at k.z.p.map.runtime.logging
             (λ l. subst (λ o. own_word k.z.p w.fram o i ≡ word) at.place (held.elements x (has_element k.z.p x (copied c at l))))
