@@ -18,6 +18,7 @@ use Rattle.task_ast.specs.declared.names.Variable.TheVariants.{Shared, Local}
 use Rattle.path_sums.specs.Access.{is_same}
 use Rattle.source_values.specs.Values.{by_width, joined_type, type_of}
 use Rattle.source_values.specs.Runs.{CheckedProgram}
+use Rattle.checked_trees.specs.WellFormed.{values_in}
 use Rattle.array_versions.specs.declared.operations.UnaryOperation.TheVariants.{Negate, Complement}
 use Rattle.array_versions.specs.declared.operations.PlainOperation.{PlainOperation}
 use Rattle.array_versions.specs.declared.operations.PlainOperation.TheVariants.{Subtract, And, Xor, Or}
@@ -223,15 +224,10 @@ abbrev pub widened_type : CheckedExpression → WordType
 widened_type (t.number w) = Unsigned
 widened_type e = type_of e
 
--- how many values a call has
-abbrev pub value_count : CheckedValues → ℕ
-value_count t.no_value = 0
-value_count (t.value e more) = value_count more + 1
-
--- calls a function by its place in the task, its body being this, with so many values
+-- calls a function by its place in the task, its body being this, with so many values; one without a place has no body
 abbrev pub call_at : Option RoutinePlace → ℕ → Program → Step
 call_at (Some r) count body = call r.code.address r.frame r.first count body
-call_at None count body = number 0
+call_at None count body = call 0 None 0 count nothing
 
 -- calls the function of a number, by the bodies of those that are known
 abbrev pub call_step : Places → List Program → ℕ → ℕ → Step
@@ -247,7 +243,7 @@ abbrev mutual
   lowering p rs (t.element x index) = as_word (behind (word_program (lowering p rs index)) (element_step p x.variable))
   lowering p rs t.sense = as_word (one sense)
   lowering p rs t.next_event = as_word (one next_event)
-  lowering p rs (t.call f values) = as_word (behind (arguments p rs values) (call_step p rs f.function (value_count values)))
+  lowering p rs (t.call f values) = as_word (behind (arguments p rs values) (call_step p rs f.function (values_in values)))
   lowering p rs (t.unary op e) = operand_lowering (type_of e) op (lowering p rs e)
   lowering p rs (t.binary op a b) =
       sides_lowering (operand_type op.operator (joined_type (type_of a) (type_of b))) op.operator (widened_type a) (widened_type b)
