@@ -45,7 +45,15 @@ use Rattle.source_values.specs.Statements as source
 use Rattle.task_ast.proofs.Interface as one_word
 use Rattle.array_versions.specs.Behaviour as words
 
-module _ (z : Scene) where
+module _ (z : Scene) (known : KnownAgree z) where
+  -- the number of a local
+  abbrev number_of : ℕ → ℕ
+  number_of n = local_number (code_places z) n
+
+  -- how many stores to a shared array the calls of a text count
+  abbrev stores_in : ℕ → List ℕ
+  stores_in v = called_stores z.fs.summaries v
+
   -- ---- steps that take a value, where statements begin
 
   -- nothing is done
@@ -61,9 +69,9 @@ module _ (z : Scene) where
 
   -- where a word of a shared scalar is set
   word_stands : (i j : ℕ) {n : ℕ} {count : ℕ → ℕ} (here : Start z n count) (v : ℕ) → IsScalarWord z.p i j
-      → StandsFor z.p z.first (source.assigned here.m (Shared i) j v) here.listed (stored (scalar_address z.p i j) v here.w)
+      → StandsFor z.p z.first (source.assigned here.m (Shared i) j v) here.listed (seen_from z.own (stored (scalar_address z.p i j) v here.w))
   word_stands i j here v is = spot_stands here (scalar i j) v (with_word here.m.variables (Shared i) j v) is (λ x e. cc)
-      (scalar_set z.p z.room i j v here.m.variables here.w.fram here.w.locals z.apart is here.stands.variables)
+      (scalar_set z.p z.room i j v here.m.variables here.w.fram (locals_from z.own here.w.locals) z.apart is here.stands.variables)
 
   word_number : (i j : ℕ) {n : ℕ} {count : ℕ → ℕ} (here : Start z n count) (v : ℕ) → IsScalarWord z.p i j
       → put here.w.fram (scalar_address z.p i j) v (word_place z.p.map Version) ≡ z.ver
@@ -108,18 +116,21 @@ module _ (z : Scene) where
 
   -- a local is set, and what is known else stays
   local_stands : {n : ℕ} {count : ℕ → ℕ} (i k : ℕ) → i < 256 → (here : Start z n count)
-      → StandsFor z.p z.first (source.assigned here.m (Local i) 0 k) here.listed (with_local (i % 65536) k here.w)
+      → StandsFor z.p z.first (source.assigned here.m (Local i) 0 k) here.listed (seen_from z.own (with_local (number_of i) k here.w))
   local_stands i k low here = record {
-    variables = local_holds z.p i k here.m.variables here.w.fram here.w.locals low here.stands.variables;
+    variables =
+        let P : ℕ → Type 0 = λ n. HoldVariables z.p (with_word here.m.variables (Local i) 0 k) here.w.fram
+        (locals_from z.own (words.assigned here.w.locals n k)) in
+        subst P (sym (own_number z i low)) (local_holds z.p z.own i k here.m.variables here.w.fram here.w.locals low here.stands.variables);
     emitted = here.stands.emitted;
     list = here.stands.list;
     readings = here.stands.readings;
   }
 
   write_does : (x : Variable) {n : ℕ} {count : ℕ → ℕ} (here : Start z n count) (v : ℕ) → IsTarget z.p z.written x
-      → DoesFrom here (behaviour (one (write_step z.p x)) (pushed v here.w)) (λ m. goes_on (source.assigned m x 0 v))
+      → DoesFrom here (behaviour (one (write_step (code_places z) x)) (pushed v here.w)) (λ m. goes_on (source.assigned m x 0 v))
   write_does (Local i) here v k =
-      settles z here.w.fram here.most here.w.stack [] (with_local (i % 65536) v here.w) (source.assigned here.m (Local i) 0 v) (record {
+      settles z here.w.fram here.most here.w.stack [] (with_local (number_of i) v here.w) (source.assigned here.m (Local i) 0 v) (record {
         did = plain_did z.p z.written z.room z.ver [] here.w.fram tt;
         untold = refl;
         stack_kept = refl;
@@ -133,30 +144,30 @@ module _ (z : Scene) where
   -- a local that has a word has what the operation gives of it
   local_updated_does : (op : PlainOperation) (i v : ℕ) (o : Option ℕ) {n : ℕ} {count : ℕ → ℕ} (here : Start z n count)
       → i < 256 → ((u : ℕ) → o ≡ Some u → word_at here.m.variables (Local i) 0 ≡ u)
-      → DoesFrom here (then_on (local_updated op (i % 65536) v o here.w) (behaviour nothing))
+      → DoesFrom here (then_on (local_updated op (number_of i) v o here.w) (behaviour nothing))
       (λ m. goes_on (source.assigned m (Local i) 0 (plain_word op (word_at m.variables (Local i) 0) v)))
   local_updated_does op i v None here few is others = tt
   local_updated_does op i v (Some u) here few is others =
-      let P : ℕ → Type 0 = λ x. DoesFrom here (behaviour (one (write_step z.p (Local i))) (pushed (plain_word op u v) here.w))
+      let P : ℕ → Type 0 = λ x. DoesFrom here (behaviour (one (write_step (code_places z) (Local i))) (pushed (plain_word op u v) here.w))
       (λ m. goes_on (source.assigned m (Local i) 0 (plain_word op x v))) in
       subst P (sym (is u refl)) (write_does (Local i) here (plain_word op u v) few) others
 
   update_does : (op : PlainOperation) (x : Variable) {n : ℕ} {count : ℕ → ℕ} (here : Start z n count) (v : ℕ) → IsTarget z.p z.written x
-      → DoesFrom here (behaviour (one (update_step z.p op x)) (pushed v here.w))
+      → DoesFrom here (behaviour (one (update_step (code_places z) op x)) (pushed v here.w))
       (λ m. goes_on (source.assigned m x 0 (plain_word op (word_at m.variables x 0) v)))
   update_does op (Local i) here v k =
-      let small = small_modulo i k in
-      local_updated_does op i v (here.w.locals (i % 65536)) here k (λ u e. here.stands.variables.locals i u (ap here.w.locals (sym small) ∙ e))
+      let small = own_number z i k in
+      local_updated_does op i v (here.w.locals (number_of i)) here k (λ u e. here.stands.variables.locals i u (ap here.w.locals (sym small) ∙ e))
   update_does op (Shared i) here v k =
       let u = plain_word op (here.w.fram (address_of z.p i)) v in
-      let P : ℕ → Type 0 = λ x. DoesFrom here (behaviour (one (write_step z.p (Shared i))) (pushed u here.w))
+      let P : ℕ → Type 0 = λ x. DoesFrom here (behaviour (one (write_step (code_places z) (Shared i))) (pushed u here.w))
       (λ m. goes_on (source.assigned m (Shared i) 0 x)) in
-      let held = first_held z.p i here.m.variables here.w.fram here.w.locals here.stands.variables k.0 in
+      let held = first_held z.p i here.m.variables here.w.fram (locals_from z.own here.w.locals) here.stands.variables k.0 in
       subst P (ap (λ x. plain_word op x v) held) (write_does (Shared i) here u k)
 
   -- both words of a long, the high one first
   write_long_does : (x : Variable) {n : ℕ} {count : ℕ → ℕ} (here : Start z n count) (v : ℕ) → IsLongTarget z.p z.written x
-      → DoesFrom here (behaviour (write_long z.p x) (pushed (v / 65536) (pushed (v % 65536) here.w)))
+      → DoesFrom here (behaviour (write_long (code_places z) x) (pushed (v / 65536) (pushed (v % 65536) here.w)))
       (λ m. goes_on (both_assigned m x v))
   write_long_does (Local i) here v k = absurd k
   write_long_does (Shared i) here v k =
@@ -166,7 +177,7 @@ module _ (z : Scene) where
       let high = v / 65536 in
       let behind = word_set i 1 here high k.0 in
       let last : Attempt → Outcome = λ m. goes_on (source.assigned m (Shared i) 0 low) in
-      subst (λ x. DoesFrom here (behaviour (write_long z.p (Shared i)) (pushed high (pushed low here.w))) (λ m. goes_on (record m { variables = x })))
+      subst (λ x. DoesFrom here (behaviour (write_long (code_places z) (Shared i)) (pushed high (pushed low here.w))) (λ m. goes_on (record m { variables = x })))
       (words_commute here.m.variables i high low)
       (subst (λ c. DoesFrom here (behaviour (step (keep c) (one (keep a))) (pushed high (pushed low here.w)))
       (λ m. last (source.assigned m (Shared i) 1 high))) (sym (high_is z.p z.room i z.apart k.0))
@@ -251,7 +262,7 @@ module _ (z : Scene) where
         listed = here.listed;
         stands = record {
           variables =
-              same_variables p m.variables f (after_emit p n v (n + 1) f) here.w.locals (emit_spots p z.room n v (n + 1) f apart below)
+              same_variables p m.variables f (after_emit p n v (n + 1) f) (locals_from z.own here.w.locals) (emit_spots p z.room n v (n + 1) f apart below)
               here.stands.variables;
           emitted = emitted_emits p z.room v m.emitted f apart here.stands.emitted;
           list = same_list p z.first z.room here.listed f (after_emit p n v (n + 1) f) (omega (arith, fits)) (emit_list p z.room n v (n + 1) f apart below)
@@ -267,14 +278,22 @@ module _ (z : Scene) where
   abbrev keeping : {n : ℕ} {count : ℕ → ℕ} → Start z n count → Spare → Keeping
   keeping here free = record { z = z; most = here.most; within = here.within; free = free }
 
+  -- an expression fits the code: it is well-formed, `next_event()` stands in it only where events are taken, and the task writes what its calls write
+  abbrev Fits : CheckedExpression → Type 0
+  Fits e = WellFormedExpression z.shared e × AdmitsExpression z.p.map.runtime.events e × ExpressionWritesWithin z e
+
+  -- so does the right side of an operator
+  right_fits : (op : PlacedOperator) (a b : CheckedExpression) → Fits (t.binary op a b) → Fits b
+  right_fits op a b fits = (fits.0.1, fits.1.1, λ v h. fits.2 v (right_writes v (z.fs.sums v) (known.go_on v) op a b h))
+
   -- an expression may be evaluated there, with so much to spare behind it
   abbrev HasSpare : CheckedExpression → ℕ → (ℕ → ℕ) → Spare → Type 0
-  HasSpare e n count free = Covers (record { emits = n; lists = count }) (before e free)
+  HasSpare e n count free = Covers (record { emits = n; lists = count }) (before z.fs e free)
 
   at_first : (e : CheckedExpression) {n : ℕ} {count : ℕ → ℕ} (here : Start z n count) (free : Spare) → HasSpare e n count free
       → KeepsBefore (keeping here free) e here.m here.w
   at_first e {n} {count} here free room =
-      spared (keeping here (record { emits = n; lists = count })) (before e free) here.m here.w room (record {
+      spared (keeping here (record { emits = n; lists = count })) (before z.fs e free) here.m here.w room (record {
         listed = here.listed;
         stands = record {
           variables = here.stands.variables;
@@ -326,25 +345,25 @@ module _ (z : Scene) where
 
   -- the value of an expression as one word, and a program that takes it
   value_taken : (e : CheckedExpression) {n : ℕ} {count : ℕ → ℕ} (here : Start z n count) (free : Spare) (last : Program)
-      (more : ℕ → Attempt → Outcome) → HasSpare e n count free → IsFit z.shared z.p e → DoesWith here free last more
-      → DoesFrom here (behaviour (joined (lowered_expression z.p e) last) here.w) (λ m. if_value (word_value e m) more)
+      (more : ℕ → Attempt → Outcome) → HasSpare e n count free → Fits e → DoesWith here free last more
+      → DoesFrom here (behaviour (joined (lowered_expression (code_places z) z.fs.bodies e) last) here.w) (λ m. if_value (word_value z.fs.meanings e m) more)
   value_taken e here free last more room fits k =
-      let q = lowered_expression z.p e in
-      subst (λ b. DoesFrom here b (λ m. if_value (word_value e m) more)) (sym (joined_go_on q last here.w))
-      (value_does here free single here.w (behaviour q here.w) (by_answers here.m (word_value e)) (behaviour last) more
-      (expression_leaves (keeping here free) e here.m here.w (at_first e here free room) fits) k)
+      let q = lowered_expression (code_places z) z.fs.bodies e in
+      subst (λ b. DoesFrom here b (λ m. if_value (word_value z.fs.meanings e m) more)) (sym (joined_go_on q last here.w))
+      (value_does here free single here.w (behaviour q here.w) (by_answers here.m (word_value z.fs.meanings e)) (behaviour last) more
+      (expression_leaves (keeping here free) known e here.m here.w (at_first e here free room) (fits.0, fits.1) fits.2) k)
 
   -- ---- assignments
 
   -- a variable of one word is set to a value as one word
   abbrev Sets : {n : ℕ} {count : ℕ → ℕ} → Variable → CheckedExpression → Start z n count → Program → Type 0
-  Sets x e here q = DoesFrom here (behaviour q here.w) (λ m. if_value (word_value e m) (λ v s. goes_on (source.assigned s x 0 v)))
+  Sets x e here q = DoesFrom here (behaviour q here.w) (λ m. if_value (word_value z.fs.meanings e m) (λ v s. goes_on (source.assigned s x 0 v)))
 
   setting_does : (x : Variable) (e : CheckedExpression) {n : ℕ} {count : ℕ → ℕ} (here : Start z n count)
-      → HasSpare e n count none_spare → IsFit z.shared z.p e → IsTarget z.p z.written x
-      → Sets x e here (setting z.p x e)
+      → HasSpare e n count none_spare → Fits e → IsTarget z.p z.written x
+      → Sets x e here (setting (code_places z) z.fs.bodies x e)
   setting_does x e here room fits target =
-      value_taken e here none_spare (one (write_step z.p x)) (λ v s. goes_on (source.assigned s x 0 v)) room fits
+      value_taken e here none_spare (one (write_step (code_places z) x)) (λ v s. goes_on (source.assigned s x 0 v)) room fits
       (λ v there. write_does x (behind_value here none_spare there) v target)
 
   -- room for both sides is room for the right one
@@ -357,69 +376,69 @@ module _ (z : Scene) where
 
   -- in place, where both sides are of one word
   sides_do : (x : Variable) (op : PlacedOperator) (a b : CheckedExpression) (o : Option PlainOperation) {n : ℕ} {count : ℕ → ℕ} (here : Start z n count)
-      → of_words (joined_type (type_of a) (type_of b)) (updating x op.operator a) ≡ o
-      → HasSpare (t.binary op a b) n count none_spare → IsFit z.shared z.p (t.binary op a b) → IsTarget z.p z.written x
-      → Sets x (t.binary op a b) here (sides_set z.p x op a b o)
+      → of_words (joined_type (type_of a) (type_of b)) (updating x op.operator a b) ≡ o
+      → HasSpare (t.binary op a b) n count none_spare → Fits (t.binary op a b) → IsTarget z.p z.written x
+      → Sets x (t.binary op a b) here (sides_set (code_places z) z.fs.bodies x op a b o)
   sides_do x op a b None here is room fits target = setting_does x (t.binary op a b) here room fits target
   sides_do x op a b (Some o) here is room fits target =
-      let word = is_of_words (joined_type (type_of a) (type_of b)) (updating x op.operator a) o is in
+      let word = is_of_words (joined_type (type_of a) (type_of b)) (updating x op.operator a b) o is in
       let types = joined_words (type_of a) (type_of b) word.word in
       let whole = one_word.binary_word op.operator (type_of a) (type_of b) types.0 types.1 in
       let given : ℕ → Attempt → Outcome = λ v s. goes_on (source.assigned s x 0 v) in
       let next : ℕ → Attempt → Outcome = λ v s. goes_on (source.assigned s x 0 (plain_word o (word_at s.variables x 0) v)) in
-      let same : (m : Attempt) → if_value (word_value b m) next ≡ if_value (word_value (t.binary op a b) m) given =
-      λ m. ap (λ r. if_value r next) (word_as_value b m types.1)
-      ∙ sym (update_goes_on x op a b o m (is_update x op.operator a o word.is) types.0 types.1)
-      ∙ sym (ap (λ r. if_value r given) (word_as_value (t.binary op a b) m whole)) in
-      subst (DoesFrom here (behaviour (sides_set z.p x op a b (Some o)) here.w)) (λ j. λ m. same m j)
-      (value_taken b here none_spare (one (update_step z.p o x)) next (right_room op a b none_spare room) (fits.0.1, fits.1.1)
+      let same : (m : Attempt) → if_value (word_value z.fs.meanings b m) next ≡ if_value (word_value z.fs.meanings (t.binary op a b) m) given =
+      λ m. ap (λ r. if_value r next) (word_as_value z.fs.meanings b m types.1)
+      ∙ sym (update_goes_on z.fs.meanings x op a b o m (is_update x op.operator a b o word.is) types.0 types.1)
+      ∙ sym (ap (λ r. if_value r given) (word_as_value z.fs.meanings (t.binary op a b) m whole)) in
+      subst (DoesFrom here (behaviour (sides_set (code_places z) z.fs.bodies x op a b (Some o)) here.w)) (λ j. λ m. same m j)
+      (value_taken b here none_spare (one (update_step (code_places z) o x)) next (right_room op a b none_spare room) (right_fits op a b fits)
       (λ v there. update_does o x (behind_value here none_spare there) v target))
 
   -- by the kind of the expression: the first clause makes it a proof by cases
   assignment_does : (x : Variable) (e : CheckedExpression) {n : ℕ} {count : ℕ → ℕ} (here : Start z n count)
-      → HasSpare e n count none_spare → IsFit z.shared z.p e → IsTarget z.p z.written x
-      → Sets x e here (assignment z.p x e)
+      → HasSpare e n count none_spare → Fits e → IsTarget z.p z.written x
+      → Sets x e here (assignment (code_places z) z.fs.bodies x e)
   assignment_does x (t.binary op a b) here room fits target =
-      sides_do x op a b (of_words (joined_type (type_of a) (type_of b)) (updating x op.operator a)) here refl room fits target
+      sides_do x op a b (of_words (joined_type (type_of a) (type_of b)) (updating x op.operator a b)) here refl room fits target
   assignment_does x e here room fits target = setting_does x e here room fits target
 
   long_setting_does : (x : Variable) (e : CheckedExpression) {n : ℕ} {count : ℕ → ℕ} (here : Start z n count)
-      → HasSpare e n count none_spare → IsFit z.shared z.p e → IsLongTarget z.p z.written x
-      → DoesFrom here (behaviour (long_setting z.p x e) here.w)
-      (λ m. if_value (converted_to (type_of e) Long (value_of [] e m)) (λ v s. goes_on (both_assigned s x v)))
+      → HasSpare e n count none_spare → Fits e → IsLongTarget z.p z.written x
+      → DoesFrom here (behaviour (long_setting (code_places z) z.fs.bodies x e) here.w)
+      (λ m. if_value (converted_to (type_of e) Long (value_of z.fs.meanings e m)) (λ v s. goes_on (both_assigned s x v)))
   long_setting_does x e here room fits target =
-      let o : Attempt → Option Evaluated = λ m. converted_to (type_of e) Long (value_of [] e m) in
+      let o : Attempt → Option Evaluated = λ m. converted_to (type_of e) Long (value_of z.fs.meanings e m) in
       let given : ℕ → Attempt → Outcome = λ v s. goes_on (both_assigned s x v) in
-      let q = lowered_long z.p e in
-      subst (λ b. DoesFrom here b (λ m. if_value (o m) given)) (sym (joined_go_on q (write_long z.p x) here.w))
-      (value_does here none_spare stacked here.w (behaviour q here.w) (by_answers here.m o) (behaviour (write_long z.p x)) given
-      (long_leaves (keeping here none_spare) e here.m here.w (at_first e here none_spare room) fits)
+      let q = lowered_long (code_places z) z.fs.bodies e in
+      subst (λ b. DoesFrom here b (λ m. if_value (o m) given)) (sym (joined_go_on q (write_long (code_places z) x) here.w))
+      (value_does here none_spare stacked here.w (behaviour q here.w) (by_answers here.m o) (behaviour (write_long (code_places z) x)) given
+      (long_leaves (keeping here none_spare) known e here.m here.w (at_first e here none_spare room) (fits.0, fits.1) fits.2)
       (λ v there. write_long_does x (behind_value here none_spare there) v target))
 
   -- a variable of one word takes the value as one word
   word_assigned_does : (of : WordType) (x : Variable) (e : CheckedExpression) {n : ℕ} {count : ℕ → ℕ} (here : Start z n count) → IsOneWord of
-      → HasSpare e n count none_spare → IsFit z.shared z.p e → IsTarget z.p z.written x
-      → DoesFrom here (behaviour (assignment z.p x e) here.w) (λ m. with_value [] e m (λ v s. goes_on (assigned_as of s x (type_of e) v)))
+      → HasSpare e n count none_spare → Fits e → IsTarget z.p z.written x
+      → DoesFrom here (behaviour (assignment (code_places z) z.fs.bodies x e) here.w) (λ m. with_value z.fs.meanings e m (λ v s. goes_on (assigned_as of s x (type_of e) v)))
   word_assigned_does of x e here word room fits target =
-      subst (DoesFrom here (behaviour (assignment z.p x e) here.w)) (λ j. λ m. as_word m j) (assignment_does x e here room fits target)
+      subst (DoesFrom here (behaviour (assignment (code_places z) z.fs.bodies x e) here.w)) (λ j. λ m. as_word m j) (assignment_does x e here room fits target)
     where
       same : (v : ℕ) (s : Attempt) → source.assigned s x 0 (converted (type_of e) Unsigned v) ≡ assigned_as of s x (type_of e) v
       same v s = ap (source.assigned s x 0) (same_conversion (type_of e) of v word)
           ∙ sym (one_word.by_one_word of (source.assigned s x 0 (converted (type_of e) of v)) (both_assigned s x (converted (type_of e) of v)) word)
 
-      as_word : (m : Attempt) → if_value (word_value e m) (λ v s. goes_on (source.assigned s x 0 v))
-          ≡ with_value [] e m (λ v s. goes_on (assigned_as of s x (type_of e) v))
+      as_word : (m : Attempt) → if_value (word_value z.fs.meanings e m) (λ v s. goes_on (source.assigned s x 0 v))
+          ≡ with_value z.fs.meanings e m (λ v s. goes_on (assigned_as of s x (type_of e) v))
       as_word m =
-          if_converted (type_of e) Unsigned (value_of [] e m) (λ v s. goes_on (source.assigned s x 0 v))
-          ∙ if_same (value_of [] e m) _ _ (λ v s. ap goes_on (same v s))
+          if_converted (type_of e) Unsigned (value_of z.fs.meanings e m) (λ v s. goes_on (source.assigned s x 0 v))
+          ∙ if_same (value_of z.fs.meanings e m) _ _ (λ v s. ap goes_on (same v s))
 
   -- an assignment to a scalar of a type
   scalar_does : (of : WordType) (x : Variable) (e : CheckedExpression) {n : ℕ} {count : ℕ → ℕ} (here : Start z n count)
-      → HasSpare e n count none_spare → IsFit z.shared z.p e → IsTargetOf z.p z.written of x
-      → DoesFrom here (behaviour (scalar_assignment z.p of x e) here.w) (λ m. with_value [] e m (λ v s. goes_on (assigned_as of s x (type_of e) v)))
+      → HasSpare e n count none_spare → Fits e → IsTargetOf z.p z.written of x
+      → DoesFrom here (behaviour (scalar_assignment (code_places z) z.fs.bodies of x e) here.w) (λ m. with_value z.fs.meanings e m (λ v s. goes_on (assigned_as of s x (type_of e) v)))
   scalar_does Long x e here room fits target =
-      subst (DoesFrom here (behaviour (long_setting z.p x e) here.w))
-      (λ j. λ m. if_converted (type_of e) Long (value_of [] e m) (λ v s. goes_on (both_assigned s x v)) j)
+      subst (DoesFrom here (behaviour (long_setting (code_places z) z.fs.bodies x e) here.w))
+      (λ j. λ m. if_converted (type_of e) Long (value_of z.fs.meanings e m) (λ v s. goes_on (both_assigned s x v)) j)
       (long_setting_does x e here room fits target)
   scalar_does Int x e here room fits target = word_assigned_does Int x e here tt room fits target
   scalar_does Unsigned x e here room fits target = word_assigned_does Unsigned x e here tt room fits target
@@ -428,51 +447,51 @@ module _ (z : Scene) where
 
   -- an index and a value, and what a program does with both
   index_and_value_do : (index e : CheckedExpression) (last : Program) (given : ℕ → ℕ → Attempt → Outcome) {n : ℕ} {count : ℕ → ℕ} (here : Start z n count)
-      (free : Spare) → HasSpare index n count (before e free) → IsFit z.shared z.p index → IsFit z.shared z.p e
+      (free : Spare) → HasSpare index n count (before z.fs e free) → Fits index → Fits e
       → ((i v : ℕ) (there : Behind here free)
       → DoesFrom (behind_value here free there) (behaviour last (with_stack (v ∷ (i ∷ here.w.stack)) there.w)) (given i v))
-      → DoesFrom here (behaviour (joined (index_and_value z.p index e) last) here.w)
-      (λ m. if_value (word_value index m) (λ i s. if_value (word_value e s) (given i)))
+      → DoesFrom here (behaviour (joined (index_and_value (code_places z) z.fs.bodies index e) last) here.w)
+      (λ m. if_value (word_value z.fs.meanings index m) (λ i s. if_value (word_value z.fs.meanings e s) (given i)))
   index_and_value_do index e last given here free room of_index of_e k =
-      let first = lowered_expression z.p index in
-      let second = lowered_expression z.p e in
-      let more : ℕ → Attempt → Outcome = λ i s. if_value (word_value e s) (given i) in
-      subst (λ q. DoesFrom here (behaviour q here.w) (λ m. if_value (word_value index m) more)) (sym (joined_assoc first second last))
-      (value_taken index here (before e free) (joined second last) more room of_index
+      let first = lowered_expression (code_places z) z.fs.bodies index in
+      let second = lowered_expression (code_places z) z.fs.bodies e in
+      let more : ℕ → Attempt → Outcome = λ i s. if_value (word_value z.fs.meanings e s) (given i) in
+      subst (λ q. DoesFrom here (behaviour q here.w) (λ m. if_value (word_value z.fs.meanings index m) more)) (sym (joined_assoc first second last))
+      (value_taken index here (before z.fs e free) (joined second last) more room of_index
       (λ i there.
       let u : WordState = with_stack (i ∷ here.w.stack) there.w in
-      subst (λ b. DoesFrom (behind_value here (before e free) there) b (more i)) (sym (joined_go_on second last u))
-      (value_does here free single u (behaviour second u) (by_answers there.m (word_value e)) (behaviour last) (given i)
-      (expression_leaves (keeping here free) e there.m u there.kept of_e) (k i))))
+      subst (λ b. DoesFrom (behind_value here (before z.fs e free) there) b (more i)) (sym (joined_go_on second last u))
+      (value_does here free single u (behaviour second u) (by_answers there.m (word_value z.fs.meanings e)) (behaviour last) (given i)
+      (expression_leaves (keeping here free) known e there.m u there.kept (of_e.0, of_e.1) of_e.2) (k i))))
 
   -- an assignment to an element does what the source's does: the index and the value are taken as one word
   abbrev stored_word : Variable → CheckedExpression → ℕ → Attempt → Outcome
-  stored_word x e i s = if_value (word_value e s) (λ v s. goes_on (source.assigned s x i v))
+  stored_word x e i s = if_value (word_value z.fs.meanings e s) (λ v s. goes_on (source.assigned s x i v))
 
   abbrev AssignsElement : Variable → CheckedExpression → CheckedExpression → {n : ℕ} {count : ℕ → ℕ} → Start z n count → Program → Type 0
-  AssignsElement x index e here q = DoesFrom here (behaviour q here.w) (λ m. if_value (word_value index m) (stored_word x e))
+  AssignsElement x index e here q = DoesFrom here (behaviour q here.w) (λ m. if_value (word_value z.fs.meanings index m) (stored_word x e))
 
   -- one store is to spare behind the index and the value
   abbrev store_spare : Variable → Spare
   store_spare x = record { emits = 0; lists = one_store x }
 
   abbrev HasStoreSpare : Variable → CheckedExpression → CheckedExpression → ℕ → (ℕ → ℕ) → Type 0
-  HasStoreSpare x index e n count = HasSpare index n count (before e (store_spare x))
+  HasStoreSpare x index e n count = HasSpare index n count (before z.fs e (store_spare x))
 
   element_setting_does : (x : Variable) (index e : CheckedExpression) {n : ℕ} {count : ℕ → ℕ} (here : Start z n count) → IsWrittenArray z.p x
-      → HasStoreSpare x index e n count → IsFit z.shared z.p index → IsFit z.shared z.p e
-      → AssignsElement x index e here (element_setting z.p x index e)
+      → HasStoreSpare x index e n count → Fits index → Fits e
+      → AssignsElement x index e here (element_setting (code_places z) z.fs.bodies x index e)
   element_setting_does x index e here array room of_index of_e =
       index_and_value_do index e (one (store_step z.p x)) (λ i v s. goes_on (source.assigned s x i v)) here (store_spare x) room of_index of_e
       (λ i v there. store_step_does x i v (behind_value here (store_spare x) there) array)
 
   -- what is given of an index and of a value, as of expressions of one word
   as_values : (index e : CheckedExpression) (m : Attempt) (given : ℕ → ℕ → Attempt → Outcome) → IsOneWord (type_of index) → IsOneWord (type_of e)
-      → if_value (word_value index m) (λ i s. if_value (word_value e s) (given i)) ≡ with_value [] index m (λ i s. with_value [] e s (given i))
+      → if_value (word_value z.fs.meanings index m) (λ i s. if_value (word_value z.fs.meanings e s) (given i)) ≡ with_value z.fs.meanings index m (λ i s. with_value z.fs.meanings e s (given i))
   as_values index e m given of_index of_e =
-      let more : ℕ → Attempt → Outcome = λ i s. with_value [] e s (given i) in
-      if_same (word_value index m) _ more (λ i s. ap (λ r. if_value r (given i)) (word_as_value e s of_e))
-      ∙ ap (λ r. if_value r more) (word_as_value index m of_index)
+      let more : ℕ → Attempt → Outcome = λ i s. with_value z.fs.meanings e s (given i) in
+      if_same (word_value z.fs.meanings index m) _ more (λ i s. ap (λ r. if_value r (given i)) (word_as_value z.fs.meanings e s of_e))
+      ∙ ap (λ r. if_value r more) (word_as_value z.fs.meanings index m of_index)
 
   -- room for the index and both sides is room for the index and the right one
   right_store_room : (x : Variable) (index : CheckedExpression) (op : PlacedOperator) (a b : CheckedExpression) {n : ℕ} {count : ℕ → ℕ}
@@ -486,49 +505,49 @@ module _ (z : Scene) where
   element_sides_do : (x : Variable) (index : CheckedExpression) (op : PlacedOperator) (a b : CheckedExpression) (o : Option PlainOperation)
       {n : ℕ} {count : ℕ → ℕ} (here : Start z n count)
       → of_words (joined_type (type_of a) (type_of b)) (element_updating x index op.operator a) ≡ o
-      → IsWrittenArray z.p x → HasStoreSpare x index (t.binary op a b) n count → IsFit z.shared z.p index → IsOneWord (type_of index)
-      → IsFit z.shared z.p (t.binary op a b)
-      → AssignsElement x index (t.binary op a b) here (element_sides_set z.p x index op a b o)
+      → IsWrittenArray z.p x → HasStoreSpare x index (t.binary op a b) n count → Fits index → IsOneWord (type_of index)
+      → Fits (t.binary op a b)
+      → AssignsElement x index (t.binary op a b) here (element_sides_set (code_places z) z.fs.bodies x index op a b o)
   element_sides_do x index op a b None here is array room of_index index_word of_e =
       element_setting_does x index (t.binary op a b) here array room of_index of_e
   element_sides_do x index op a b (Some o) here is array room of_index index_word of_e =
       let word = is_of_words (joined_type (type_of a) (type_of b)) (element_updating x index op.operator a) o is in
       let types = joined_words (type_of a) (type_of b) word.word in
       let whole = one_word.binary_word op.operator (type_of a) (type_of b) types.0 types.1 in
-      let u = is_element_update x index op.operator a o word.is in
+      let u = is_element_update x index op.operator a b o word.is in
       let element = subst (WellFormedExpression z.shared) u.is of_e.0.0 in
       let given : ℕ → ℕ → Attempt → Outcome = λ i v s. goes_on (source.assigned s x i v) in
       let next : ℕ → ℕ → Attempt → Outcome = λ i v s. goes_on (source.assigned s x i (plain_word o (word_at s.variables x i) v)) in
-      let same : (m : Attempt) → if_value (word_value index m) (λ i s. if_value (word_value b s) (next i))
-      ≡ if_value (word_value index m) (stored_word x (t.binary op a b)) =
+      let same : (m : Attempt) → if_value (word_value z.fs.meanings index m) (λ i s. if_value (word_value z.fs.meanings b s) (next i))
+      ≡ if_value (word_value z.fs.meanings index m) (stored_word x (t.binary op a b)) =
       λ m. as_values index b m next index_word types.1
-      ∙ sym (element_update_goes_on x index op a b o m u (record { index = index_word; other = element.3; left = types.0; right = types.1 }))
+      ∙ sym (element_update_goes_on z.fs.meanings x index op a b o m u (record { index = index_word; other = element.3; left = types.0; right = types.1 }))
       ∙ sym (as_values index (t.binary op a b) m given index_word whole) in
-      subst (DoesFrom here (behaviour (element_sides_set z.p x index op a b (Some o)) here.w)) (λ j. λ m. same m j)
+      subst (DoesFrom here (behaviour (element_sides_set (code_places z) z.fs.bodies x index op a b (Some o)) here.w)) (λ j. λ m. same m j)
       (index_and_value_do index b (one (update_element_step z.p o x)) next here (store_spare x) (right_store_room x index op a b room)
-      of_index (of_e.0.1, of_e.1.1)
+      of_index (right_fits op a b of_e)
       (λ i v there. update_step_does o x i v (behind_value here (store_spare x) there) array))
 
   -- by the kind of the expression: the first clause makes it a proof by cases
   element_does : (x : Variable) (index e : CheckedExpression) {n : ℕ} {count : ℕ → ℕ} (here : Start z n count) → IsWrittenArray z.p x
-      → HasStoreSpare x index e n count → IsFit z.shared z.p index → IsOneWord (type_of index) → IsFit z.shared z.p e
-      → AssignsElement x index e here (element_assignment z.p x index e)
+      → HasStoreSpare x index e n count → Fits index → IsOneWord (type_of index) → Fits e
+      → AssignsElement x index e here (element_assignment (code_places z) z.fs.bodies x index e)
   element_does x index (t.binary op a b) here array room of_index index_word of_e =
       element_sides_do x index op a b (of_words (joined_type (type_of a) (type_of b)) (element_updating x index op.operator a)) here refl array room
       of_index index_word of_e
   element_does x index e here array room of_index index_word of_e = element_setting_does x index e here array room of_index of_e
 
   element_store_does : (x : Variable) (index e : CheckedExpression) {n : ℕ} {count : ℕ → ℕ} (here : Start z n count) → IsWrittenArray z.p x
-      → HasStoreSpare x index e n count → IsFit z.shared z.p index → IsOneWord (type_of index) → IsFit z.shared z.p e
-      → DoesFrom here (behaviour (element_assignment z.p x index e) here.w)
-      (λ m. with_value [] index m (λ i s. with_value [] e s (λ v s. goes_on (source.assigned s x i (source.word_of e v)))))
+      → HasStoreSpare x index e n count → Fits index → IsOneWord (type_of index) → Fits e
+      → DoesFrom here (behaviour (element_assignment (code_places z) z.fs.bodies x index e) here.w)
+      (λ m. with_value z.fs.meanings index m (λ i s. with_value z.fs.meanings e s (λ v s. goes_on (source.assigned s x i (source.word_of e v)))))
   element_store_does x index e here array room of_index index_word of_e =
       let given : ℕ → ℕ → Attempt → Outcome = λ i v s. goes_on (source.assigned s x i v) in
-      let same : (m : Attempt) → if_value (word_value index m) (stored_word x e)
-      ≡ with_value [] index m (λ i s. with_value [] e s (λ v s. goes_on (source.assigned s x i (source.word_of e v)))) =
-      λ m. ap (λ r. if_value r (stored_word x e)) (word_as_value index m index_word)
-      ∙ if_same (value_of [] index m) (stored_word x e) _ (λ i s. if_converted (type_of e) Unsigned (value_of [] e s) (given i)) in
-      subst (DoesFrom here (behaviour (element_assignment z.p x index e) here.w)) (λ j. λ m. same m j)
+      let same : (m : Attempt) → if_value (word_value z.fs.meanings index m) (stored_word x e)
+      ≡ with_value z.fs.meanings index m (λ i s. with_value z.fs.meanings e s (λ v s. goes_on (source.assigned s x i (source.word_of e v)))) =
+      λ m. ap (λ r. if_value r (stored_word x e)) (word_as_value z.fs.meanings index m index_word)
+      ∙ if_same (value_of z.fs.meanings index m) (stored_word x e) _ (λ i s. if_converted (type_of e) Unsigned (value_of z.fs.meanings e s) (given i)) in
+      subst (DoesFrom here (behaviour (element_assignment (code_places z) z.fs.bodies x index e) here.w)) (λ j. λ m. same m j)
       (element_does x index e here array room of_index index_word of_e)
 
   -- ---- transitions
@@ -561,6 +580,18 @@ module _ (z : Scene) where
         answers = ap (λ l. l ++ others) untold;
       })
 
+  -- ---- returns
+
+  give_does : {n : ℕ} {count : ℕ → ℕ} (here : Start z n count) (v : ℕ) → DoesFrom here (behaviour (one give) (pushed v here.w)) (source.returns v)
+  give_does here v others = record {
+    is = refl;
+    did = plain_did z.p z.written z.room z.ver [] here.w.fram tt;
+    listed = here.listed;
+    stands = here.stands;
+    few = few_listed here;
+    answers = refl;
+  }
+
   -- ---- loops
 
   -- a turn of a loop: what its program does, and that it emits so much at most
@@ -571,14 +602,14 @@ module _ (z : Scene) where
   -- so many turns, from a number on
   abbrev TurnsDo : ℕ → Program → (Attempt → Outcome) → ℕ → ℕ → List ℕ → {n : ℕ} {count : ℕ → ℕ} → Start z n count → Type 0
   TurnsDo i q run j k stack here =
-      Does z here.w.fram here.most stack (words.turns j (i % 65536) k (behaviour q) here.w)
+      Does z here.w.fram here.most stack (words.turns j (number_of i) k (behaviour q) here.w)
       (λ answers. source.turns j k (Local i) run (answered_by answers here.m))
 
   -- no turn
   no_turns : (i : ℕ) (q : Program) (run : Attempt → Outcome) (k : ℕ) (stack : List ℕ) {n : ℕ} {count : ℕ → ℕ} (here : Start z n count) → i < 256
       → here.w.stack ≡ stack → TurnsDo i q run 0 k stack here
   no_turns i q run k stack here low same =
-      settles z here.w.fram here.most stack [] (with_local (i % 65536) k here.w) (source.assigned here.m (Local i) 0 k) (record {
+      settles z here.w.fram here.most stack [] (with_local (number_of i) k here.w) (source.assigned here.m (Local i) 0 k) (record {
         did = plain_did z.p z.written z.room z.ver [] here.w.fram tt;
         untold = refl;
         stack_kept = same;
@@ -600,7 +631,7 @@ module _ (z : Scene) where
       let first : Start z e c = record {
         m = source.assigned m (Local i) 0 k;
         listed = here.listed;
-        w = with_local (i % 65536) k here.w;
+        w = with_local (number_of i) k here.w;
         most = once;
         stands = local_stands i k low here;
         number = here.number;
@@ -616,7 +647,7 @@ module _ (z : Scene) where
         does = subst P same (turn.does first);
         emits = λ answers. turn.emitted (answered_by answers first.m) (length m.emitted + e) (omega arith);
       })
-      (words.turns j (i % 65536) (k + 1) (behaviour q)) (source.turns j (k + 1) (Local i) run) fewer
+      (words.turns j (number_of i) (k + 1) (behaviour q)) (source.turns j (k + 1) (Local i) run) fewer
       (λ s u listing answers is there. let below = there.few_emitted in turns_do i q run e c low turn j (k + 1) stack (record {
         m = u;
         listed = listing;
@@ -631,12 +662,12 @@ module _ (z : Scene) where
 
   loop_does : (x : Variable) (from below : ℕ) (q : Program) (run : Attempt → Outcome) (e : ℕ) (c : ℕ → ℕ) → IsLocal x → (from < below → Turn q run e c)
       → (here : Start z ((below - from) * e) (λ v. (below - from) * c v))
-      → DoesFrom here (behaviour (one (repeat (loop_local x) from below q)) here.w)
+      → DoesFrom here (behaviour (one (repeat (loop_local (code_places z) x) from below q)) here.w)
       (source.turns (below - from) from x run)
   loop_does (Shared v) from below q run e c low turn here = absurd low
   loop_does (Local i) from below q run e c low turn here =
       let w = here.w in
-      does_alone z w.fram here.most w.stack (words.turns (below - from) (i % 65536) from (behaviour q) w)
+      does_alone z w.fram here.most w.stack (words.turns (below - from) (number_of i) from (behaviour q) w)
       (λ answers. source.turns (below - from) from (Local i) run (answered_by answers here.m))
       (⊎_elim
       (λ some. turns_do i q run e c low (turn some) (below - from) from w.stack here refl)
@@ -665,21 +696,21 @@ module _ (z : Scene) where
 
   -- a choice, where both ways do
   choice_of_ways : (e : CheckedExpression) {n : ℕ} {count : ℕ → ℕ} (here : Start z n count) (free : Spare) (taken otherwise : Program)
-      (f g : Attempt → Outcome) → HasSpare e n count free → IsFit z.shared z.p e → WayDoes here free taken f → WayDoes here free otherwise g
-      → DoesFrom here (behaviour (one (choose (lowered_test z.p e) taken otherwise)) here.w)
-      (λ m. with_value [] e m (λ v s. if holds v then f s else g s))
+      (f g : Attempt → Outcome) → HasSpare e n count free → Fits e → WayDoes here free taken f → WayDoes here free otherwise g
+      → DoesFrom here (behaviour (one (choose (lowered_test (code_places z) z.fs.bodies e) taken otherwise)) here.w)
+      (λ m. with_value z.fs.meanings e m (λ v s. if holds v then f s else g s))
   choice_of_ways e here free taken otherwise f g room fits a b =
       let w = here.w in
-      let c = lowered_test z.p e in
+      let c = lowered_test (code_places z) z.fs.bodies e in
       let run : ℕ → Attempt → Outcome = λ v s. if holds v then f s else g s in
-      let o : Attempt → Option Evaluated = λ m. truth_of (value_of [] e m) in
+      let o : Attempt → Option Evaluated = λ m. truth_of (value_of z.fs.meanings e m) in
       let ways = way_by_top (behaviour taken) (behaviour otherwise) in
       does_alone z w.fram here.most w.stack (tested c (behaviour taken) (behaviour otherwise) w)
-      (λ answers. with_value [] e (answered_by answers here.m) run)
-      (subst (λ r. DoesFrom here r (λ m. with_value [] e m run)) (sym (decided_by_truth c (behaviour taken) (behaviour otherwise) w))
-      (subst (DoesFrom here (then_on (truth_pushed c w) ways)) (λ j. λ m. by_truth (value_of [] e m) f g j)
+      (λ answers. with_value z.fs.meanings e (answered_by answers here.m) run)
+      (subst (λ r. DoesFrom here r (λ m. with_value z.fs.meanings e m run)) (sym (decided_by_truth c (behaviour taken) (behaviour otherwise) w))
+      (subst (DoesFrom here (then_on (truth_pushed c w) ways)) (λ j. λ m. by_truth (value_of z.fs.meanings e m) f g j)
       (value_does here free single w (truth_pushed c w) (by_answers here.m o) ways run
-      (test_leaves (keeping here free) e here.m w (at_first e here free room) fits)
+      (test_leaves (keeping here free) known e here.m w (at_first e here free room) (fits.0, fits.1) fits.2)
       (λ v there. let s = with_stack w.stack there.w in
       either_does (holds v) (behind_value here free there) (behaviour taken s) (behaviour otherwise s) f g (a there) (b there)))))
 
@@ -708,14 +739,14 @@ module _ (z : Scene) where
 
   abbrev choice_spare : CheckedChoice → Spare
   choice_spare c = record {
-    emits = conditions_emit [] c + choice_emits [] c;
-    lists = λ v. conditions_count [] c + choice_count [] (is_store_to v) c;
+    emits = conditions_emit z.fs.emits c + choice_emits z.fs.emits c;
+    lists = λ v. conditions_count (stores_in v) c + choice_count (stores_in v) (is_store_to v) c;
   }
 
   abbrev ways_spare : CheckedBlock → CheckedChoice → Spare
   ways_spare block more = record {
-    emits = conditions_emit [] more + max (block_emits [] block) (choice_emits [] more);
-    lists = λ v. conditions_count [] more + max (block_count [] (is_store_to v) block) (choice_count [] (is_store_to v) more);
+    emits = conditions_emit z.fs.emits more + max (block_emits z.fs.emits block) (choice_emits z.fs.emits more);
+    lists = λ v. conditions_count (stores_in v) more + max (block_count (stores_in v) (is_store_to v) block) (choice_count (stores_in v) (is_store_to v) more);
   }
 
   -- what some path writes, the task writes
@@ -723,67 +754,80 @@ module _ (z : Scene) where
   Writes writes = (v : ℕ) → writes v ≡ true → z.written v ≡ true
 
   mutual
-    statement_does : (s : CheckedStatement) (here : Start z (statement_emits [] s) (λ v. statement_count [] (is_store_to v) s)) → WellFormedStatement z.shared s
-        → AdmitsStatement z.p.map.runtime.events s → Writes (λ v. (statement_sum [] (summary (Shared v)) s).writes)
-        → DoesFrom here (behaviour (lowered_statement z.p s) here.w) (run_statement [] s)
+    statement_does : (s : CheckedStatement) (here : Start z (statement_emits z.fs.emits s) (λ v. statement_count (stores_in v) (is_store_to v) s)) → WellFormedStatement z.shared s
+        → AdmitsStatement z.p.map.runtime.events s → Writes (λ v. (statement_sum (z.fs.sums v) (summary (Shared v)) s).writes)
+        → DoesFrom here (behaviour (lowered_statement (code_places z) z.fs.bodies s) here.w) (run_statement z.fs.meanings s)
     statement_does (t.declare of x None) here fits admits writes = nothing_does here
     statement_does (t.declare of x (Some e)) here fits admits writes =
         word_assigned_does x.word_type x.variable e here (local_word z.shared x.word_type x.variable fits.0 fits.2)
-        (record { emits = omega arith; lists = λ v. omega arith }) (fits.1, admits) (local_target z.p z.written x.variable fits.0)
+        (record { emits = omega arith; lists = λ v. omega arith })
+        (fits.1, admits, λ v k. writes v (declared_writes v (z.fs.sums v) (known.go_on v) of x e k)) (local_target z.p z.written x.variable fits.0)
     statement_does (t.assign x e) here fits admits writes =
-        scalar_does x.word_type x.variable e here (record { emits = omega arith; lists = λ v. omega arith }) (fits.1, admits)
-        (target_of z.shared z.p z.written z.declared x.word_type x.variable fits.0 fits.2 (λ v k. writes v (assignment_writes v x e k)))
+        scalar_does x.word_type x.variable e here (record { emits = omega arith; lists = λ v. omega arith })
+        (fits.1, admits, λ v k. writes v (assigned_writes v (z.fs.sums v) (known.go_on v) x e k))
+        (target_of z.shared z.p z.written z.declared x.word_type x.variable fits.0 fits.2
+        (λ v k. writes v (assignment_writes v (z.fs.sums v) (known.go_on v) x e k)))
     statement_does (t.store x index e) here fits admits writes =
         element_store_does x.variable index e here
-        (array_target z.shared z.p z.written z.declared x.variable z.copied fits.0 (λ v k. writes v (store_writes v x index e k)))
-        (record { emits = omega arith; lists = λ v. omega arith }) (fits.1, admits.0) fits.3 (fits.2, admits.1)
+        (array_target z.shared z.p z.written z.declared x.variable z.copied fits.0
+        (λ v k. writes v (store_writes v (z.fs.sums v) (known.go_on v) x index e k)))
+        (record { emits = omega arith; lists = λ v. omega arith })
+        (fits.1, admits.0, λ v k. writes v (place_writes v (z.fs.sums v) (known.go_on v) x index e k)) fits.3
+        (fits.2, admits.1, λ v k. writes v (stored_writes v (z.fs.sums v) (known.go_on v) x index e k))
     statement_does (t.choose choice) here fits admits writes =
         choice_does choice here fits admits writes
     statement_does (t.loop x from tested below stepped body) here fits admits writes =
-        loop_does x.variable from below (lowered_block z.p body) (run_block [] body) (block_emits [] body) (λ v. block_count [] (is_store_to v) body) fits.0
+        loop_does x.variable from below (lowered_block (code_places z) z.fs.bodies body) (run_block z.fs.meanings body) (block_emits z.fs.emits body) (λ v. block_count (stores_in v) (is_store_to v) body) fits.0
         (λ some. record {
-          does = λ turn. block_does body turn fits.1 admits (λ v k. writes v (loop_writes v x from tested below stepped body some k));
-          emitted = block_emitted body;
+          does = λ turn. block_does body turn fits.1 admits (λ v k. writes v (loop_writes v (z.fs.sums v) x from tested below stepped body some k));
+          emitted = block_emitted z.fs.meanings z.fs.emits known.up_to body;
         }) here
     statement_does (t.emit e) here fits admits writes =
         let last = one (emit_word (word_place z.p.map EmitCount) z.p.map.emits.address) in
         let given : ℕ → Attempt → Outcome = λ v s. goes_on (record s { emitted = s.emitted ++ v ∷ [] }) in
-        subst (DoesFrom here (behaviour (joined (lowered_expression z.p e) last) here.w))
-        (λ j. λ m. if_converted (type_of e) Unsigned (value_of [] e m) given j)
-        (value_taken e here emit_spare last given (record { emits = omega arith; lists = λ v. omega arith }) (fits.0, admits)
+        subst (DoesFrom here (behaviour (joined (lowered_expression (code_places z) z.fs.bodies e) last) here.w))
+        (λ j. λ m. if_converted (type_of e) Unsigned (value_of z.fs.meanings e m) given j)
+        (value_taken e here emit_spare last given (record { emits = omega arith; lists = λ v. omega arith }) (fits.0, admits, writes)
         (λ v there. emit_does (behind_value here emit_spare there) v))
-    statement_does (t.give at e) here fits admits writes = absurd fits
+    statement_does (t.give at e) here fits admits writes =
+        let given : ℕ → Attempt → Outcome = λ v s. source.returns v s in
+        subst (DoesFrom here (behaviour (joined (lowered_expression (code_places z) z.fs.bodies e) (one give)) here.w))
+        (λ j. λ m. if_converted (type_of e) Unsigned (value_of z.fs.meanings e m) given j)
+        (value_taken e here none_spare (one give) given (record { emits = omega arith; lists = λ v. omega arith })
+        (fits.0, admits, λ v k. writes v (given_writes v (z.fs.sums v) (known.go_on v) at e k))
+        (λ v there. give_does (behind_value here none_spare there) v))
     statement_does (t.transition at task) here fits admits writes = transition_does task.task here
 
     choice_does : (c : CheckedChoice) (here : Start z (choice_spare c).emits (choice_spare c).lists) → WellFormedChoice z.shared c
-        → AdmitsChoice z.p.map.runtime.events c → Writes (λ v. (choice_sum [] (summary (Shared v)) c).writes)
-        → DoesFrom here (behaviour (lowered_choice z.p c) here.w) (run_choice [] c)
+        → AdmitsChoice z.p.map.runtime.events c → Writes (λ v. (choice_sum (z.fs.sums v) (summary (Shared v)) c).writes)
+        → DoesFrom here (behaviour (lowered_choice (code_places z) z.fs.bodies c) here.w) (run_choice z.fs.meanings c)
     choice_does t.nothing here fits admits writes = nothing_does here
     choice_does (t.otherwise block) here fits admits writes =
-        block_does block (with_fewer here (block_emits [] block) (λ v. block_count [] (is_store_to v) block) (omega arith) (λ v. omega arith)) fits admits writes
+        block_does block (with_fewer here (block_emits z.fs.emits block) (λ v. block_count (stores_in v) (is_store_to v) block) (omega arith) (λ v. omega arith)) fits admits writes
     choice_does (t.test e block more) here fits admits writes =
         let free = ways_spare block more in
-        choice_of_ways e here free (lowered_block z.p block) (lowered_choice z.p more) (run_block [] block) (run_choice [] more)
-        (record { emits = omega arith; lists = λ v. omega arith }) (fits.0, admits.0)
+        choice_of_ways e here free (lowered_block (code_places z) z.fs.bodies block) (lowered_choice (code_places z) z.fs.bodies more) (run_block z.fs.meanings block) (run_choice z.fs.meanings more)
+        (record { emits = omega arith; lists = λ v. omega arith })
+        (fits.0, admits.0, λ v k. writes v (condition_writes v (z.fs.sums v) (known.go_on v) e block more k))
         (λ there. block_does block
-        (with_fewer (behind_value here free there) (block_emits [] block) (λ v. block_count [] (is_store_to v) block) (omega arith) (λ v. omega arith)) fits.1
-        admits.1 (λ v k. writes v (taken_writes v e block more k)))
+        (with_fewer (behind_value here free there) (block_emits z.fs.emits block) (λ v. block_count (stores_in v) (is_store_to v) block) (omega arith) (λ v. omega arith)) fits.1
+        admits.1 (λ v k. writes v (taken_writes v (z.fs.sums v) (known.go_on v) e block more k)))
         (λ there. choice_does more
         (with_fewer (behind_value here free there) (choice_spare more).emits (choice_spare more).lists (omega arith) (λ v. omega arith)) fits.2
-        admits.2 (λ v k. writes v (passed_writes v e block more k)))
+        admits.2 (λ v k. writes v (passed_writes v (z.fs.sums v) (known.go_on v) e block more k)))
 
-    block_does : (b : CheckedBlock) (here : Start z (block_emits [] b) (λ v. block_count [] (is_store_to v) b)) → WellFormedBlock z.shared b
-        → AdmitsBlock z.p.map.runtime.events b → Writes (λ v. (block_sum [] (summary (Shared v)) b).writes)
-        → DoesFrom here (behaviour (lowered_block z.p b) here.w) (run_block [] b)
+    block_does : (b : CheckedBlock) (here : Start z (block_emits z.fs.emits b) (λ v. block_count (stores_in v) (is_store_to v) b)) → WellFormedBlock z.shared b
+        → AdmitsBlock z.p.map.runtime.events b → Writes (λ v. (block_sum (z.fs.sums v) (summary (Shared v)) b).writes)
+        → DoesFrom here (behaviour (lowered_block (code_places z) z.fs.bodies b) here.w) (run_block z.fs.meanings b)
     block_does t.end here fits admits writes = nothing_does here
     block_does (t.step s more) here fits admits writes =
         let w = here.w in
         let m = here.m in
-        let P : Behaviour → Type 0 = λ b. DoesFrom here b (run_block [] (t.step s more)) in
+        let P : Behaviour → Type 0 = λ b. DoesFrom here b (run_block z.fs.meanings (t.step s more)) in
         let room = here.emits in
-        let once : ℕ → ℕ = λ v. listed_of v here.listed + statement_count [] (is_store_to v) s in
+        let once : ℕ → ℕ = λ v. listed_of v here.listed + statement_count (stores_in v) (is_store_to v) s in
         let fewer : (v : ℕ) → once v ≤ here.most v = λ v. let a = here.lists v in omega (arith, a) in
-        let first : Start z (statement_emits [] s) (λ v. statement_count [] (is_store_to v) s) = record {
+        let first : Start z (statement_emits z.fs.emits s) (λ v. statement_count (stores_in v) (is_store_to v) s) = record {
           m = m;
           listed = here.listed;
           w = w;
@@ -794,21 +838,21 @@ module _ (z : Scene) where
           lists = λ v. omega arith;
           within = λ v. let a = fewer v in let b = here.within v in omega (arith, a, b);
         } in
-        subst P (sym (joined_go_on (lowered_statement z.p s) (lowered_block z.p more) w))
-        (does_then z once here.most w.stack (length m.emitted + statement_emits [] s)
-        (λ answers. run_statement [] s (answered_by answers m)) (record {
-          q = lowered_statement z.p s;
+        subst P (sym (joined_go_on (lowered_statement (code_places z) z.fs.bodies s) (lowered_block (code_places z) z.fs.bodies more) w))
+        (does_then z once here.most w.stack (length m.emitted + statement_emits z.fs.emits s)
+        (λ answers. run_statement z.fs.meanings s (answered_by answers m)) (record {
+          q = lowered_statement (code_places z) z.fs.bodies s;
           w = w;
           ver = here.number;
-          does = statement_does s first fits.0 admits.0 (λ v k. writes v (first_writes v s more k));
-          emits = λ answers. statement_emitted s (answered_by answers m) (length m.emitted + statement_emits [] s) (omega arith);
+          does = statement_does s first fits.0 admits.0 (λ v k. writes v (first_writes v (z.fs.sums v) s more k));
+          emits = λ answers. statement_emitted z.fs.meanings z.fs.emits known.up_to s (answered_by answers m) (length m.emitted + statement_emits z.fs.emits s) (omega arith);
         })
-        (behaviour (lowered_block z.p more)) (run_block [] more) fewer
+        (behaviour (lowered_block (code_places z) z.fs.bodies more)) (run_block z.fs.meanings more) fewer
         (λ u n listing answers is there.
         let below = there.few_emitted in
-        let Q : List ℕ → Type 0 = λ l. Does z u.fram here.most l (behaviour (lowered_block z.p more) u)
-        (λ answers. run_block [] more (answered_by answers n)) in
-        let behind : Start z (block_emits [] more) (λ v. block_count [] (is_store_to v) more) = record {
+        let Q : List ℕ → Type 0 = λ l. Does z u.fram here.most l (behaviour (lowered_block (code_places z) z.fs.bodies more) u)
+        (λ answers. run_block z.fs.meanings more (answered_by answers n)) in
+        let behind : Start z (block_emits z.fs.emits more) (λ v. block_count (stores_in v) (is_store_to v) more) = record {
           m = n;
           listed = listing;
           w = u;
@@ -820,32 +864,16 @@ module _ (z : Scene) where
           within = here.within;
         } in
         subst Q there.stack_kept
-        (block_does more behind fits.1 admits.1 (λ v k. writes v (others_write v s more (runs_go_on_along_paths [] s (answered_by answers m) n is) k)))))
-
-pub blocks_agree : BlocksAgree
-unfolding stores_of
-blocks_agree z block m listed w ver fits admits writes stands emits lists =
-    let most : ℕ → ℕ = λ v. listed_of v listed + stores_of [] v block in
-    block_does z block (record {
-      m = m;
-      listed = listed;
-      w = w;
-      most = most;
-      stands = stands;
-      number = ver;
-      emits = emits;
-      lists = λ v. le_refl (most v);
-      within = lists;
-    }) fits admits writes
+        (block_does more behind fits.1 admits.1 (λ v k. writes v (others_write v (z.fs.sums v) (known.go_on v) s more (runs_go_on_along_paths z.fs.meanings s (answered_by answers m) n is) k)))))
 
 -- the program of a task, by its number
-pub program_at : (l : MemoryMap) (tasks : List CheckedTask) (layouts : List TaskPlace) (k : ℕ) (task : CheckedTask) (t : TaskPlace)
-    → slice_get tasks k ≡ Some task
-    → slice_get layouts k ≡ Some t → get_or (lowered_tasks l tasks layouts) k nothing ≡ lowered_task l t task.body
-program_at l [] layouts k task t e h = cc e
-program_at l (u ∷ tasks) [] k task t e h = cc h
-program_at l (u ∷ tasks) (v ∷ layouts) zero task t e h =
+pub program_at : (fs : List CheckedFunction) (l : MemoryMap) (tasks : List CheckedTask) (layouts : List TaskPlace) (k : ℕ) (task : CheckedTask)
+    (t : TaskPlace) → slice_get tasks k ≡ Some task → slice_get layouts k ≡ Some t
+    → get_or (lowered_tasks fs l tasks layouts) k nothing ≡ lowered_task fs l t task.body
+program_at fs l [] layouts k task t e h = cc e
+program_at fs l (u ∷ tasks) [] k task t e h = cc h
+program_at fs l (u ∷ tasks) (v ∷ layouts) zero task t e h =
     let a : u ≡ task = cc in
     let b : v ≡ t = cc in
-    ap (λ z. lowered_task l v z.body) a ∙ ap (λ z. lowered_task l z task.body) b
-program_at l (u ∷ tasks) (v ∷ layouts) (suc k) task t e h = program_at l tasks layouts k task t e h
+    ap (λ z. lowered_task fs l v z.body) a ∙ ap (λ z. lowered_task fs l z task.body) b
+program_at fs l (u ∷ tasks) (v ∷ layouts) (suc k) task t e h = program_at fs l tasks layouts k task t e h

@@ -6,6 +6,7 @@ use Rattle.lower.proofs.Names.{RoutinePlace}
 use Rattle.std.specs.Prelude.{slice_get, slice_index, slice_index_or}
 use Rattle.path_sums.specs.Sums.{call_sum}
 use Rattle.source_values.specs.Values.{Attempt, Meaning, meaning_in}
+use Rattle.source_values.proofs.Interface.{KnownUpTo}
 use Rattle.lower.proofs.Sequence.{Spare, Keeping, sparing, Keeps, as_value, comes_alone, LeavesWords}
 use Rattle.lower.proofs.Values.{LeavesWord, single}
 use Rattle.lower.proofs.Writes.{CallsGoOn}
@@ -65,13 +66,14 @@ call_lists fs i v = slice_index (called_stores fs.summaries v) i
 abbrev pub CallWritesWithin : Scene → ℕ → Type 0
 CallWritesWithin z i = (v : ℕ) → (call_sum (z.fs.sums v) (summary (Shared v)) i).writes ≡ true → z.written v ≡ true
 
--- the functions that a text may call do so, where the task writes what they write; where there is none of a number there is no body; and the paths
--- of each call go on
+-- the functions that a text may call do so, where the task writes what they write; where there is none of a number there is no body; the paths of each
+-- call go on, and none emits more than it counts
 pub record KnownAgree (z : Scene) : Type 0 where
   pub calls : (i : ℕ) (f : Meaning) (r : RoutinePlace) → slice_get z.fs.meanings i ≡ Some f → routine_of z.p i ≡ Some r → CallWritesWithin z i
       → RoutineLeaves z r f (slice_index_or z.fs.bodies i nothing) (call_emits z.fs i) (call_lists z.fs i)
   pub none : (i : ℕ) → slice_get z.fs.meanings i ≡ None → slice_index_or z.fs.bodies i nothing ≡ nothing
   pub go_on : (v : ℕ) → CallsGoOn v (z.fs.sums v)
+  pub up_to : KnownUpTo z.fs.meanings z.fs.emits
 
 module _ (k : Keeping) (known : KnownAgree k.z) where
   -- what a call of a function comes to
