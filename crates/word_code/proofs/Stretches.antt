@@ -1,22 +1,31 @@
 -- Stretches of code that stays, with room for locals and a stack.
 use Rattle.word_code.proofs.Names.{subst, ◌≡◌, ℕ, ◌+◌, ◌≤◌, List, [], ◌++◌, Some, arith, forms_bytes, stands_front, stands_back, forms_bytes-append}
 use Rattle.word_code.proofs.Names.{Effect, Goes, Stops, At, stretch, Code, Core, Form, instruction_of, form_step, FormNeeds, Stands, AreStraight, forms_run}
-use Rattle.word_code.proofs.Names.{FormsNeed, IsTidy, Runs, Starves, stack_base, stack_start, HasStackRoom, ◌%◌, true}
+use Rattle.word_code.proofs.Names.{FormsNeed, IsTidy, Runs, Starves, stack_top, stack_start, HasStackRoom, ◌%◌, ◌*◌, true}
 use Rattle.array_versions.specs.msp_step.declared.machine.Stop.TheVariants as stop
 use Rattle.code_forms.proofs.Interface as blocks
 
--- some code, how many locals it has, how many words its stack may take, and where that begins: below those of them that stand in RAM, and where
--- the code may be interrupted no higher than there
+-- some code as it runs, from its beginning on: which locals are its own, where its stack begins and how many words that may take, and the machine as it
+-- began. SP stays at or above `low`, also in what it calls; where the code may be interrupted its stack begins no higher than that of such code
 pub record Setting : Type 0 where
   pub code : Code
   pub tidy : IsTidy code
-  pub locals : ℕ
+  pub own : ℕ  -- of the locals in registers those from this number on are its own
+  pub registers : ℕ  -- up to this one; neither it nor what it calls writes the registers from here on
+  pub frame : ℕ  -- its locals in RAM stand from this address on
+  pub ceiling : ℕ  -- up to this one
   pub room : ℕ
-  pub base : ℕ
-  pub even : base % 2 ≡ 0
-  pub start : code.events ≡ true → base ≤ stack_start
-  pub low : base ≤ stack_base locals
-  pub roomy : HasStackRoom base room
+  pub top : ℕ
+  pub low : ℕ
+  pub entered : Core
+  pub ordered : own ≤ registers
+  pub even : top % 2 ≡ 0
+  pub high : top ≤ stack_top
+  pub start : code.events ≡ true → top ≤ stack_start
+  pub above : top ≤ frame
+  pub inside : ceiling ≤ stack_top
+  pub deep : low + 2 * room ≤ top
+  pub roomy : HasStackRoom low 0
 
 -- straight code comes to where its forms do
 module _ (z : Setting) (ms : List Form) (most : ℕ) (u t : Core) (es : List Effect) (c : ℕ) (P : Core → Type 0) where
