@@ -2,9 +2,9 @@
 use Rattle.word_code.proofs.Names.{◌≡◌, ℕ, ◌+◌, ◌≤◌, Bool, true, false, nat_lt, if◌then◌else◌, nat_tests, List, [], ◌∷◌, refl, arith, Step, Test, Program}
 use Rattle.word_code.proofs.Names.{local, set_local, update_local, truth, choose, repeat, holds, compares, both, either, fails, nothing, step, StepLocalsBelow}
 use Rattle.word_code.proofs.Names.{TestLocalsBelow, LocalsBelow, step_locals, test_locals, locals_of, Core, Form, SetStack, forms_bytes, Stands, Runs}
-use Rattle.word_code.proofs.Names.{stack_top, stack_base, stack_set, stack_cycles, stack_start, HasStackRoom, Code, IsTidy, ◌<◌, ◌-◌, ◌*◌, ◌%◌, true}
-use Rattle.array_versions.specs.machine_effects.address_space.Limits.{ram_first, spare_words}
-use Rattle.word_code.proofs.Memory.{Owns}
+use Rattle.word_code.proofs.Names.{stack_top, stack_base, stack_set, stack_cycles, stack_start, HasStackRoom, Code, IsTidy, IsWhole, FitsEvents, ◌<◌, ◌*◌, ◌%◌}
+use Rattle.word_code.proofs.Names.{StepEachLocal, TestEachLocal, EachLocal, inl, inr}
+use Rattle.word_code.proofs.Memory.{Owns, below_eight, from_eight}
 use Rattle.word_code.proofs.Stretches.{Setting, hop, nothing_run, dearer}
 
 -- ---- each local is below a number where the greatest is
@@ -53,83 +53,114 @@ mutual
   program_least k nothing h = omega arith
   program_least k (step s p) h = omega (arith, step_least k s h.0, program_least k p h.1)
 
--- ---- a fact of each local that a program names
+-- ---- a fact of each local that a program names, by two others
 
-abbrev mutual
-  pub EachStepLocal : (ℕ → Type 0) → Step → Type 0
-  EachStepLocal F (local n) = F n
-  EachStepLocal F (set_local n) = F n
-  EachStepLocal F (update_local o n) = F n
-  EachStepLocal F (truth t) = EachTestLocal F t
-  EachStepLocal F (choose t p q) = EachTestLocal F t × EachLocal F p × EachLocal F q
-  EachStepLocal F (repeat n from below p) = F n × EachLocal F p
-  EachStepLocal F _ = Unit {0}
-
-  pub EachTestLocal : (ℕ → Type 0) → Test → Type 0
-  EachTestLocal F (holds p) = EachLocal F p
-  EachTestLocal F (compares o p) = EachLocal F p
-  EachTestLocal F (both t u) = EachTestLocal F t × EachTestLocal F u
-  EachTestLocal F (either t u) = EachTestLocal F t × EachTestLocal F u
-  EachTestLocal F (fails t) = EachTestLocal F t
-
-  pub EachLocal : (ℕ → Type 0) → Program → Type 0
-  EachLocal F nothing = Unit {0}
-  EachLocal F (step s p) = EachStepLocal F s × EachLocal F p
-
--- where each local below a number has it
 mutual
-  each_step_local : (F : ℕ → Type 0) (k : ℕ) (s : Step) → ((n : ℕ) → n < k → F n) → StepLocalsBelow k s → EachStepLocal F s
-  each_step_local F k (local n) f h = f n h
-  each_step_local F k (set_local n) f h = f n h
-  each_step_local F k (update_local o n) f h = f n h
-  each_step_local F k (truth t) f h = each_test_local F k t f h
-  each_step_local F k (choose t p q) f h = (each_test_local F k t f h.0, each_local F k p f h.1, each_local F k q f h.2)
-  each_step_local F k (repeat n from below p) f h = (f n h.0, each_local F k p f h.1)
-  each_step_local F k _ f h = tt
+  step_each : (P Q R : ℕ → Type 0) (s : Step) → ((n : ℕ) → P n → Q n → R n) → StepEachLocal P s → StepEachLocal Q s → StepEachLocal R s
+  step_each P Q R (local n) f h i = f n h i
+  step_each P Q R (set_local n) f h i = f n h i
+  step_each P Q R (update_local o n) f h i = f n h i
+  step_each P Q R (truth t) f h i = test_each P Q R t f h i
+  step_each P Q R (choose t p q) f h i = (test_each P Q R t f h.0 i.0, each_local P Q R p f h.1 i.1, each_local P Q R q f h.2 i.2)
+  step_each P Q R (repeat n from below p) f h i = (f n h.0 i.0, each_local P Q R p f h.1 i.1)
+  step_each P Q R _ f h i = tt
 
-  each_test_local : (F : ℕ → Type 0) (k : ℕ) (t : Test) → ((n : ℕ) → n < k → F n) → TestLocalsBelow k t → EachTestLocal F t
-  each_test_local F k (holds p) f h = each_local F k p f h
-  each_test_local F k (compares o p) f h = each_local F k p f h
-  each_test_local F k (both t u) f h = (each_test_local F k t f h.0, each_test_local F k u f h.1)
-  each_test_local F k (either t u) f h = (each_test_local F k t f h.0, each_test_local F k u f h.1)
-  each_test_local F k (fails t) f h = each_test_local F k t f h
+  test_each : (P Q R : ℕ → Type 0) (t : Test) → ((n : ℕ) → P n → Q n → R n) → TestEachLocal P t → TestEachLocal Q t → TestEachLocal R t
+  test_each P Q R (holds p) f h i = each_local P Q R p f h i
+  test_each P Q R (compares o p) f h i = each_local P Q R p f h i
+  test_each P Q R (both t u) f h i = (test_each P Q R t f h.0 i.0, test_each P Q R u f h.1 i.1)
+  test_each P Q R (either t u) f h i = (test_each P Q R t f h.0 i.0, test_each P Q R u f h.1 i.1)
+  test_each P Q R (fails t) f h i = test_each P Q R t f h i
 
-  pub each_local : (F : ℕ → Type 0) (k : ℕ) (p : Program) → ((n : ℕ) → n < k → F n) → LocalsBelow k p → EachLocal F p
-  each_local F k nothing f h = tt
-  each_local F k (step s p) f h = (each_step_local F k s f h.0, each_local F k p f h.1)
+  pub each_local : (P Q R : ℕ → Type 0) (p : Program) → ((n : ℕ) → P n → Q n → R n) → EachLocal P p → EachLocal Q p → EachLocal R p
+  each_local P Q R nothing f h i = tt
+  each_local P Q R (step s p) f h i = (step_each P Q R s f h.0 i.0, each_local P Q R p f h.1 i.1)
 
--- ---- code that nothing called: all registers of locals are its own, and RAM above its stack
+-- ---- code that nothing called: the registers from its own on are its own, and so is RAM from below its locals on
 
-module _ (code : Code) (tidy : IsTidy code) (u : Core) (locals room top : ℕ) (even : top % 2 ≡ 0) (start : code.events ≡ true → top ≤ stack_start)
-    (low : top ≤ stack_base locals) (roomy : HasStackRoom top room) where
-  fits : ram_first + 2 * (spare_words + room) ≤ top
-  fits = roomy.fits
+-- where the stack of a whole program begins, and how many locals it has at most
+pub record Begins (code : Code) (p : Program) (whole : IsWhole p) : Type 0 where
+  pub locals : ℕ
+  pub top : ℕ
+  pub even : top % 2 ≡ 0
+  pub start : code.events ≡ true → top ≤ stack_start
+  pub low : top ≤ stack_base locals
+  pub deep : whole.bounds.low + 2 * whole.room ≤ top
+  pub roomy : HasStackRoom top whole.room
+  pub light : code.events ≡ true → whole.bounds.framed ≡ false
+  pub named : LocalsBelow locals p
 
+-- with events: where the stack of such code begins
+pub at_start : (code : Code) (p : Program) (whole : IsWhole p) → FitsEvents p whole → Begins code p whole
+at_start code p whole fit =
+    record {
+      locals = whole.locals;
+      top = stack_start;
+      even = refl;
+      start = λ k. omega arith;
+      low = fit.low;
+      deep = fit.lowest;
+      roomy = fit.room;
+      light = λ k. fit.light;
+      named = whole.low_locals;
+    }
+
+-- else right below its locals in RAM
+pub at_base : (code : Code) (p : Program) (whole : IsWhole p) → code.events ≡ false → Begins code p whole
+at_base code p whole none =
+    let least = program_least whole.locals p whole.low_locals in
+    let room = whole.fits.fits in
+    let lowest = whole.lowest in
+    record {
+      locals = locals_of p;
+      top = stack_base (locals_of p);
+      even = omega arith;
+      start = λ k. absurd (cc (k, none));
+      low = omega arith;
+      deep = omega (arith, lowest, least);
+      roomy = record { fits = omega (arith, room, least) };
+      light = λ k. absurd (cc (k, none));
+      named = program_below (locals_of p) p (omega arith);
+    }
+
+module _ (code : Code) (tidy : IsTidy code) (u : Core) (p : Program) (whole : IsWhole p) (b : Begins code p whole) where
   abbrev pub uncalled : Setting
   uncalled = record {
     code = code;
     tidy = tidy;
-    own = 0;
+    own = whole.bounds.first;
     registers = 8;
-    frame = stack_base locals;
+    frame = stack_base b.locals;
     ceiling = stack_top;
-    room = room;
-    top = top;
-    low = top - 2 * room;
+    room = whole.room;
+    top = b.top;
+    low = whole.bounds.low;
+    framed = whole.bounds.framed;
+    gives = false;
     entered = u;
-    ordered = omega arith;
-    even = even;
-    high = omega (arith, low);
-    start = start;
-    above = low;
+    ordered = whole.registers;
+    few = omega arith;
+    even = b.even;
+    high = let low = b.low in omega arith;
+    start = b.start;
+    above = λ l. b.low;
     inside = omega arith;
-    deep = omega (arith, fits);
-    roomy = record { fits = omega (arith, fits) };
+    deep = b.deep;
+    roomy = b.roomy;
+    light = b.light;
+    returns = λ e. absurd (let q = e in (cc));
   }
 
-  -- it owns each local below the number
-  pub uncalled_owns : (n : ℕ) → n < locals → Owns uncalled n
-  uncalled_owns n l = record { register = λ h. (omega arith, h); word = λ h. (omega (arith, l, h), omega (arith, h)) }
+  owns : (n : ℕ) → n < b.locals → whole.bounds.first ≤ n → Owns uncalled n
+  owns n l from = by (nat_lt n 8) refl
+    where
+      by : (few : Bool) → nat_lt n 8 ≡ few → Owns uncalled n
+      by true e = inl (from, below_eight n e)
+      by false e = let eight = from_eight n e in inr (eight, omega (arith, l, eight), omega (arith, eight))
+
+  -- each local that it names is its own
+  pub uncalled_owns : EachLocal (Owns uncalled) p
+  uncalled_owns = each_local (λ n. n < b.locals) (λ n. whole.bounds.first ≤ n) (Owns uncalled) p owns b.named whole.own_locals
 
 -- ---- the place of the stack
 

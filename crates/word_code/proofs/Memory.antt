@@ -2,6 +2,7 @@
 use Rattle.word_code.proofs.Names.{◌≡◌, ℕ, zero, suc, ◌+◌, ◌-◌, ◌*◌, ◌<◌, ◌≤◌, List, [], ◌∷◌, length, get_or, Option, Some, refl, sym, ap, ◌∙◌, subst, arith}
 use Rattle.word_code.proofs.Names.{Bool, true, false, nat_eq, nat_lt, eq-eqb, ne_eqb, if◌then◌else◌, nat_tests, same_Some, put, IsPlace, IsRam}
 use Rattle.word_code.proofs.Names.{stack_start, put_same, put_other, work_number, HasPushRoom, is_place, assigned, local_register, local_address, eqb-true}
+use Rattle.word_code.proofs.Names.{IsOwn, ◌⊎◌, inl, inr}
 use Rattle.word_code.proofs.Stretches.{Setting}
 pub use Rattle.array_versions.specs.alp_words.Words.{AreWords, HoldsWords}
 
@@ -18,6 +19,12 @@ stack_put ram a w sp (v ∷ vs) l h = (put_other ram a w sp (λ e. omega arith) 
 stack_below : (ram : ℕ → ℕ) (a w sp : ℕ) (vs : List ℕ) → sp + 2 * length vs ≤ a → StackIs ram sp vs → StackIs (put ram a w) sp vs
 stack_below ram a w sp [] l h = tt
 stack_below ram a w sp (v ∷ vs) l h = (put_other ram a w sp (λ e. omega arith) ∙ h.0, stack_below ram a w (sp + 2) vs (omega arith) h.1)
+
+-- RAM is the same from SP on
+stack_same : (ram ram' : ℕ → ℕ) (sp : ℕ) (vs : List ℕ) → ((a : ℕ) → sp ≤ a → ram' a ≡ ram a) → StackIs ram sp vs → StackIs ram' sp vs
+stack_same ram ram' sp [] same h = tt
+stack_same ram ram' sp (v ∷ vs) same h =
+    (same sp (omega arith) ∙ h.0, stack_same ram ram' (sp + 2) vs (λ a l. same a (omega (arith, l))) h.1)
 
 pub place_is : (a : ℕ) → is_place a ≡ true → IsPlace a
 place_is a h = record { even = grind (arith, nat_tests); low = grind (arith, nat_tests); high = grind (arith, nat_tests) }
@@ -36,14 +43,14 @@ local_words work = work 8 ∷ work 9 ∷ work 10 ∷ work 11 ∷ work 12 ∷ wor
 abbrev pub local_word : List ℕ → (ℕ → ℕ) → ℕ → ℕ
 local_word words ram n = if nat_lt n 8 then get_or words n 0 else ram (local_address n)
 
-below_eight : (n : ℕ) → nat_lt n 8 ≡ true → n < 8
+pub below_eight : (n : ℕ) → nat_lt n 8 ≡ true → n < 8
 below_eight n e = grind (arith, nat_tests)
 
-from_eight : (n : ℕ) → nat_lt n 8 ≡ false → 8 ≤ n
+pub from_eight : (n : ℕ) → nat_lt n 8 ≡ false → 8 ≤ n
 from_eight n e = grind (arith, nat_tests)
 
 -- the register of a local, and its word
-register_at : (work : ℕ → ℕ) (n : ℕ) → n < 8 → (work_number (local_register n) ≡ 8 + n) × (get_or (local_words work) n 0 ≡ work (8 + n))
+pub register_at : (work : ℕ → ℕ) (n : ℕ) → n < 8 → (work_number (local_register n) ≡ 8 + n) × (get_or (local_words work) n 0 ≡ work (8 + n))
 register_at work zero l = (refl, refl)
 register_at work (suc zero) l = (refl, refl)
 register_at work (suc (suc zero)) l = (refl, refl)
@@ -74,10 +81,9 @@ address_same k n l = by (nat_eq k n) refl
         ne_eqb (local_address k) (local_address n)
         (λ q. let same : k ≡ n = omega (arith, q, l) in let is = eq-eqb k n same in let no = e in absurd (cc))
 
--- a local is its own: where it stands in a register, that is one of its own, and where it stands in RAM, so is that word
-pub record Owns (z : Setting) (n : ℕ) : Type 0 where
-  pub register : n < 8 → (z.own ≤ n) × (n < z.registers)
-  pub word : 8 ≤ n → (z.frame ≤ local_address n) × (local_address n < z.ceiling)
+-- a local is its own: a register of its own, or a word of RAM
+abbrev pub Owns : Setting → ℕ → Type 0
+Owns z n = IsOwn z.own z.registers z.frame z.ceiling n
 
 -- the word of RAM at an address is none of its locals
 abbrev pub OutsideFrame : Setting → ℕ → Type 0
@@ -105,11 +111,11 @@ module _ (z : Setting) where
     pub ram : IsRam (local_address n)
     pub few : n < 0x1207
 
-  in_frame : (n : ℕ) → nat_lt n 8 ≡ false → Owns z n → InRam n
-  in_frame n e own =
-      let at = own.word (from_eight n e) in
-      let low = at.0 in let high = at.1 in
-      let r = z.roomy.fits in let d = z.deep in let a = z.above in let c = z.inside in
+  pub in_frame : (n : ℕ) → nat_lt n 8 ≡ false → Owns z n → InRam n
+  in_frame n e (inl l) = let few = z.few in let from = from_eight n e in absurd (omega (arith, l.1))
+  in_frame n e (inr at) =
+      let low = at.1 in let high = at.2 in
+      let r = z.roomy.fits in let d = z.deep in let a = z.above (omega arith) in let c = z.inside in
       record {
         top = omega arith;
         frame = low;
@@ -117,6 +123,11 @@ module _ (z : Setting) where
         ram = record { even = omega arith; low = omega arith; high = omega arith };
         few = omega arith;
       }
+
+  -- a local of its own in a register
+  pub in_own : (n : ℕ) → n < 8 → Owns z n → (z.own ≤ n) × (n < z.registers)
+  in_own n l (inl at) = at
+  in_own n l (inr at) = absurd (omega (arith, at.0))
 
   pub pop_memory : {sp v : ℕ} {ram : ℕ → ℕ} {words vs : List ℕ} {ls : ℕ → Option ℕ} → Memory z sp ram words (v ∷ vs) ls → Memory z (sp + 2) ram words vs ls
   pop_memory m = record { depth = omega (arith, m.depth); fits = omega (arith, m.fits); stack = m.stack.1; vars = m.vars; keeps = m.keeps }
@@ -165,6 +176,26 @@ module _ (z : Setting) where
         keeps = record { ram_words = λ a t out. apart a t ∙ m.keeps.ram_words a t out; registers = m.keeps.registers };
       }
 
+  -- what is called writes neither RAM from SP on nor the registers of locals from its own on
+  pub memory_after : (sp : ℕ) (ram ram' : ℕ → ℕ) (words words' vs : List ℕ) (ls : ℕ → Option ℕ) → ((a : ℕ) → sp ≤ a → ram' a ≡ ram a)
+      → ((n : ℕ) → z.own ≤ n → n < 8 → get_or words' n 0 ≡ get_or words n 0) → Memory z sp ram words vs ls → Memory z sp ram' words' vs ls
+  memory_after sp ram ram' words words' vs ls same registers m =
+      record {
+        depth = m.depth;
+        fits = m.fits;
+        stack = stack_same ram ram' sp vs same m.stack;
+        vars = λ n v own q. word n own (nat_lt n 8) refl ∙ m.vars n v own q;
+        keeps = record {
+          ram_words = λ a from out. let d = m.depth in same a (omega arith) ∙ m.keeps.ram_words a from out;
+          registers = λ n from few. let o = z.ordered in registers n (omega arith) few ∙ m.keeps.registers n from few;
+        };
+      }
+    where
+      word : (n : ℕ) → Owns z n → (b : Bool) → nat_lt n 8 ≡ b
+          → (if b then get_or words' n 0 else ram' (local_address n)) ≡ (if b then get_or words n 0 else ram (local_address n))
+      word n own true e = let l = below_eight n e in registers n (in_own n l own).0 l
+      word n own false e = let d = m.depth in let low = (in_frame n e own).top in same (local_address n) (omega arith)
+
   -- one local has another word now, and the others theirs
   assign : (sp n v : ℕ) (ram ram' : ℕ → ℕ) (words words' vs : List ℕ) (ls : ℕ → Option ℕ) → Memory z sp ram words vs ls
       → StackIs ram' sp vs × Keeps z ram' words'
@@ -197,7 +228,7 @@ module _ (z : Setting) where
 
       other : (k : ℕ) → z.registers ≤ k → k < 8 → get_or (local_words (put work (work_number (local_register n)) v)) k 0 ≡ get_or (local_words work) k 0
       other k from h =
-          let less = (own.register l).1 in
+          let less = (in_own n l own).1 in
           register_put work n k v l h ∙ ap (λ b. if b then v else get_or (local_words work) k 0) (ne_eqb k n (λ q. omega arith))
 
       by : (b : Bool) (k : ℕ) → nat_lt k 8 ≡ b → (if b then get_or (local_words (put work (work_number (local_register n)) v)) k 0 else ram (local_address k))

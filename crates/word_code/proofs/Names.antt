@@ -55,8 +55,9 @@ pub use Rattle.array_versions.specs.Behaviour.{way_by_top, way_by_two, then_on, 
 pub use Rattle.array_versions.specs.Cost.{spent_on, unary_words, binary_words, right_words, shift_words, step_words, test_words, words_of, turns_spent}
 pub use Rattle.array_versions.specs.Cost.{unary_cycles, binary_cycles, top_spent, spent_by_top, spent_by_two, step_spent, test_spent, spent}
 pub use Rattle.array_versions.specs.Form.{StepLocalsBelow, TestLocalsBelow, LocalsBelow, StepSpares, Spares, Place, start, assigning, Moves, EachTurn}
-pub use Rattle.array_versions.specs.Form.{EachStepWay, EachTestWay, EachWay, TestSpares, StepLoopsCount, TestLoopsCount, LoopsCount, StepOfWords, TestOfWords}
-pub use Rattle.array_versions.specs.Form.{OfWords, step_locals, test_locals, locals_of, IsWhole, FitsEvents}
+pub use Rattle.array_versions.specs.Form.{EachStepWay, EachTestWay, EachWay, TestSpares, StepOfWords, TestOfWords}
+pub use Rattle.array_versions.specs.Form.{OfWords, step_locals, test_locals, locals_of, IsWhole, FitsEvents, StepEachLocal, TestEachLocal, EachLocal, IsOwn}
+pub use Rattle.array_versions.specs.Form.{CallBounds, IsCalled, frame_begin, FrameFits, StepIsFormed, TestIsFormed, IsFormed, entry_place}
 pub use Rattle.array_versions.specs.Operations.{is_true, compare_words, unary_word, plain_word, binary_word, shift_word, shifted_word}
 pub use Rattle.array_versions.specs.Program.{Step, Test, Program, number, load, keep, update, local, set_local, update_local, unary, binary, shift, long}
 pub use Rattle.array_versions.specs.Program.{element, emit_word, list_entry, versioned_read, versioned_write, versioned_update, sense, next_event}
