@@ -87,15 +87,16 @@ long_words with_longs.HighWord = 3
 abbrev pub entry_words : ℕ → ℕ
 entry_words words = if words == 1 then 16 else 17
 
--- the cycles of a call of so many values up to the function's body: where that has a frame the values are pushed first, then moved there
+-- the cycles of a call of so many values beside those of the function's body, with the push of its word: where the function has a frame the values are
+-- pushed first, then moved there
 abbrev pub call_cycles : Option ℕ → ℕ → ℕ
-call_cycles None count = 5 + 2 * count
-call_cycles (Some f) count = 13 + 5 * count
+call_cycles None count = 8 + 2 * count
+call_cycles (Some f) count = 16 + 5 * count
 
 -- its words. Those of the body count where it stands
 abbrev pub call_words : Option ℕ → ℕ → ℕ
-call_words None count = 2 + count
-call_words (Some f) count = 7 + 2 * count
+call_words None count = 3 + count
+call_words (Some f) count = 8 + 2 * count
 
 abbrev mutual
   -- the cycles of a step, at most: of two ways the greater, of a loop its turns
