@@ -209,6 +209,7 @@ pub record IsCalled (Deeper : CallBounds → Type 0) (bounds : CallBounds) (fram
   pub end : ℕ  -- up to this one
   pub lowest : ℕ  -- its stack stays at or above this address
   pub room : ℕ  -- no way has more words on it
+  pub ordered : own ≤ end
   pub registers : end ≤ bounds.first
   pub fits : FrameFits bounds frame lowest room
   pub spare : HasStackRoom lowest 0

@@ -1,5 +1,5 @@
 -- The stack and the locals: the first eight in registers, the others in RAM, above the stack.
-use Rattle.word_code.proofs.Names.{◌≡◌, ℕ, zero, suc, ◌+◌, ◌-◌, ◌*◌, ◌<◌, ◌≤◌, List, [], ◌∷◌, length, get_or, Option, Some, refl, sym, ap, ◌∙◌, subst, arith}
+use Rattle.word_code.proofs.Names.{◌≡◌, ℕ, zero, suc, ◌+◌, ◌-◌, ◌*◌, ◌<◌, ◌≤◌, List, [], ◌∷◌, length, ◌++◌, get_or, Option, Some, refl, sym, ap, ◌∙◌, subst, arith}
 use Rattle.word_code.proofs.Names.{Bool, true, false, nat_eq, nat_lt, eq-eqb, ne_eqb, if◌then◌else◌, nat_tests, same_Some, put, IsPlace, IsRam}
 use Rattle.word_code.proofs.Names.{stack_start, put_same, put_other, work_number, HasPushRoom, is_place, assigned, local_register, local_address, eqb-true}
 use Rattle.word_code.proofs.Names.{IsOwn, ◌⊎◌, inl, inr}
@@ -11,7 +11,7 @@ abbrev pub StackIs : (ℕ → ℕ) → ℕ → List ℕ → Type 0
 StackIs ram sp [] = Unit {0}
 StackIs ram sp (v ∷ vs) = (ram sp ≡ v) × StackIs ram (sp + 2) vs
 
-stack_put : (ram : ℕ → ℕ) (a w sp : ℕ) (vs : List ℕ) → a < sp → StackIs ram sp vs → StackIs (put ram a w) sp vs
+pub stack_put : (ram : ℕ → ℕ) (a w sp : ℕ) (vs : List ℕ) → a < sp → StackIs ram sp vs → StackIs (put ram a w) sp vs
 stack_put ram a w sp [] l h = tt
 stack_put ram a w sp (v ∷ vs) l h = (put_other ram a w sp (λ e. omega arith) ∙ h.0, stack_put ram a w (sp + 2) vs (omega arith) h.1)
 
@@ -21,10 +21,15 @@ stack_below ram a w sp [] l h = tt
 stack_below ram a w sp (v ∷ vs) l h = (put_other ram a w sp (λ e. omega arith) ∙ h.0, stack_below ram a w (sp + 2) vs (omega arith) h.1)
 
 -- RAM is the same from SP on
-stack_same : (ram ram' : ℕ → ℕ) (sp : ℕ) (vs : List ℕ) → ((a : ℕ) → sp ≤ a → ram' a ≡ ram a) → StackIs ram sp vs → StackIs ram' sp vs
+pub stack_same : (ram ram' : ℕ → ℕ) (sp : ℕ) (vs : List ℕ) → ((a : ℕ) → sp ≤ a → ram' a ≡ ram a) → StackIs ram sp vs → StackIs ram' sp vs
 stack_same ram ram' sp [] same h = tt
 stack_same ram ram' sp (v ∷ vs) same h =
     (same sp (omega arith) ∙ h.0, stack_same ram ram' (sp + 2) vs (λ a l. same a (omega (arith, l))) h.1)
+
+-- of two parts of the stack the upper one, and where it ends the other
+pub stack_upper : (ram : ℕ → ℕ) (sp : ℕ) (a b : List ℕ) → StackIs ram sp (a ++ b) → StackIs ram sp a
+stack_upper ram sp [] b h = tt
+stack_upper ram sp (v ∷ a) b h = (h.0, stack_upper ram (sp + 2) a b h.1)
 
 pub place_is : (a : ℕ) → is_place a ≡ true → IsPlace a
 place_is a h = record { even = grind (arith, nat_tests); low = grind (arith, nat_tests); high = grind (arith, nat_tests) }
@@ -61,6 +66,14 @@ register_at work (suc (suc (suc (suc (suc (suc zero)))))) l = (refl, refl)
 register_at work (suc (suc (suc (suc (suc (suc (suc zero))))))) l = (refl, refl)
 register_at work (suc (suc (suc (suc (suc (suc (suc (suc n)))))))) l = absurd (let high = l in omega arith)
 
+-- a register of a local is written
+pub register_put : (work : ℕ → ℕ) (n k v : ℕ) → n < 8 → k < 8
+    → get_or (local_words (put work (work_number (local_register n)) v)) k 0 ≡ (if nat_eq k n then v else get_or (local_words work) k 0)
+register_put work n k v l h =
+    let same : nat_eq (8 + k) (8 + n) ≡ nat_eq k n = grind (arith, nat_tests) in
+    (register_at (put work (work_number (local_register n)) v) k h).1 ∙ ap (λ r. put work r v (8 + k)) (register_at work n l).0
+    ∙ ap (λ b. if b then v else work (8 + k)) same ∙ ap (λ x. if nat_eq k n then v else x) (sym (register_at work k h).1)
+
 -- a local in a register
 pub in_register : (work ram : ℕ → ℕ) (n : ℕ) → nat_lt n 8 ≡ true → work (work_number (local_register n)) ≡ local_word (local_words work) ram n
 in_register work ram n e =
@@ -72,7 +85,7 @@ pub in_ram : (words : List ℕ) (ram : ℕ → ℕ) (n : ℕ) → nat_lt n 8 ≡
 in_ram words ram n e = ap (λ b. if b then get_or words n 0 else ram (local_address n)) (sym e)
 
 -- two locals stand at one address where they are one local
-address_same : (k n : ℕ) → n < 0x1207 → nat_eq (local_address k) (local_address n) ≡ nat_eq k n
+pub address_same : (k n : ℕ) → n < 0x1207 → nat_eq (local_address k) (local_address n) ≡ nat_eq k n
 address_same k n l = by (nat_eq k n) refl
   where
     by : (b : Bool) → nat_eq k n ≡ b → nat_eq (local_address k) (local_address n) ≡ b
@@ -131,6 +144,14 @@ module _ (z : Setting) where
 
   pub pop_memory : {sp v : ℕ} {ram : ℕ → ℕ} {words vs : List ℕ} {ls : ℕ → Option ℕ} → Memory z sp ram words (v ∷ vs) ls → Memory z (sp + 2) ram words vs ls
   pop_memory m = record { depth = omega (arith, m.depth); fits = omega (arith, m.fits); stack = m.stack.1; vars = m.vars; keeps = m.keeps }
+
+  -- so many words are popped
+  pub drop_memory : {ram : ℕ → ℕ} {regs rest : List ℕ} {ls : ℕ → Option ℕ} (sp : ℕ) (words : List ℕ) → Memory z sp ram regs (words ++ rest) ls
+      → Memory z (sp + 2 * length words) ram regs rest ls
+  drop_memory {ram} {regs} {rest} {ls} sp [] m = let same : sp ≡ sp + 0 = omega arith in subst (λ n. Memory z n ram regs rest ls) same m
+  drop_memory {ram} {regs} {rest} {ls} sp (v ∷ words) m =
+      let same : sp + 2 + 2 * length words ≡ sp + 2 * length (v ∷ words) = omega arith in
+      subst (λ n. Memory z n ram regs rest ls) same (drop_memory (sp + 2) words (pop_memory m))
 
   pub pop_needs : {sp v : ℕ} {ram : ℕ → ℕ} {words vs : List ℕ} {ls : ℕ → Option ℕ} → Memory z sp ram words (v ∷ vs) ls
       → IsRam sp × (z.code.events ≡ true → sp + 2 ≤ stack_start)
@@ -206,14 +227,6 @@ module _ (z : Setting) where
       by : (b : Bool) (k w : ℕ) → Owns z k → (if b then Some v else ls k) ≡ Some w → (if b then v else local_word words ram k) ≡ w
       by true k w own q = same_Some v w q
       by false k w own q = m.vars k w own q
-
-  -- a register of a local is written
-  register_put : (work : ℕ → ℕ) (n k v : ℕ) → n < 8 → k < 8
-      → get_or (local_words (put work (work_number (local_register n)) v)) k 0 ≡ (if nat_eq k n then v else get_or (local_words work) k 0)
-  register_put work n k v l h =
-      let same : nat_eq (8 + k) (8 + n) ≡ nat_eq k n = grind (arith, nat_tests) in
-      (register_at (put work (work_number (local_register n)) v) k h).1 ∙ ap (λ r. put work r v (8 + k)) (register_at work n l).0
-      ∙ ap (λ b. if b then v else work (8 + k)) same ∙ ap (λ x. if nat_eq k n then v else x) (sym (register_at work k h).1)
 
   -- a local in a register is written
   pub set_register : (sp n v : ℕ) (ram work : ℕ → ℕ) (vs : List ℕ) (ls : ℕ → Option ℕ) → nat_lt n 8 ≡ true → Owns z n
