@@ -342,7 +342,8 @@ pub record FitsEvents (p : Program) (whole : IsWhole p) : Type 0 where
   pub lowest : whole.bounds.low + 2 * whole.room ≤ stack_start
   pub light : whole.bounds.framed ≡ false
 
--- a whole program whose stack has that room
+-- a whole program whose stack has that room, and that calls nothing
 pub record FitsTheStack (p : Program) : Type 0 where
   pub whole : IsWhole p
   pub fits : FitsEvents p whole
+  pub alone : IsFormed no_calls false p

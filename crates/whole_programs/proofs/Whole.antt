@@ -40,6 +40,7 @@ block_whole p shared b words even formed =
           ways = task_way p words shared even b formed.statements (safe_paths b formed.assigned) formed.ends;
         };
         fits = record { low = omega arith; room = record { fits = omega arith }; lowest = omega arith; light = refl };
+        alone = sound.1;
       },
       sound.2,
     )
