@@ -445,7 +445,6 @@ fn call_cycles(frame: Option<u16>, count: u16) -> u64
 
 // A call, whose function's body isn't a part of the step; its word waits behind it.
 fn call_ways(
-    alloc: Global,
     frame: Option<u16>,
     count: u16,
     waiting: &mut Vec<Waiting>,
@@ -454,18 +453,18 @@ fn call_ways(
     ensures waiting { OnOk result (waiting.new.items ≡ R4 ∷ []) }
 {
     let cycles = plus(call_cycles(frame, count), owed(waiting));
-    *waiting = Vec::new(alloc);
+    waiting.clear();
     waiting.push(Waiting::R4)?;
     Ok(straight(cycles))
 }
 
 // A return, behind which nothing waits.
-fn give_ways(alloc: Global, waiting: &mut Vec<Waiting>) -> Ways
+fn give_ways(waiting: &mut Vec<Waiting>) -> Ways
     ensures ways { ways_of result ≡ leaving_ways (capped (give_most waiting.old.items)) }
     ensures waiting { waiting.new.items ≡ [] }
 {
     let cycles = plus(5, owed(waiting));
-    *waiting = Vec::new(alloc);
+    waiting.clear();
     leaving(cycles)
 }
 
@@ -513,8 +512,8 @@ fn step_ways(
             let front = flush(alloc, waiting)?;
             behind(alloc, front, leaving(3))
         }
-        WordStep::Call { frame, count, .. } => call_ways(alloc, *frame, *count, waiting),
-        WordStep::Give => Ok(give_ways(alloc, waiting)),
+        WordStep::Call { frame, count, .. } => call_ways(*frame, *count, waiting),
+        WordStep::Give => Ok(give_ways(waiting)),
         _ => leaf(alloc, bounds, step, waiting),
     }
 }
