@@ -91,7 +91,7 @@ pub record Begins (code : Code) (p : Program) (whole : IsWhole p) : Type 0 where
   pub named : LocalsBelow locals p
 
 -- with events: where the stack of such code begins
-pub at_start : (code : Code) (p : Program) (whole : IsWhole p) → FitsEvents p whole → Begins code p whole
+abbrev pub at_start : (code : Code) (p : Program) (whole : IsWhole p) → FitsEvents p whole → Begins code p whole
 at_start code p whole fit =
     record {
       locals = whole.locals;
@@ -106,7 +106,7 @@ at_start code p whole fit =
     }
 
 -- else right below its locals in RAM
-pub at_base : (code : Code) (p : Program) (whole : IsWhole p) → code.events ≡ false → Begins code p whole
+abbrev pub at_base : (code : Code) (p : Program) (whole : IsWhole p) → code.events ≡ false → Begins code p whole
 at_base code p whole none =
     let least = program_least whole.locals p whole.low_locals in
     let room = whole.fits.fits in
