@@ -17,7 +17,7 @@ pub use Rattle.word_code.proofs.TaskForms.{code_are, routine_are, code_has, rout
 -- What the code of each step follows, for what it costs: states and the machine, stretches of code, words that wait, tests and where they go on, and loops.
 pub use Rattle.word_code.proofs.Stretches.{Setting, bounds_of, runs_on, nothing_run, so_runs, dearer, dearer_stall}
 pub use Rattle.word_code.proofs.Memory.{AreWords, Owns, Keeps, Memory, assigned_same}
-pub use Rattle.word_code.proofs.Follows.{StandsFor, FollowsEnd, OnGoesOn, Pays, Reaches, reach_more, then_reach}
+pub use Rattle.word_code.proofs.Follows.{StandsFor, HasReturned, FollowsEnd, OnGoesOn, Pays, Reaches, reach_more, then_reach}
 pub use Rattle.word_code.proofs.Registers.{Has, Holds, jump_to}
 pub use Rattle.word_code.proofs.Operands.{owed_by, owed, owed_kept, load_owed, Describes, dressed, flush_part, top_to_four_part}
 pub use Rattle.word_code.proofs.Sides.{Aiming, compare_sides_part, compare_stays, reading_cycles, side_owed}
@@ -31,5 +31,9 @@ pub use Rattle.word_code.proofs.LoopBounds.{Bounded, Spared, spared_so, bounded_
 pub use Rattle.word_code.proofs.Locals.{at_start, at_base, uncalled, uncalled_owns, HasStack, stack_part}
 pub use Rattle.word_code.proofs.Whole.{Ready, ready_on, ready_with, ready_popped, turn_ready, Known, known_first, known_second, KnownStep, KnownTest}
 pub use Rattle.word_code.proofs.Whole.{KnownProgram, one_pushed, zero_pushed, step_follows, begun}
+pub use Rattle.word_code.proofs.Whole.{call_room, call_ready}
+-- Calls and returns.
+pub use Rattle.word_code.proofs.Calls.{Popped, popped, callee, light_reaches, give_part}
+pub use Rattle.word_code.proofs.Frames.{framed_reaches}
 -- A product by a number that waits.
 pub use Rattle.word_code.proofs.Results.{StepDoes, product_part}

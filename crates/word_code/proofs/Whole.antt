@@ -290,12 +290,12 @@ module _ (z : Setting) where
       Known (OfWords p) (EachLocal (Owns z) p) (IsFormed (bounds_of z) z.gives p) (RoutinesStand z.code p) (Spared bs (λ n. Spares n p))
 
 -- the word that is given has room
-call_room : (z : Setting) {q : Place} (count : ℕ) (w : WordState) (p : Popped count w.stack)
+pub call_room : (z : Setting) {q : Place} (count : ℕ) (w : WordState) (p : Popped count w.stack)
     → (q.depth ≡ length w.stack) × (q.depth - count + 1 ≤ z.room) → length p.rest < z.room
 call_room z count w p h = omega (arith, h.0, h.1, ap (length {A = ℕ}) p.is, length-append p.words p.rest, p.count)
 
 -- the body of a function that is called begins with its parameters
-call_ready : (first count room : ℕ) (body : Program) (w : WordState) (p : Popped count w.stack) → EachWay room body (λ q. ⊥) (entry_place first count)
+pub call_ready : (first count room : ℕ) (body : Program) (w : WordState) (p : Popped count w.stack) → EachWay room body (λ q. ⊥) (entry_place first count)
     → IsStateOfWords w → Ready [] (EachWay room body (λ q. ⊥)) (called first p.words w)
 call_ready first count room body w p ways words_in =
     record {
