@@ -7,7 +7,6 @@ use Rattle.word_code.specs.array_versions.Program.{Program}
 use Rattle.boot_runtime.specs.memory_map.MemoryMap.{MemoryMap, TaskPlace}
 use Rattle.boot_runtime.specs.memory_map.Places.{end_of}
 use Rattle.boot_runtime.specs.runtime_code.Addresses.{stack_origin}
-use Rattle.word_code.specs.Code.{stack_base}
 use Rattle.word_code.specs.TaskForms.{EachForm, NamesRamFrom, named_from}
 use Rattle.linked_code.specs.Parts.{CodePart}
 use Rattle.linked_code.specs.Linked.{linked, linked_code, boot_part, commit_part, task_part, CodeFits}
