@@ -19,7 +19,8 @@ use Rattle.array_versions.specs.Program.{store_number}
 use Rattle.array_versions.specs.Program.{move_word, jump, call, give, holds}
 use Rattle.array_versions.specs.Program.{compares}
 use Rattle.array_versions.specs.Program.{both, either, fails, nothing, step}
-use Rattle.array_versions.specs.Behaviour.{WordState, End, GoesOn, Jumps, Gives, Short, Strays, Broken, Behaviour, with_stack, with_local, called, step_behaviour}
+use Rattle.array_versions.specs.Behaviour.{WordState, End, GoesOn, Jumps, Gives, Short, Strays, Broken, Behaviour, with_stack, with_local, called}
+use Rattle.array_versions.specs.Behaviour.{step_behaviour}
 use Rattle.array_versions.specs.Behaviour.{behaviour}
 
 -- the cycles of an operation on the top of the stack
@@ -87,15 +88,16 @@ long_words with_longs.HighWord = 3
 abbrev pub entry_words : ℕ → ℕ
 entry_words words = if words == 1 then 16 else 17
 
--- the cycles of a call of so many values up to the function's body: where that has a frame the values are pushed first, then moved there
+-- the cycles of a call of so many values beside those of the function's body, with the push of the word that it gives: where the function has a frame
+-- the values are pushed first, then moved there
 abbrev pub call_cycles : Option ℕ → ℕ → ℕ
-call_cycles None count = 5 + 2 * count
-call_cycles (Some f) count = 13 + 5 * count
+call_cycles None count = 8 + 2 * count
+call_cycles (Some f) count = 16 + 5 * count
 
 -- its words. Those of the body count where it stands
 abbrev pub call_words : Option ℕ → ℕ → ℕ
-call_words None count = 2 + count
-call_words (Some f) count = 7 + 2 * count
+call_words None count = 3 + count
+call_words (Some f) count = 8 + 2 * count
 
 abbrev mutual
   -- the cycles of a step, at most: of two ways the greater, of a loop its turns

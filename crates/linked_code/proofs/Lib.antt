@@ -1,6 +1,7 @@
 mod Parts
 mod Linked
 mod Rooms
+mod Routines
 mod Stretches
 mod Above
 mod Reached
