@@ -1,5 +1,4 @@
 mod Sums
-mod Locals
 mod Routines
 mod VariablesPlaced
 mod TasksPlaced

@@ -2,7 +2,6 @@
 //! variable, each copy and each task's code begins.
 #![tactic(auto)]
 
-mod frames;
 mod laws;
 mod placing;
 mod routines;

@@ -11,12 +11,12 @@ ghost use Rattle.privatise.specs.Sizes.{commit_words};
 ghost use Rattle.privatise.specs.Layouts.{IsLayout};
 ghost use Rattle.privatise.specs.Placing.{AreRegions};
 
-use crate::frames::all_locals;
 use crate::routines::Functions;
 use crate::sizes::{COMMIT, Sizes, sizes_of};
 use crate::tasks::place_tasks;
 use crate::variables::{Free, address_behind, place_variables};
 use cost_bound::{Allow, summaries, uses_events, written_variables};
+use function_locals::all_locals;
 use memory_map::{FRAM_FIRST, Layout, Logging, ROW_WORDS, Region, Regions, Role, Runtime};
 use std::alloc::{AllocError, Global};
 use task_ast::CheckedSource;
@@ -87,10 +87,10 @@ fn layout_of(
     let shared = source.shared.as_slice();
     let tasks = source.tasks.as_slice();
     let known = summaries(&source.functions);
-    let locals = all_locals(alloc, &source.functions)?;
+    let locals = all_locals(&source.functions);
     let functions = Functions {
         summaries: &known,
-        locals: locals.as_slice(),
+        locals: &locals,
     };
     let written = written_variables(&known, tasks);
     let regions = regions_of(allow, sizes_of(&known, source, &written));

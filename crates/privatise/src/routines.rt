@@ -6,11 +6,11 @@ ghost use Rattle.cost_bound.specs.Frames.{stack_of};
 ghost use Rattle.cost_bound.specs.Machine.{summary_of, known_of};
 ghost use Rattle.memory_map.specs.address_space.Limits.{program_end};
 ghost use Rattle.privatise.specs.View.{functions_in};
-ghost use Rattle.privatise.specs.Frames.{words_above, frame_address, frame_of_locals, first_local, routine_room, routine_at, routines_from, task_routines};
+ghost use Rattle.privatise.specs.Routines.{words_above, frame_address, frame_of_locals, first_local, routine_room, routine_at, routines_from, task_routines};
 
-use crate::frames::{FunctionLocals, is_light};
 use crate::variables::address_behind;
 use cost_bound::{FunctionSummary, SHARED, reached_functions, stack};
+use function_locals::{FunctionLocals, is_light};
 use memory_map::{Region, RoutinePlace, STACK_TOP};
 use std::alloc::{AllocError, Global};
 use task_ast::{FunctionName, Stmt, TaskName, VariableName};

@@ -11,10 +11,10 @@ ghost use Rattle.privatise.specs.Sizes.{body_words};
 ghost use Rattle.privatise.specs.View.{functions_in};
 ghost use Rattle.privatise.specs.Placing.{IsScalarPlaceAt, ArePrivates, IsPlacedTask, ArePlacedTasks};
 
-use crate::frames::base;
 use crate::routines::{Functions, place_routines};
 use crate::sizes::{own_words, task_words};
 use crate::variables::address_behind;
+use function_locals::base;
 use memory_map::{PrivateScalar, Region, TaskLayout, VariablePlace};
 use std::alloc::{AllocError, Global};
 use task_ast::{FunctionName, SharedDeclaration, TaskDeclaration, TaskName, VariableName};

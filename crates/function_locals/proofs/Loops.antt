@@ -10,8 +10,8 @@ use Rattle.task_ast.specs.declared.names.FunctionName.{FunctionName}
 use Rattle.cost_bound.specs.Counts.{CheckedBlock, block_calls}
 use Rattle.cost_bound.proofs.Interface.{read_again}
 use Rattle.task_ast.proofs.Interface.{answers_append, answers_length, drop_back}
-use Rattle.privatise.specs.declared.frames.FunctionLocals.{FunctionLocals}
-use Rattle.privatise.specs.Frames.{register_end, greatest_end, base_of, function_locals, all_locals}
+use Rattle.function_locals.specs.declared.locals.FunctionLocals.{FunctionLocals}
+use Rattle.function_locals.specs.Locals.{register_end, greatest_end, base_of, function_locals, all_locals}
 
 -- one function more, in front of those that were looked at
 module _ (calls : ℕ → Bool) (kept : List FunctionLocals) (k : ℕ) (e : FunctionLocals) (pos : 0 < k) (h : k ≤ length kept) where
