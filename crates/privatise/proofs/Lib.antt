@@ -2,6 +2,7 @@ mod Sums
 mod Routines
 mod VariablesPlaced
 mod TasksPlaced
+mod Known
 mod Whole
 mod Tight
 mod Unique

@@ -102,17 +102,11 @@ pub fn place_tasks(
     let mut layouts = Vec::new(alloc);
     let mut at = address;
     for i in 0..tasks.len() {
-        let layout = task_layout(
-            alloc,
-            functions,
-            shared,
-            variables,
-            &tasks[i],
-            &plans[i],
-            at,
-        )?;
-        at = address_behind(at, task_words(functions.summaries, shared, &tasks[i]));
-        layouts.push(layout)?;
+        let declared = &tasks[i];
+        let task = task_layout(alloc, functions, shared, variables, declared, &plans[i], at)?;
+        let words = task_words(functions.summaries, shared, declared);
+        at = address_behind(at, words);
+        layouts.push(task)?;
     }
     Ok(layouts)
 }
