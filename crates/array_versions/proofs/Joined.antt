@@ -3,7 +3,8 @@ use Rattle.std.proofs.Common.{◌≡◌, ℕ, Bool, true, false, if◌then◌els
 use Rattle.machine_effects.specs.fram_board.Effects.{Effect}
 use Rattle.array_versions.specs.Operations.{is_true, compare_words}
 use Rattle.array_versions.specs.Program.{Test, Program, holds, compares, both, either, fails, nothing, step, joined}
-use Rattle.array_versions.specs.Behaviour.{WordState, End, GoesOn, Jumps, Short, Strays, Broken, Behaviour, behaves, behind_effects, on_end, then_on}
+use Rattle.array_versions.specs.Behaviour.{WordState, End, GoesOn, Jumps, Gives, Short, Strays, Broken, Behaviour, behaves, behind_effects, on_end}
+use Rattle.array_versions.specs.Behaviour.{then_on}
 use Rattle.array_versions.specs.Behaviour.{with_top, with_stack, number_pushed, way_by_top, way_by_two, step_behaviour, tested, behaviour}
 use Rattle.array_versions.specs.Laws.{JoinedGoOn, JoinedCycles, JoinedWords}
 
@@ -15,6 +16,7 @@ then_on_end : (es : List Effect) (e : End) (f g h : WordState → Behaviour) →
     → behind_effects es (on_end e h) ≡ then_on (behind_effects es (on_end e f)) g
 then_on_end es (GoesOn s) f g h k = ap (behind_effects es) (k s) ∙ behind_twice es (f s).effects (on_end (f s).end g)
 then_on_end es (Jumps to s) f g h k = behind_twice es [] (behaves [] (Jumps to s))
+then_on_end es (Gives v s) f g h k = behind_twice es [] (behaves [] (Gives v s))
 then_on_end es Short f g h k = behind_twice es [] (behaves [] Short)
 then_on_end es Strays f g h k = behind_twice es [] (behaves [] Strays)
 then_on_end es Broken f g h k = behind_twice es [] (behaves [] Broken)

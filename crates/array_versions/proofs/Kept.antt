@@ -1,5 +1,6 @@
 -- Each step keeps to the allowance.
 use Rattle.std.proofs.Common.{◌≡◌, ℕ, zero, suc, ◌+◌, ◌-◌, ◌<◌, ◌≤◌, ◌==◌, refl, arith, Bool, true, false, nat_le, nat_lt, ltb-true, if◌then◌else◌}
+use Rattle.std.proofs.Common.{Option, Some, None}
 use Rattle.std.proofs.lemmas.Bool.Decides.{nat_tests}
 use Rattle.array_versions.specs.declared.operations.UnaryOperation.{UnaryOperation}
 use Rattle.array_versions.specs.declared.operations.UnaryOperation.TheVariants.{Negate, Complement}
@@ -11,8 +12,9 @@ use Rattle.array_versions.specs.declared.operations.LongOperation.{LongOperation
 use Rattle.array_versions.specs.declared.operations.LongOperation.TheVariants.{ShiftLeft}
 use Rattle.array_versions.specs.Program.{unary, binary, shift, long}
 use Rattle.array_versions.specs.Program.{list_entry}
-use Rattle.array_versions.specs.Program.{repeat, holds}
-use Rattle.array_versions.specs.Cost.{unary_cycles, unary_words, binary_cycles, binary_words, right_words, shift_words, long_cycles, long_words, cycles_of}
+use Rattle.array_versions.specs.Program.{repeat, call, holds}
+use Rattle.array_versions.specs.Cost.{unary_cycles, unary_words, binary_cycles, binary_words, right_words, shift_words, long_cycles, long_words, call_cycles}
+use Rattle.array_versions.specs.Cost.{call_words, cycles_of}
 use Rattle.array_versions.specs.Allowance.{binary_allowance, long_allowance, StepsKeepToCycles, StepsKeepToWords, TestsKeepToCycles, TestsKeepToWords}
 
 unary_cycles_kept : (o : UnaryOperation) → unary_cycles o ≤ 40
@@ -57,11 +59,21 @@ long_words_kept : (o : LongOperation) → long_words o ≤ 32
 long_words_kept (ShiftLeft k) = omega arith
 long_words_kept _ = omega arith
 
+-- a call of so many values
+call_cycles_kept : (frame : Option ℕ) (count : ℕ) → call_cycles frame count ≤ 60 + 5 * (count - 8)
+call_cycles_kept None count = omega arith
+call_cycles_kept (Some f) count = omega arith
+
+call_words_kept : (frame : Option ℕ) (count : ℕ) → call_words frame count ≤ 24 + 4 * count
+call_words_kept None count = omega arith
+call_words_kept (Some f) count = omega arith
+
 pub steps_keep_to_cycles : StepsKeepToCycles
 steps_keep_to_cycles (unary o) = unary_cycles_kept o
 steps_keep_to_cycles (binary o) = binary_cycles_kept o
 steps_keep_to_cycles (long o) = long_cycles_kept o
 steps_keep_to_cycles (repeat n from below body) = let turns = below - from in let c = cycles_of body in omega arith
+steps_keep_to_cycles (call entry frame first count body) = omega (arith, call_cycles_kept frame count)
 steps_keep_to_cycles _ = omega arith
 
 -- an entry's words
@@ -76,6 +88,7 @@ steps_keep_to_words (binary o) = binary_words_kept o
 steps_keep_to_words (shift o k) = shift_kept (nat_le k 15) o k refl
 steps_keep_to_words (long o) = long_words_kept o
 steps_keep_to_words (list_entry count list home copy words) = entry_kept (words == 1)
+steps_keep_to_words (call entry frame first count body) = call_words_kept frame count
 steps_keep_to_words _ = omega arith
 
 -- each test keeps to its cycles

@@ -1,6 +1,7 @@
 mod Joined
 mod Words
 mod Parts
+mod Chains
 mod Runs
 mod Facts
 mod Ways

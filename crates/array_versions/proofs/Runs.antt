@@ -1,4 +1,4 @@
--- What each program does, as a chain of what its steps do to a state: said once by the cases of steps. A fact of all programs is an induction over chains.
+-- What each program does, as a chain of what its steps do to a state: said once by the cases of steps.
 use Rattle.std.proofs.Common.{◌≡◌, ℕ, zero, suc, ◌+◌, ◌-◌, ◌%◌, ◌==◌, ◌<◌, List, [], ◌∷◌, ◌++◌, Option, Some, None, Bool, true, false, refl, sym, arith}
 use Rattle.std.proofs.Common.{◌≢◌, if◌then◌else◌, ap, subst}
 use Rattle.machine_effects.specs.alp_words.Words.{AreWords}
@@ -11,8 +11,9 @@ use Rattle.array_versions.specs.Operations.{unary_word, plain_word, binary_word,
 use Rattle.array_versions.specs.Program.{Step, Test, Program, number, load, keep, update, local, set_local, update_local, unary, binary, shift, long, element}
 use Rattle.array_versions.specs.Program.{emit_word, list_entry, versioned_read, versioned_write, versioned_update, logged_write, logged_update, sense}
 use Rattle.array_versions.specs.Program.{next_event, freeze_events, truth, choose, repeat, store_number}
-use Rattle.array_versions.specs.Program.{move_word, jump, holds, compares, both, either, fails, nothing, step}
-use Rattle.array_versions.specs.Behaviour.{WordState, End, GoesOn, Jumps, Short, Strays, Broken, Behaviour, behaves, goes_on, strays, broken, then_on, is_place}
+use Rattle.array_versions.specs.Program.{move_word, jump, call, give, holds, compares, both, either, fails, nothing, step}
+use Rattle.array_versions.specs.Behaviour.{WordState, End, GoesOn, Jumps, Gives, Short, Strays, Broken, Behaviour, behaves, goes_on, strays, broken, then_on, is_place}
+use Rattle.array_versions.specs.Behaviour.{called, called_behind}
 use Rattle.array_versions.specs.Behaviour.{with_top, with_two, with_words, with_stack, pushed, stored, with_local, local_pushed, local_updated, reading_pushed}
 use Rattle.array_versions.specs.Behaviour.{event_index, none_answered, word_answered, event_answered, with_looks, event_pushed}
 use Rattle.array_versions.specs.Behaviour.{word_stored, element_pushed, word_emitted, versioned_pushed, versioned_stored, versioned_updated, number_pushed}
@@ -21,47 +22,17 @@ use Rattle.array_versions.specs.Behaviour.{way_by_top, way_by_two, turns, step_b
 use Rattle.array_versions.specs.Form.{StepSpares, TestSpares, Spares, StepOfWords, TestOfWords, OfWords}
 use Rattle.array_versions.specs.Laws.{IsStateOfWords}
 use Rattle.array_versions.proofs.Words.{unary_small, plain_small, binary_small, shift_small, long_words, on_words, stack_words, stored_words, local_words}
-use Rattle.array_versions.proofs.Words.{input_words, second_look_words}
+use Rattle.array_versions.proofs.Words.{input_words, second_look_words, called_words}
+use Rattle.array_versions.proofs.Chains.{Run, stays, stacks, assigns, stores, takes, sees, works, run_behind, run_words, called_works}
 use Rattle.array_versions.proofs.Parts.{Writes, astray, done, writes, Pushes, off, on_top, Known, loads, element_pushes, versioned_pushes, word_writes}
 use Rattle.array_versions.proofs.Parts.{emitted_writes, entry_writes, versioned_writes, updated_writes, logged_writes, logged_update_writes}
-
--- A chain from a state to another by effects: other words on the stack, a local set, a word stored in FRAM, a reading or a look taken. Where `W` is
--- given, each word in it is one; a local that is set is none that is spared
-pub data Run (W : Type 0) (spared : ℕ → Type 0) : WordState → List Effect → WordState → Type 0 where
-  stays : {s : WordState} → Run W spared s [] s
-  stacks : {s t : WordState} {es : List Effect} (vs : List ℕ) → (W → AreWords vs) → Run W spared (with_stack vs s) es t → Run W spared s es t
-  assigns : {s t : WordState} {es : List Effect} (n v : ℕ) → ((m : ℕ) → spared m → n ≢ m) → (W → v < 0x10000) → Run W spared (with_local n v s) es t
-      → Run W spared s es t
-  stores : {s t : WordState} {es : List Effect} (a v : ℕ) → (W → v < 0x10000) → Run W spared (stored a v s) es t → Run W spared s (Store a v ∷ es) t
-  takes : {s t : WordState} {es : List Effect} (r : ℕ) (left : Inputs) → TakesExactly (Take r ∷ []) s.inputs left
-      → Run W spared (record s { inputs = left }) es t → Run W spared s (Take r ∷ es) t
-  sees : {s t : WordState} {es : List Effect} (look : Look) (left : Inputs) → TakesExactly (Outside (Looked look) ∷ []) s.inputs left
-      → Run W spared (record s { inputs = left }) es t → Run W spared s (Outside (Looked look) ∷ es) t
-
--- one chain behind another
-run_behind : {W : Type 0} {spared : ℕ → Type 0} {s t u : WordState} {es fs : List Effect} → Run W spared s es t → Run W spared t fs u
-    → Run W spared s (es ++ fs) u
-run_behind stays r = r
-run_behind (stacks vs l q) r = stacks vs l (run_behind q r)
-run_behind (assigns n v d l q) r = assigns n v d l (run_behind q r)
-run_behind (stores a v l q) r = stores a v l (run_behind q r)
-run_behind (takes x left e q) r = takes x left e (run_behind q r)
-run_behind (sees look left e q) r = sees look left e (run_behind q r)
-
--- from words it leads to words
-pub run_words : {W : Type 0} {spared : ℕ → Type 0} {s t : WordState} {es : List Effect} → Run W spared s es t → W → IsStateOfWords s → IsStateOfWords t
-run_words stays x i = i
-run_words (stacks {s = s} vs l q) x i = run_words q x (stack_words s vs i (l x))
-run_words (assigns {s = s} n v d l q) x i = run_words q x (local_words s n v i (l x))
-run_words (stores {s = s} a v l q) x i = run_words q x (stored_words s a v i (l x))
-run_words (takes {s = s} r left e q) x i = run_words q x (input_words s (Take r ∷ []) left e i)
-run_words (sees {s = s} look left e q) x i = run_words q x (input_words s (Outside (Looked look) ∷ []) left e i)
 
 module _ (W : Type 0) (spared : ℕ → Type 0) where
   -- how far a chain leads that ends so: where a reading is wanted, to a state with none left
   abbrev pub Reaches : WordState → List Effect → End → Type 0
   Reaches s es (GoesOn t) = Run W spared s es t
   Reaches s es (Jumps to t) = Run W spared s es t
+  Reaches s es (Gives v t) = (W → v < 0x10000) × Run W spared s es t
   Reaches s es Short = (t : WordState) × Run W spared s es t × (t.inputs.readings ≡ [])
   Reaches s es Strays = (t : WordState) × Run W spared s es t
   Reaches s es Broken = (t : WordState) × Run W spared s es t
@@ -76,6 +47,7 @@ module _ (W : Type 0) (spared : ℕ → Type 0) where
   does_behind : (fs : List Effect) (e : End) {s t : WordState} {es : List Effect} → Run W spared s es t → Reaches t fs e → Reaches s (es ++ fs) e
   does_behind fs (GoesOn u) q r = run_behind q r
   does_behind fs (Jumps to u) q r = run_behind q r
+  does_behind fs (Gives v u) q r = (r.0, run_behind q r.1)
   does_behind fs Short q r = (r.0, run_behind q r.1, r.2)
   does_behind fs Strays q r = (r.0, run_behind q r.1)
   does_behind fs Broken q r = (r.0, run_behind q r.1)
@@ -84,6 +56,7 @@ module _ (W : Type 0) (spared : ℕ → Type 0) where
       → Does s (then_on (behaves es e) next)
   then_does s es (GoesOn t) next i h k = does_behind (next t).effects (next t).end h (k t (λ x. run_words h x (i x)))
   then_does s es (Jumps to t) next i h k = run_behind h stays
+  then_does s es (Gives v t) next i h k = (h.0, run_behind h.1 stays)
   then_does s es Short next i h k = (h.0, run_behind h.1 stays, h.2)
   then_does s es Strays next i h k = (h.0, run_behind h.1 stays)
   then_does s es Broken next i h k = (h.0, run_behind h.1 stays)
@@ -209,82 +182,102 @@ module _ (W : Type 0) (spared : ℕ → Type 0) where
   jump_does true to s = stays
   jump_does false to s = (s, stays)
 
+-- behind a function that is called, by how its body ends
+called_does : (W : Type 0) (spared : ℕ → Type 0) (first : ℕ) (ws : List ℕ) (s : WordState) (es : List Effect) (e : End) → (W → AreWords ws) → Known W s
+    → Reaches W (λ n. ⊥) (called first ws s) es e → Does W spared s (called_behind s (behaves es e))
+called_does W spared first ws s es (Gives v t) k i r =
+    works (called_works first ws k r.1) (stacks (v ∷ s.stack) (λ x. (r.0 x, (i x).stack)) stays)
+called_does W spared first ws s es Short k i r = (record r.0 { stack = s.stack; locals = s.locals }, works (called_works first ws k r.1) stays, r.2)
+called_does W spared first ws s es Strays k i r = (record r.0 { stack = s.stack; locals = s.locals }, works (called_works first ws k r.1) stays)
+called_does W spared first ws s es Broken k i r = (record r.0 { stack = s.stack; locals = s.locals }, works (called_works first ws k r.1) stays)
+called_does W spared first ws s es (GoesOn t) k i r = (record t { stack = s.stack; locals = s.locals }, works (called_works first ws k r) stays)
+called_does W spared first ws s es (Jumps to t) k i r = (record t { stack = s.stack; locals = s.locals }, works (called_works first ws k r) stays)
+
+module _ (W : Type 0) where
   mutual
     -- each step, by what is known of its numbers and of the locals that it sets
-    pub step_does : (first : Step) (s : WordState) → (W → StepOfWords first) → ((m : ℕ) → spared m → StepSpares m first) → Known W s
-        → Does s (step_behaviour first s)
-    step_does (number v) s h d i = push s v i h
-    step_does (load a) s h d i = part_pushes i (loads W a s i)
-    step_does (keep a) s h d i = popped s (word_stored a) i (λ v l t j. part_writes (word_writes W a v t l))
-    step_does (update op a) s h d i = popped s (λ v t. word_stored a (plain_word op (s.fram a) v) t) i (λ v l t j.
-        part_writes (word_writes W a (plain_word op (s.fram a) v) t (λ x. plain_small op (s.fram a) v ((i x).fram a) (l x))))
-    step_does (local n) s h d i = local_does (s.locals n) s i (λ v e x. (i x).locals n v e)
-    step_does (set_local n) s h d i = popped s (λ v t. goes_on [] (with_local n v t)) i (λ v l t j. assigns n v d l stays)
-    step_does (update_local op n) s h d i =
-        popped s (λ v t. local_updated op n v (s.locals n) t) i (λ v l t j. updated_does op n v (s.locals n) t d l (λ u e x. (i x).locals n u e))
-    step_does (unary op) s h d i =
-        popped s (λ v t. goes_on [] (pushed (unary_word op v) t)) i (λ v l t j. push t (unary_word op v) j (λ x. unary_small op v (l x)))
-    step_does (binary op) s h d i = two_popped s (λ u v t. goes_on [] (pushed (binary_word op u v) t)) i (λ u v k l t j.
-        push t (binary_word op u v) j (λ x. binary_small op u v (k x) (l x)))
-    step_does (shift op n) s h d i =
-        popped s (λ v t. goes_on [] (pushed (shift_word op v n) t)) i (λ v l t j. push t (shift_word op v n) j (λ x. shift_small op v n (l x)))
-    step_does (long op) s h d i = words_do (long_pops op) s s.stack _ (λ x. (i x).stack) (λ ws vs k m.
+    pub step_does : (spared : ℕ → Type 0) (first : Step) (s : WordState) → (W → StepOfWords first) → ((m : ℕ) → spared m → StepSpares m first) → Known W s
+        → Does W spared s (step_behaviour first s)
+    step_does spared (number v) s h d i = push W spared s v i h
+    step_does spared (load a) s h d i = part_pushes W spared i (loads W a s i)
+    step_does spared (keep a) s h d i = popped W spared s (word_stored a) i (λ v l t j. part_writes W spared (word_writes W a v t l))
+    step_does spared (update op a) s h d i = popped W spared s (λ v t. word_stored a (plain_word op (s.fram a) v) t) i (λ v l t j.
+        part_writes W spared (word_writes W a (plain_word op (s.fram a) v) t (λ x. plain_small op (s.fram a) v ((i x).fram a) (l x))))
+    step_does spared (local n) s h d i = local_does W spared (s.locals n) s i (λ v e x. (i x).locals n v e)
+    step_does spared (set_local n) s h d i = popped W spared s (λ v t. goes_on [] (with_local n v t)) i (λ v l t j. assigns n v d l stays)
+    step_does spared (update_local op n) s h d i =
+        popped W spared s (λ v t. local_updated op n v (s.locals n) t) i (λ v l t j. updated_does W spared op n v (s.locals n) t d l (λ u e x. (i x).locals n u e))
+    step_does spared (unary op) s h d i =
+        popped W spared s (λ v t. goes_on [] (pushed (unary_word op v) t)) i (λ v l t j. push W spared t (unary_word op v) j (λ x. unary_small op v (l x)))
+    step_does spared (binary op) s h d i = two_popped W spared s (λ u v t. goes_on [] (pushed (binary_word op u v) t)) i (λ u v k l t j.
+        push W spared t (binary_word op u v) j (λ x. binary_small op u v (k x) (l x)))
+    step_does spared (shift op n) s h d i =
+        popped W spared s (λ v t. goes_on [] (pushed (shift_word op v n) t)) i (λ v l t j. push W spared t (shift_word op v n) j (λ x. shift_small op v n (l x)))
+    step_does spared (long op) s h d i = words_do W spared (long_pops op) s s.stack _ (λ x. (i x).stack) (λ ws vs k m.
         stacks (long_result op ws ++ vs) (λ x. on_words (long_result op ws) vs (long_words op ws (k x)) (m x)) stays)
-    step_does (element base length) s h d i = popped s (element_pushed base length) i (λ v l t j. part_pushes j (element_pushes W base length v t j))
-    step_does (emit_word count buffer) s h d i =
-        popped s (word_emitted count buffer) i (λ v l t j. part_writes (emitted_writes W count buffer v t l))
-    step_does (list_entry count list home copy words) s h d i =
-        part_writes (entry_writes W count list home copy words s (λ x. (h x).2) (λ x. (h x).3) (λ x. (h x).4))
-    step_does (versioned_read place list) s h d i = popped s (versioned_pushed place list) i (λ v l t j. part_pushes j (versioned_pushes W place list v t j))
-    step_does (versioned_write place list) s h d i =
-        two_popped s (versioned_stored place list) i (λ u v k l t j. part_writes (versioned_writes W place list u v t l j))
-    step_does (versioned_update op place list) s h d i =
-        two_popped s (versioned_updated op place list) i (λ u v k l t j. part_writes (updated_writes W op place list u v t l j))
-    step_does (logged_write place list) s h d i =
-        two_popped s (logged_stored place list) i (λ u v k l t j. part_writes (logged_writes W place list u v t l j))
-    step_does (logged_update op place list) s h d i =
-        two_popped s (logged_updated op place list) i (λ u v k l t j. part_writes (logged_update_writes W op place list u v t l j))
-    step_does sense s h d i = reading_does s.inputs.readings s refl i
-    step_does next_event s h d i = event_does s.inputs.looks s refl i
-    step_does freeze_events s h d i = part_writes (writes sent_place (event_index s.fram) (λ x. omega arith) done)
-    step_does (truth t) s h d i = test_does t s (number_pushed 1) (number_pushed 0) h d i (λ u j. push u 1 j (λ x. omega arith))
-        (λ u j. push u 0 j (λ x. omega arith))
-    step_does (choose t taken otherwise) s h d i =
-        test_does t s (behaviour taken) (behaviour otherwise) (λ x. (h x).0) (λ m y. (d m y).0) i
-        (λ u j. program_does taken u (λ x. (h x).1) (λ m y. (d m y).1) j) (λ u j. program_does otherwise u (λ x. (h x).2) (λ m y. (d m y).2) j)
-    step_does (repeat n from below body) s h d i =
-        turns_do (below - from) n from (behaviour body) s (λ m y. (d m y).0) (λ x. let a = (h x).1 in let b = (h x).2 in omega arith)
-        (λ u j. program_does body u (λ x. (h x).3) (λ m y. (d m y).1) j) i
-    step_does (store_number a v) s h d i = part_writes (word_writes W a v s (λ x. (h x).1))
-    step_does (move_word from to) s h d i = one_does (is_place from) s (word_stored to (s.fram from) s) strays
-        (part_writes (word_writes W to (s.fram from) s (λ x. (i x).fram from))) (s, stays)
-    step_does (jump to) s h d i = jump_does (to % 2 == 0) to s
+    step_does spared (element base length) s h d i = popped W spared s (element_pushed base length) i (λ v l t j. part_pushes W spared j (element_pushes W base length v t j))
+    step_does spared (emit_word count buffer) s h d i =
+        popped W spared s (word_emitted count buffer) i (λ v l t j. part_writes W spared (emitted_writes W count buffer v t l))
+    step_does spared (list_entry count list home copy words) s h d i =
+        part_writes W spared (entry_writes W count list home copy words s (λ x. (h x).2) (λ x. (h x).3) (λ x. (h x).4))
+    step_does spared (versioned_read place list) s h d i = popped W spared s (versioned_pushed place list) i (λ v l t j. part_pushes W spared j (versioned_pushes W place list v t j))
+    step_does spared (versioned_write place list) s h d i =
+        two_popped W spared s (versioned_stored place list) i (λ u v k l t j. part_writes W spared (versioned_writes W place list u v t l j))
+    step_does spared (versioned_update op place list) s h d i =
+        two_popped W spared s (versioned_updated op place list) i (λ u v k l t j. part_writes W spared (updated_writes W op place list u v t l j))
+    step_does spared (logged_write place list) s h d i =
+        two_popped W spared s (logged_stored place list) i (λ u v k l t j. part_writes W spared (logged_writes W place list u v t l j))
+    step_does spared (logged_update op place list) s h d i =
+        two_popped W spared s (logged_updated op place list) i (λ u v k l t j. part_writes W spared (logged_update_writes W op place list u v t l j))
+    step_does spared sense s h d i = reading_does W spared s.inputs.readings s refl i
+    step_does spared next_event s h d i = event_does W spared s.inputs.looks s refl i
+    step_does spared freeze_events s h d i = part_writes W spared (writes sent_place (event_index s.fram) (λ x. omega arith) done)
+    step_does spared (truth t) s h d i = test_does spared t s (number_pushed 1) (number_pushed 0) h d i (λ u j. push W spared u 1 j (λ x. omega arith))
+        (λ u j. push W spared u 0 j (λ x. omega arith))
+    step_does spared (choose t taken otherwise) s h d i =
+        test_does spared t s (behaviour taken) (behaviour otherwise) (λ x. (h x).0) (λ m y. (d m y).0) i
+        (λ u j. program_does spared taken u (λ x. (h x).1) (λ m y. (d m y).1) j) (λ u j. program_does spared otherwise u (λ x. (h x).2) (λ m y. (d m y).2) j)
+    step_does spared (repeat n from below body) s h d i =
+        turns_do W spared (below - from) n from (behaviour body) s (λ m y. (d m y).0) (λ x. let a = (h x).1 in let b = (h x).2 in omega arith)
+        (λ u j. program_does spared body u (λ x. (h x).3) (λ m y. (d m y).1) j) i
+    step_does spared (store_number a v) s h d i = part_writes W spared (word_writes W a v s (λ x. (h x).1))
+    step_does spared (move_word from to) s h d i = one_does W spared (is_place from) s (word_stored to (s.fram from) s) strays
+        (part_writes W spared (word_writes W to (s.fram from) s (λ x. (i x).fram from))) (s, stays)
+    step_does spared (jump to) s h d i = jump_does W spared (to % 2 == 0) to s
+    step_does spared (call entry frame first count body) s h d i = words_do W spared count s s.stack _ (λ x. (i x).stack) (λ ws vs k m.
+        let t = with_stack vs s in
+        let j : Known W t = λ x. stack_words s vs (i x) (m x) in
+        let b = behaviour body (called first ws t) in
+        let all = called_behind t b in
+        does_behind W spared all.effects all.end (stacks vs m stays) (called_does W spared first ws t b.effects b.end k j
+        (program_does (λ n. ⊥) body (called first ws t) (λ x. (h x).4) (λ n y. absurd y) (λ x. called_words t first ws (j x) (k x)))))
+    step_does spared give s h d i = popped W spared s (λ v t. behaves [] (Gives v t)) i (λ v l t j. (l, stays))
 
-    test_does : (t : Test) (s : WordState) (held failed : WordState → Behaviour) → (W → TestOfWords t) → ((m : ℕ) → spared m → TestSpares m t) → Known W s
-        → Leads held → Leads failed → Does s (tested t held failed s)
-    test_does (holds p) s held failed h d i f g =
+    test_does : (spared : ℕ → Type 0) (t : Test) (s : WordState) (held failed : WordState → Behaviour) → (W → TestOfWords t) → ((m : ℕ) → spared m → TestSpares m t) → Known W s
+        → Leads W spared held → Leads W spared failed → Does W spared s (tested t held failed s)
+    test_does spared (holds p) s held failed h d i f g =
         let b = behaviour p s in
-        then_does s b.effects b.end (way_by_top held failed) i (program_does p s h d i) (λ u j.
-        popped u (λ v t. if is_true v then held t else failed t) j (λ v l t k. one_does (is_true v) t (held t) (failed t) (f t k) (g t k)))
-    test_does (compares op p) s held failed h d i f g =
+        then_does W spared s b.effects b.end (way_by_top held failed) i (program_does spared p s h d i) (λ u j.
+        popped W spared u (λ v t. if is_true v then held t else failed t) j (λ v l t k. one_does W spared (is_true v) t (held t) (failed t) (f t k) (g t k)))
+    test_does spared (compares op p) s held failed h d i f g =
         let b = behaviour p s in
-        then_does s b.effects b.end (way_by_two op held failed) i (program_does p s h d i) (λ u j.
-        two_popped u (λ y z t. if compare_words op y z then held t else failed t) j (λ y z l m t k.
-        one_does (compare_words op y z) t (held t) (failed t) (f t k) (g t k)))
-    test_does (both t u) s held failed h d i f g =
-        test_does t s (tested u held failed) failed (λ x. (h x).0) (λ m y. (d m y).0) i
-        (λ v j. test_does u v held failed (λ x. (h x).1) (λ m y. (d m y).1) j f g) g
-    test_does (either t u) s held failed h d i f g =
-        test_does t s held (tested u held failed) (λ x. (h x).0) (λ m y. (d m y).0) i f
-        (λ v j. test_does u v held failed (λ x. (h x).1) (λ m y. (d m y).1) j f g)
-    test_does (fails t) s held failed h d i f g = test_does t s failed held h d i g f
+        then_does W spared s b.effects b.end (way_by_two op held failed) i (program_does spared p s h d i) (λ u j.
+        two_popped W spared u (λ y z t. if compare_words op y z then held t else failed t) j (λ y z l m t k.
+        one_does W spared (compare_words op y z) t (held t) (failed t) (f t k) (g t k)))
+    test_does spared (both t u) s held failed h d i f g =
+        test_does spared t s (tested u held failed) failed (λ x. (h x).0) (λ m y. (d m y).0) i
+        (λ v j. test_does spared u v held failed (λ x. (h x).1) (λ m y. (d m y).1) j f g) g
+    test_does spared (either t u) s held failed h d i f g =
+        test_does spared t s held (tested u held failed) (λ x. (h x).0) (λ m y. (d m y).0) i f
+        (λ v j. test_does spared u v held failed (λ x. (h x).1) (λ m y. (d m y).1) j f g)
+    test_does spared (fails t) s held failed h d i f g = test_does spared t s failed held h d i g f
 
-    program_does : (p : Program) (s : WordState) → (W → OfWords p) → ((m : ℕ) → spared m → Spares m p) → Known W s → Does s (behaviour p s)
-    program_does nothing s h d i = stays
-    program_does (step first more) s h d i =
+    program_does : (spared : ℕ → Type 0) (p : Program) (s : WordState) → (W → OfWords p) → ((m : ℕ) → spared m → Spares m p) → Known W s → Does W spared s (behaviour p s)
+    program_does spared nothing s h d i = stays
+    program_does spared (step first more) s h d i =
         let b = step_behaviour first s in
-        then_does s b.effects b.end (behaviour more) i (step_does first s (λ x. (h x).0) (λ m y. (d m y).0) i)
-        (λ u j. program_does more u (λ x. (h x).1) (λ m y. (d m y).1) j)
+        then_does W spared s b.effects b.end (behaviour more) i (step_does spared first s (λ x. (h x).0) (λ m y. (d m y).0) i)
+        (λ u j. program_does spared more u (λ x. (h x).1) (λ m y. (d m y).1) j)
 
 -- what each program does: it goes through words where it and the state in front are of words, and sets no local that it spares
 pub runs : (p : Program) (s : WordState) → Reaches (OfWords p × IsStateOfWords s) (λ m. Spares m p) s (behaviour p s).effects (behaviour p s).end

@@ -3,12 +3,12 @@ use Rattle.std.proofs.Common.{◌≡◌, ℕ, zero, suc, ◌+◌, ◌-◌, ◌*�
 use Rattle.array_versions.specs.declared.operations.Comparison.{Comparison}
 use Rattle.array_versions.specs.Operations.{is_true, compare_words}
 use Rattle.array_versions.specs.Program.{Step, Test, number}
-use Rattle.array_versions.specs.Program.{truth, choose, repeat, holds}
+use Rattle.array_versions.specs.Program.{truth, choose, repeat, call, holds}
 use Rattle.array_versions.specs.Program.{compares}
 use Rattle.array_versions.specs.Program.{both, either, fails, nothing, step, joined}
-use Rattle.array_versions.specs.Behaviour.{WordState, End, GoesOn, Jumps, Short, Strays, Broken, Behaviour, on_end, with_stack, with_local}
+use Rattle.array_versions.specs.Behaviour.{WordState, End, GoesOn, Jumps, Gives, Short, Strays, Broken, Behaviour, on_end, with_stack, with_local, called}
 use Rattle.array_versions.specs.Behaviour.{step_behaviour, behaviour}
-use Rattle.array_versions.specs.Cost.{step_cycles, test_cycles, cycles_of, spent_on, top_spent, spent_by_top, spent_by_two, turns_spent, step_spent}
+use Rattle.array_versions.specs.Cost.{step_cycles, test_cycles, cycles_of, spent_on, top_spent, words_spent, spent_by_top, spent_by_two, turns_spent, step_spent}
 use Rattle.array_versions.specs.Cost.{test_spent}
 use Rattle.array_versions.specs.Cost.{spent}
 use Rattle.array_versions.specs.Laws.{JoinedSpend, WaysKeepToCycles}
@@ -17,6 +17,7 @@ use Rattle.array_versions.specs.Laws.{JoinedSpend, WaysKeepToCycles}
 spent_on_most : (e : End) (most : ℕ) (next : WordState → ℕ) → ((s : WordState) → next s ≤ most) → spent_on e next ≤ most
 spent_on_most (GoesOn s) most next h = h s
 spent_on_most (Jumps to s) most next h = omega arith
+spent_on_most (Gives v s) most next h = omega arith
 spent_on_most Short most next h = omega arith
 spent_on_most Strays most next h = omega arith
 spent_on_most Broken most next h = omega arith
@@ -24,6 +25,10 @@ spent_on_most Broken most next h = omega arith
 top_most : (vs : List ℕ) (most : ℕ) (next : ℕ → List ℕ → ℕ) → ((v : ℕ) (us : List ℕ) → next v us ≤ most) → top_spent vs next ≤ most
 top_most [] most next h = omega arith
 top_most (v ∷ vs) most next h = h v vs
+
+words_most : (n : ℕ) (vs : List ℕ) (most : ℕ) (next : List ℕ → ℕ) → ((words : List ℕ) → next words ≤ most) → words_spent n vs next ≤ most
+words_most zero vs most next h = h []
+words_most (suc n) vs most next h = top_most vs most _ (λ v us. words_most n us most _ (λ words. h (v ∷ words)))
 
 -- one of two ways
 either_most : (c : Bool) (x y a b : ℕ) → x ≤ a → y ≤ b → (if c then x else y) ≤ max a b
@@ -62,6 +67,8 @@ mutual
       (λ v. omega (arith, ways_keep_to_cycles taken v)) (ways_keep_to_cycles otherwise)
   step_most (repeat n from below body) s =
       omega (arith, turns_most (below - from) n from (cycles_of body) (behaviour body) (spent body) s (λ t. ways_keep_to_cycles body t))
+  step_most (call entry frame first count body) s =
+      omega (arith, words_most count s.stack (cycles_of body) _ (λ words. ways_keep_to_cycles body (called first words s)))
   -- of each other step alike: the first clause makes it a proof by cases
   step_most (number w) s = omega arith
   step_most _ s = omega arith
@@ -99,6 +106,7 @@ spent_behind : (e : End) (f : WordState → Behaviour) (a b c : WordState → �
     → spent_on e c ≡ spent_on e a + spent_on (on_end e f).end b
 spent_behind (GoesOn s) f a b c h = h s
 spent_behind (Jumps to s) f a b c h = refl
+spent_behind (Gives v s) f a b c h = refl
 spent_behind Short f a b c h = refl
 spent_behind Strays f a b c h = refl
 spent_behind Broken f a b c h = refl

@@ -1,6 +1,6 @@
 -- From words an operation makes words, and states of words stay so.
 use Rattle.std.proofs.Common.{◌≡◌, ℕ, zero, suc, ◌+◌, ◌-◌, ◌*◌, ◌/◌, ◌%◌, ◌^◌, ◌==◌, ◌<◌, List, [], ◌∷◌, Option, Some, Bool, true, false}
-use Rattle.std.proofs.Common.{nat_eq, nat_lt, nat_le, subst, arith, if◌then◌else◌, ◌++◌, ◌≤◌, All}
+use Rattle.std.proofs.Common.{nat_eq, nat_lt, nat_le, subst, arith, if◌then◌else◌, ◌++◌, ◌≤◌, All, length}
 use Rattle.std.specs.Prelude.{slice_index}
 use Rattle.std.proofs.lemmas.Bool.Decides.{nat_tests}
 use Rattle.std.proofs.lemmas.Nat.{and_le_l, or_lt, xor_lt}
@@ -23,7 +23,7 @@ use Rattle.array_versions.specs.declared.operations.LongOperation.{LongOperation
 use Rattle.array_versions.specs.declared.operations.LongOperation.TheVariants as with_longs
 use Rattle.array_versions.specs.Operations.{unary_word, plain_word, binary_word, shifted_word, shift_word, stacked, long_at}
 use Rattle.array_versions.specs.Operations.{plain_long, long_to_left, long_to_right, all_bits, long_result}
-use Rattle.array_versions.specs.Behaviour.{WordState, is_place, with_stack, stored, with_local}
+use Rattle.array_versions.specs.Behaviour.{WordState, is_place, with_stack, stored, with_local, parameter_words, called}
 use Rattle.array_versions.specs.Laws.{IsStateOfWords}
 
 pub unary_small : (op : UnaryOperation) (v : ℕ) → v < 0x10000 → unary_word op v < 0x10000
@@ -157,6 +157,15 @@ stored_words s a v w h = record { stack = w.stack; locals = w.locals; fram = put
 pub local_words : (s : WordState) (n v : ℕ) → IsStateOfWords s → v < 0x10000 → IsStateOfWords (with_local n v s)
 local_words s n v w h =
     record { stack = w.stack; locals = λ m z q. assigned_by (nat_eq m n) (s.locals m) v z h (w.locals m) q; fram = w.fram; inputs = w.inputs }
+
+-- a function that is called with words
+pub called_words : (s : WordState) (first : ℕ) (ws : List ℕ) → IsStateOfWords s → AreWords ws → IsStateOfWords (called first ws s)
+called_words s first ws w h = record { stack = tt; locals = parameters ws h; fram = w.fram; inputs = w.inputs }
+  where
+    parameters : (ws : List ℕ) → AreWords ws → (n v : ℕ) → parameter_words first ws n ≡ Some v → v < 0x10000
+    parameters [] h n v e = absurd (cc)
+    parameters (x ∷ ws) h n v e =
+        assigned_by (nat_eq n (first + length ws)) (parameter_words first ws n) x v h.0 (λ y. parameters ws h.1 n y) e
 
 -- what effects leave of the inputs
 pub input_words : (s : WordState) (es : List Effect) (left : Inputs) → TakesExactly es s.inputs left → IsStateOfWords s

@@ -10,7 +10,7 @@ use Rattle.array_versions.specs.Program.{list_entry}
 use Rattle.array_versions.specs.Program.{versioned_read, versioned_write, versioned_update, logged_write, logged_update, sense, next_event, freeze_events}
 use Rattle.array_versions.specs.Program.{truth, choose, repeat}
 use Rattle.array_versions.specs.Program.{store_number}
-use Rattle.array_versions.specs.Program.{move_word, jump, holds}
+use Rattle.array_versions.specs.Program.{move_word, jump, call, give, holds}
 use Rattle.array_versions.specs.Program.{compares}
 use Rattle.array_versions.specs.Program.{both, either, fails}
 use Rattle.array_versions.specs.Cost.{step_cycles, test_cycles, cycles_of, step_words, test_words, words_of}
@@ -29,7 +29,8 @@ long_allowance (ShiftRight k) = 400
 long_allowance _ = 80
 
 -- the cycles of a step: of what an expression or a statement is made of, those of its row in the table of the allowance. An entry
--- of the commit list has 40, and what a transition stores and its jump have 100 together
+-- of the commit list has 40, and what a transition stores and its jump have 100 together. A call has its row where there are at most eight values, as
+-- in each source
 abbrev pub allowed_cycles : Step → ℕ
 allowed_cycles (number w) = 40
 allowed_cycles (load a) = 40
@@ -59,6 +60,8 @@ allowed_cycles (repeat n from below body) = 40 + (below - from) * (40 + cycles_o
 allowed_cycles (store_number a w) = 25
 allowed_cycles (move_word from to) = 25
 allowed_cycles (jump to) = 10
+allowed_cycles (call entry frame first count body) = 60 + 5 * (count - 8) + cycles_of body
+allowed_cycles give = 40
 
 -- the words of an entry: those of one scalar, and of two or more where it has more words
 abbrev pub entry_allowance : ℕ → ℕ
@@ -94,6 +97,8 @@ allowed_words (repeat n from below body) = 24 + words_of body
 allowed_words (store_number a w) = 8
 allowed_words (move_word from to) = 8
 allowed_words (jump to) = 8
+allowed_words (call entry frame first count body) = 24 + 4 * count
+allowed_words give = 24
 
 -- the cycles of a test: of a word or a comparison those of its row; `&&`, `||` and `!` have none beside their parts
 abbrev pub allowed_test_cycles : Test → ℕ

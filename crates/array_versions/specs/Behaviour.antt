@@ -1,6 +1,6 @@
 -- What a word program does from a state on: its effects, and how it ends. Both depend on FRAM and the inputs at its start.
 use Rattle.std.specs.Prelude.{ℕ, zero, suc, ◌+◌, ◌-◌, ◌*◌, ◌%◌, ◌==◌, ◌&&◌, Bool, nat_eq, nat_le, nat_lt, if◌then◌else◌, List, [], ◌∷◌, ◌++◌, Option, Some}
-use Rattle.std.specs.Prelude.{None}
+use Rattle.std.specs.Prelude.{None, length}
 use Rattle.machine_effects.specs.address_space.Limits.{fram_first, program_end}
 use Rattle.machine_effects.specs.alp_words.Words.{word_sum}
 use Rattle.machine_effects.specs.event_places.Places.{tail_place, count_place, sent_place, answer_place, head_place, slot_place}
@@ -19,7 +19,7 @@ use Rattle.array_versions.specs.Program.{list_entry}
 use Rattle.array_versions.specs.Program.{versioned_read, versioned_write, versioned_update, logged_write, logged_update, sense, next_event, freeze_events}
 use Rattle.array_versions.specs.Program.{truth, choose, repeat}
 use Rattle.array_versions.specs.Program.{store_number}
-use Rattle.array_versions.specs.Program.{move_word, jump, holds}
+use Rattle.array_versions.specs.Program.{move_word, jump, call, give, holds}
 use Rattle.array_versions.specs.Program.{compares}
 use Rattle.array_versions.specs.Program.{both, either, fails, nothing, step}
 
@@ -34,12 +34,13 @@ pub record WordState : Type 0 where
 abbrev pub started : (ℕ → ℕ) → Inputs → WordState
 started fram inputs = record { stack = []; locals = λ n. None; fram = fram; inputs = inputs }
 
--- how steps end: behind the last one; by a jump; where a reading is wanted and none is left; where an address isn't that of a
--- word of FRAM in front of a program's end; or where a word is taken from an empty stack, a local is read before it is assigned, or a
--- jump goes to an odd address
+-- how steps end: behind the last one; by a jump; by giving a word, as a function's body does; where a reading is wanted and none is left;
+-- where an address isn't that of a word of FRAM in front of a program's end; or where a word is taken from an empty stack, a local is read
+-- before it is assigned, a jump goes to an odd address, or a body ends without giving a word
 pub data End : Type 0 where
   GoesOn : (state : WordState) → End
   Jumps : (to : ℕ) → (state : WordState) → End
+  Gives : (word : ℕ) → (state : WordState) → End
   Short : End
   Strays : End
   Broken : End
@@ -73,6 +74,7 @@ behind_effects es b = record { effects = es ++ b.effects; end = b.end }
 abbrev pub on_end : End → (WordState → Behaviour) → Behaviour
 on_end (GoesOn s) next = next s
 on_end (Jumps to s) next = behaves [] (Jumps to s)
+on_end (Gives v s) next = behaves [] (Gives v s)
 on_end Short next = behaves [] Short
 on_end Strays next = strays
 on_end Broken next = broken
@@ -327,6 +329,28 @@ abbrev pub turns : ℕ → ℕ → ℕ → (WordState → Behaviour) → WordSta
 turns zero n k body s = goes_on [] (with_local n k s)
 turns (suc m) n k body s = then_on (body (with_local n k s)) (turns m n (k + 1) body)
 
+-- the locals of a function as it is entered: its parameters, from the first on, are these words, of which the last parameter's is in front
+abbrev pub parameter_words : ℕ → List ℕ → ℕ → Option ℕ
+parameter_words first [] = λ n. None
+parameter_words first (v ∷ words) = assigned (parameter_words first words) (first + length words) v
+
+-- the state that its body starts with
+abbrev pub called : ℕ → List ℕ → WordState → WordState
+called first words s = record { stack = []; locals = parameter_words first words; fram = s.fram; inputs = s.inputs }
+
+-- behind its body: the word that it gives is on the stack, which else is as it was, and so are the locals
+abbrev pub behind_call : WordState → End → Behaviour
+behind_call s (Gives v t) = goes_on [] (record t { stack = v ∷ s.stack; locals = s.locals })
+behind_call s Short = behaves [] Short
+behind_call s Strays = strays
+behind_call s (GoesOn t) = broken
+behind_call s (Jumps to t) = broken
+behind_call s Broken = broken
+
+-- a function called: what its body does, and then what is behind it
+abbrev pub called_behind : WordState → Behaviour → Behaviour
+called_behind s b = behind_effects b.effects (behind_call s b.end)
+
 -- leaves by a jump
 abbrev pub jumped : ℕ → WordState → Behaviour
 jumped to s = if to % 2 == 0 then behaves [] (Jumps to s) else broken
@@ -362,6 +386,9 @@ abbrev mutual
   step_behaviour (store_number a w) s = word_stored a w s
   step_behaviour (move_word from to) s = at_place from (word_stored to (s.fram from) s)
   step_behaviour (jump to) s = jumped to s
+  step_behaviour (call entry frame first count body) s =
+      with_words count s.stack (λ words vs. called_behind (with_stack vs s) (behaviour body (called first words s)))
+  step_behaviour give s = with_top s.stack (λ v vs. behaves [] (Gives v (with_stack vs s)))
 
   -- one way where a test holds, and another where it fails. The second of two tests is asked only where the first leaves it open
   pub tested : Test → (WordState → Behaviour) → (WordState → Behaviour) → WordState → Behaviour

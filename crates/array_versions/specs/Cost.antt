@@ -1,5 +1,5 @@
 -- What the code of a word program costs at most, in cycles and in words.
-use Rattle.std.specs.Prelude.{ℕ, zero, suc, ◌+◌, ◌-◌, ◌*◌, max, nat_le, nat_lt, ◌==◌, if◌then◌else◌, List, [], ◌∷◌}
+use Rattle.std.specs.Prelude.{ℕ, zero, suc, ◌+◌, ◌-◌, ◌*◌, max, nat_le, nat_lt, ◌==◌, if◌then◌else◌, List, [], ◌∷◌, Option, Some, None}
 use Rattle.array_versions.specs.declared.operations.UnaryOperation.{UnaryOperation}
 use Rattle.array_versions.specs.declared.operations.UnaryOperation.TheVariants.{Negate, Complement}
 use Rattle.array_versions.specs.declared.operations.BinaryOperation.{BinaryOperation}
@@ -16,10 +16,10 @@ use Rattle.array_versions.specs.Program.{list_entry}
 use Rattle.array_versions.specs.Program.{versioned_read, versioned_write, versioned_update, logged_write, logged_update, sense, next_event, freeze_events}
 use Rattle.array_versions.specs.Program.{truth, choose, repeat}
 use Rattle.array_versions.specs.Program.{store_number}
-use Rattle.array_versions.specs.Program.{move_word, jump, holds}
+use Rattle.array_versions.specs.Program.{move_word, jump, call, give, holds}
 use Rattle.array_versions.specs.Program.{compares}
 use Rattle.array_versions.specs.Program.{both, either, fails, nothing, step}
-use Rattle.array_versions.specs.Behaviour.{WordState, End, GoesOn, Jumps, Short, Strays, Broken, Behaviour, with_stack, with_local, step_behaviour}
+use Rattle.array_versions.specs.Behaviour.{WordState, End, GoesOn, Jumps, Gives, Short, Strays, Broken, Behaviour, with_stack, with_local, called, step_behaviour}
 use Rattle.array_versions.specs.Behaviour.{behaviour}
 
 -- the cycles of an operation on the top of the stack
@@ -87,6 +87,17 @@ long_words with_longs.HighWord = 3
 abbrev pub entry_words : ℕ → ℕ
 entry_words words = if words == 1 then 16 else 17
 
+-- the cycles of a call of so many values beside those of the function's body, with the push of its word: where the function has a frame the values are
+-- pushed first, then moved there
+abbrev pub call_cycles : Option ℕ → ℕ → ℕ
+call_cycles None count = 8 + 2 * count
+call_cycles (Some f) count = 16 + 5 * count
+
+-- its words. Those of the body count where it stands
+abbrev pub call_words : Option ℕ → ℕ → ℕ
+call_words None count = 3 + count
+call_words (Some f) count = 8 + 2 * count
+
 abbrev mutual
   -- the cycles of a step, at most: of two ways the greater, of a loop its turns
   pub step_cycles : Step → ℕ
@@ -118,6 +129,8 @@ abbrev mutual
   step_cycles (store_number a w) = 5
   step_cycles (move_word from to) = 6
   step_cycles (jump to) = 3
+  step_cycles (call entry frame first count body) = call_cycles frame count + cycles_of body
+  step_cycles give = 5
 
   -- the cycles of a test, at most, up to where it goes on
   pub test_cycles : Test → ℕ
@@ -163,6 +176,8 @@ abbrev mutual
   step_words (store_number a w) = 3
   step_words (move_word from to) = 3
   step_words (jump to) = 2
+  step_words (call entry frame first count body) = call_words frame count
+  step_words give = 2
 
   -- the words of a test's code, at most
   pub test_words : Test → ℕ
@@ -181,6 +196,7 @@ abbrev mutual
 abbrev pub spent_on : End → (WordState → ℕ) → ℕ
 spent_on (GoesOn s) next = next s
 spent_on (Jumps to s) next = 0
+spent_on (Gives v s) next = 0
 spent_on Short next = 0
 spent_on Strays next = 0
 spent_on Broken next = 0
@@ -189,6 +205,11 @@ spent_on Broken next = 0
 abbrev pub top_spent : List ℕ → (ℕ → List ℕ → ℕ) → ℕ
 top_spent [] next = 0
 top_spent (v ∷ vs) next = next v vs
+
+-- what is spent behind so many words that are popped
+abbrev pub words_spent : ℕ → List ℕ → (List ℕ → ℕ) → ℕ
+words_spent zero vs next = next []
+words_spent (suc n) vs next = top_spent vs (λ v us. words_spent n us (λ words. next (v ∷ words)))
 
 -- what one of two ways spends, by the top of the stack: the first where it isn't 0
 abbrev pub spent_by_top : (WordState → ℕ) → (WordState → ℕ) → WordState → ℕ
@@ -235,6 +256,9 @@ abbrev mutual
   step_spent (store_number a w) s = step_cycles (store_number a w)
   step_spent (move_word from to) s = step_cycles (move_word from to)
   step_spent (jump to) s = step_cycles (jump to)
+  step_spent (call entry frame first count body) s =
+      call_cycles frame count + words_spent count s.stack (λ words. spent body (called first words s))
+  step_spent give s = step_cycles give
 
   -- the cycles of a test and of the way that it takes, where each way spends so many by the state that it begins with
   pub test_spent : Test → (WordState → ℕ) → (WordState → ℕ) → WordState → ℕ

@@ -1,6 +1,6 @@
 -- What a program must have so that code can be made of it: each way through it, with conditions free and loops with their turns,
 -- ends in a jump, takes no word from an empty stack, and reads no local before it is assigned; and there is room.
-use Rattle.std.specs.Prelude.{ℕ, zero, suc, ◌+◌, ◌-◌, ◌*◌, ◌%◌, ◌≡◌, ◌≢◌, ◌<◌, ◌≤◌, ◌||◌, Bool, true, false, nat_eq, max}
+use Rattle.std.specs.Prelude.{ℕ, zero, suc, ◌+◌, ◌-◌, ◌*◌, ◌%◌, ◌≡◌, ◌≢◌, ◌<◌, ◌≤◌, ◌||◌, ◌⊎◌, Bool, true, false, nat_eq, max, Option, Some, None}
 use Rattle.machine_effects.specs.address_space.Limits.{stack_top, stack_start, HasStackRoom}
 use Rattle.machine_effects.specs.alp_words.Words.{IsWord}
 use Rattle.array_versions.specs.declared.program.ArrayPlace.{ArrayPlace}
@@ -15,7 +15,7 @@ use Rattle.array_versions.specs.Program.{list_entry}
 use Rattle.array_versions.specs.Program.{versioned_read, versioned_write, versioned_update, logged_write, logged_update, sense, next_event, freeze_events}
 use Rattle.array_versions.specs.Program.{truth, choose, repeat}
 use Rattle.array_versions.specs.Program.{store_number}
-use Rattle.array_versions.specs.Program.{move_word, jump, holds}
+use Rattle.array_versions.specs.Program.{move_word, jump, call, give, holds}
 use Rattle.array_versions.specs.Program.{compares}
 use Rattle.array_versions.specs.Program.{both, either, fails, nothing, step}
 
@@ -31,6 +31,11 @@ start = record { depth = 0; assigned = λ n. false }
 -- one local more is assigned
 abbrev pub assigning : ℕ → Place → Place
 assigning n p = record p { assigned = λ m. nat_eq m n || p.assigned m }
+
+-- at the start of a function's body: so many parameters are assigned, from this local on
+abbrev pub entry_place : (first count : ℕ) → Place
+entry_place first zero = start
+entry_place first (suc n) = assigning (first + n) (entry_place first n)
 
 -- a step that pops and then pushes so many words, with room for so many
 abbrev pub Moves : ℕ → ℕ → ℕ → (Place → Type 0) → Place → Type 0
@@ -73,6 +78,8 @@ abbrev mutual
   EachStepWay room (store_number a w) next p = next p
   EachStepWay room (move_word from to) next p = next p
   EachStepWay room (jump to) next p = to % 2 ≡ 0
+  EachStepWay room (call entry frame first count body) next p = Moves room count 1 next p
+  EachStepWay room give next p = p.depth ≡ 1
 
   -- the same of a test; one thing follows where it holds, and another where it fails
   pub EachTestWay : ℕ → Test → (Place → Type 0) → (Place → Type 0) → Place → Type 0
@@ -88,28 +95,40 @@ abbrev mutual
   EachWay room (step first more) next p = EachStepWay room first (EachWay room more next) p
 
 abbrev mutual
-  -- each local of a step is below this number
-  pub StepLocalsBelow : ℕ → Step → Type 0
-  StepLocalsBelow locals (local n) = n < locals
-  StepLocalsBelow locals (set_local n) = n < locals
-  StepLocalsBelow locals (update_local op n) = n < locals
-  StepLocalsBelow locals (truth t) = TestLocalsBelow locals t
-  StepLocalsBelow locals (choose t taken otherwise) = TestLocalsBelow locals t × LocalsBelow locals taken × LocalsBelow locals otherwise
-  StepLocalsBelow locals (repeat n from below body) = (n < locals) × LocalsBelow locals body
-  StepLocalsBelow locals _ = Unit {0}
+  -- each local that a step names is one of these. What a function calls its own is none of its caller's
+  pub StepEachLocal : (ℕ → Type 0) → Step → Type 0
+  StepEachLocal P (local n) = P n
+  StepEachLocal P (set_local n) = P n
+  StepEachLocal P (update_local op n) = P n
+  StepEachLocal P (truth t) = TestEachLocal P t
+  StepEachLocal P (choose t taken otherwise) = TestEachLocal P t × EachLocal P taken × EachLocal P otherwise
+  StepEachLocal P (repeat n from below body) = P n × EachLocal P body
+  StepEachLocal P _ = Unit {0}
 
   -- the same of a test
-  pub TestLocalsBelow : ℕ → Test → Type 0
-  TestLocalsBelow locals (holds p) = LocalsBelow locals p
-  TestLocalsBelow locals (compares op p) = LocalsBelow locals p
-  TestLocalsBelow locals (both t u) = TestLocalsBelow locals t × TestLocalsBelow locals u
-  TestLocalsBelow locals (either t u) = TestLocalsBelow locals t × TestLocalsBelow locals u
-  TestLocalsBelow locals (fails t) = TestLocalsBelow locals t
+  pub TestEachLocal : (ℕ → Type 0) → Test → Type 0
+  TestEachLocal P (holds p) = EachLocal P p
+  TestEachLocal P (compares op p) = EachLocal P p
+  TestEachLocal P (both t u) = TestEachLocal P t × TestEachLocal P u
+  TestEachLocal P (either t u) = TestEachLocal P t × TestEachLocal P u
+  TestEachLocal P (fails t) = TestEachLocal P t
 
   -- the same of each step of a program
-  pub LocalsBelow : ℕ → Program → Type 0
-  LocalsBelow locals nothing = Unit {0}
-  LocalsBelow locals (step first more) = StepLocalsBelow locals first × LocalsBelow locals more
+  pub EachLocal : (ℕ → Type 0) → Program → Type 0
+  EachLocal P nothing = Unit {0}
+  EachLocal P (step first more) = StepEachLocal P first × EachLocal P more
+
+-- each local of a step is below this number
+abbrev pub StepLocalsBelow : ℕ → Step → Type 0
+StepLocalsBelow locals = StepEachLocal (λ n. n < locals)
+
+-- the same of a test
+abbrev pub TestLocalsBelow : ℕ → Test → Type 0
+TestLocalsBelow locals = TestEachLocal (λ n. n < locals)
+
+-- the same of a program
+abbrev pub LocalsBelow : ℕ → Program → Type 0
+LocalsBelow locals = EachLocal (λ n. n < locals)
 
 abbrev mutual
   -- one more than the greatest local that a step names; 0 where it names none
@@ -158,26 +177,71 @@ abbrev mutual
   Spares n nothing = Unit {0}
   Spares n (step first more) = StepSpares n first × Spares n more
 
+-- where a local from the ninth on stands in RAM: the ninth in its last word, each other one a word below the one before
+abbrev pub local_address : ℕ → ℕ
+local_address n = 0x240E - 2 * n
+
+-- a local is one of these registers, or a word of RAM from an address up to another
+abbrev pub IsOwn : (own end from upto : ℕ) → ℕ → Type 0
+IsOwn own end from upto n = ((own ≤ n) × (n < end)) ⊎ ((8 ≤ n) × (from ≤ local_address n) × (local_address n < upto))
+
+-- what bounds the calls of a program
+pub record CallBounds : Type 0 where
+  pub first : ℕ  -- the registers of all that it calls are below this local, its own are not
+  pub low : ℕ  -- its stack stays at or above this address, that of what it calls is below
+  pub framed : Bool  -- whether what it calls may have locals in RAM
+
+-- where the locals of a function begin in RAM: those of a light one nowhere
+abbrev pub frame_begin : Option ℕ → ℕ → ℕ
+frame_begin None low = low
+frame_begin (Some f) low = f
+
+-- a function's stack of so many words, which stays at or above `lowest`, has room below that of its caller, and so has its frame: the return address
+-- is on top of it, and of a framed one in front of that its caller's SP
+abbrev pub FrameFits : CallBounds → Option ℕ → (lowest room : ℕ) → Type 0
+FrameFits bounds None lowest room = lowest + 2 * (room + 1) ≤ bounds.low
+FrameFits bounds (Some f) lowest room = (bounds.framed ≡ true) × (f % 2 ≡ 0) × (f ≤ bounds.low) × (lowest + 2 * (room + 2) ≤ f)
+
+-- a function may be called within bounds: it has locals and a stack of its own, below its caller's; and each way through its body, from its
+-- parameters on, ends by giving a word. `Deeper` is what is asked of its body within its own bounds
+pub record IsCalled (Deeper : CallBounds → Type 0) (bounds : CallBounds) (frame : Option ℕ) (first count : ℕ) (body : Program) : Type 0 where
+  pub own : ℕ  -- its registers are from this local on
+  pub end : ℕ  -- up to this one
+  pub lowest : ℕ  -- its stack stays at or above this address
+  pub room : ℕ  -- no way has more words on it
+  pub ordered : own ≤ end
+  pub registers : end ≤ bounds.first
+  pub fits : FrameFits bounds frame lowest room
+  pub spare : HasStackRoom lowest 0
+  pub parameters : (n : ℕ) → n < count → IsOwn own end (frame_begin frame bounds.low) bounds.low (first + n)
+  pub locals : EachLocal (IsOwn own end (frame_begin frame bounds.low) bounds.low) body
+  pub ways : EachWay room body (λ q. ⊥) (entry_place first count)
+  pub deeper : Deeper (record { first = own; low = lowest; framed = bounds.framed })
+
 abbrev mutual
-  -- the body of each loop assigns no local that counts the loop's turns, so that there are as many as it says
-  pub StepLoopsCount : Step → Type 0
-  StepLoopsCount (truth t) = TestLoopsCount t
-  StepLoopsCount (choose t taken otherwise) = TestLoopsCount t × LoopsCount taken × LoopsCount otherwise
-  StepLoopsCount (repeat n from below body) = Spares n body × LoopsCount body
-  StepLoopsCount _ = Unit {0}
+  -- the body of each loop assigns no local that counts the loop's turns, so that there are as many as it says; each function that is called may be
+  -- called within these bounds; and a function's body ends by giving a word alone, a task by a jump
+  pub StepIsFormed : CallBounds → (gives : Bool) → Step → Type 0
+  StepIsFormed bounds gives (truth t) = TestIsFormed bounds gives t
+  StepIsFormed bounds gives (choose t taken otherwise) = TestIsFormed bounds gives t × IsFormed bounds gives taken × IsFormed bounds gives otherwise
+  StepIsFormed bounds gives (repeat n from below body) = Spares n body × IsFormed bounds gives body
+  StepIsFormed bounds gives (jump to) = gives ≡ false
+  StepIsFormed bounds gives (call entry frame first count body) = IsCalled (λ inner. IsFormed inner true body) bounds frame first count body
+  StepIsFormed bounds gives give = gives ≡ true
+  StepIsFormed bounds gives _ = Unit {0}
 
   -- the same of a test
-  pub TestLoopsCount : Test → Type 0
-  TestLoopsCount (holds p) = LoopsCount p
-  TestLoopsCount (compares op p) = LoopsCount p
-  TestLoopsCount (both t u) = TestLoopsCount t × TestLoopsCount u
-  TestLoopsCount (either t u) = TestLoopsCount t × TestLoopsCount u
-  TestLoopsCount (fails t) = TestLoopsCount t
+  pub TestIsFormed : CallBounds → (gives : Bool) → Test → Type 0
+  TestIsFormed bounds gives (holds p) = IsFormed bounds gives p
+  TestIsFormed bounds gives (compares op p) = IsFormed bounds gives p
+  TestIsFormed bounds gives (both t u) = TestIsFormed bounds gives t × TestIsFormed bounds gives u
+  TestIsFormed bounds gives (either t u) = TestIsFormed bounds gives t × TestIsFormed bounds gives u
+  TestIsFormed bounds gives (fails t) = TestIsFormed bounds gives t
 
   -- the same of each step of a program
-  pub LoopsCount : Program → Type 0
-  LoopsCount nothing = Unit {0}
-  LoopsCount (step first more) = StepLoopsCount first × LoopsCount more
+  pub IsFormed : CallBounds → (gives : Bool) → Program → Type 0
+  IsFormed bounds gives nothing = Unit {0}
+  IsFormed bounds gives (step first more) = StepIsFormed bounds gives first × IsFormed bounds gives more
 
 -- the places and the length of a versioned array are words
 abbrev pub ArrayOfWords : ArrayPlace → Type 0
@@ -196,6 +260,11 @@ abbrev pub LongOfWords : LongOperation → Type 0
 LongOfWords (with_longs.ShiftLeft k) = IsWord k
 LongOfWords (with_longs.ShiftRight k) = IsWord k
 LongOfWords _ = Unit {0}
+
+-- an address, if there is one, is a word
+abbrev pub FrameOfWords : Option ℕ → Type 0
+FrameOfWords None = Unit {0}
+FrameOfWords (Some f) = IsWord f
 
 abbrev mutual
   -- each number in a step is a word, as those of a program in memory are
@@ -228,6 +297,8 @@ abbrev mutual
   StepOfWords (store_number a w) = IsWord a × IsWord w
   StepOfWords (move_word from to) = IsWord from × IsWord to
   StepOfWords (jump to) = IsWord to
+  StepOfWords (call entry frame first count body) = IsWord entry × FrameOfWords frame × IsWord first × IsWord count × OfWords body
+  StepOfWords give = Unit {0}
 
   -- the same of a test
   pub TestOfWords : Test → Type 0
@@ -246,19 +317,26 @@ abbrev mutual
 abbrev pub stack_base : ℕ → ℕ
 stack_base locals = stack_top - 2 * (locals - 8)
 
--- a program that is whole: RAM has room for its locals and the stack below them; and each of its ways ends in a jump
+-- a program that is whole: RAM has room for its locals and the stack below them, and for what it calls; and each of its ways ends in a jump
 pub record IsWhole (p : Program) : Type 0 where
   pub locals : ℕ  -- each local is below this number
   pub room : ℕ  -- no way has more words on the stack
+  pub bounds : CallBounds  -- of its calls
   pub fits : HasStackRoom (stack_base locals) room
+  pub lowest : bounds.low + 2 * room ≤ stack_base locals
+  pub registers : bounds.first ≤ 8
   pub low_locals : LocalsBelow locals p
-  pub loops_count : LoopsCount p
+  pub own_locals : EachLocal (λ n. bounds.first ≤ n) p
+  pub formed : IsFormed bounds false p
   pub ways : EachWay room p (λ q. ⊥) start
 
--- it has room for a stack that begins where that of a source with events does: below its locals in RAM
+-- it has room for a stack that begins where that of a source with events does: below its locals in RAM. There no function that is called has locals
+-- in RAM, since SP may go down by pushes alone
 pub record FitsEvents (p : Program) (whole : IsWhole p) : Type 0 where
   pub low : stack_start ≤ stack_base whole.locals
   pub room : HasStackRoom stack_start whole.room
+  pub lowest : whole.bounds.low + 2 * whole.room ≤ stack_start
+  pub light : whole.bounds.framed ≡ false
 
 -- a whole program whose stack has that room
 pub record FitsTheStack (p : Program) : Type 0 where

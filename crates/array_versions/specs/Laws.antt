@@ -5,7 +5,7 @@ use Rattle.machine_effects.specs.fram_board.Effects.{Effect}
 use Rattle.machine_effects.specs.World.{fram_after, readings_taken}
 use Rattle.machine_effects.specs.Inputs.{Inputs, InputsAreWords, TakesExactly}
 use Rattle.array_versions.specs.Program.{Program, joined}
-use Rattle.array_versions.specs.Behaviour.{WordState, started, End, GoesOn, Jumps, Short, Strays, Broken, behaviour, then_on}
+use Rattle.array_versions.specs.Behaviour.{WordState, started, End, GoesOn, Jumps, Gives, Short, Strays, Broken, behaviour, then_on}
 use Rattle.array_versions.specs.Form.{IsWhole, OfWords}
 use Rattle.array_versions.specs.Cost.{cycles_of, words_of, spent_on, spent}
 
@@ -33,6 +33,7 @@ WaysKeepToCycles = (p : Program) (s : WordState) → spent p s ≤ cycles_of p
 abbrev pub EndsByEffects : WordState → List Effect → End → Type 0
 EndsByEffects s es (GoesOn t) = (t.fram ≡ fram_after es s.fram) × TakesExactly es s.inputs t.inputs
 EndsByEffects s es (Jumps to t) = (t.fram ≡ fram_after es s.fram) × TakesExactly es s.inputs t.inputs
+EndsByEffects s es (Gives v t) = (t.fram ≡ fram_after es s.fram) × TakesExactly es s.inputs t.inputs
 EndsByEffects s es Short = readings_taken es ≡ s.inputs.readings
 EndsByEffects s es Strays = Unit {0}
 EndsByEffects s es Broken = Unit {0}
@@ -41,10 +42,11 @@ EndsByEffects s es Broken = Unit {0}
 abbrev pub BehavesByEffects : Type 0
 BehavesByEffects = (p : Program) (s : WordState) → let b = behaviour p s in EndsByEffects s b.effects b.end
 
--- an end that code can come to
+-- an end that the code of a task can come to
 abbrev pub IsSound : End → Type 0
 IsSound (GoesOn t) = ⊥
 IsSound (Jumps to t) = Unit {0}
+IsSound (Gives v t) = ⊥
 IsSound Short = Unit {0}
 IsSound Strays = Unit {0}
 IsSound Broken = ⊥
@@ -60,10 +62,11 @@ pub record IsStateOfWords (s : WordState) : Type 0 where
   pub fram : (a : ℕ) → s.fram a < 0x10000
   pub inputs : InputsAreWords s.inputs
 
--- where an end has a state, all in it are words
+-- where an end has a state, all in it are words; so is a word that is given
 abbrev pub EndsInWords : End → Type 0
 EndsInWords (GoesOn t) = IsStateOfWords t
 EndsInWords (Jumps to t) = IsStateOfWords t
+EndsInWords (Gives v t) = (v < 0x10000) × IsStateOfWords t
 EndsInWords Short = Unit {0}
 EndsInWords Strays = Unit {0}
 EndsInWords Broken = Unit {0}

@@ -42,6 +42,8 @@ step_layer (WordStep-F.Repeat n from below body) = steps.repeat n from below (st
 step_layer (WordStep-F.StoreNumber a w) = steps.store_number a w
 step_layer (WordStep-F.MoveWord from to) = steps.move_word from to
 step_layer (WordStep-F.Jump to) = steps.jump to
+step_layer (WordStep-F.Call entry frame first count) = steps.call entry frame first count nothing
+step_layer WordStep-F.Give = steps.give
 
 -- one level of a test
 abbrev pub test_layer : WordTest-F Step Test → Test

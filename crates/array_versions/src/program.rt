@@ -131,6 +131,17 @@ pub enum WordStep {
     },
     /// Leaves the program for the code at an address.
     Jump(u16),
+    /// Calls the function whose code begins at an address: pops so many words, of which the top is the last parameter's, and pushes
+    /// the word that the function gives. Its parameters are locals from the first on. Where its locals stand in RAM they begin at
+    /// its frame.
+    Call {
+        entry: u16,
+        frame: Option<u16>,
+        first: u16,
+        count: u16,
+    },
+    /// In a function: pops a word and ends with it.
+    Give,
 }
 
 /// A question that steps ask and that decides where a program goes on.
@@ -499,5 +510,34 @@ impl WordProgram {
         ensures err { OnErr result (program_of self.new ≡ program_of self.old) }
     {
         self.push(WordStep::Jump(to))
+    }
+    /// Calls the function whose code begins at an address: pops so many words, of which the top is the last parameter's, and pushes
+    /// the word that the function gives. Its parameters are locals from the first on. Where its locals stand in RAM they begin at
+    /// its frame. What the function does isn't a part of the step.
+    pub fn call(
+        &mut self,
+        entry: u16,
+        frame: Option<u16>,
+        first: u16,
+        count: u16,
+    ) -> Result<(), AllocError>
+        ensures ok { OnOk result
+            (program_of self.new ≡ behind (program_of self.old) (value.call entry frame first count nothing)) }
+        ensures err { OnErr result (program_of self.new ≡ program_of self.old) }
+    {
+        self.push(WordStep::Call {
+            entry,
+            frame,
+            first,
+            count,
+        })
+    }
+
+    /// In a function: pops a word and ends with it. Steps behind this one are never done.
+    pub fn give(&mut self) -> Result<(), AllocError>
+        ensures ok { OnOk result (program_of self.new ≡ behind (program_of self.old) value.give) }
+        ensures err { OnErr result (program_of self.new ≡ program_of self.old) }
+    {
+        self.push(WordStep::Give)
     }
 }

@@ -35,7 +35,7 @@ module _ (z : Setting) where
   abbrev Raised : ℕ → ℕ → ℕ → ℕ → WordState → Core → Type 0
   Raised pc n k below w t = Decided z pc (with_local n k w) (not (k == below)) condition.NotEqual condition.Equal t
 
-  raises : (pc n k below : ℕ) (w : WordState) (u : Core) → n < z.locals → w.locals n ≡ Some k → k + 1 < 0x10000 → below < 0x10000
+  raises : (pc n k below : ℕ) (w : WordState) (u : Core) → Owns z n → w.locals n ≡ Some k → k + 1 < 0x10000 → below < 0x10000
       → Stands z.code pc (turn_end n below) → StandsFor z pc w u
       → Runs z.code [] (forward_most (turn_end n below) 10) u (Raised (pc + forms_bytes (turn_end n below)) n (k + 1) below w)
   raises pc n k below w u lt q l lb h i =
@@ -48,7 +48,7 @@ module _ (z : Setting) where
       })
 
   -- turns of a body, where they stand; `fit` says of a state that so many turns can be made from it
-  module _ (body : List Form) (pc n below : ℕ) (cost : ℕ → ℕ) (run : WordState → Behaviour) (fit : ℕ → WordState → Type 0) (lt : n < z.locals)
+  module _ (body : List Form) (pc n below : ℕ) (cost : ℕ → ℕ) (run : WordState → Behaviour) (fit : ℕ → WordState → Type 0) (lt : Owns z n)
       (small : below < 0x10000) (h : Stands z.code pc (turns_code n below body))
       (doing : (m k : ℕ) (s : WordState) (t : Core) → fit (suc m) s → k < below → StandsFor z pc (with_local n k s) t → (next : ℕ)
       → (let x = run (with_local n k s) in Reaches z next (StandsFor z (pc + forms_bytes body)) (cost next) t x.effects x.end))
@@ -125,7 +125,7 @@ module _ (z : Setting) where
 
   -- a loop, where its code stands; by whether it makes a turn
   module _ (body : List Form) (pc n from below : ℕ) (cost : ℕ → ℕ) (run : WordState → Behaviour) (fit : ℕ → WordState → Type 0) where
-    sets : (s : WordState) (u : Core) → n < z.locals → Stands z.code pc (number_code n from) → StandsFor z pc s u
+    sets : (s : WordState) (u : Core) → Owns z n → Stands z.code pc (number_code n from) → StandsFor z pc s u
         → Runs z.code [] (forward_most (number_code n from) 5) u (StandsFor z (pc + forms_bytes (number_code n from)) (with_local n from s))
     sets s u lt h i =
         let ms = number_code n from in
@@ -133,7 +133,7 @@ module _ (z : Setting) where
         runs_there z pc ms h i.at (local_number y n from pc s u lt (stand z pc ms h) (stands_in z pc ms h pc s u i))
         (λ t j. stands_out z pc ms h (pc + forms_bytes ms) (with_local n from s) t j)
 
-    pub loop_reach : (any : Bool) (s : WordState) (u : Core) (next : ℕ) → nat_lt from below ≡ any → n < z.locals → below < 0x10000
+    pub loop_reach : (any : Bool) (s : WordState) (u : Core) (next : ℕ) → nat_lt from below ≡ any → Owns z n → below < 0x10000
         → (let start = number_code n from in let rest : List Form = if any then turns_code n below body else [] in Stands z.code pc (start ++ rest)
         → StandsFor z pc s u → fit (below - from) s → (Stands z.code (pc + forms_bytes start) body → (m k : ℕ) (s : WordState) (t : Core) → fit (suc m) s
         → k < below → StandsFor z (pc + forms_bytes start) (with_local n k s) t → (more : ℕ)

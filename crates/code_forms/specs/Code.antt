@@ -8,7 +8,8 @@ use Rattle.machine_effects.specs.fram_board.Effects.{Effect}
 use Rattle.machine_effects.specs.Going.{Goes, Stops, Status, At, Halted, stretch, continued, going, Leads, Stalls}
 use Rattle.machine_effects.specs.Machine.{Code, MachineBoard, exec}
 use Rattle.code_forms.specs.Forms.{Core, CoreOutcome, CoreStretch, board_of, Form, Move, Calculate, Compare, Update, Push, Modify, SetStack, Sense, Jump, Skip}
-use Rattle.code_forms.specs.Forms.{EnableInterrupts, Branch, BranchIndexed, SkipBy, instruction_of, form_bytes, form_step, FormNeeds, IsCodeAddress}
+use Rattle.code_forms.specs.Forms.{EnableInterrupts, Branch, BranchIndexed, SkipBy, Call, Return, KeepStack, RestoreStack, instruction_of, form_bytes, form_step, FormNeeds}
+use Rattle.code_forms.specs.Forms.{IsCodeAddress}
 
 -- the forms stand in the code from this address on
 abbrev pub Stands : Code → ℕ → List Form → Type 0
@@ -40,13 +41,15 @@ back_over ms = back_by (size ms)
 
 -- ---- what code does
 
--- no jump, no skip and no branch
+-- no jump, no skip, no branch, no call and no return
 abbrev pub IsStraight : Form → Type 0
 IsStraight (Jump c offset) = ⊥
 IsStraight (Skip n) = ⊥
 IsStraight (Branch a) = ⊥
 IsStraight (BranchIndexed b x) = ⊥
 IsStraight (SkipBy b) = ⊥
+IsStraight (Call a) = ⊥
+IsStraight Return = ⊥
 IsStraight (Move x y) = Unit {0}
 IsStraight (Calculate op x b) = Unit {0}
 IsStraight (Compare x a) = Unit {0}
@@ -56,6 +59,8 @@ IsStraight (Modify m b) = Unit {0}
 IsStraight (SetStack n) = Unit {0}
 IsStraight EnableInterrupts = Unit {0}
 IsStraight (Sense b) = Unit {0}
+IsStraight (KeepStack b) = Unit {0}
+IsStraight RestoreStack = Unit {0}
 
 -- none in any of them
 abbrev pub AreStraight : List Form → Type 0

@@ -26,14 +26,14 @@ pub use Rattle.instruction_forms.specs.declared.kinds.WorkRegister.{WorkRegister
 pub use Rattle.instruction_forms.specs.declared.kinds.WorkRegister.TheVariants.{R4, R5, R6, R7, R8, R9, R10, R11, R12, R13, R14, R15}
 pub use Rattle.instruction_forms.specs.declared.kinds.Source.{Source}
 pub use Rattle.instruction_forms.specs.declared.kinds.Source.TheVariants.{Register, Number, Constant, Fram, Ram, Pointed, PointedNext, Indexed, Popped}
-pub use Rattle.instruction_forms.specs.declared.kinds.Source.TheVariants.{Head, Slot}
+pub use Rattle.instruction_forms.specs.declared.kinds.Source.TheVariants.{StackNext, Head, Slot}
 pub use Rattle.instruction_forms.specs.declared.kinds.Target.{Target}
 pub use Rattle.instruction_forms.specs.declared.kinds.Target.TheVariants.{ToRegister, ToFram, ToRam, ToIndexed, ToPointed, ToOutnum, ToOutdata}
 pub use Rattle.instruction_forms.specs.declared.kinds.Modification.{Modification}
 use Rattle.instruction_forms.specs.declared.kinds.Modification.TheVariants as change
 pub use Rattle.instruction_forms.specs.declared.kinds.Form.{Form}
 pub use Rattle.instruction_forms.specs.declared.kinds.Form.TheVariants.{Move, Calculate, Compare, Update, Push, Modify, SetStack, Sense, Jump, Skip, Branch}
-pub use Rattle.instruction_forms.specs.declared.kinds.Form.TheVariants.{EnableInterrupts, BranchIndexed, SkipBy}
+pub use Rattle.instruction_forms.specs.declared.kinds.Form.TheVariants.{EnableInterrupts, BranchIndexed, SkipBy, Call, Return, KeepStack, RestoreStack}
 
 -- the numbers of the registers for work
 abbrev pub work_number : WorkRegister → ℕ
@@ -123,6 +123,7 @@ source_value (Pointed b) u = u.fram (u.work (work_number b))
 source_value (PointedNext b) u = u.fram (u.work (work_number b))
 source_value (Indexed b x) u = u.fram (u.work (work_number b) + x)
 source_value Popped u = u.ram u.sp
+source_value (StackNext b) u = u.ram (u.work (work_number b))
 source_value Head u = first_look u.inputs.looks head_place
 source_value (Slot b) u = first_look u.inputs.looks (u.work (work_number b) + ring_place)
 
@@ -134,6 +135,7 @@ look_taken u = record u { inputs = record u.inputs { looks = other_looks u.input
 abbrev pub source_read : Source → Core → Core
 source_read (PointedNext b) u = record u { work = put u.work (work_number b) (u.work (work_number b) + 2) }
 source_read Popped u = record u { sp = u.sp + 2 }
+source_read (StackNext b) u = record u { work = put u.work (work_number b) (u.work (work_number b) + 2) }
 source_read (Register b) u = u
 source_read (Number n) u = u
 source_read (Constant k) u = u
@@ -155,6 +157,7 @@ source_effects (Pointed b) u = []
 source_effects (PointedNext b) u = []
 source_effects (Indexed b x) u = []
 source_effects Popped u = []
+source_effects (StackNext b) u = []
 source_effects Head u = look_effects u.inputs.looks
 source_effects (Slot b) u = look_effects u.inputs.looks
 
@@ -175,6 +178,7 @@ SourceNeeds events (Pointed b) u = IsPlace (u.work (work_number b))
 SourceNeeds events (PointedNext b) u = IsPlace (u.work (work_number b))
 SourceNeeds events (Indexed b x) u = IsPlace (u.work (work_number b) + x)
 SourceNeeds events Popped u = IsRam u.sp × (events ≡ true → u.sp + 2 ≤ stack_start)
+SourceNeeds events (StackNext b) u = IsRam (u.work (work_number b)) × (u.sp ≤ u.work (work_number b))
 SourceNeeds events Head u = Unit {0}
 SourceNeeds events (Slot b) u = IsSlot (u.work (work_number b) + ring_place)
 
@@ -182,6 +186,7 @@ SourceNeeds events (Slot b) u = IsSlot (u.work (work_number b) + ring_place)
 abbrev pub source_ram : Source → Core → Option ℕ
 source_ram (Ram a) u = Some a
 source_ram Popped u = Some u.sp
+source_ram (StackNext b) u = Some (u.work (work_number b))
 source_ram _ u = None
 
 -- a word written to a target, in so many cycles
@@ -272,6 +277,10 @@ form_step (BranchIndexed b x) u = Goes [] 3 (record u { pc = u.fram (u.work (wor
 form_step (SkipBy b) u =
     let o = operated Add Word (u.pc + 2) (u.work (work_number b)) u.flags in
     Goes [] 2 (record u { pc = o.value; flags = flags_after o.flags u.flags })
+form_step (Call a) u = Goes [] 5 (record u { pc = a; sp = u.sp - 2; ram = put u.ram (u.sp - 2) (u.pc + 4) })
+form_step Return u = Goes [] 3 (record u { pc = u.ram u.sp; sp = u.sp + 2 })
+form_step (KeepStack b) u = Goes [] 1 (record u { pc = u.pc + 2; work = put u.work (work_number b) u.sp })
+form_step RestoreStack u = Goes [] 2 (record u { pc = u.pc + 2; sp = u.ram u.sp })
 
 -- room in RAM below SP for a word
 pub record HasPushRoom (sp : ℕ) : Type 0 where
@@ -306,6 +315,10 @@ FormNeeds events (Skip n) u = n % 2 ≡ 0
 FormNeeds events (Branch a) u = a % 2 ≡ 0
 FormNeeds events (BranchIndexed b x) u = IsPlace (u.work (work_number b) + x) × (u.fram (u.work (work_number b) + x) % 2 ≡ 0)
 FormNeeds events (SkipBy b) u = u.work (work_number b) % 2 ≡ 0
+FormNeeds events (Call a) u = (a % 2 ≡ 0) × HasPushRoom u.sp
+FormNeeds events Return u = IsRam u.sp × (events ≡ true → u.sp + 2 ≤ stack_start) × (u.ram u.sp % 2 ≡ 0)
+FormNeeds events (KeepStack b) u = Unit {0}
+FormNeeds events RestoreStack u = IsRam u.sp × (events ≡ true → (u.sp ≤ u.ram u.sp) × (u.ram u.sp ≤ stack_start)) × (u.ram u.sp % 2 ≡ 0)
 
 -- the address in RAM at which a form reads, if it does
 abbrev pub ram_read : Form → Core → Option ℕ
@@ -314,6 +327,8 @@ ram_read (Calculate op x b) u = source_ram x u
 ram_read (Compare x a) u = source_ram x u
 ram_read (Update op x a) u = source_ram x u
 ram_read (Push x) u = source_ram x u
+ram_read Return u = Some u.sp
+ram_read RestoreStack u = Some u.sp
 ram_read _ u = None
 
 -- an even address with room behind it for an instruction of three words

@@ -22,14 +22,14 @@ use Rattle.msp_isa.specs.declared.instructions.Instr.TheVariants as instr
 use Rattle.instruction_forms.specs.declared.kinds.WorkRegister.{WorkRegister}
 use Rattle.instruction_forms.specs.declared.kinds.WorkRegister.TheVariants.{R4, R5, R6, R7, R8, R9, R10, R11, R12, R13, R14, R15}
 use Rattle.instruction_forms.specs.declared.kinds.Source.{Source}
-use Rattle.instruction_forms.specs.declared.kinds.Source.TheVariants.{Register, Number, Constant, Fram, Ram, Pointed, PointedNext, Indexed, Popped, Head, Slot}
+use Rattle.instruction_forms.specs.declared.kinds.Source.TheVariants.{Register, Number, Constant, Fram, Ram, Pointed, PointedNext, Indexed, Popped, StackNext, Head, Slot}
 use Rattle.instruction_forms.specs.declared.kinds.Target.{Target}
 use Rattle.instruction_forms.specs.declared.kinds.Target.TheVariants.{ToRegister, ToFram, ToRam, ToIndexed, ToPointed, ToOutnum, ToOutdata}
 use Rattle.instruction_forms.specs.declared.kinds.Modification.{Modification}
 use Rattle.instruction_forms.specs.declared.kinds.Modification.TheVariants.{Rrc, Rra, Swpb, Sxt}
 use Rattle.instruction_forms.specs.declared.kinds.Form.{Form}
 use Rattle.instruction_forms.specs.declared.kinds.Form.TheVariants.{Move, Calculate, Compare, Update, Push, Modify, SetStack, Sense, Jump, Skip, Branch}
-use Rattle.instruction_forms.specs.declared.kinds.Form.TheVariants.{EnableInterrupts, BranchIndexed, SkipBy}
+use Rattle.instruction_forms.specs.declared.kinds.Form.TheVariants.{EnableInterrupts, BranchIndexed, SkipBy, Call, Return, KeepStack, RestoreStack}
 
 -- a register for work among those that an addressing mode can name
 abbrev pub index_of : WorkRegister → IndexRegister
@@ -57,6 +57,7 @@ source_operand (Pointed b) = src.Operand (mode.Indirect (pointer.Index (index_of
 source_operand (PointedNext b) = src.Operand (mode.Increment (index_of b))
 source_operand (Indexed b x) = src.Operand (mode.Indexed (index_of b) x)
 source_operand Popped = src.Operand (mode.Increment index.Sp)
+source_operand (StackNext b) = src.Operand (mode.Increment (index_of b))
 source_operand Head = src.Operand (mode.Absolute head_place)
 source_operand (Slot b) = src.Operand (mode.Indexed (index_of b) ring_place)
 
@@ -71,6 +72,7 @@ source_bytes (Pointed b) = 0
 source_bytes (PointedNext b) = 0
 source_bytes (Indexed b x) = 2
 source_bytes Popped = 0
+source_bytes (StackNext b) = 0
 source_bytes Head = 2
 source_bytes (Slot b) = 2
 
@@ -112,6 +114,10 @@ instruction_of (Skip n) = instr.Two Add Word (src.Immediate n) (dst.Reg reg.Pc)
 instruction_of (Branch a) = instr.Two Mov Word (src.Immediate a) (dst.Reg reg.Pc)
 instruction_of (BranchIndexed b x) = instr.Two Mov Word (src.Operand (mode.Indexed (index_of b) x)) (dst.Reg reg.Pc)
 instruction_of (SkipBy b) = instr.Two Add Word (src.Operand (mode.Reg (source_register.Index (index_of b)))) (dst.Reg reg.Pc)
+instruction_of (Call a) = instr.One (one.Call (src.Immediate a))
+instruction_of Return = instr.Two Mov Word (src.Operand (mode.Increment index.Sp)) (dst.Reg reg.Pc)
+instruction_of (KeepStack b) = instr.Two Mov Word (src.Operand (mode.Reg (source_register.Index index.Sp))) (dst.Reg (reg.Index (index_of b)))
+instruction_of RestoreStack = instr.Two Mov Word (src.Operand (mode.Increment index.Sp)) (dst.Reg (reg.Index index.Sp))
 
 -- its length in bytes
 abbrev pub form_bytes : Form → ℕ
@@ -129,3 +135,7 @@ form_bytes (Skip n) = 4
 form_bytes (Branch a) = 4
 form_bytes (BranchIndexed b x) = 4
 form_bytes (SkipBy b) = 2
+form_bytes (Call a) = 4
+form_bytes Return = 2
+form_bytes (KeepStack b) = 2
+form_bytes RestoreStack = 2

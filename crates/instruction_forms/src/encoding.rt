@@ -48,6 +48,7 @@ fn source_operand(source: Source) -> Src
         Source::PointedNext(register) => Operand::Increment(index_of(register)),
         Source::Indexed(register, offset) => Operand::Indexed(index_of(register), offset),
         Source::Popped => Operand::Increment(IndexRegister::Sp),
+        Source::StackNext(register) => Operand::Increment(index_of(register)),
         Source::Head => Operand::Absolute(HEAD),
         Source::Slot(register) => Operand::Indexed(index_of(register), RING),
     };
@@ -106,6 +107,7 @@ pub fn instruction_of(form: &Form) -> Instr
     ensures { result ≡ instruction_of form.now }
 {
     let pc = Dst::Reg(Reg::Pc);
+    let stack_pointer = Src::Operand(Operand::Reg(SourceRegister::Index(IndexRegister::Sp)));
     match form {
         Form::Move(x, y) => two(TwoOp::Mov, source_operand(*x), target_operand(*y)),
         Form::Calculate(op, x, register) => two(*op, source_operand(*x), to_register(*register)),
@@ -138,6 +140,14 @@ pub fn instruction_of(form: &Form) -> Instr
             )
         }
         Form::SkipBy(register) => two(TwoOp::Add, source_operand(Source::Register(*register)), pc),
+        Form::Call(address) => Instr::One(OneOp::Call(Src::Immediate(*address))),
+        Form::Return => two(TwoOp::Mov, source_operand(Source::Popped), pc),
+        Form::KeepStack(register) => two(TwoOp::Mov, stack_pointer, to_register(*register)),
+        Form::RestoreStack => two(
+            TwoOp::Mov,
+            source_operand(Source::Popped),
+            Dst::Reg(Reg::Index(IndexRegister::Sp)),
+        ),
     }
 }
 
@@ -150,7 +160,7 @@ fn source_words(source: Source) -> u16
         Source::Number(_) | Source::Fram(_) | Source::Ram(_) | Source::Indexed(_, _) => 1,
         Source::Head | Source::Slot(_) => 1,
         Source::Register(_) | Source::Constant(_) | Source::Pointed(_) => 0,
-        Source::PointedNext(_) | Source::Popped => 0,
+        Source::PointedNext(_) | Source::Popped | Source::StackNext(_) => 0,
     }
 }
 
@@ -176,8 +186,9 @@ pub fn form_words(form: &Form) -> u16
         Form::Calculate(_, x, _) | Form::Push(x) => 1 + source_words(*x),
         Form::Modify(_, _) | Form::EnableInterrupts => 1,
         Form::Jump(_, _) | Form::SkipBy(_) => 1,
+        Form::Return | Form::KeepStack(_) | Form::RestoreStack => 1,
         Form::SetStack(_) | Form::Sense(_) | Form::Skip(_) => 2,
-        Form::Branch(_) | Form::BranchIndexed(_, _) => 2,
+        Form::Branch(_) | Form::BranchIndexed(_, _) | Form::Call(_) => 2,
     }
 }
 

@@ -39,6 +39,8 @@ pub enum Source {
     Indexed(WorkRegister, u16),
     /// The word of RAM at SP, which goes up by 2.
     Popped,
+    /// The word of RAM at the register's address, and the register goes up by 2.
+    StackNext(WorkRegister),
     /// HEAD: the index behind the newest word of the ring.
     Head,
     /// The word of the ring so far behind its first slot as the register says.
@@ -99,4 +101,12 @@ pub enum Form {
     BranchIndexed(WorkRegister, u16),
     /// The register's word is added to PC, which stands behind the instruction here.
     SkipBy(WorkRegister),
+    /// PC, which stands behind the instruction, is pushed, and becomes an address.
+    Call(u16),
+    /// PC becomes the word of RAM at SP, which goes up by 2.
+    Return,
+    /// The register becomes SP.
+    KeepStack(WorkRegister),
+    /// SP becomes the word of RAM at SP.
+    RestoreStack,
 }

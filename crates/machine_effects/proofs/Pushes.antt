@@ -1,19 +1,19 @@
--- A push writes the same word below SP on machines that a program can't tell apart.
+-- A push, or a call, writes the same word below SP on machines that a program can't tell apart.
 use Rattle.std.proofs.Common.{◌≡◌, ◌==◌, ◌&&◌, ◌≤◌, ◌*◌, ◌/◌, ◌%◌, if◌then◌else◌, nat_lt, eqb-true, arith, ℕ, refl, sym, ◌∙◌, ap, subst, Bool, true, false}
 use Rattle.std.proofs.Common.{List, [], ◌∷◌, ◌++◌, length, Option, Some, None, inl, inr}
 use Rattle.std.proofs.lemmas.Bool.{and_parts}
 use Rattle.std.proofs.lemmas.Bool.Decides.{nat_tests}
 use Rattle.event_places.specs.Places.{handler_place}
-use Rattle.fram_board.specs.alp_words.declared.Width.TheVariants.{Word}
-use Rattle.fram_board.specs.msp_isa.declared.operands.Src.{Src}
+use Rattle.fram_board.specs.alp_words.declared.Width.TheVariants.{Word, Byte}
+use Rattle.fram_board.specs.msp_isa.declared.instructions.OneOp.{OneOp}
 use Rattle.fram_board.specs.msp_isa.declared.instructions.OneOp.TheVariants as one
 use Rattle.fram_board.specs.msp_isa.declared.instructions.Instr.{Instr}
 use Rattle.fram_board.specs.msp_isa.declared.instructions.Instr.TheVariants as instr
 use Rattle.fram_board.specs.msp_isa.Encoding.{source_row}
 use Rattle.fram_board.specs.msp_cycles.Cycles.{cycles_of}
 use Rattle.fram_board.specs.msp_step.Registers.{Registers, with_register}
-use Rattle.fram_board.specs.msp_step.Access.{Access, Completed, Faulted, then_do, write_answer}
-use Rattle.fram_board.specs.msp_step.Effect.{Written, word_sum, source, below_stack, pushed}
+use Rattle.fram_board.specs.msp_step.Access.{Access, Completed, Faulted, then_do, write_at, write_answer}
+use Rattle.fram_board.specs.msp_step.Effect.{Written, word_sum, source, below_stack, pushed, called}
 use Rattle.fram_board.specs.msp_step.Step.{effect}
 use Rattle.fram_board.specs.Bus.{is_ram, is_memory, is_word, number_port, data_port}
 use Rattle.fram_board.specs.Effects.{Effect, Store, Outside, Offered}
@@ -25,7 +25,7 @@ use Rattle.machine_effects.specs.Going.{Goes, Stops, step_behind}
 use Rattle.machine_effects.specs.Machine.{MachineBus, MachineBoard, MachineOutcome, machine_bus, word_address, machine_stored, word_written}
 use Rattle.machine_effects.specs.Machine.{machine_port_written}
 use Rattle.machine_effects.specs.Machine.{machine_written, machine_opened_seeing, machine_outcome, machine_executed_seeing, machine_executed, executed_looking}
-use Rattle.machine_effects.specs.Machine.{looks_there, IsRam}
+use Rattle.machine_effects.specs.Machine.{looks_there, pushes, IsRam}
 use Rattle.machine_effects.specs.Laws.{IsSameFrom, HaveSameTop, PushesAlike}
 use Rattle.machine_effects.proofs.Worlds.{put_at}
 use Rattle.machine_effects.proofs.Blind.{IsBlindTo, Never, blind_answers, opened_blind, same_but_memory, with_others, others_same}
@@ -63,44 +63,68 @@ module _ (t : MachineBus) (r : Registers) (v : ℕ) where
   abbrev a : ℕ
   a = below_stack r
 
-  abbrev z : Registers × Option Written
-  z = (with_register r 1 a, Some (a, v))
+  -- behind it SP is there
+  module _ (q : Registers) (top : q 1 ≡ a / 2 * 2) where
+    abbrev z : Registers × Option Written
+    z = (q, Some (a, v))
 
-  stored_at : (u : MachineBus) → is_word a ≡ true → word_written t a v ≡ Some u → IsRam (a / 2 * 2) → TopIs z u
-  stored_at u is e ram =
-      let even : a % 2 ≡ 0 = eqb-true (a % 2) 0 (and_parts (a % 2 == 0) (is_memory a) is).0 in
-      let same : a / 2 * 2 ≡ a = omega (arith, even) in
-      let at : a / 2 * 2 ≡ word_address a = omega (arith, even) in
-      let stored : machine_stored t a v ≡ record t { ram = put t.ram (word_address a) v } =
-      ap (λ b. if b then record t { ram = put t.ram (word_address a) v } else record t
-      { fram = put t.fram (word_address a) v; log = t.log ++ Store (word_address a) v ∷ [] }) (in_ram a ram) in
-      let is : record t { ram = put t.ram (word_address a) v } ≡ u = sym stored ∙ served_word (nat_lt a handler_place) (machine_stored t a v) u e in
-      record {
-        word = v;
-        written = ap (λ n. Some (n, v)) (sym same);
-        there = ap (λ (b : MachineBus). b.ram (a / 2 * 2)) (sym is) ∙ put_at t.ram (word_address a) v (a / 2 * 2) at;
-      }
+    stored_at : (u : MachineBus) → is_word a ≡ true → word_written t a v ≡ Some u → IsRam (a / 2 * 2) → TopIs z u
+    stored_at u is e ram =
+        let even : a % 2 ≡ 0 = eqb-true (a % 2) 0 (and_parts (a % 2 == 0) (is_memory a) is).0 in
+        let same : a / 2 * 2 ≡ a = omega (arith, even) in
+        let at : a / 2 * 2 ≡ word_address a = omega (arith, even) in
+        let stored : machine_stored t a v ≡ record t { ram = put t.ram (word_address a) v } =
+        ap (λ b. if b then record t { ram = put t.ram (word_address a) v } else record t
+        { fram = put t.fram (word_address a) v; log = t.log ++ Store (word_address a) v ∷ [] }) (in_ram a ram) in
+        let is : record t { ram = put t.ram (word_address a) v } ≡ u = sym stored ∙ served_word (nat_lt a handler_place) (machine_stored t a v) u e in
+        record {
+          word = v;
+          written = ap (λ n. Some (n, v)) (sym same ∙ sym top);
+          there = ap u.ram top ∙ ap (λ (b : MachineBus). b.ram (a / 2 * 2)) (sym is) ∙ put_at t.ram (word_address a) v (a / 2 * 2) at;
+        }
 
-  written_at : (b : Bool) (u : MachineBus) → is_word a ≡ b → (if b then word_written t a v else machine_port_written t a v) ≡ Some u
-      → IsRam (a / 2 * 2) → TopIs z u
-  written_at true u is e ram = stored_at u is e ram
-  written_at false u is e ram =
-      let low = ram.low in
-      absurd (no_port (a == number_port) (a == data_port) (record t { outnum = v }) (record t { log = t.log ++ Outside (Offered t.outnum v) ∷ [] }) u
-      (λ p. let at = eqb-true a number_port p in omega (arith, low, at)) (λ p. let at = eqb-true a data_port p in omega (arith, low, at)) e)
+    written_at : (b : Bool) (u : MachineBus) → is_word a ≡ b → (if b then word_written t a v else machine_port_written t a v) ≡ Some u
+        → IsRam (a / 2 * 2) → TopIs z u
+    written_at true u is e ram = stored_at u is e ram
+    written_at false u is e ram =
+        let low = ram.low in
+        absurd (no_port (a == number_port) (a == data_port) (record t { outnum = v }) (record t { log = t.log ++ Outside (Offered t.outnum v) ∷ [] }) u
+        (λ p. let at = eqb-true a number_port p in omega (arith, low, at)) (λ p. let at = eqb-true a data_port p in omega (arith, low, at)) e)
 
-  pushed_is : IsPush (pushed machine_bus Word v r t)
-  pushed_is = answered (machine_written t a Word v) a t z (λ u e ram. written_at (is_word a) u refl e ram)
+    stored_is : IsPush (write_at machine_bus a Word v z t)
+    stored_is = answered (machine_written t a Word v) a t z (λ u e ram. written_at (is_word a) u refl e (subst IsRam top ram))
 
-behind_source : (m : Access MachineBus (ℕ × Registers)) (n : ℕ) → IsPush (then_do m (λ y t. pushed machine_bus Word y.0 (with_register y.1 0 n) t))
-behind_source (Completed y t) n = pushed_is t (with_register y.1 0 n) y.0
-behind_source (Faulted e a t) n = tt
+pushed_is : (m : Access MachineBus (ℕ × Registers)) (n : ℕ) → IsPush (then_do m (λ y t. pushed machine_bus Word y.0 (with_register y.1 0 n) t))
+pushed_is (Completed y t) n =
+    let r = with_register y.1 0 n in stored_is t r y.0 (with_register r 1 (below_stack r)) refl
+pushed_is (Faulted e a t) n = tt
 
-push_is : (x : Src) (r : Registers) (s : MachineBus) → IsPush (effect machine_bus (instr.One (one.Push Word x)) r s)
+called_is : (m : Access MachineBus (ℕ × Registers)) (n : ℕ) → IsPush (then_do m (λ y t. called machine_bus y.0 (with_register y.1 0 n) t))
+called_is (Completed y t) n =
+    let r = with_register y.1 0 n in stored_is t r (r 0) (with_register (with_register r 1 (below_stack r)) 0 y.0) refl
+called_is (Faulted e a t) n = tt
+
+-- behind the source, with PC behind the instruction
+abbrev first_word : Registers → ℕ
+first_word r = word_sum (r 0) 2
+
+one_is : (o : OneOp) (r : Registers) (s : MachineBus) → pushes (Some (instr.One o)) ≡ true → IsPush (effect machine_bus (instr.One o) r s)
 unfolding effect
-push_is x r s =
-    let first = word_sum (r 0) 2 in
-    behind_source (source machine_bus (with_register r 0 first) Word x s) (word_sum first (2 * length (source_row x).extension))
+one_is (one.Push Word x) r s p =
+    pushed_is (source machine_bus (with_register r 0 (first_word r)) Word x s) (word_sum (first_word r) (2 * length (source_row x).extension))
+one_is (one.Call x) r s p =
+    called_is (source machine_bus (with_register r 0 (first_word r)) Word x s) (word_sum (first_word r) (2 * length (source_row x).extension))
+one_is (one.Push Byte x) r s p = absurd cc
+one_is (one.Rrc w x) r s p = absurd cc
+one_is (one.Rra w x) r s p = absurd cc
+one_is (one.Swpb x) r s p = absurd cc
+one_is (one.Sxt x) r s p = absurd cc
+
+push_is : (i : Instr) (r : Registers) (s : MachineBus) → pushes (Some i) ≡ true → IsPush (effect machine_bus i r s)
+push_is (instr.Two op w x d) r s p = absurd cc
+push_is (instr.One o) r s p = one_is o r s p
+push_is (instr.Jump c o) r s p = absurd cc
+push_is instr.Reti r s p = absurd cc
 
 abbrev word_of : Option Written → ℕ
 word_of (Some z) = z.1
@@ -122,10 +146,7 @@ tops_same floor pc c (Faulted e a s) (Faulted f b t) h k l = tt
 tops_same floor pc c (Completed x s) (Faulted f b t) h k l = tt
 tops_same floor pc c (Faulted e a s) (Completed y t) h k l = tt
 
-module _ (floor : ℕ) (x : Src) where
-  abbrev push : Instr
-  push = instr.One (one.Push Word x)
-
+module _ (floor : ℕ) (push : Instr) (is : pushes (Some push) ≡ true) where
   seeing_top : (ring : Option Look) (s t : MachineBoard) → floor ≤ s.registers 1 → IsSameFrom floor s t
       → HaveSameTop (machine_executed_seeing ring s push) (machine_executed_seeing ring t push)
   seeing_top ring s t low h =
@@ -135,7 +156,7 @@ module _ (floor : ℕ) (x : Src) where
       subst P (sym (same_but_memory floor s t h))
       (tops_same floor (s.registers 0) (cycles_of push) (effect machine_bus push s.registers k) (effect machine_bus push s.registers l)
       (effect_alike MachineBus MachineBus machine_bus machine_bus Never (IsBlindTo floor) (blind_answers floor) push s.registers k l
-      (opened_blind floor ring s t low h)) (push_is x s.registers k) (push_is x s.registers l))
+      (opened_blind floor ring s t low h)) (push_is push s.registers k is) (push_is push s.registers l is))
 
   top_behind : (es : List Effect) (o p : MachineOutcome) → HaveSameTop o p → HaveSameTop (step_behind es o) (step_behind es p)
   top_behind es (Goes fs c s) (Goes gs d t) h = h
@@ -158,4 +179,4 @@ module _ (floor : ℕ) (x : Src) where
   top_by false s t low h = seeing_top None s t low h
 
 pub pushes_alike : PushesAlike
-pushes_alike floor x s t low h = top_by floor x (looks_there (instr.One (one.Push Word x))) s t low h
+pushes_alike floor push s t is low h = top_by floor push is (looks_there push) s t low h

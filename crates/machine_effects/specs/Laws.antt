@@ -1,12 +1,8 @@
 -- Laws of the machine, and that it is the board.
-use Rattle.std.specs.Prelude.{ℕ, ◌%◌, ◌≡◌, ◌<◌, ◌≤◌, ◌⊎◌, List, [], All, ◌++◌, length, Some, Ok}
+use Rattle.std.specs.Prelude.{ℕ, ◌%◌, ◌≡◌, ◌<◌, ◌≤◌, ◌⊎◌, true, List, [], All, ◌++◌, length, Some, Ok}
 use Rattle.fram_board.specs.address_space.Limits.{fram_words}
 use Rattle.event_places.specs.Places.{handler_place}
-use Rattle.fram_board.specs.alp_words.declared.Width.TheVariants.{Word}
-use Rattle.fram_board.specs.msp_isa.declared.operands.Src.{Src}
-use Rattle.fram_board.specs.msp_isa.declared.instructions.OneOp.TheVariants as one
 use Rattle.fram_board.specs.msp_isa.declared.instructions.Instr.{Instr}
-use Rattle.fram_board.specs.msp_isa.declared.instructions.Instr.TheVariants as instr
 use Rattle.fram_board.specs.msp_isa.Encoding.{encoding}
 use Rattle.fram_board.specs.msp_cycles.Cycles.{cycles_of}
 use Rattle.fram_board.specs.msp_step.Registers.{registers_of, powered_up}
@@ -21,7 +17,7 @@ use Rattle.fram_board.specs.Run.{Measure, moment_of, RunOutcome, ChargeRun, acce
 use Rattle.machine_effects.specs.World.{World, fram_after, accepted_after, world_after}
 use Rattle.machine_effects.specs.Inputs.{Look, look_effects}
 use Rattle.machine_effects.specs.Going.{Goes, Stops}
-use Rattle.machine_effects.specs.Machine.{MachineBoard, MachineOutcome, code_executed, IsMachineStep, Code, exec, IsRam, fram_of, machine_powered}
+use Rattle.machine_effects.specs.Machine.{MachineBoard, MachineOutcome, code_executed, IsMachineStep, Code, exec, pushes, IsRam, fram_of, machine_powered}
 use Rattle.machine_effects.specs.View.{machine_with, machine_of, IsWhole, IsOfWords, IsMachineOfWords, IsNextPrice, machine_outcome_with}
 use Rattle.machine_effects.specs.View.{machine_outcome_of, looks_at, seen_at_pc, IsBusFault}
 use Rattle.machine_effects.specs.Runs.{action_effects, moments_effects}
@@ -85,10 +81,10 @@ abbrev pub HaveSameTop : MachineOutcome → MachineOutcome → Type 0
 HaveSameTop (Goes es c s) (Goes fs d t) = IsRam (s.registers 1) → t.ram (s.registers 1) ≡ s.ram (s.registers 1)
 HaveSameTop o p = Unit {0}
 
--- and a push writes the same word there
+-- and what pushes writes the same word there
 abbrev pub PushesAlike : Type 0
-PushesAlike = (floor : ℕ) (x : Src) (s t : MachineBoard) → floor ≤ s.registers 1 → IsSameFrom floor s t
-    → let push = instr.One (one.Push Word x) in HaveSameTop (code_executed s push) (code_executed t push)
+PushesAlike = (floor : ℕ) (i : Instr) (s t : MachineBoard) → pushes (Some i) ≡ true → floor ≤ s.registers 1 → IsSameFrom floor s t
+    → HaveSameTop (code_executed s i) (code_executed t i)
 
 -- the machine steps in one way
 abbrev pub MachineStepsInOneWay : Type 0

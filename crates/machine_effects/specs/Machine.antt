@@ -257,9 +257,10 @@ in_stack sp = nat_le stack_floor sp && nat_le sp stack_start
 abbrev pub is_prepared : MachineBoard → Bool
 is_prepared s = (s.fram event_vector == handler_place) && in_stack (s.registers 1)
 
--- PUSH of a word: it writes the word to which it moves SP down
+-- PUSH of a word, and CALL: it writes the word to which it moves SP down
 abbrev pub pushes : Option Instr → Bool
 pushes (Some (instr.One (one.Push Word x))) = true
+pushes (Some (instr.One (one.Call x))) = true
 pushes _ = false
 
 -- from this SP to that: it stays, or is where the stack begins, or goes up to there at most; or it goes down by a push. So no word

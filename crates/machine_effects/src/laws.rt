@@ -23,7 +23,7 @@ pub fn instructions_look_as_on_the_board()
     ensures told { SeenByWords }
 {}
 
-/// An instruction of code does the same where FRAM differs from the handler on, and RAM below SP; and a push writes the same word.
+/// An instruction of code does the same where FRAM differs from the handler on, and RAM below SP; and a push or a call writes the same word.
 #[tactic(auto, using(crate::proofs::Blind::machine_is_blind, crate::proofs::Pushes::pushes_alike))]
 pub fn machine_is_blind()
     ensures same { MachineIsBlind }

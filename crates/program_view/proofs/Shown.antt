@@ -7,11 +7,7 @@ use Rattle.std.proofs.lemmas.Bool.{and_parts, cases_lt}
 use Rattle.std.proofs.lemmas.Bool.Decides.{nat_tests}
 use Rattle.address_space.specs.Limits.{stack_floor, stack_start}
 use Rattle.event_places.specs.Places.{handler_place, is_ring}
-use Rattle.fram_board.specs.alp_words.declared.Width.TheVariants.{Word, Byte}
-use Rattle.msp_isa.specs.declared.instructions.OneOp.{OneOp}
-use Rattle.msp_isa.specs.declared.instructions.OneOp.TheVariants as one
 use Rattle.msp_isa.specs.declared.instructions.Instr.{Instr}
-use Rattle.msp_isa.specs.declared.instructions.Instr.TheVariants as instr
 use Rattle.msp_cycles.specs.Cycles.{cycles_of}
 use Rattle.msp_step.specs.declared.machine.Stop.{Stop}
 use Rattle.msp_step.specs.Registers.{registers_of}
@@ -63,24 +59,6 @@ same_top : (o p : MachineOutcome) (es fs : List Effect) (c d : ℕ) (s t : Machi
     → HaveSameTop (Goes es c s) (Goes fs d t)
 same_top o p es fs c d s t e f h =
     subst (λ (y : MachineOutcome). HaveSameTop (Goes es c s) y) f (subst (λ (y : MachineOutcome). HaveSameTop y p) e h)
-
--- an instruction that pushes a word pushes the same one
-one_pushes : (floor : ℕ) (o : OneOp) (s t : MachineBoard) → pushes (Some (instr.One o)) ≡ true → floor ≤ s.registers 1 → IsSameFrom floor s t
-    → HaveSameTop (code_executed s (instr.One o)) (code_executed t (instr.One o))
-one_pushes floor (one.Push Word x) s t p low h = pushes_alike floor x s t low h
-one_pushes floor (one.Push Byte x) s t p low h = absurd cc
-one_pushes floor (one.Call x) s t p low h = absurd cc
-one_pushes floor (one.Rrc w x) s t p low h = absurd cc
-one_pushes floor (one.Rra w x) s t p low h = absurd cc
-one_pushes floor (one.Swpb x) s t p low h = absurd cc
-one_pushes floor (one.Sxt x) s t p low h = absurd cc
-
-pushes_same : (floor : ℕ) (i : Instr) (s t : MachineBoard) → pushes (Some i) ≡ true → floor ≤ s.registers 1 → IsSameFrom floor s t
-    → HaveSameTop (code_executed s i) (code_executed t i)
-pushes_same floor (instr.Two op w x d) s t p low h = absurd cc
-pushes_same floor (instr.One o) s t p low h = one_pushes floor o s t p low h
-pushes_same floor (instr.Jump c o) s t p low h = absurd cc
-pushes_same floor instr.Reti s t p low h = absurd cc
 
 either_word : (c : Bool) (x y : ℕ) → (c ≡ true → x ≡ 0) → (c ≡ false → x ≡ y) → x ≡ (if c then 0 else y)
 either_word true x y h k = h refl
@@ -226,7 +204,7 @@ module _ (b : BoardValue) (u : MachineBoard) (i : Instr) (more : List Look) (who
             high = omega (arith, moved, h);
           } in
           let top : HaveSameTop (Goes es done.cycles t) (Goes es done.cycles next) =
-          same_top (code_executed s i) (code_executed u i) es es done.cycles done.cycles t next on_board going.is (pushes_same floor i s u p low same) in
+          same_top (code_executed s i) (code_executed u i) es es done.cycles done.cycles t next on_board going.is (pushes_alike floor i s u p low same) in
           ap next.ram moved ∙ top is_ram ∙ ap (ram_of after.ram) (sym moved)
 
       -- RAM from SP up, wherever that moves

@@ -1,9 +1,9 @@
 -- What it is that a stretch of code follows a word program.
 use Rattle.word_code.proofs.Names.{◌≡◌, ℕ, ◌+◌, ◌≤◌, List, [], ◌++◌, refl, sym, ◌∙◌, subst, arith, append-nil, Bool, true, false, if◌then◌else◌, Effect, Core}
-use Rattle.word_code.proofs.Names.{Runs, Starves, WordState, End, GoesOn, Jumps, Short, Strays, Broken, Behaviour, behind_effects, on_end, strays, spent_on}
+use Rattle.word_code.proofs.Names.{Runs, Starves, WordState, End, GoesOn, Jumps, Gives, Short, Strays, Broken, Behaviour, behind_effects, on_end, strays, spent_on}
 use Rattle.word_code.proofs.Names.{HasJumped}
 use Rattle.word_code.proofs.Stretches.{Setting, runs_on, starves_on, dearer, dearer_stall, so_runs}
-use Rattle.word_code.proofs.Memory.{local_words, Memory}
+use Rattle.word_code.proofs.Memory.{local_words, Keeps, Memory}
 
 -- the machine at this place stands for what the program works on
 pub record StandsFor (z : Setting) (pc : ℕ) (w : WordState) (u : Core) : Type 0 where
@@ -12,10 +12,20 @@ pub record StandsFor (z : Setting) (pc : ℕ) (w : WordState) (u : Core) : Type 
   pub fram : u.fram ≡ w.fram
   pub inputs : u.inputs ≡ w.inputs
 
+-- the machine behind a return: it goes on where it was called, with the word that is given in R4
+pub record HasReturned (z : Setting) (v : ℕ) (w : WordState) (u : Core) : Type 0 where
+  pub pc : u.pc ≡ z.entered.ram z.top
+  pub sp : u.sp ≡ z.top + 2
+  pub result : u.work 4 ≡ v
+  pub fram : u.fram ≡ w.fram
+  pub inputs : u.inputs ≡ w.inputs
+  pub keeps : Keeps z u.ram (local_words u.work)
+
 -- what a stretch of code does, by how the program's part ends
 abbrev pub FollowsEnd : Setting → ℕ → ℕ → Core → List Effect → End → Type 0
 FollowsEnd z pc most u es (GoesOn w) = Runs z.code es most u (StandsFor z pc w)
 FollowsEnd z pc most u es (Jumps to w) = Runs z.code es most u (HasJumped to w)
+FollowsEnd z pc most u es (Gives v w) = Runs z.code es most u (HasReturned z v w)
 FollowsEnd z pc most u es Short = Starves z.code es most u
 FollowsEnd z pc most u es Strays = Unit {0}
 FollowsEnd z pc most u es Broken = Unit {0}
@@ -27,6 +37,7 @@ Follows z pc most u b = FollowsEnd z pc most u b.effects b.end
 abbrev pub OnGoesOn : (WordState → Type 0) → End → Type 0
 OnGoesOn P (GoesOn w) = P w
 OnGoesOn P (Jumps to w) = Unit {0}
+OnGoesOn P (Gives v w) = Unit {0}
 OnGoesOn P Short = Unit {0}
 OnGoesOn P Strays = Unit {0}
 OnGoesOn P Broken = Unit {0}
@@ -36,6 +47,7 @@ pub more_cycles : (z : Setting) (pc most more : ℕ) (u : Core) (es : List Effec
     → FollowsEnd z pc more u es e
 more_cycles z pc most more u es (GoesOn w) l a = dearer z l a
 more_cycles z pc most more u es (Jumps to w) l a = dearer z l a
+more_cycles z pc most more u es (Gives v w) l a = dearer z l a
 more_cycles z pc most more u es Short l a = dearer_stall z es most more u l a
 more_cycles z pc most more u es _ l a = tt
 
@@ -44,6 +56,7 @@ pub then_end : (z : Setting) (pc : ℕ) {most : ℕ} (more : ℕ) {u : Core} {P 
     → Runs z.code es most u P → ((t : Core) → P t → FollowsEnd z pc more t fs e) → FollowsEnd z pc (most + more) u (es ++ fs) e
 then_end z pc more fs (GoesOn w) a b = runs_on z a b
 then_end z pc more fs (Jumps to w) a b = runs_on z a b
+then_end z pc more fs (Gives v w) a b = runs_on z a b
 then_end z pc {most} more {u} {P} {es} fs Short a b = starves_on z most more u P es fs a b
 then_end z pc more fs _ a b = tt
 
@@ -56,6 +69,8 @@ module _ (z : Setting) (pc pc' most : ℕ) (more : WordState → ℕ) where
   then_way u P es (GoesOn w) go a p b = then_end z pc' (more w) (go w).effects (go w).end a (λ t h. b t w p h)
   then_way u P es (Jumps to w) go a p b =
       subst (λ l. Runs z.code l (most + 0) u (HasJumped to w)) (sym (append-nil es)) (dearer z (omega arith) a)
+  then_way u P es (Gives v w) go a p b =
+      subst (λ l. Runs z.code l (most + 0) u (HasReturned z v w)) (sym (append-nil es)) (dearer z (omega arith) a)
   then_way u P es Short go a p b =
       subst (λ l. Starves z.code l (most + 0) u) (sym (append-nil es)) (dearer_stall z es most (most + 0) u (omega arith) a)
   then_way u P es _ go a p b = tt
@@ -66,6 +81,7 @@ pub then_hop : (z : Setting) (pc pc' most more : ℕ) (u : Core) (es : List Effe
 then_hop z pc pc' most more u es (GoesOn w) a b =
     subst (λ l. Runs z.code l (most + more) u (StandsFor z pc' w)) (append-nil es) (runs_on z a (λ t h. b t w h))
 then_hop z pc pc' most more u es (Jumps to w) a b = more_cycles z pc most (most + more) u es (Jumps to w) (omega arith) a
+then_hop z pc pc' most more u es (Gives v w) a b = more_cycles z pc most (most + more) u es (Gives v w) (omega arith) a
 then_hop z pc pc' most more u es Short a b = more_cycles z pc most (most + more) u es Short (omega arith) a
 then_hop z pc pc' most more u es _ a b = tt
 
@@ -108,6 +124,7 @@ pub record Pays (z : Setting) (es : List Effect) (owed most : ℕ) (u : Core) (P
 abbrev pub Reaches : Setting → ℕ → (WordState → Core → Type 0) → ℕ → Core → List Effect → End → Type 0
 Reaches z owed Q most u es (GoesOn w) = Pays z es owed most u (Q w)
 Reaches z owed Q most u es (Jumps to w) = Runs z.code es most u (HasJumped to w)
+Reaches z owed Q most u es (Gives v w) = Runs z.code es most u (HasReturned z v w)
 Reaches z owed Q most u es Short = Starves z.code es most u
 Reaches z owed Q most u es Strays = Unit {0}
 Reaches z owed Q most u es Broken = Unit {0}
@@ -117,6 +134,7 @@ pub reach_more : (z : Setting) (owed : ℕ) (Q : WordState → Core → Type 0) 
     → Reaches z owed Q most u es e → Reaches z owed Q more u es e
 reach_more z owed Q most more u es (GoesOn w) l a = record { spent = a.spent; within = omega (arith, a.within, l); runs = a.runs }
 reach_more z owed Q most more u es (Jumps to w) l a = dearer z l a
+reach_more z owed Q most more u es (Gives v w) l a = dearer z l a
 reach_more z owed Q most more u es Short l a = dearer_stall z es most more u l a
 reach_more z owed Q most more u es _ l a = tt
 
@@ -145,6 +163,7 @@ pub then_reach : (z : Setting) (owed : ℕ) (Q : WordState → Core → Type 0) 
     → Runs z.code es most u P → ((t : Core) → P t → Reaches z owed Q more t fs e) → Reaches z owed Q (most + more) u (es ++ fs) e
 then_reach z owed Q most more u P es fs (GoesOn w) a b = pays_on z owed most more u P (Q w) es fs a b
 then_reach z owed Q most more u P es fs (Jumps to w) a b = runs_on z a b
+then_reach z owed Q most more u P es fs (Gives v w) a b = runs_on z a b
 then_reach z owed Q most more u P es fs Short a b = starves_on z most more u P es fs a b
 then_reach z owed Q most more u P es fs _ a b = tt
 
@@ -159,6 +178,8 @@ module _ (z : Setting) (owed owed' : ℕ) (Q Q' : WordState → Core → Type 0)
       (then_reach z owed' Q' a.spent (owed + more w) u (Q w) es (go w).effects (go w).end a.runs (λ t h. b t w p h))
   reach_way most more u P es (Jumps to w) go a p b =
       subst (λ l. Runs z.code l (most + 0) u (HasJumped to w)) (sym (append-nil es)) (dearer z (omega arith) a)
+  reach_way most more u P es (Gives v w) go a p b =
+      subst (λ l. Runs z.code l (most + 0) u (HasReturned z v w)) (sym (append-nil es)) (dearer z (omega arith) a)
   reach_way most more u P es Short go a p b =
       subst (λ l. Starves z.code l (most + 0) u) (sym (append-nil es)) (dearer_stall z es most (most + 0) u (omega arith) a)
   reach_way most more u P es _ go a p b = tt
@@ -168,6 +189,7 @@ pub reaches : (z : Setting) (Q : WordState → Core → Type 0) (pc most : ℕ) 
     → ((w : WordState) (t : Core) → StandsFor z pc w t → Q w t) → FollowsEnd z pc most u es e → Reaches z 0 Q most u es e
 reaches z Q pc most u es (GoesOn w) f a = record { spent = most; within = omega arith; runs = so_runs a (f w) }
 reaches z Q pc most u es (Jumps to w) f a = a
+reaches z Q pc most u es (Gives v w) f a = a
 reaches z Q pc most u es Short f a = a
 reaches z Q pc most u es _ f a = tt
 
@@ -177,6 +199,7 @@ pub then_follows : (z : Setting) (owed pc most : ℕ) (Q : WordState → Core �
 then_follows z owed pc most Q u es (GoesOn w) a b =
     dearer z a.within (subst (λ l. Runs z.code l (a.spent + owed) u (StandsFor z pc w)) (append-nil es) (runs_on z a.runs (λ t h. b t w h)))
 then_follows z owed pc most Q u es (Jumps to w) a b = a
+then_follows z owed pc most Q u es (Gives v w) a b = a
 then_follows z owed pc most Q u es Short a b = a
 then_follows z owed pc most Q u es _ a b = tt
 

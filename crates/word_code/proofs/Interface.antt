@@ -16,7 +16,7 @@ pub use Rattle.word_code.proofs.CodeTakes.{each-append}
 pub use Rattle.word_code.proofs.TaskForms.{code_are, code_has, code_is_of_task_forms, code_names_ram_from, each_weaker}
 -- What the code of each step follows, for what it costs: states and the machine, stretches of code, words that wait, tests and where they go on, and loops.
 pub use Rattle.word_code.proofs.Stretches.{Setting, runs_on, nothing_run, so_runs, dearer, dearer_stall}
-pub use Rattle.word_code.proofs.Memory.{AreWords, Memory, assigned_same}
+pub use Rattle.word_code.proofs.Memory.{AreWords, Owns, Keeps, Memory, assigned_same}
 pub use Rattle.word_code.proofs.Follows.{StandsFor, FollowsEnd, OnGoesOn, Pays, Reaches, reach_more, then_reach}
 pub use Rattle.word_code.proofs.Registers.{Has, Holds, jump_to}
 pub use Rattle.word_code.proofs.Operands.{owed_by, owed, owed_kept, load_owed, Describes, dressed, flush_part, top_to_four_part}
@@ -28,7 +28,7 @@ pub use Rattle.word_code.proofs.Choices.{compares_part}
 pub use Rattle.word_code.proofs.Parts.{local_number, jump_part}
 pub use Rattle.word_code.proofs.Loops.{raise_part}
 pub use Rattle.word_code.proofs.LoopBounds.{Bounded, Spared, spared_so, bounded_with, bounded_on, step_bounded}
-pub use Rattle.word_code.proofs.Locals.{HasStack, stack_part}
+pub use Rattle.word_code.proofs.Locals.{EachStepLocal, EachTestLocal, EachLocal, each_local, uncalled, uncalled_owns, HasStack, stack_part}
 pub use Rattle.word_code.proofs.Whole.{Ready, ready_on, ready_with, ready_popped, turn_ready, Known, known_first, known_second, KnownStep, KnownTest}
 pub use Rattle.word_code.proofs.Whole.{KnownProgram, one_pushed, zero_pushed, step_follows, begun}
 -- A product by a number that waits.

@@ -35,6 +35,8 @@ mod Prefixes
 mod CodeTakes
 mod LongLengths
 mod Lengths
+mod Calls
+mod Frames
 mod Whole
 mod TaskForms
 pub mod Interface

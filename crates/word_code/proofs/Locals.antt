@@ -1,8 +1,10 @@
--- The locals that a program names, by the greatest of them; and the place of the stack below them.
+-- The locals that a program names, by the greatest of them; whose they are; and the place of the stack below them.
 use Rattle.word_code.proofs.Names.{◌≡◌, ℕ, ◌+◌, ◌≤◌, Bool, true, false, nat_lt, if◌then◌else◌, nat_tests, List, [], ◌∷◌, refl, arith, Step, Test, Program}
 use Rattle.word_code.proofs.Names.{local, set_local, update_local, truth, choose, repeat, holds, compares, both, either, fails, nothing, step, StepLocalsBelow}
 use Rattle.word_code.proofs.Names.{TestLocalsBelow, LocalsBelow, step_locals, test_locals, locals_of, Core, Form, SetStack, forms_bytes, Stands, Runs}
-use Rattle.word_code.proofs.Names.{stack_top, stack_base, stack_set, stack_cycles, ◌%◌}
+use Rattle.word_code.proofs.Names.{stack_top, stack_base, stack_set, stack_cycles, stack_start, HasStackRoom, Code, IsTidy, IsWhole, FitsEvents, ◌<◌, ◌*◌, ◌%◌}
+use Rattle.word_code.proofs.Names.{StepEachLocal, TestEachLocal, EachLocal, inl, inr}
+use Rattle.word_code.proofs.Memory.{Owns, below_eight, from_eight}
 use Rattle.word_code.proofs.Stretches.{Setting, hop, nothing_run, dearer}
 
 -- ---- each local is below a number where the greatest is
@@ -51,14 +53,125 @@ mutual
   program_least k nothing h = omega arith
   program_least k (step s p) h = omega (arith, step_least k s h.0, program_least k p h.1)
 
+-- ---- a fact of each local that a program names, by two others
+
+mutual
+  step_each : (P Q R : ℕ → Type 0) (s : Step) → ((n : ℕ) → P n → Q n → R n) → StepEachLocal P s → StepEachLocal Q s → StepEachLocal R s
+  step_each P Q R (local n) f h i = f n h i
+  step_each P Q R (set_local n) f h i = f n h i
+  step_each P Q R (update_local o n) f h i = f n h i
+  step_each P Q R (truth t) f h i = test_each P Q R t f h i
+  step_each P Q R (choose t p q) f h i = (test_each P Q R t f h.0 i.0, each_local P Q R p f h.1 i.1, each_local P Q R q f h.2 i.2)
+  step_each P Q R (repeat n from below p) f h i = (f n h.0 i.0, each_local P Q R p f h.1 i.1)
+  step_each P Q R _ f h i = tt
+
+  test_each : (P Q R : ℕ → Type 0) (t : Test) → ((n : ℕ) → P n → Q n → R n) → TestEachLocal P t → TestEachLocal Q t → TestEachLocal R t
+  test_each P Q R (holds p) f h i = each_local P Q R p f h i
+  test_each P Q R (compares o p) f h i = each_local P Q R p f h i
+  test_each P Q R (both t u) f h i = (test_each P Q R t f h.0 i.0, test_each P Q R u f h.1 i.1)
+  test_each P Q R (either t u) f h i = (test_each P Q R t f h.0 i.0, test_each P Q R u f h.1 i.1)
+  test_each P Q R (fails t) f h i = test_each P Q R t f h i
+
+  pub each_local : (P Q R : ℕ → Type 0) (p : Program) → ((n : ℕ) → P n → Q n → R n) → EachLocal P p → EachLocal Q p → EachLocal R p
+  each_local P Q R nothing f h i = tt
+  each_local P Q R (step s p) f h i = (step_each P Q R s f h.0 i.0, each_local P Q R p f h.1 i.1)
+
+-- ---- code that nothing called: the registers from its own on are its own, and so is RAM from below its locals on
+
+-- where the stack of a whole program begins, and how many locals it has at most
+pub record Begins (code : Code) (p : Program) (whole : IsWhole p) : Type 0 where
+  pub locals : ℕ
+  pub top : ℕ
+  pub even : top % 2 ≡ 0
+  pub start : code.events ≡ true → top ≤ stack_start
+  pub low : top ≤ stack_base locals
+  pub deep : whole.bounds.low + 2 * whole.room ≤ top
+  pub roomy : HasStackRoom top whole.room
+  pub light : code.events ≡ true → whole.bounds.framed ≡ false
+  pub named : LocalsBelow locals p
+
+-- with events: where the stack of such code begins
+pub at_start : (code : Code) (p : Program) (whole : IsWhole p) → FitsEvents p whole → Begins code p whole
+at_start code p whole fit =
+    record {
+      locals = whole.locals;
+      top = stack_start;
+      even = refl;
+      start = λ k. omega arith;
+      low = fit.low;
+      deep = fit.lowest;
+      roomy = fit.room;
+      light = λ k. fit.light;
+      named = whole.low_locals;
+    }
+
+-- else right below its locals in RAM
+pub at_base : (code : Code) (p : Program) (whole : IsWhole p) → code.events ≡ false → Begins code p whole
+at_base code p whole none =
+    let least = program_least whole.locals p whole.low_locals in
+    let room = whole.fits.fits in
+    let lowest = whole.lowest in
+    record {
+      locals = locals_of p;
+      top = stack_base (locals_of p);
+      even = omega arith;
+      start = λ k. absurd (cc (k, none));
+      low = omega arith;
+      deep = omega (arith, lowest, least);
+      roomy = record { fits = omega (arith, room, least) };
+      light = λ k. absurd (cc (k, none));
+      named = program_below (locals_of p) p (omega arith);
+    }
+
+module _ (code : Code) (tidy : IsTidy code) (u : Core) (p : Program) (whole : IsWhole p) (b : Begins code p whole) where
+  abbrev pub uncalled : Setting
+  uncalled = record {
+    code = code;
+    tidy = tidy;
+    own = whole.bounds.first;
+    registers = 8;
+    frame = stack_base b.locals;
+    ceiling = stack_top;
+    room = whole.room;
+    top = b.top;
+    low = whole.bounds.low;
+    framed = whole.bounds.framed;
+    gives = false;
+    entered = u;
+    ordered = whole.registers;
+    few = omega arith;
+    even = b.even;
+    high = let low = b.low in omega arith;
+    start = b.start;
+    above = λ l. b.low;
+    inside = omega arith;
+    deep = b.deep;
+    roomy = b.roomy;
+    light = b.light;
+    returns = λ e. absurd (let q = e in (cc));
+  }
+
+  owns : (n : ℕ) → n < b.locals → whole.bounds.first ≤ n → Owns uncalled n
+  owns n l from = by (nat_lt n 8) refl
+    where
+      by : (few : Bool) → nat_lt n 8 ≡ few → Owns uncalled n
+      by true e = inl (from, below_eight n e)
+      by false e = let eight = from_eight n e in inr (eight, omega (arith, l, eight), omega (arith, eight))
+
+  -- each local that it names is its own
+  pub uncalled_owns : EachLocal (Owns uncalled) p
+  uncalled_owns = each_local (λ n. n < b.locals) (λ n. whole.bounds.first ≤ n) (Owns uncalled) p owns b.named whole.own_locals
+
 -- ---- the place of the stack
 
 -- the machine with its stack there, behind the code that sets it
-pub record HasStack (pc base : ℕ) (u t : Core) : Type 0 where
+pub record HasStack (pc top : ℕ) (u t : Core) : Type 0 where
   pub at : t.pc ≡ pc
-  pub sp : t.sp ≡ base
+  pub sp : t.sp ≡ top
   pub fram : t.fram ≡ u.fram
   pub inputs : t.inputs ≡ u.inputs
+  pub ram : t.ram ≡ u.ram
+  pub work : t.work ≡ u.work
 
 set_by : (z : Setting) (locals : ℕ) (b : Bool) (u : Core) → z.code.events ≡ false → nat_lt 8 locals ≡ b → u.sp ≡ stack_top
     → (let ms : List Form = if b then SetStack (stack_base locals) ∷ [] else [] in Stands z.code u.pc ms
@@ -68,10 +181,10 @@ set_by z locals true u none e sp h =
     let even : base % 2 ≡ 0 = omega arith in
     let t : Core = record u { pc = u.pc + 4; sp = base } in
     hop z (SetStack base) 2 u t [] 2 (HasStack (u.pc + 4) base u) h.0 (even, λ k. absurd (cc (k, none))) refl (omega arith)
-    (record { at = refl; sp = refl; fram = refl; inputs = refl })
+    (record { at = refl; sp = refl; fram = refl; inputs = refl; ram = refl; work = refl })
 set_by z locals false u none e sp h =
     let few : locals ≤ 8 = grind (arith, nat_tests) in
-    dearer z (omega arith) (nothing_run z (record { at = omega arith; sp = omega (arith, sp, few); fram = refl; inputs = refl }))
+    dearer z (omega arith) (nothing_run z (record { at = omega arith; sp = omega (arith, sp, few); fram = refl; inputs = refl; ram = refl; work = refl }))
 
 pub stack_part : (z : Setting) (locals : ℕ) (u : Core) → z.code.events ≡ false → u.sp ≡ stack_top → Stands z.code u.pc (stack_set false locals)
     → Runs z.code [] stack_cycles u (HasStack (u.pc + forms_bytes (stack_set false locals)) (stack_base locals) u)

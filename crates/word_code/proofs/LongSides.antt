@@ -5,7 +5,7 @@ use Rattle.word_code.proofs.Names.{source_operand, source_cycles, to_register, S
 use Rattle.word_code.proofs.Names.{cleared, kept, four_from, rests, source_from, waiting_source}
 use Rattle.word_code.specs.declared.waiting.Waiting.TheVariants as waiting
 use Rattle.word_code.specs.Code.{below_two, in_six, six_from, pair_from, pair_to_registers, side_from, long_sides, high_source, low_source}
-use Rattle.word_code.proofs.Memory.{local_words}
+use Rattle.word_code.proofs.Memory.{local_words, Owns}
 use Rattle.word_code.proofs.Stretches.{two_parts, Setting, dearer, nothing_run, so_runs}
 use Rattle.word_code.proofs.Operands.{owed, load_cycles, load_price, load_owed, source_word, Describes, Waits, IsLoaded, words_same, words_kept, move_part}
 use Rattle.word_code.proofs.Operands.{take_part, drop_part, four_part, clear_cycles, none_held, waiting_word, waiting_words, behind_cleared}
@@ -137,7 +137,7 @@ module _ (z : Setting) where
       nothing_run z (record {
         is = subst (λ n. Describes z os n (with_stack vs w) u) same k.0;
         held = record {
-          gives = subst (λ f. ShowsOn b (waiting_source o) v f u.work) d.is.fram (waiting_gives (side_words b) false z.locals w.locals o v u r d.there.0
+          gives = subst (λ f. ShowsOn b (waiting_source o) v f u.work) d.is.fram (waiting_gives (side_words b) false (Owns z) w.locals o v u r d.there.0
               (source_word z o pc (with_stack d.rest w) u d.is d.there.0 ∙ k.1) (λ s l. (refl, ap (λ (ws : List ℕ). drop 1 ws) l)));
           others = λ n ne. refl;
         };

@@ -11,7 +11,7 @@ use Rattle.array_versions.specs.msp_step.msp_isa.declared.operands.Konst.TheVari
 use Rattle.word_code.proofs.Registers.{Has}
 use Rattle.word_code.proofs.Operands.{compare_number}
 use Rattle.word_code.proofs.Stretches.{Setting, straight, runs_on, dearer, so_runs}
-use Rattle.word_code.proofs.Memory.{local_words, in_register, in_ram, Memory, local_read, set_register, set_ram}
+use Rattle.word_code.proofs.Memory.{local_words, Owns, in_register, in_ram, Memory, local_read, set_register, set_ram}
 use Rattle.word_code.proofs.Follows.{StandsFor, Follows, OnGoesOn, more_cycles, then_end, then_way, ends_at}
 use Rattle.word_code.proofs.Parts.{local_number}
 use Rattle.word_code.proofs.Jumps.{whole_size, Decided, back_part}
@@ -35,7 +35,7 @@ module _ (z : Setting) where
       so_runs (compare_number z r pc k below (with_local n k w) t l lb i.held i.is h)
       (λ u j. record { is = j.all.is; holds = ap not j.flag.zero; fails = j.flag.zero ∙ sym (not-not (k == below)) })
 
-  raise_by : (b : Bool) (pc n k below : ℕ) (w : WordState) (u : Core) → nat_lt n 8 ≡ b → n < z.locals → w.locals n ≡ Some k → k + 1 < 0x10000 → below < 0x10000
+  raise_by : (b : Bool) (pc n k below : ℕ) (w : WordState) (u : Core) → nat_lt n 8 ≡ b → Owns z n → w.locals n ≡ Some k → k + 1 < 0x10000 → below < 0x10000
       → (let ms : List Form = if b then Calculate op.Add (Constant konst.One) (local_register n) ∷ Calculate op.Cmp (number_source below)
       (local_register n) ∷ [] else (ram_turn_end n below) in Stands z.code pc ms → StandsFor z pc w u
       → Runs z.code [] 10 u (Raised (pc + forms_bytes ms) n (k + 1) below w))
@@ -55,7 +55,7 @@ module _ (z : Setting) where
               at = omega (arith, i.at);
               memory =
                   subst (λ y. Memory z u.sp u.ram (local_words (put u.work r y)) w.stack (assigned w.locals n (k + 1))) (sym next)
-                  (set_register z u.sp n (k + 1) u.ram u.work w.stack w.locals b i.memory);
+                  (set_register z u.sp n (k + 1) u.ram u.work w.stack w.locals b lt i.memory);
               fram = i.fram;
               inputs = i.inputs;
             };
@@ -89,12 +89,12 @@ module _ (z : Setting) where
       subst (λ p. Runs z.code [] 10 u (Raised p n (k + 1) below w)) end (runs_on z added
       (λ t j. compare_raised R4 (pc + 10) n (k + 1) below w t l lb (form_at z.code pc 3 all last h refl) j))
 
-  pub raise_part : (pc n k below : ℕ) (w : WordState) (u : Core) → n < z.locals → w.locals n ≡ Some k → k + 1 < 0x10000 → below < 0x10000
+  pub raise_part : (pc n k below : ℕ) (w : WordState) (u : Core) → Owns z n → w.locals n ≡ Some k → k + 1 < 0x10000 → below < 0x10000
       → Stands z.code pc (turn_end n below) → StandsFor z pc w u → Runs z.code [] 10 u (Raised (pc + forms_bytes (turn_end n below)) n (k + 1) below w)
   raise_part pc n k below w u lt q l lb h i = raise_by (nat_lt n 8) pc n k below w u refl lt q l lb h i
 
   -- turns of a body, where they stand; `fit` says of a state that so many turns can be made from it
-  module _ (body : List Form) (pc n below : ℕ) (cost : WordState → ℕ) (run : WordState → Behaviour) (fit : ℕ → WordState → Type 0) (lt : n < z.locals)
+  module _ (body : List Form) (pc n below : ℕ) (cost : WordState → ℕ) (run : WordState → Behaviour) (fit : ℕ → WordState → Type 0) (lt : Owns z n)
       (small : below < 0x10000) (h : Stands z.code pc (turns_code n below body))
       (doing : (m k : ℕ) (s : WordState) (t : Core) → fit (suc m) s → k < below → StandsFor z pc (with_local n k s) t
       → Follows z (pc + forms_bytes body) (cost (with_local n k s)) t (run (with_local n k s)))
@@ -167,7 +167,7 @@ module _ (z : Setting) where
 
   -- a loop, where its code stands; by whether it makes a turn
   module _ (body : List Form) (pc n from below : ℕ) (cost : WordState → ℕ) (run : WordState → Behaviour) (fit : ℕ → WordState → Type 0) where
-    pub loop_by : (any : Bool) (s : WordState) (u : Core) → nat_lt from below ≡ any → n < z.locals → below < 0x10000
+    pub loop_by : (any : Bool) (s : WordState) (u : Core) → nat_lt from below ≡ any → Owns z n → below < 0x10000
         → (let start = number_code n from in let rest : List Form = if any then turns_code n below body else [] in Stands z.code pc (start ++ rest)
         → StandsFor z pc s u → fit (below - from) s → (Stands z.code (pc + forms_bytes start) body → (m k : ℕ) (s : WordState) (t : Core) → fit (suc m) s
         → k < below → StandsFor z (pc + forms_bytes start) (with_local n k s) t

@@ -38,6 +38,7 @@ pub use Rattle.code_forms.specs.Forms.{R4, R5, Core, Number, Constant, ToRegiste
 pub use Rattle.code_forms.specs.Forms.{instruction_of, Push, Fram, Ram, ToFram, Source, Jump, Skip, Branch, source_bytes, ToRam, target_bytes, WorkRegister, R6}
 pub use Rattle.code_forms.specs.Forms.{R7, work_number, Indexed, HasPushRoom, source_operand, source_value, source_read, source_effects, SourceNeeds}
 pub use Rattle.code_forms.specs.Forms.{board_of, Modify, sensed}
+pub use Rattle.code_forms.specs.Forms.{Call, Return, KeepStack, RestoreStack, StackNext}
 pub use Rattle.code_forms.specs.Forms.{flags_after, form_step, FormNeeds, IsNotMov, SetStack}
 pub use Rattle.code_forms.specs.Placed.{instructions, words_of as instruction_words, AreInstructions}
 -- word programs
@@ -51,17 +52,19 @@ pub use Rattle.array_versions.specs.Behaviour.{reading_pushed, own_stored, event
 pub use Rattle.array_versions.specs.Behaviour.{events_frozen, with_looks}
 pub use Rattle.array_versions.specs.Behaviour.{first_logged, own_logged, logged_stored, logged_updated}
 pub use Rattle.array_versions.specs.Behaviour.{own_place, own_kept, own_updated, versioned_updated, started, local_pushed, local_updated, number_pushed}
-pub use Rattle.array_versions.specs.Behaviour.{way_by_top, way_by_two, then_on, tested}
+pub use Rattle.array_versions.specs.Behaviour.{way_by_top, way_by_two, then_on, tested, Gives, with_words, called, parameter_words, called_behind}
+pub use Rattle.array_versions.specs.Cost.{words_spent, call_cycles, call_words}
 pub use Rattle.array_versions.specs.Cost.{spent_on, unary_words, binary_words, right_words, shift_words, step_words, test_words, words_of, turns_spent}
 pub use Rattle.array_versions.specs.Cost.{unary_cycles, binary_cycles, top_spent, spent_by_top, spent_by_two, step_spent, test_spent, spent}
 pub use Rattle.array_versions.specs.Form.{StepLocalsBelow, TestLocalsBelow, LocalsBelow, StepSpares, Spares, Place, start, assigning, Moves, EachTurn}
-pub use Rattle.array_versions.specs.Form.{EachStepWay, EachTestWay, EachWay, TestSpares, StepLoopsCount, TestLoopsCount, LoopsCount, StepOfWords, TestOfWords}
-pub use Rattle.array_versions.specs.Form.{OfWords, step_locals, test_locals, locals_of, IsWhole, FitsEvents}
+pub use Rattle.array_versions.specs.Form.{EachStepWay, EachTestWay, EachWay, TestSpares, StepOfWords, TestOfWords}
+pub use Rattle.array_versions.specs.Form.{OfWords, step_locals, test_locals, locals_of, IsWhole, FitsEvents, StepEachLocal, TestEachLocal, EachLocal, IsOwn}
+pub use Rattle.array_versions.specs.Form.{CallBounds, IsCalled, frame_begin, FrameFits, StepIsFormed, TestIsFormed, IsFormed, entry_place}
 pub use Rattle.array_versions.specs.Operations.{is_true, compare_words, unary_word, plain_word, binary_word, shift_word, shifted_word}
 pub use Rattle.array_versions.specs.Program.{Step, Test, Program, number, load, keep, update, local, set_local, update_local, unary, binary, shift, long}
 pub use Rattle.array_versions.specs.Program.{element, emit_word, list_entry, versioned_read, versioned_write, versioned_update, sense, next_event}
 pub use Rattle.array_versions.specs.Program.{logged_write, logged_update, freeze_events, truth, choose, repeat}
-pub use Rattle.array_versions.specs.Program.{store_number, move_word, jump, holds, compares, both, either, fails, nothing, step}
+pub use Rattle.array_versions.specs.Program.{store_number, move_word, jump, call, give, holds, compares, both, either, fails, nothing, step}
 pub use Rattle.array_versions.specs.declared.operations.BinaryOperation.{BinaryOperation}
 pub use Rattle.array_versions.specs.declared.operations.BinaryOperation.TheVariants.{Multiply, Divide, Remainder, Plain}
 pub use Rattle.array_versions.specs.declared.operations.Comparison.{Comparison}
@@ -88,6 +91,8 @@ pub use Rattle.word_code.specs.Code.{right_to_rest, update_sides, made_code, fir
 pub use Rattle.word_code.specs.Code.{log_code, logged_first, logged_code, kept_in, made_in, known_first, known_logged, right_to_five, logged_update_at}
 pub use Rattle.word_code.specs.Code.{known_update, known_index, update_at, local_register, power, power_result, binary_result, ram_update, mark_code, next_code}
 pub use Rattle.word_code.specs.Code.{word_code, first_code, is_bounded, ram_turn_end, multiply_turn, divide_middle, divide_turn, known_element, attempt_form}
+pub use Rattle.word_code.specs.Code.{below_words, values_code, light_call, frame_code, framed_call, call_code, give_code, routine_code}
+pub use Rattle.word_code.specs.Laws.{StepRoutinesStand, TestRoutinesStand, RoutinesStand}
 pub use Rattle.word_code.specs.Laws.{HasJumped, CodeIsInstructions, CodeHasItsBytes, CodeHasItsWords, IsWithin, RunsStayWithin, StarvingStaysWithin, ComesTo}
 pub use Rattle.word_code.specs.Laws.{IsEntry, CodeDoesAsProgram}
 pub use Rattle.word_code.specs.declared.bounds.Bound.{Bound}

@@ -13,7 +13,7 @@ use Rattle.array_versions.specs.msp_step.msp_isa.declared.operands.Konst.TheVari
 use Rattle.word_code.specs.declared.waiting.Waiting.TheVariants as waiting
 use Rattle.word_code.proofs.Stretches.{two_parts, Setting, hop, dearer, nothing_run, so_runs}
 use Rattle.word_code.proofs.Registers.{With, HasWord, Holds, Has, Flagged, line, no_borrow, equal_flag}
-use Rattle.word_code.proofs.Memory.{local_words, in_register, Memory, pop_memory, pop_needs, push_needs, push_memory}
+use Rattle.word_code.proofs.Memory.{local_words, Owns, in_register, Memory, pop_memory, pop_needs, push_needs, push_memory}
 use Rattle.word_code.proofs.Follows.{StandsFor, stands_elsewhere, memory_as}
 pub use Rattle.word_code.specs.Code.{owed_by, owed}
 
@@ -31,20 +31,20 @@ abbrev pub waiting_words : (ℕ → ℕ) → (ℕ → Option ℕ) → (ℕ → �
 waiting_words fram locals work [] = []
 waiting_words fram locals work (o ∷ os) = waiting_word fram locals work o ∷ waiting_words fram locals work os
 
--- a local that stands in a register and is assigned
-pub record LocalIsThere (most : ℕ) (locals : ℕ → Option ℕ) (n : ℕ) : Type 0 where
+-- a local that stands in a register, is one of these and is assigned
+pub record LocalIsThere (owns : ℕ → Type 0) (locals : ℕ → Option ℕ) (n : ℕ) : Type 0 where
   pub in_register : nat_lt n 8 ≡ true
-  pub below : n < most
+  pub owned : owns n
   pub word : ℕ
   pub assigned : locals n ≡ Some word
 
 -- what a word that waits names is there
-abbrev pub IsThere : ℕ → (ℕ → Option ℕ) → Waiting → Type 0
-IsThere most locals (waiting.Number n) = Unit {0}
-IsThere most locals (waiting.Fram a) = IsPlace a
-IsThere most locals (waiting.Local n) = LocalIsThere most locals n
-IsThere most locals waiting.R4 = Unit {0}
-IsThere most locals waiting.R6 = Unit {0}
+abbrev pub IsThere : (ℕ → Type 0) → (ℕ → Option ℕ) → Waiting → Type 0
+IsThere owns locals (waiting.Number n) = Unit {0}
+IsThere owns locals (waiting.Fram a) = IsPlace a
+IsThere owns locals (waiting.Local n) = LocalIsThere owns locals n
+IsThere owns locals waiting.R4 = Unit {0}
+IsThere owns locals waiting.R6 = Unit {0}
 
 -- what holds of an immediate number and of the constants holds of a number as a source
 pick : (P : Source → Type 0) (b : Bool) (x y : Source) → (b ≡ true → P x) → P y → P (if b then x else y)
@@ -169,11 +169,11 @@ pub source_quiet : (o : Waiting) (u : Core) → source_effects (waiting_source o
 source_quiet (waiting.Number n) u = number_cases (λ s. source_effects s u ≡ []) n refl (λ k e. refl)
 source_quiet _ u = refl
 
-pub source_needs : (events : Bool) (most : ℕ) (locals : ℕ → Option ℕ) (o : Waiting) (u : Core) → IsThere most locals o
+pub source_needs : (events : Bool) (owns : ℕ → Type 0) (locals : ℕ → Option ℕ) (o : Waiting) (u : Core) → IsThere owns locals o
     → SourceNeeds events (waiting_source o) u
-source_needs events most locals (waiting.Number n) u h = number_cases (λ s. SourceNeeds events s u) n tt (λ k e. tt)
-source_needs events most locals (waiting.Fram a) u h = h
-source_needs events most locals _ u h = tt
+source_needs events owns locals (waiting.Number n) u h = number_cases (λ s. SourceNeeds events s u) n tt (λ k e. tt)
+source_needs events owns locals (waiting.Fram a) u h = h
+source_needs events owns locals _ u h = tt
 
 -- the flags of a register that is compared with a number
 pub record IsCompared (x k : ℕ) (f : Flags) : Type 0 where
@@ -185,7 +185,7 @@ pub record Describes (z : Setting) (os : List Waiting) (pc : ℕ) (w : WordState
   pub rest : List ℕ
   pub is : StandsFor z pc (with_stack rest w) u
   pub stack : w.stack ≡ waiting_words w.fram w.locals u.work os ++ rest
-  pub there : AllByRecursion (IsThere z.locals w.locals) os
+  pub there : AllByRecursion (IsThere (Owns z) w.locals) os
   pub fits : length w.stack ≤ z.room
 
 -- where the top may be read: its word, what it needs, and what waits behind it
@@ -212,12 +212,12 @@ abbrev pub AreThese : (ℕ → ℕ) → (ℕ → ℕ) → Type 0
 AreThese g f = f ≡ g
 
 module _ (z : Setting) where
-  pub source_word : (o : Waiting) (pc : ℕ) (w : WordState) (u : Core) → StandsFor z pc w u → IsThere z.locals w.locals o
+  pub source_word : (o : Waiting) (pc : ℕ) (w : WordState) (u : Core) → StandsFor z pc w u → IsThere (Owns z) w.locals o
       → source_value (waiting_source o) u ≡ waiting_word w.fram w.locals u.work o
   source_word (waiting.Number n) pc w u i h = number_cases (λ s. source_value s u ≡ n) n refl (λ k e. e)
   source_word (waiting.Fram a) pc w u i h = ap (λ f. f a) i.fram
   source_word (waiting.Local n) pc w u i h =
-      in_register u.work u.ram n h.in_register ∙ i.memory.vars n h.word h.below h.assigned ∙ sym (ap (λ x. unwrap_or x 0) h.assigned)
+      in_register u.work u.ram n h.in_register ∙ i.memory.vars n h.word h.owned h.assigned ∙ sym (ap (λ x. unwrap_or x 0) h.assigned)
   source_word waiting.R4 pc w u i h = refl
   source_word waiting.R6 pc w u i h = refl
 
@@ -238,7 +238,7 @@ module _ (z : Setting) where
 
   -- ---- pushes
 
-  push_waiting : (o : Waiting) (pc : ℕ) (w : WordState) (u : Core) → StandsFor z pc w u → IsThere z.locals w.locals o → length w.stack < z.room
+  push_waiting : (o : Waiting) (pc : ℕ) (w : WordState) (u : Core) → StandsFor z pc w u → IsThere (Owns z) w.locals o → length w.stack < z.room
       → z.code.at pc ≡ Some (instruction_of (Push (waiting_source o))) → Runs z.code [] (owed_by o) u
       (Holds z (AreThese u.work) (pc + forms_bytes (Push (waiting_source o) ∷ [])) (pushed (waiting_word w.fram w.locals u.work o) w))
   push_waiting o pc w u i h s c =
@@ -248,7 +248,7 @@ module _ (z : Setting) where
       let after : Core → Core = λ t. record t { pc = u.pc + (2 + source_bytes x); sp = t.sp - 2; ram = put t.ram (t.sp - 2) (source_value x u) } in
       let still = source_still o u in
       hop z (Push x) (owed_by o) u (after u) [] price _ (ap z.code.at i.at ∙ c)
-      (source_needs z.code.events z.locals w.locals o u h, subst (λ (t : Core). HasPushRoom t.sp) (sym still) (push_needs z i.memory s))
+      (source_needs z.code.events (Owns z) w.locals o u h, subst (λ (t : Core). HasPushRoom t.sp) (sym still) (push_needs z i.memory s))
       (ap (λ es. Goes es price (after (source_read x u))) (source_quiet o u) ∙ ap (λ t. Goes [] price (after t)) still) (push_cycles o)
       (record {
         is =
@@ -263,7 +263,7 @@ module _ (z : Setting) where
         held = refl;
       })
 
-  flush_run : (os : List Waiting) (pc : ℕ) (w : WordState) (u : Core) → StandsFor z pc w u → AllByRecursion (IsThere z.locals w.locals) os
+  flush_run : (os : List Waiting) (pc : ℕ) (w : WordState) (u : Core) → StandsFor z pc w u → AllByRecursion (IsThere (Owns z) w.locals) os
       → length os + length w.stack ≤ z.room → Stands z.code pc (flushed os) → Runs z.code [] (owed os) u
       (Holds z (AreThese u.work) (pc + forms_bytes (flushed os)) (with_stack (waiting_words w.fram w.locals u.work os ++ w.stack) w))
   flush_run [] pc w u i t l h =
@@ -288,7 +288,7 @@ module _ (z : Setting) where
   pub flush_under : (front back : List Waiting) (pc : ℕ) (w : WordState) (u : Core) → Describes z (front ++ back) pc w u → Stands z.code pc (flushed back)
       → Runs z.code [] (owed back) u (Waits z front (pc + forms_bytes (flushed back)) w (AreThese u.work))
   flush_under front back pc w u d h =
-      let P = IsThere z.locals w.locals in
+      let P = IsThere (Owns z) w.locals in
       let words = waiting_words w.fram w.locals u.work in
       let all = ap (length {A = ℕ}) d.stack in
       let room : length back + length d.rest ≤ z.room =
@@ -357,7 +357,7 @@ module _ (z : Setting) where
         at = d.is.at;
         fram = d.is.fram;
         value = source_word o pc (with_stack d.rest w) u d.is d.there.0 ∙ sym (head_is q);
-        needs = source_needs z.code.events z.locals w.locals o u d.there.0;
+        needs = source_needs z.code.events (Owns z) w.locals o u d.there.0;
         quiet = source_quiet o u;
         left = subst (λ t. Describes z os pc (with_stack vs w) t) (sym still)
             (record { rest = d.rest; is = d.is; stack = tail_is q; there = d.there.1; fits = omega (arith, d.fits, ap (length {A = ℕ}) e) });
@@ -372,7 +372,7 @@ module _ (z : Setting) where
         at = i.at;
         fram = i.fram;
         value = source_word (waiting.Number k) pc w u i tt;
-        needs = source_needs z.code.events z.locals w.locals (waiting.Number k) u tt;
+        needs = source_needs z.code.events (Owns z) w.locals (waiting.Number k) u tt;
         quiet = source_quiet (waiting.Number k) u;
         left = subst (λ t. Describes z [] pc w t) (sym still) (dressed pc w u i);
         same = ap (λ (t : Core). t.work) still;
@@ -491,7 +491,7 @@ module _ (z : Setting) where
   -- ---- more words wait
 
   -- a word that no code brings anywhere
-  pub waits_more : (o : Waiting) (os : List Waiting) (pc : ℕ) (w : WordState) (v : ℕ) (u : Core) → IsThere z.locals w.locals o
+  pub waits_more : (o : Waiting) (os : List Waiting) (pc : ℕ) (w : WordState) (v : ℕ) (u : Core) → IsThere (Owns z) w.locals o
       → waiting_word w.fram w.locals u.work o ≡ v → length w.stack < z.room → Describes z os pc w u → Describes z (o ∷ os) pc (pushed v w) u
   waits_more o os pc w v u there word room d =
       record {
@@ -503,7 +503,7 @@ module _ (z : Setting) where
       }
 
   -- words that code left in registers
-  pub all_wait : (gives os : List Waiting) (pc : ℕ) (w : WordState) (vs : List ℕ) (u : Core) → AllByRecursion (IsThere z.locals w.locals) gives
+  pub all_wait : (gives os : List Waiting) (pc : ℕ) (w : WordState) (vs : List ℕ) (u : Core) → AllByRecursion (IsThere (Owns z) w.locals) gives
       → length gives + length vs ≤ z.room → Describes z os pc (with_stack vs w) u
       → Describes z (gives ++ os) pc (with_stack (waiting_words w.fram w.locals u.work gives ++ vs) w) u
   all_wait [] os pc w vs u there room d = d

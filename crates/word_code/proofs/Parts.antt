@@ -7,7 +7,7 @@ use Rattle.word_code.proofs.Names.{Constant, Fram, Ram, ToRegister, ToFram, ToRa
 use Rattle.word_code.proofs.Names.{stands_at, end_of, WordState, behaves, goes_on, Jumps, broken, with_stack, pushed, stored, with_local, is_place, word_stored}
 use Rattle.word_code.proofs.Names.{jumped, Waiting, HasJumped, local_register, local_address, local_target, number_source, source_from, number_code}
 use Rattle.word_code.proofs.Stretches.{Setting, straight, hop}
-use Rattle.word_code.proofs.Memory.{local_words, in_ram, Memory, push_needs, local_needs, local_read, push_memory, set_register, set_ram, place_is}
+use Rattle.word_code.proofs.Memory.{local_words, Owns, in_ram, Memory, push_needs, local_needs, local_read, push_memory, set_register, set_ram, place_is}
 use Rattle.word_code.proofs.Follows.{StandsFor, Follows, guarded}
 use Rattle.word_code.specs.declared.waiting.Waiting.TheVariants as waiting
 use Rattle.word_code.specs.Code.{any_at}
@@ -30,7 +30,7 @@ module _ (z : Setting) where
       })
 
   -- a local that stands in RAM
-  pub local_part : (n v pc : ℕ) (w : WordState) (u : Core) → nat_lt n 8 ≡ false → length w.stack < z.room → n < z.locals → w.locals n ≡ Some v
+  pub local_part : (n v pc : ℕ) (w : WordState) (u : Core) → nat_lt n 8 ≡ false → length w.stack < z.room → Owns z n → w.locals n ≡ Some v
       → Stands z.code pc (Push (Ram (local_address n)) ∷ []) → StandsFor z pc w u → Follows z (pc + 4) 5 u (goes_on [] (pushed v w))
   local_part n v pc w u e s f q h i =
       let ms = Push (Ram (local_address n)) ∷ [] in
@@ -108,7 +108,7 @@ module _ (z : Setting) where
       keep_from (number_source v) 5 a pc v w.stack w u (number_price to_memory v 5 (omega arith) (omega arith)) h (number_top z v pc w u i)
 
   -- a local becomes a word that a source gives, by where it stands
-  set_by : (b : Bool) (s : Source) (most n v pc : ℕ) (vs : List ℕ) (w : WordState) (u : Core) → nat_lt n 8 ≡ b → n < z.locals
+  set_by : (b : Bool) (s : Source) (most n v pc : ℕ) (vs : List ℕ) (w : WordState) (u : Core) → nat_lt n 8 ≡ b → Owns z n
       → (source_cycles to_register (source_operand s) ≤ most) × (source_cycles to_memory (source_operand s) ≤ most)
       → (let ms = Move s (if b then ToRegister (local_register n) else ToRam (local_address n)) ∷ [] in Stands z.code pc ms → Top z s [] pc w v vs u
       → Runs z.code [] most u (StandsFor z (pc + forms_bytes ms) (with_local n v (with_stack vs w))))
@@ -122,7 +122,7 @@ module _ (z : Setting) where
       let after : ℕ → Core = λ y. record t { pc = u.pc + (2 + source_bytes s + 0); work = put t.work r y } in
       hop z m most u (after v) [] price _ (ap z.code.at k.at ∙ h.0) (k.needs, tt)
       (ap (λ es. Goes es price (after (source_value s u))) k.quiet ∙ ap (λ y. Goes [] price (after y)) k.value) price_is.0
-      (record { at = to; memory = set_register z t.sp n v t.ram t.work vs w.locals e i.memory; fram = i.fram; inputs = i.inputs })
+      (record { at = to; memory = set_register z t.sp n v t.ram t.work vs w.locals e lt i.memory; fram = i.fram; inputs = i.inputs })
   set_by false s most n v pc vs w u e lt price_is h k =
       let m = Move s (ToRam (local_address n)) in
       let t = source_read s u in
@@ -134,14 +134,14 @@ module _ (z : Setting) where
       (ap (λ es. Goes es price (after (source_value s u))) k.quiet ∙ ap (λ y. Goes [] price (after y)) k.value) price_is.1
       (record { at = to; memory = set_ram z t.sp n v t.ram (local_words t.work) vs w.locals e lt i.memory; fram = i.fram; inputs = i.inputs })
 
-  pub set_part : (x : Option Waiting) (n v pc : ℕ) (vs : List ℕ) (w : WordState) (u : Core) → n < z.locals
+  pub set_part : (x : Option Waiting) (n v pc : ℕ) (vs : List ℕ) (w : WordState) (u : Core) → Owns z n
       → (let ms = Move (source_from x) (local_target n) ∷ [] in Stands z.code pc ms → Top z (source_from x) [] pc w v vs u
       → Runs z.code [] (store_cycles x) u (StandsFor z (pc + forms_bytes ms) (with_local n v (with_stack vs w))))
   set_part x n v pc vs w u lt h k =
       set_by (nat_lt n 8) (source_from x) (store_cycles x) n v pc vs w u refl lt (omega (arith, load_price x, load_less x), store_price x) h k
 
   -- a local's first number
-  pub local_number : (n k pc : ℕ) (w : WordState) (u : Core) → n < z.locals → Stands z.code pc (number_code n k) → StandsFor z pc w u
+  pub local_number : (n k pc : ℕ) (w : WordState) (u : Core) → Owns z n → Stands z.code pc (number_code n k) → StandsFor z pc w u
       → Runs z.code [] 5 u (StandsFor z (pc + forms_bytes (number_code n k)) (with_local n k w))
   local_number n k pc w u lt h i =
       set_by (nat_lt n 8) (number_source k) 5 n k pc w.stack w u refl lt

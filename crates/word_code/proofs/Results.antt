@@ -16,7 +16,7 @@ use Rattle.word_code.proofs.Names.{top_number, element_at, is_inside, waiting_be
 use Rattle.std.specs.Int.{trailing_zeros}
 use Rattle.code_forms.specs.Forms as forms
 use Rattle.word_code.specs.declared.waiting.Waiting.TheVariants as waiting
-use Rattle.word_code.proofs.Memory.{HoldsWords, AreWords, place_is}
+use Rattle.word_code.proofs.Memory.{Owns, HoldsWords, AreWords, place_is}
 use Rattle.word_code.proofs.Stretches.{two_parts, Setting, hop, dearer_stall, nothing_run, so_runs, starved}
 use Rattle.word_code.proofs.Registers.{With, HasWord, HasSides, Holds}
 use Rattle.word_code.proofs.Operands.{Waits, IsThere, owed_by, owed, none_held, clear_cycles, owed_kept, load_cycles, load_owed, store_cycles, store_owed}
@@ -118,7 +118,7 @@ module _ (z : Setting) where
     pub cycles : ℕ
     pub gives : List Waiting
     pub words : List ℕ
-    pub there : AllByRecursion (IsThere z.locals w.locals) gives
+    pub there : AllByRecursion (IsThere (Owns z) w.locals) gives
     pub makes : Makes P w forms cycles (λ g. waiting_words w.fram w.locals g gives ≡ words)
 
   pub template : {pc : ℕ} {w : WordState} {vs : List ℕ} {u : Core} {P : (ℕ → ℕ) → Type 0} (f : Fetched pc w vs u P) (m : Template w P) (most : ℕ)
@@ -143,7 +143,7 @@ module _ (z : Setting) where
 
   -- forms whose results are what registers hold
   abbrev pub leaves_words : {w : WordState} {P Q : (ℕ → ℕ) → Type 0} (gives : List Waiting) (words : List ℕ)
-      → AllByRecursion (IsThere z.locals w.locals) gives → ((g : ℕ → ℕ) → Q g → waiting_words w.fram w.locals g gives ≡ words)
+      → AllByRecursion (IsThere (Owns z) w.locals) gives → ((g : ℕ → ℕ) → Q g → waiting_words w.fram w.locals g gives ≡ words)
       → (ms : List Form) (c : ℕ) → Makes P w ms c Q → Template w P
   leaves_words gives words there is ms c f = record {
     forms = ms;
@@ -224,7 +224,7 @@ module _ (z : Setting) where
 
   -- ---- words that no code brings anywhere
 
-  waits_part : (o : Waiting) (os : List Waiting) (pc : ℕ) (w : WordState) (v n : ℕ) (u : Core) → IsThere z.locals w.locals o
+  waits_part : (o : Waiting) (os : List Waiting) (pc : ℕ) (w : WordState) (v n : ℕ) (u : Core) → IsThere (Owns z) w.locals o
       → waiting_word w.fram w.locals u.work o ≡ v → owed_by o ≤ n → length w.stack < z.room → Describes z os pc w u
       → Does (o ∷ os) (pc + 0) (n + owed os) u (goes_on [] (pushed v w))
   waits_part o os pc w v n u there word less room d =
@@ -283,7 +283,7 @@ module _ (z : Setting) where
         let x = drop_part z (waiting.Number k) os pc w i rest u e d in
         let room : length rest < z.room = omega (arith, d.fits, ap (length {A = ℕ}) e) in
         -- by whether the number is below the length
-        let one : (b : Bool) (v : ℕ) → nat_lt i size ≡ b → (let o = if b then word else (waiting.Number 0) in IsThere z.locals w.locals o
+        let one : (b : Bool) (v : ℕ) → nat_lt i size ≡ b → (let o = if b then word else (waiting.Number 0) in IsThere (Owns z) w.locals o
         → waiting_word w.fram w.locals u.work o ≡ v → owed_by o ≤ 5 → Does (known_element base size k ∷ os) (pc + 0) most u (goes_on [] (pushed v left))) =
         λ b v lt there is less. let o = if b then word else (waiting.Number 0) in
         subst (λ c. Does ((if c then word else (waiting.Number 0)) ∷ os) (pc + 0) most u (goes_on [] (pushed v left)))
@@ -522,7 +522,7 @@ module _ (z : Setting) where
       (word_stored a (plain_word o (w.fram a) v) (with_stack us w)) (omega (arith, store_owed os)) h
       (λ t s k. update_part z o (top_of os) a mid v us w t f l.0 s k)
 
-  pub set_reaches : (n : ℕ) (os : List Waiting) (pc : ℕ) (w : WordState) (vs : List ℕ) (u : Core) → n < z.locals → w.stack ≡ vs
+  pub set_reaches : (n : ℕ) (os : List Waiting) (pc : ℕ) (w : WordState) (vs : List ℕ) (u : Core) → Owns z n → w.stack ≡ vs
       → StepDoes [] os (set_local n) 5 pc w u (with_top vs (λ v us. goes_on [] (with_local n v (with_stack us w))))
   set_reaches n os pc w [] u l e h d = tt
   set_reaches n os pc w (v ∷ us) u l e h d =
@@ -530,7 +530,7 @@ module _ (z : Setting) where
       statement_part os pc w v us u e d (Move (source_from (top_of os)) (local_target n) ∷ []) (store_cycles (top_of os)) (5 + owed os)
       (goes_on [] (with_local n v (with_stack us w))) (omega (arith, store_owed os)) h (λ t s k. set_part z (top_of os) n v mid us w t l s k)
 
-  pub update_local_reaches : (o : PlainOperation) (n x : ℕ) (os : List Waiting) (pc : ℕ) (w : WordState) (vs : List ℕ) (u : Core) → n < z.locals
+  pub update_local_reaches : (o : PlainOperation) (n x : ℕ) (os : List Waiting) (pc : ℕ) (w : WordState) (vs : List ℕ) (u : Core) → Owns z n
       → w.locals n ≡ Some x → x < 0x10000 → (w.stack ≡ vs) × AreWords vs
       → StepDoes [] os (update_local o n) 10 pc w u (with_top vs (λ v us. goes_on [] (with_local n (plain_word o x v) (with_stack us w))))
   update_local_reaches o n x os pc w [] u l q f e h d = tt
@@ -541,12 +541,12 @@ module _ (z : Setting) where
       (λ t s top. update_local_part z o (top_of os) n x v mid us w t l q f e.1.0 s top)
 
   -- a local that is pushed, by where it stands
-  pub local_by : (b : Bool) (n v : ℕ) (os : List Waiting) (pc : ℕ) (w : WordState) (u : Core) → nat_lt n 8 ≡ b → length w.stack < z.room → n < z.locals
+  pub local_by : (b : Bool) (n v : ℕ) (os : List Waiting) (pc : ℕ) (w : WordState) (u : Core) → nat_lt n 8 ≡ b → length w.stack < z.room → Owns z n
       → w.locals n ≡ Some v → (let ms : List Form = if b then [] else (flushed os ++ Push (Ram (local_address n)) ∷ []) in
       let after : List Waiting = if b then waiting.Local n ∷ os else [] in Stands z.code pc ms → Describes z os pc w u
       → Does after (pc + forms_bytes ms) (5 + owed os) u (goes_on [] (pushed v w)))
   local_by true n v os pc w u lt room l q h d =
-      waits_part (waiting.Local n) os pc w v 5 u (record { in_register = lt; below = l; word = v; assigned = q }) (ap (λ x. unwrap_or x 0) q) (omega arith)
+      waits_part (waiting.Local n) os pc w v 5 u (record { in_register = lt; owned = l; word = v; assigned = q }) (ap (λ x. unwrap_or x 0) q) (omega arith)
       room d
   local_by false n v os pc w u lt room l q h d =
       alone_part os (Push (Ram (local_address n)) ∷ []) 5 pc w u (goes_on [] (pushed v w)) h d

@@ -14,7 +14,7 @@ use Rattle.word_code.proofs.Operands.{IsThere, owed, owed_least, load_cycles, lo
 use Rattle.word_code.proofs.Operands.{source_needs}
 use Rattle.word_code.proofs.Operands.{source_word, Describes, Waits, bare, flush_under, drop_part, five_part, four_part, clear_cycles, none_held}
 use Rattle.word_code.proofs.Operands.{behind_cleared}
-use Rattle.word_code.proofs.Memory.{local_words, local_word, in_register}
+use Rattle.word_code.proofs.Memory.{local_words, Owns, local_word, in_register}
 use Rattle.word_code.proofs.Follows.{StandsFor}
 
 -- ---- cycles, at most
@@ -79,28 +79,28 @@ lies true (Some o) = stays (Some o)
 lies false (Some o) = rests (Some o)
 
 -- a word that stays is the same where FRAM, R6 where this is said and the locals are
-word_same : (six : Bool) (most : ℕ) (locals : ℕ → Option ℕ) (o : Waiting) (s t : Core) → lies six (Some o) ≡ true → IsThere most locals o → s.fram ≡ t.fram
+word_same : (six : Bool) (owns : ℕ → Type 0) (locals : ℕ → Option ℕ) (o : Waiting) (s t : Core) → lies six (Some o) ≡ true → IsThere owns locals o → s.fram ≡ t.fram
     → (if six then s.work 6 else 0) ≡ (if six then t.work 6 else 0) → local_words s.work ≡ local_words t.work
     → source_value (waiting_source o) s ≡ source_value (waiting_source o) t
-word_same six most locals (waiting.Number n) s t b h f k l = number_cases (λ x. source_value x s ≡ source_value x t) n refl (λ c e. refl)
-word_same six most locals (waiting.Fram a) s t b h f k l = ap (λ (g : ℕ → ℕ). g a) f
-word_same six most locals (waiting.Local n) s t b h f k l =
+word_same six owns locals (waiting.Number n) s t b h f k l = number_cases (λ x. source_value x s ≡ source_value x t) n refl (λ c e. refl)
+word_same six owns locals (waiting.Fram a) s t b h f k l = ap (λ (g : ℕ → ℕ). g a) f
+word_same six owns locals (waiting.Local n) s t b h f k l =
     let e = h.in_register in
     in_register s.work t.ram n e ∙ ap (λ ws. local_word ws t.ram n) l ∙ sym (in_register t.work t.ram n e)
-word_same true most locals waiting.R6 s t b h f k l = k
-word_same false most locals waiting.R6 s t b h f k l = absurd (let q = b in (cc))
-word_same true most locals waiting.R4 s t b h f k l = absurd (let q = b in (cc))
-word_same false most locals waiting.R4 s t b h f k l = absurd (let q = b in (cc))
+word_same true owns locals waiting.R6 s t b h f k l = k
+word_same false owns locals waiting.R6 s t b h f k l = absurd (let q = b in (cc))
+word_same true owns locals waiting.R4 s t b h f k l = absurd (let q = b in (cc))
+word_same false owns locals waiting.R4 s t b h f k l = absurd (let q = b in (cc))
 
 -- it gives its word wherever those that are looked at tell R6 and the locals
-pub waiting_gives : (keeps : (ℕ → ℕ) → List ℕ) (six : Bool) (most : ℕ) (locals : ℕ → Option ℕ) (o : Waiting) (v : ℕ) (t : Core) → lies six (Some o) ≡ true
-    → IsThere most locals o → source_value (waiting_source o) t ≡ v
+pub waiting_gives : (keeps : (ℕ → ℕ) → List ℕ) (six : Bool) (owns : ℕ → Type 0) (locals : ℕ → Option ℕ) (o : Waiting) (v : ℕ) (t : Core) → lies six (Some o) ≡ true
+    → IsThere owns locals o → source_value (waiting_source o) t ≡ v
     → ((s : Core) → keeps s.work ≡ keeps t.work → ((if six then s.work 6 else 0) ≡ (if six then t.work 6 else 0)) × (local_words s.work ≡ local_words t.work))
     → Gives keeps (waiting_source o) v t.fram (keeps t.work)
-waiting_gives keeps six most locals o v t b h q same =
+waiting_gives keeps six owns locals o v t b h q same =
     record {
-      word = λ s a l. let k = same s l in word_same six most locals o s t b h a k.0 k.1 ∙ q;
-      needs = λ events s. source_needs events most locals o s h;
+      word = λ s a l. let k = same s l in word_same six owns locals o s t b h a k.0 k.1 ∙ q;
+      needs = λ events s. source_needs events owns locals o s h;
       quiet = λ s. source_quiet o s;
       still = λ s. source_still o s;
     }
@@ -135,7 +135,7 @@ module _ (z : Setting) where
       let same : pc ≡ pc + 0 = omega arith in
       nothing_run z (record {
         is = subst (λ n. Describes z os n (with_stack vs w) u) same k.0;
-        held = subst (λ f. GivesOn six (waiting_source o) v f u.work) d.is.fram (waiting_gives (kept_words six) six z.locals w.locals o v u b d.there.0
+        held = subst (λ f. GivesOn six (waiting_source o) v f u.work) d.is.fram (waiting_gives (kept_words six) six (Owns z) w.locals o v u b d.there.0
             (source_word z o pc (with_stack d.rest w) u d.is d.there.0 ∙ k.1)
             (λ s l. (ap (λ ws. get_or ws 1 0) l, ap (λ (ws : List ℕ). drop 2 ws) l)));
       })

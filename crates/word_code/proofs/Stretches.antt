@@ -1,22 +1,47 @@
 -- Stretches of code that stays, with room for locals and a stack.
 use Rattle.word_code.proofs.Names.{subst, ◌≡◌, ℕ, ◌+◌, ◌≤◌, List, [], ◌++◌, Some, arith, forms_bytes, stands_front, stands_back, forms_bytes-append}
 use Rattle.word_code.proofs.Names.{Effect, Goes, Stops, At, stretch, Code, Core, Form, instruction_of, form_step, FormNeeds, Stands, AreStraight, forms_run}
-use Rattle.word_code.proofs.Names.{FormsNeed, IsTidy, Runs, Starves, stack_base, stack_start, HasStackRoom, ◌%◌, true}
+use Rattle.word_code.proofs.Names.{FormsNeed, IsTidy, Runs, Starves, stack_top, stack_start, HasStackRoom, CallBounds, ◌%◌, ◌*◌, ◌<◌, Bool, true, false}
 use Rattle.array_versions.specs.msp_step.declared.machine.Stop.TheVariants as stop
 use Rattle.code_forms.proofs.Interface as blocks
 
--- some code, how many locals it has, how many words its stack may take, and where that begins: below those of them that stand in RAM, and where
--- the code may be interrupted no higher than there
+-- the word where the stack of a function begins: the return address
+pub record IsReturn (events : Bool) (top frame ceiling : ℕ) (entered : Core) : Type 0 where
+  pub outside : frame ≤ top → ceiling ≤ top
+  pub high : top + 2 ≤ stack_top
+  pub start : events ≡ true → top + 2 ≤ stack_start
+  pub even : entered.ram top % 2 ≡ 0
+
+-- some code as it runs, from its beginning on: which locals are its own, where its stack begins and how many words that may take, what of RAM it leaves
+-- to what it calls, and the machine as it began. Where the code may be interrupted, its stack begins no higher than that of such code
 pub record Setting : Type 0 where
   pub code : Code
   pub tidy : IsTidy code
-  pub locals : ℕ
+  pub own : ℕ  -- of the locals in registers those from this number on are its own
+  pub registers : ℕ  -- up to this one; neither it nor what it calls writes the registers from here on
+  pub frame : ℕ  -- its locals in RAM stand from this address on
+  pub ceiling : ℕ  -- up to this one
   pub room : ℕ
-  pub base : ℕ
-  pub even : base % 2 ≡ 0
-  pub start : code.events ≡ true → base ≤ stack_start
-  pub low : base ≤ stack_base locals
-  pub roomy : HasStackRoom base room
+  pub top : ℕ
+  pub low : ℕ  -- SP stays at or above this address but in what it calls
+  pub framed : Bool  -- what it calls may have locals in RAM
+  pub gives : Bool  -- it was called, and ends by giving a word
+  pub entered : Core
+  pub ordered : own ≤ registers
+  pub few : registers ≤ 8
+  pub even : top % 2 ≡ 0
+  pub high : top ≤ stack_top
+  pub start : code.events ≡ true → top ≤ stack_start
+  pub above : frame < ceiling → top ≤ frame
+  pub inside : ceiling ≤ stack_top
+  pub deep : low + 2 * room ≤ top
+  pub roomy : HasStackRoom top room
+  pub light : code.events ≡ true → framed ≡ false
+  pub returns : gives ≡ true → IsReturn code.events top frame ceiling entered
+
+-- what bounds its calls
+abbrev pub bounds_of : Setting → CallBounds
+bounds_of z = record { first = z.own; low = z.low; framed = z.framed }
 
 -- straight code comes to where its forms do
 module _ (z : Setting) (ms : List Form) (most : ℕ) (u t : Core) (es : List Effect) (c : ℕ) (P : Core → Type 0) where

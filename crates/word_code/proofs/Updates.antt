@@ -8,7 +8,7 @@ use Rattle.word_code.proofs.Names.{Source, word_stored, Waiting, plain_instructi
 use Rattle.word_code.proofs.Registers.{Has, HasTwo}
 use Rattle.word_code.proofs.Operands.{Top, bare, load_cycles, load_price, store_cycles, store_price, to_five_part}
 use Rattle.word_code.proofs.Stretches.{Setting, straight, hop, runs_on, dearer}
-use Rattle.word_code.proofs.Memory.{local_words, in_register, in_ram, Memory, local_needs, local_read, set_register, set_ram, place_is}
+use Rattle.word_code.proofs.Memory.{local_words, Owns, in_register, in_ram, Memory, local_needs, local_read, set_register, set_ram, place_is}
 use Rattle.word_code.proofs.Follows.{StandsFor, Follows, guarded}
 use Rattle.word_code.proofs.Middles.{makes, plain_middle, plain_step, plain_needs}
 
@@ -38,7 +38,7 @@ module _ (z : Setting) where
       (record { at = to; memory = i.memory; fram = ap (λ q. put q a y) k.fram; inputs = i.inputs }))
 
   -- R4 to a local in RAM
-  set_from : (n v pc : ℕ) (w : WordState) (t : Core) → nat_lt n 8 ≡ false → n < z.locals
+  set_from : (n v pc : ℕ) (w : WordState) (t : Core) → nat_lt n 8 ≡ false → Owns z n
       → z.code.at pc ≡ Some (instruction_of (Move (Register R4) (ToRam (local_address n))))
       → Has z R4 pc w v t → Runs z.code [] 4 t (StandsFor z (pc + 4) (with_local n v w))
   set_from n v pc w t b lt h k =
@@ -56,7 +56,7 @@ module _ (z : Setting) where
       })
 
   -- a local and the top
-  module _ (o : PlainOperation) (x : Option Waiting) (n y v pc : ℕ) (vs : List ℕ) (w : WordState) (u : Core) (lt : n < z.locals)
+  module _ (o : PlainOperation) (x : Option Waiting) (n y v pc : ℕ) (vs : List ℕ) (w : WordState) (u : Core) (lt : Owns z n)
       (q : w.locals n ≡ Some y) (l : y < 0x10000) (r : v < 0x10000) where
     abbrev made : ℕ
     made = plain_word o y v
@@ -78,7 +78,7 @@ module _ (z : Setting) where
         plain_step z o source (local_register n) (8 + load_cycles x) t _ l r (omega (arith, load_price x)) (ap z.code.at k.at ∙ h.0)
         (record { needs = k.needs; quiet = k.quiet; still = refl; left = word; right = k.value }) (λ f. record {
           at = omega (arith, k.at);
-          memory = set_register z t.sp n made t.ram t.work vs w.locals b i.memory;
+          memory = set_register z t.sp n made t.ram t.work vs w.locals b lt i.memory;
           fram = i.fram;
           inputs = i.inputs;
         })

@@ -9,28 +9,29 @@ use Rattle.word_code.proofs.Names.{next_event, freeze_events, sense, truth, choo
 use Rattle.word_code.proofs.Names.{fails, nothing, step, WordState}
 use Rattle.word_code.proofs.Names.{started, End, GoesOn, Jumps, Short, Strays, Broken, Behaviour, with_stack, with_local, with_top, with_two, is_place}
 use Rattle.word_code.proofs.Names.{local_pushed, local_updated, number_pushed, way_by_top, way_by_two, step_behaviour, then_on, tested, behaviour, Place, start}
-use Rattle.word_code.proofs.Names.{assigning, Moves, EachTurn, EachStepWay, EachTestWay, EachWay, StepLocalsBelow, TestLocalsBelow, StepSpares, TestSpares}
-use Rattle.word_code.proofs.Names.{Spares, LocalsBelow, StepLoopsCount, TestLoopsCount, LoopsCount, StepOfWords, TestOfWords, OfWords, top_spent, spent_by_top}
+use Rattle.word_code.proofs.Names.{assigning, Moves, EachTurn, EachStepWay, EachTestWay, EachWay, StepSpares, TestSpares}
+use Rattle.word_code.proofs.Names.{Spares, StepLoopsCount, TestLoopsCount, LoopsCount, StepOfWords, TestOfWords, OfWords, top_spent, spent_by_top}
 use Rattle.word_code.proofs.Names.{spent_by_two, step_spent, spent_on, test_spent, spent, Matches, GoesWell, matches_local, start_matches, step_well, well}
 use Rattle.word_code.proofs.Names.{whole_ends_soundly, local_words, words_step, words, Leaves, leaves, Bound, Waiting, number_source, flushed, below_top, kept}
 use Rattle.word_code.proofs.Names.{top_to_four, entry_code, compare_form, holding, failing, size, pass_over, decision, holds_code, compares_code, truth_code}
 use Rattle.word_code.proofs.Names.{number_code, turns_code, waiting_behind, waiting_after, bound_of, step_code, test_code, steps_code, block_code}
 use Rattle.word_code.proofs.Names.{ComesTo, CodeDoesAsProgram, locals_of, stack_base, stack_start, stack_set, stack_cycles, code_of, code_spent}
-use Rattle.word_code.proofs.Names.{IsWhole, FitsEvents, IsEntry}
+use Rattle.word_code.proofs.Names.{IsWhole, FitsEvents, IsEntry, HasStackRoom, get_or, ◌%◌}
 use Rattle.array_versions.specs.Laws.{IsStateOfWords, EndsInWords, IsSound}
 use Rattle.array_versions.specs.msp_step.msp_isa.declared.instructions.Condition.TheVariants as condition
 use Rattle.array_versions.specs.msp_step.msp_isa.declared.operands.Konst.TheVariants as konst
 use Rattle.word_code.specs.declared.waiting.Waiting.TheVariants as waiting
 use Rattle.word_code.proofs.Registers.{Has, Holds, jump_to}
 use Rattle.word_code.proofs.Jumps.{Decided, whole_size, stands_low, pass_part}
-use Rattle.word_code.proofs.Memory.{AreWords, place_is, assigned_same}
+use Rattle.word_code.proofs.Memory.{AreWords, Owns, local_words as register_words, place_is, assigned_same}
 use Rattle.word_code.proofs.Results.{gathered, Does, number_part, load_part, local_by, keep_reaches, update_reaches, set_reaches, update_local_reaches}
 use Rattle.word_code.proofs.Results.{unary_part, binary_part, shift_reaches, element_reaches, emit_reaches, read_reaches, write_reaches, sense_part, alone_part}
 use Rattle.word_code.proofs.Operands.{owed, owed_kept, load_owed, Describes, dressed, flush_part, top_to_four_part}
 use Rattle.word_code.proofs.Sides.{Aiming, compare_sides_part, compare_stays, reading_cycles, side_owed}
 use Rattle.word_code.specs.Code.{is_turned, compare_sides, compare_source}
 use Rattle.word_code.proofs.Stretches.{Setting, runs_on, nothing_run, dearer}
-use Rattle.word_code.proofs.Locals.{program_below, program_least, HasStack, stack_part}
+use Rattle.word_code.proofs.Locals.{program_below, program_least, EachStepLocal, EachTestLocal, EachLocal, each_local, uncalled, uncalled_owns, HasStack}
+use Rattle.word_code.proofs.Locals.{stack_part}
 use Rattle.word_code.proofs.Follows.{StandsFor, Follows, FollowsEnd, OnGoesOn, more_cycles, then_hop, ends_at, guarded, reach_more, reach_way, reaches}
 use Rattle.word_code.proofs.Follows.{then_end, then_follows, reach_guarded}
 use Rattle.word_code.proofs.Parts.{constant_part, store_part, move_part, jump_part}
@@ -97,7 +98,7 @@ record Way : Type 1 where
 -- what is known beforehand of a part of a program: its numbers are words, its locals are there, its loops count, and it spares the numbers of the loops around
 pub record Known (words locals loops spared : Type 0) : Type 0 where
   pub of_words : words
-  pub below : locals
+  pub owned : locals
   pub count : loops
   pub spares : spared
 
@@ -105,12 +106,12 @@ pub record Known (words locals loops spared : Type 0) : Type 0 where
 pub known_first : {A B C D E F : Type 0} (S T : ℕ → Type 0) (bs : List Bound) → Known (A × B) (C × D) (E × F) (Spared bs (λ n. S n × T n))
     → Known A C E (Spared bs S)
 known_first S T bs k =
-    record { of_words = k.of_words.0; below = k.below.0; count = k.count.0; spares = spared_so bs (λ n. S n × T n) S (λ n q. q.0) k.spares }
+    record { of_words = k.of_words.0; owned = k.owned.0; count = k.count.0; spares = spared_so bs (λ n. S n × T n) S (λ n q. q.0) k.spares }
 
 pub known_second : {A B C D E F : Type 0} (S T : ℕ → Type 0) (bs : List Bound) → Known (A × B) (C × D) (E × F) (Spared bs (λ n. S n × T n))
     → Known B D F (Spared bs T)
 known_second S T bs k =
-    record { of_words = k.of_words.1; below = k.below.1; count = k.count.1; spares = spared_so bs (λ n. S n × T n) T (λ n q. q.1) k.spares }
+    record { of_words = k.of_words.1; owned = k.owned.1; count = k.count.1; spares = spared_so bs (λ n. S n × T n) T (λ n q. q.1) k.spares }
 
 module _ (z : Setting) where
   -- 1 is pushed, and the jump leads past the other number
@@ -260,281 +261,282 @@ module _ (z : Setting) where
       (λ t v d. flush_part z os mid v t d (stands_back z.code pc a (flushed os) h)))
 
   abbrev pub KnownStep : List Bound → Step → Type 0
-  KnownStep bs first = Known (StepOfWords first) (StepLocalsBelow z.locals first) (StepLoopsCount first) (Spared bs (λ n. StepSpares n first))
+  KnownStep bs first = Known (StepOfWords first) (EachStepLocal (Owns z) first) (StepLoopsCount first) (Spared bs (λ n. StepSpares n first))
 
   abbrev pub KnownTest : List Bound → Test → Type 0
-  KnownTest bs t = Known (TestOfWords t) (TestLocalsBelow z.locals t) (TestLoopsCount t) (Spared bs (λ n. TestSpares n t))
+  KnownTest bs t = Known (TestOfWords t) (EachTestLocal (Owns z) t) (TestLoopsCount t) (Spared bs (λ n. TestSpares n t))
 
   abbrev pub KnownProgram : List Bound → Program → Type 0
-  KnownProgram bs p = Known (OfWords p) (LocalsBelow z.locals p) (LoopsCount p) (Spared bs (λ n. Spares n p))
+  KnownProgram bs p = Known (OfWords p) (EachLocal (Owns z) p) (LoopsCount p) (Spared bs (λ n. Spares n p))
 
-  mutual
-    pub step_follows : (bs : List Bound) (first : Step) (next : Place → Type 0) (os : List Waiting) (pc : ℕ) (w : WordState) (u : Core)
-        → Ready bs (EachStepWay z.room first next) w → KnownStep bs first → Stands z.code pc (step_code bs os first) → Describes z os pc w u
-        → Does z (waiting_behind os first) (pc + forms_bytes (step_code bs os first)) (step_spent first w + owed os) u (step_behaviour first w)
-    step_follows bs (number v) next os pc w u r known h d = number_part z v os pc w u (omega (arith, r.fit.1, r.matches.depth)) d
-    step_follows bs (load a) next os pc w u r known h d =
-        let after = waiting.Fram a ∷ os in
-        reach_guarded z (is_place a) (owed after) (Describes z after (pc + 0)) (5 + owed os) u _
-        (λ e. load_part z a os pc w u (omega (arith, r.fit.1, r.matches.depth)) (place_is a e) d)
-    step_follows bs (keep a) next os pc w u r known h d = keep_reaches z a os pc w w.stack u refl h d
-    step_follows bs (update op a) next os pc w u r known h d = update_reaches z op a os pc w w.stack u (r.words_in.fram a) refl r.words_in.stack h d
-    step_follows bs (local n) next os pc w u r known h d =
-        let x = r.matches.assigned n r.fit.0 in
-        let f = r.fit.1 in
-        let after = waiting_behind os (local n) in
-        let end = pc + forms_bytes (step_code bs os (local n)) in
-        subst (λ v. Does z after end (5 + owed os) u (local_pushed v w)) (sym x.is)
-        (local_by z (nat_lt n 8) n x.word os pc w u refl (omega (arith, f.1, r.matches.depth)) known.below x.is h d)
-    step_follows bs (set_local n) next os pc w u r known h d = set_reaches z n os pc w w.stack u known.below refl h d
-    step_follows bs (update_local op n) next os pc w u r known h d =
-        let x = r.matches.assigned n r.fit.0 in
-        let end = pc + forms_bytes (step_code bs os (update_local op n)) in
-        subst (λ v. Does z [] end (10 + owed os) u (with_top w.stack (λ y us. local_updated op n y v (with_stack us w)))) (sym x.is)
-        (update_local_reaches z op n x.word os pc w w.stack u known.below x.is (r.words_in.locals n x.word x.is) (refl, r.words_in.stack) h d)
-    step_follows bs (unary op) next os pc w u r known h d = unary_part z op os pc w w.stack u refl r.words_in.stack h d
-    step_follows bs (binary op) next os pc w u r known h d = binary_part z op os pc w w.stack u refl r.words_in.stack h d
-    step_follows bs (shift op k) next os pc w u r known h d = shift_reaches z op k os pc w w.stack u refl r.words_in.stack h d
-    step_follows bs (long op) next os pc w u r known h d =
-        long_reaches z op os pc w w.stack u refl r.words_in.stack (omega (arith, r.fit.1, r.matches.depth)) h d
-    step_follows bs (element base size) next os pc w u r known h d =
-        element_reaches z bs base size os pc w w.stack u known.of_words.1 r.bounded refl r.words_in.stack h d
-    step_follows bs (emit_word count buffer) next os pc w u r known h d = emit_reaches z count buffer os pc w w.stack u refl h d
-    step_follows bs (list_entry count list home copy n) next os pc w u r known h d =
-        alone_part z os (entry_code count list home copy n) 26 pc w u (step_behaviour (list_entry count list home copy n) w) h d
-        (λ t s i. entry_part z count list home copy n (pc + forms_bytes (flushed os)) w t s i)
-    step_follows bs (versioned_read place list) next os pc w u r known h d =
-        read_reaches z bs place list os pc w w.stack u known.of_words.0.3 r.words_in.fram r.bounded (refl, r.words_in.stack) h d
-    step_follows bs (versioned_write place list) next os pc w u r known h d =
-        write_reaches z bs place list os pc w w.stack u known.of_words.0.3 r.words_in.fram r.bounded (refl, r.words_in.stack) h d
-    step_follows bs (versioned_update op place list) next os pc w u r known h d =
-        in_place_reaches z op place list known.of_words.0.3 bs os pc w w.stack u r.words_in.fram r.bounded refl r.words_in.stack h d
-    step_follows bs (logged_write place list) next os pc w u r known h d =
-        logged_write_reaches z bs place list known.of_words.0.2 os pc w u r.words_in.fram r.bounded w.stack (refl, r.words_in.stack) h d
-    step_follows bs (logged_update op place list) next os pc w u r known h d =
-        logged_update_reaches z bs place list known.of_words.0.2 os pc w u r.words_in.fram r.bounded op w.stack (refl, r.words_in.stack) h d
-    step_follows bs sense next os pc w u r known h d = sense_part z os pc w w.inputs.readings u (omega (arith, r.fit.1, r.matches.depth)) refl h d
-    step_follows bs next_event next os pc w u r known h d =
-        event_part z os pc w u (omega (arith, r.fit.1, r.matches.depth)) (look_small w.inputs.looks r.words_in.inputs.looks) h d
-    step_follows bs freeze_events next os pc w u r known h d = freeze_part z os pc w u h d
-    step_follows bs (truth t) next os pc w u r known h d =
-        let a = test_code bs t false 2 in
-        let at = pc + forms_bytes (flushed os) in
-        let inside = at + forms_bytes a in
-        let pushes = Moves z.room 0 1 next in
-        alone_part z os (a ++ truth_code) (step_spent (truth t) w) pc w u (step_behaviour (truth t) w) h d (λ x s i.
-        let ha = stands_back z.code at a truth_code s in
-        let high = (z.tidy (inside + 2) _ ha.1.0).high in
-        let ways : Ways bs = record {
-          end = inside + 6;
-          held = record { at = inside; fits = pushes; cost = λ v. 5; does = number_pushed 1 };
-          failed = record { at = inside + 4; fits = pushes; cost = λ v. 3; does = number_pushed 0 };
-          if_held = λ v y q j. one_pushed inside v y ha (omega (arith, q.fit.1, q.matches.depth)) j;
-          if_failed = λ v y q j. zero_pushed inside v y ha (omega (arith, q.fit.1, q.matches.depth)) j;
-        } in
-        let fork : Fork false 2 inside (inside + 4) inside = record { holds = refl; fails = refl; room = λ low. omega arith } in
-        ends_at z (inside + 6) (at + forms_bytes (a ++ truth_code)) (step_spent (truth t) w) x (step_behaviour (truth t) w)
-        (omega (arith, forms_bytes-append a truth_code))
-        (test_follows bs t false 2 at ways w x r known (record { stands = stands_front z.code at a truth_code s; fork = fork }) i))
-    step_follows bs (choose t taken otherwise) next os pc w u r known h d =
-        let taken_spares = spared_so bs (λ m. StepSpares m (choose t taken otherwise)) (λ m. Spares m taken) (λ m k. k.1) known.spares in
-        let taken_known : KnownProgram bs taken = record { of_words = known.of_words.1; below = known.below.1; count = known.count.1; spares = taken_spares } in
-        let other_spares = spared_so bs (λ m. StepSpares m (choose t taken otherwise)) (λ m. Spares m otherwise) (λ m k. k.2) known.spares in
-        let other_known : KnownProgram bs otherwise =
-        record { of_words = known.of_words.2; below = known.below.2; count = known.count.2; spares = other_spares } in
-        let b = block_code bs taken in
-        let other = block_code bs otherwise in
-        let over = pass_over (size other) in
-        let first = b ++ over in
-        let a = test_code bs t false (size first) in
-        let at = pc + forms_bytes (flushed os) in
-        let inside = at + forms_bytes a in
-        let middle = inside + forms_bytes first in
-        let end = middle + forms_bytes other in
-        alone_part z os (a ++ (first ++ other)) (step_spent (choose t taken otherwise) w) pc w u (step_behaviour (choose t taken otherwise) w) h d (λ x s i.
-        let hb = stands_back z.code at a (first ++ other) s in
-        let hf = stands_front z.code inside first other hb in
-        let ho = stands_back z.code inside first other hb in
-        let fork : Fork false (size first) inside middle inside = record {
-          holds = refl;
-          fails = omega (arith, whole_size first);
-          room = λ low. omega (arith, stands_low z inside first hf low, whole_size first);
-        } in
-        let ways : Ways bs = record {
-          end = end;
-          held = record { at = inside; fits = EachWay z.room taken next; cost = λ v. spent taken v + 3; does = behaviour taken };
-          failed = record { at = middle; fits = EachWay z.room otherwise next; cost = spent otherwise; does = behaviour otherwise };
-          if_held = λ v y q j. then_hop z (inside + forms_bytes b) end (spent taken v) 3 y (behaviour taken v).effects (behaviour taken v).end
-              (block_follows bs taken inside v y (stands_front z.code inside b over hf)
-              (λ hs. steps_follow bs taken next [] inside v y q taken_known hs (dressed z inside v y j)))
-              (λ s' y' k. pass_part z (inside + forms_bytes b) (size other) end y' s' (stands_back z.code inside b over hf)
-              (omega (arith, whole_size other, forms_bytes-append b over))
-              (λ low. stands_low z middle other ho (omega (arith, low, forms_bytes-append b over))) k);
-          if_failed = λ v y q j. block_follows bs otherwise middle v y ho
-              (λ hs. steps_follow bs otherwise next [] middle v y q other_known hs (dressed z middle v y j));
-        } in
-        let test_spares = spared_so bs (λ m. StepSpares m (choose t taken otherwise)) (λ m. TestSpares m t) (λ m q. q.0) known.spares in
-        let test_known : KnownTest bs t = record { of_words = known.of_words.0; below = known.below.0; count = known.count.0; spares = test_spares } in
-        ends_at z end (at + forms_bytes (a ++ (first ++ other))) (step_spent (choose t taken otherwise) w) x
-        (step_behaviour (choose t taken otherwise) w) (omega (arith, forms_bytes-append a (first ++ other), forms_bytes-append first other))
-        (test_follows bs t false (size first) at ways w x r test_known (record { stands = stands_front z.code at a (first ++ other) s; fork = fork }) i))
-    step_follows bs (repeat n from below body) next os pc w u r known h d =
-        let inner = bound_of n below ∷ bs in
-        let start = number_code n from in
-        let made = block_code inner body in
-        let at = pc + forms_bytes (flushed os) in
-        let top = at + forms_bytes start in
-        let turn : ℕ → Place → Type 0 = λ m. EachTurn m n (EachWay z.room body) next in
-        let rest : List Form = if nat_lt from below then turns_code n below made else [] in
-        let others = spared_so bs (λ m. StepSpares m (repeat n from below body)) (λ m. n ≢ m) (λ m q. q.0) known.spares in
-        let around = spared_so bs (λ m. StepSpares m (repeat n from below body)) (λ m. Spares m body) (λ m q. q.1) known.spares in
-        alone_part z os (start ++ rest) (step_spent (repeat n from below body) w) pc w u (step_behaviour (repeat n from below body) w) h d (λ x hs i.
-        loop_by z made at n from below (spent body) (behaviour body) (λ m s. Ready bs (turn m) s) (nat_lt from below) w x refl known.below.0 known.of_words.2
-        hs i r
-        (λ stands m k s t p less j. block_follows inner body top (with_local n k s) t stands (λ hb.
-        steps_follow inner body (turn m) [] top (with_local n k s) t
-        (turn_ready bs (EachWay z.room body (turn m)) n k below s p others (let x = known.of_words.2 in omega arith) less)
-        (record { of_words = known.of_words.3; below = known.below.1; count = known.count.1; spares = (known.count.0, around) }) hb
-        (dressed z top (with_local n k s) t j)))
-        (λ m k s p less. ready_with bs (turn m) n k (behaviour body (with_local n k s)).end
-        (well z.room body (turn m) (assigning n p.place) (with_local n k s) p.fit (matches_local p.place s n k p.matches))
-        (words body (with_local n k s) known.of_words.3 (local_words s n k p.words_in (let x = known.of_words.2 in omega arith)))
-        (bounded_on bs body (with_local n k s) around (bounded_with bs s.locals n k others p.bounded))
-        (leaves n (Some k) body (with_local n k s) known.count.0 (assigned_same s.locals n k))))
-    step_follows bs (store_number a v) next os pc w u r known h d =
-        alone_part z os (Move (number_source v) (ToFram a) ∷ []) 5 pc w u (step_behaviour (store_number a v) w) h d
-        (λ t s i. store_part z a v (pc + forms_bytes (flushed os)) w t s i)
-    step_follows bs (move_word from to) next os pc w u r known h d =
-        let at = pc + forms_bytes (flushed os) in
-        alone_part z os (Move (Fram from) (ToFram to) ∷ []) 6 pc w u (step_behaviour (move_word from to) w) h d
-        (λ t s i. guarded z (is_place from) (at + 6) 6 t _ (λ e. move_part z from to at w t (place_is from e) s i))
-    step_follows bs (jump to) next os pc w u r known h d =
-        alone_part z os (Branch to ∷ []) 3 pc w u (step_behaviour (jump to) w) h d
-        (λ t s i. jump_part z to (pc + forms_bytes (flushed os)) w t r.fit s i)
+-- another program that is called runs in a setting of its own
+mutual
+  pub step_follows : (z : Setting) (bs : List Bound) (first : Step) (next : Place → Type 0) (os : List Waiting) (pc : ℕ) (w : WordState) (u : Core)
+      → Ready bs (EachStepWay z.room first next) w → KnownStep z bs first → Stands z.code pc (step_code bs os first) → Describes z os pc w u
+      → Does z (waiting_behind os first) (pc + forms_bytes (step_code bs os first)) (step_spent first w + owed os) u (step_behaviour first w)
+  step_follows z bs (number v) next os pc w u r known h d = number_part z v os pc w u (omega (arith, r.fit.1, r.matches.depth)) d
+  step_follows z bs (load a) next os pc w u r known h d =
+      let after = waiting.Fram a ∷ os in
+      reach_guarded z (is_place a) (owed after) (Describes z after (pc + 0)) (5 + owed os) u _
+      (λ e. load_part z a os pc w u (omega (arith, r.fit.1, r.matches.depth)) (place_is a e) d)
+  step_follows z bs (keep a) next os pc w u r known h d = keep_reaches z a os pc w w.stack u refl h d
+  step_follows z bs (update op a) next os pc w u r known h d = update_reaches z op a os pc w w.stack u (r.words_in.fram a) refl r.words_in.stack h d
+  step_follows z bs (local n) next os pc w u r known h d =
+      let x = r.matches.assigned n r.fit.0 in
+      let f = r.fit.1 in
+      let after = waiting_behind os (local n) in
+      let end = pc + forms_bytes (step_code bs os (local n)) in
+      subst (λ v. Does z after end (5 + owed os) u (local_pushed v w)) (sym x.is)
+      (local_by z (nat_lt n 8) n x.word os pc w u refl (omega (arith, f.1, r.matches.depth)) known.owned x.is h d)
+  step_follows z bs (set_local n) next os pc w u r known h d = set_reaches z n os pc w w.stack u known.owned refl h d
+  step_follows z bs (update_local op n) next os pc w u r known h d =
+      let x = r.matches.assigned n r.fit.0 in
+      let end = pc + forms_bytes (step_code bs os (update_local op n)) in
+      subst (λ v. Does z [] end (10 + owed os) u (with_top w.stack (λ y us. local_updated op n y v (with_stack us w)))) (sym x.is)
+      (update_local_reaches z op n x.word os pc w w.stack u known.owned x.is (r.words_in.locals n x.word x.is) (refl, r.words_in.stack) h d)
+  step_follows z bs (unary op) next os pc w u r known h d = unary_part z op os pc w w.stack u refl r.words_in.stack h d
+  step_follows z bs (binary op) next os pc w u r known h d = binary_part z op os pc w w.stack u refl r.words_in.stack h d
+  step_follows z bs (shift op k) next os pc w u r known h d = shift_reaches z op k os pc w w.stack u refl r.words_in.stack h d
+  step_follows z bs (long op) next os pc w u r known h d =
+      long_reaches z op os pc w w.stack u refl r.words_in.stack (omega (arith, r.fit.1, r.matches.depth)) h d
+  step_follows z bs (element base size) next os pc w u r known h d =
+      element_reaches z bs base size os pc w w.stack u known.of_words.1 r.bounded refl r.words_in.stack h d
+  step_follows z bs (emit_word count buffer) next os pc w u r known h d = emit_reaches z count buffer os pc w w.stack u refl h d
+  step_follows z bs (list_entry count list home copy n) next os pc w u r known h d =
+      alone_part z os (entry_code count list home copy n) 26 pc w u (step_behaviour (list_entry count list home copy n) w) h d
+      (λ t s i. entry_part z count list home copy n (pc + forms_bytes (flushed os)) w t s i)
+  step_follows z bs (versioned_read place list) next os pc w u r known h d =
+      read_reaches z bs place list os pc w w.stack u known.of_words.0.3 r.words_in.fram r.bounded (refl, r.words_in.stack) h d
+  step_follows z bs (versioned_write place list) next os pc w u r known h d =
+      write_reaches z bs place list os pc w w.stack u known.of_words.0.3 r.words_in.fram r.bounded (refl, r.words_in.stack) h d
+  step_follows z bs (versioned_update op place list) next os pc w u r known h d =
+      in_place_reaches z op place list known.of_words.0.3 bs os pc w w.stack u r.words_in.fram r.bounded refl r.words_in.stack h d
+  step_follows z bs (logged_write place list) next os pc w u r known h d =
+      logged_write_reaches z bs place list known.of_words.0.2 os pc w u r.words_in.fram r.bounded w.stack (refl, r.words_in.stack) h d
+  step_follows z bs (logged_update op place list) next os pc w u r known h d =
+      logged_update_reaches z bs place list known.of_words.0.2 os pc w u r.words_in.fram r.bounded op w.stack (refl, r.words_in.stack) h d
+  step_follows z bs sense next os pc w u r known h d = sense_part z os pc w w.inputs.readings u (omega (arith, r.fit.1, r.matches.depth)) refl h d
+  step_follows z bs next_event next os pc w u r known h d =
+      event_part z os pc w u (omega (arith, r.fit.1, r.matches.depth)) (look_small w.inputs.looks r.words_in.inputs.looks) h d
+  step_follows z bs freeze_events next os pc w u r known h d = freeze_part z os pc w u h d
+  step_follows z bs (truth t) next os pc w u r known h d =
+      let a = test_code bs t false 2 in
+      let at = pc + forms_bytes (flushed os) in
+      let inside = at + forms_bytes a in
+      let pushes = Moves z.room 0 1 next in
+      alone_part z os (a ++ truth_code) (step_spent (truth t) w) pc w u (step_behaviour (truth t) w) h d (λ x s i.
+      let ha = stands_back z.code at a truth_code s in
+      let high = (z.tidy (inside + 2) _ ha.1.0).high in
+      let ways : Ways z bs = record {
+        end = inside + 6;
+        held = record { at = inside; fits = pushes; cost = λ v. 5; does = number_pushed 1 };
+        failed = record { at = inside + 4; fits = pushes; cost = λ v. 3; does = number_pushed 0 };
+        if_held = λ v y q j. one_pushed z inside v y ha (omega (arith, q.fit.1, q.matches.depth)) j;
+        if_failed = λ v y q j. zero_pushed z inside v y ha (omega (arith, q.fit.1, q.matches.depth)) j;
+      } in
+      let fork : Fork false 2 inside (inside + 4) inside = record { holds = refl; fails = refl; room = λ low. omega arith } in
+      ends_at z (inside + 6) (at + forms_bytes (a ++ truth_code)) (step_spent (truth t) w) x (step_behaviour (truth t) w)
+      (omega (arith, forms_bytes-append a truth_code))
+      (test_follows z bs t false 2 at ways w x r known (record { stands = stands_front z.code at a truth_code s; fork = fork }) i))
+  step_follows z bs (choose t taken otherwise) next os pc w u r known h d =
+      let taken_spares = spared_so bs (λ m. StepSpares m (choose t taken otherwise)) (λ m. Spares m taken) (λ m k. k.1) known.spares in
+      let taken_known : KnownProgram z bs taken = record { of_words = known.of_words.1; owned = known.owned.1; count = known.count.1; spares = taken_spares } in
+      let other_spares = spared_so bs (λ m. StepSpares m (choose t taken otherwise)) (λ m. Spares m otherwise) (λ m k. k.2) known.spares in
+      let other_known : KnownProgram z bs otherwise =
+      record { of_words = known.of_words.2; owned = known.owned.2; count = known.count.2; spares = other_spares } in
+      let b = block_code bs taken in
+      let other = block_code bs otherwise in
+      let over = pass_over (size other) in
+      let first = b ++ over in
+      let a = test_code bs t false (size first) in
+      let at = pc + forms_bytes (flushed os) in
+      let inside = at + forms_bytes a in
+      let middle = inside + forms_bytes first in
+      let end = middle + forms_bytes other in
+      alone_part z os (a ++ (first ++ other)) (step_spent (choose t taken otherwise) w) pc w u (step_behaviour (choose t taken otherwise) w) h d (λ x s i.
+      let hb = stands_back z.code at a (first ++ other) s in
+      let hf = stands_front z.code inside first other hb in
+      let ho = stands_back z.code inside first other hb in
+      let fork : Fork false (size first) inside middle inside = record {
+        holds = refl;
+        fails = omega (arith, whole_size first);
+        room = λ low. omega (arith, stands_low z inside first hf low, whole_size first);
+      } in
+      let ways : Ways z bs = record {
+        end = end;
+        held = record { at = inside; fits = EachWay z.room taken next; cost = λ v. spent taken v + 3; does = behaviour taken };
+        failed = record { at = middle; fits = EachWay z.room otherwise next; cost = spent otherwise; does = behaviour otherwise };
+        if_held = λ v y q j. then_hop z (inside + forms_bytes b) end (spent taken v) 3 y (behaviour taken v).effects (behaviour taken v).end
+            (block_follows z bs taken inside v y (stands_front z.code inside b over hf)
+            (λ hs. steps_follow z bs taken next [] inside v y q taken_known hs (dressed z inside v y j)))
+            (λ s' y' k. pass_part z (inside + forms_bytes b) (size other) end y' s' (stands_back z.code inside b over hf)
+            (omega (arith, whole_size other, forms_bytes-append b over))
+            (λ low. stands_low z middle other ho (omega (arith, low, forms_bytes-append b over))) k);
+        if_failed = λ v y q j. block_follows z bs otherwise middle v y ho
+            (λ hs. steps_follow z bs otherwise next [] middle v y q other_known hs (dressed z middle v y j));
+      } in
+      let test_spares = spared_so bs (λ m. StepSpares m (choose t taken otherwise)) (λ m. TestSpares m t) (λ m q. q.0) known.spares in
+      let test_known : KnownTest z bs t = record { of_words = known.of_words.0; owned = known.owned.0; count = known.count.0; spares = test_spares } in
+      ends_at z end (at + forms_bytes (a ++ (first ++ other))) (step_spent (choose t taken otherwise) w) x
+      (step_behaviour (choose t taken otherwise) w) (omega (arith, forms_bytes-append a (first ++ other), forms_bytes-append first other))
+      (test_follows z bs t false (size first) at ways w x r test_known (record { stands = stands_front z.code at a (first ++ other) s; fork = fork }) i))
+  step_follows z bs (repeat n from below body) next os pc w u r known h d =
+      let inner = bound_of n below ∷ bs in
+      let start = number_code n from in
+      let made = block_code inner body in
+      let at = pc + forms_bytes (flushed os) in
+      let top = at + forms_bytes start in
+      let turn : ℕ → Place → Type 0 = λ m. EachTurn m n (EachWay z.room body) next in
+      let rest : List Form = if nat_lt from below then turns_code n below made else [] in
+      let others = spared_so bs (λ m. StepSpares m (repeat n from below body)) (λ m. n ≢ m) (λ m q. q.0) known.spares in
+      let around = spared_so bs (λ m. StepSpares m (repeat n from below body)) (λ m. Spares m body) (λ m q. q.1) known.spares in
+      alone_part z os (start ++ rest) (step_spent (repeat n from below body) w) pc w u (step_behaviour (repeat n from below body) w) h d (λ x hs i.
+      loop_by z made at n from below (spent body) (behaviour body) (λ m s. Ready bs (turn m) s) (nat_lt from below) w x refl known.owned.0 known.of_words.2
+      hs i r
+      (λ stands m k s t p less j. block_follows z inner body top (with_local n k s) t stands (λ hb.
+      steps_follow z inner body (turn m) [] top (with_local n k s) t
+      (turn_ready bs (EachWay z.room body (turn m)) n k below s p others (let x = known.of_words.2 in omega arith) less)
+      (record { of_words = known.of_words.3; owned = known.owned.1; count = known.count.1; spares = (known.count.0, around) }) hb
+      (dressed z top (with_local n k s) t j)))
+      (λ m k s p less. ready_with bs (turn m) n k (behaviour body (with_local n k s)).end
+      (well z.room body (turn m) (assigning n p.place) (with_local n k s) p.fit (matches_local p.place s n k p.matches))
+      (words body (with_local n k s) known.of_words.3 (local_words s n k p.words_in (let x = known.of_words.2 in omega arith)))
+      (bounded_on bs body (with_local n k s) around (bounded_with bs s.locals n k others p.bounded))
+      (leaves n (Some k) body (with_local n k s) known.count.0 (assigned_same s.locals n k))))
+  step_follows z bs (store_number a v) next os pc w u r known h d =
+      alone_part z os (Move (number_source v) (ToFram a) ∷ []) 5 pc w u (step_behaviour (store_number a v) w) h d
+      (λ t s i. store_part z a v (pc + forms_bytes (flushed os)) w t s i)
+  step_follows z bs (move_word from to) next os pc w u r known h d =
+      let at = pc + forms_bytes (flushed os) in
+      alone_part z os (Move (Fram from) (ToFram to) ∷ []) 6 pc w u (step_behaviour (move_word from to) w) h d
+      (λ t s i. guarded z (is_place from) (at + 6) 6 t _ (λ e. move_part z from to at w t (place_is from e) s i))
+  step_follows z bs (jump to) next os pc w u r known h d =
+      alone_part z os (Branch to ∷ []) 3 pc w u (step_behaviour (jump to) w) h d
+      (λ t s i. jump_part z to (pc + forms_bytes (flushed os)) w t r.fit s i)
 
-    test_follows : (bs : List Bound) (t : Test) (when : Bool) (d pc : ℕ) (ways : Ways bs) (w : WordState) (u : Core)
-        → Ready bs (EachTestWay z.room t ways.held.fits ways.failed.fits) w
-        → KnownTest bs t → Forked z when d pc (test_code bs t when d) ways.held.at ways.failed.at → StandsFor z pc w u
-        → Follows z ways.end (test_spent t ways.held.cost ways.failed.cost w) u (tested t ways.held.does ways.failed.does w)
-    test_follows bs (holds p) when d pc ways w u r known k i =
-        let a = steps_code bs [] p in
-        let os = waiting_after [] p in
-        let last = holds_code os when d in
-        let next = Moves z.room 1 0 (λ s. ways.held.fits s × ways.failed.fits s) in
-        leaf_follows bs p next pc ways.end (λ v. 8 + spent_by_top ways.held.cost ways.failed.cost v) (way_by_top ways.held.does ways.failed.does) w u
-        (steps_follow bs p next [] pc w u r known (stands_front z.code pc a last k.stands) (dressed z pc w u i))
-        (ready_on bs next (behaviour p w).end (well z.room p next r.place w r.fit r.matches) (words p w known.of_words r.words_in)
-        (bounded_on bs p w known.spares r.bounded))
-        (λ x v q j. by_top bs when d ways os (pc + forms_bytes a) v x v.stack (forked_behind z when d pc a last ways.held.at ways.failed.at k) q refl j)
-    test_follows bs (compares e p) when d pc ways w u r known k i =
-        let a = steps_code bs [] p in
-        let os = waiting_after [] p in
-        let last = compares_code os e when d in
-        let next = Moves z.room 2 0 (λ s. ways.held.fits s × ways.failed.fits s) in
-        leaf_follows bs p next pc ways.end (λ v. 10 + spent_by_two e ways.held.cost ways.failed.cost v) (way_by_two e ways.held.does ways.failed.does) w u
-        (steps_follow bs p next [] pc w u r known (stands_front z.code pc a last k.stands) (dressed z pc w u i))
-        (ready_on bs next (behaviour p w).end (well z.room p next r.place w r.fit r.matches) (words p w known.of_words r.words_in)
-        (bounded_on bs p w known.spares r.bounded))
-        (λ x v q j. by_two bs when d ways os e (pc + forms_bytes a) v x v.stack (forked_behind z when d pc a last ways.held.at ways.failed.at k) q refl j)
-    test_follows bs (both t e) when d pc ways w u r known k i =
-        let second = test_code bs e when d in
-        let first = test_code bs t false (size second + (if not when then d else 0)) in
-        let middle = pc + forms_bytes first in
-        let back = forked_behind z when d pc first second ways.held.at ways.failed.at k in
-        let counted = fork_at when d ways.held.at ways.failed.at (middle + forms_bytes second) (middle + 2 * size second) (omega (arith, whole_size second))
-        back.fork in
-        let low : middle < 0x10000 → middle + 2 * size second < 0x10000 =
-        λ less. omega (arith, stands_low z middle second back.stands less, whole_size second) in
-        let cost = test_spent e ways.held.cost ways.failed.cost in
-        let inner : Way = record {
-          at = middle;
-          fits = EachTestWay z.room e ways.held.fits ways.failed.fits;
-          cost = cost;
-          does = tested e ways.held.does ways.failed.does;
-        } in
-        let inner_known : KnownTest bs e = known_second (λ n. TestSpares n t) (λ n. TestSpares n e) bs known in
-        let first_known : KnownTest bs t = known_first (λ n. TestSpares n t) (λ n. TestSpares n e) bs known in
-        test_follows bs t false (size second + (if not when then d else 0)) pc (record {
-          end = ways.end;
-          held = inner;
-          failed = ways.failed;
-          if_held = λ v x q j. test_follows bs e when d middle ways v x q inner_known back j;
-          if_failed = ways.if_failed;
-        }) w u r first_known
-        (record {
-          stands = stands_front z.code pc first second k.stands;
-          fork = fork_both when d (size second) ways.held.at ways.failed.at middle low counted;
-        }) i
-    test_follows bs (either t e) when d pc ways w u r known k i =
-        let second = test_code bs e when d in
-        let first = test_code bs t true (size second + (if when then d else 0)) in
-        let middle = pc + forms_bytes first in
-        let back = forked_behind z when d pc first second ways.held.at ways.failed.at k in
-        let counted = fork_at when d ways.held.at ways.failed.at (middle + forms_bytes second) (middle + 2 * size second) (omega (arith, whole_size second))
-        back.fork in
-        let low : middle < 0x10000 → middle + 2 * size second < 0x10000 =
-        λ less. omega (arith, stands_low z middle second back.stands less, whole_size second) in
-        let cost = test_spent e ways.held.cost ways.failed.cost in
-        let inner : Way = record {
-          at = middle;
-          fits = EachTestWay z.room e ways.held.fits ways.failed.fits;
-          cost = cost;
-          does = tested e ways.held.does ways.failed.does;
-        } in
-        let inner_known : KnownTest bs e = known_second (λ n. TestSpares n t) (λ n. TestSpares n e) bs known in
-        let first_known : KnownTest bs t = known_first (λ n. TestSpares n t) (λ n. TestSpares n e) bs known in
-        test_follows bs t true (size second + (if when then d else 0)) pc (record {
-          end = ways.end;
-          held = ways.held;
-          failed = inner;
-          if_held = ways.if_held;
-          if_failed = λ v x q j. test_follows bs e when d middle ways v x q inner_known back j;
-        }) w u r first_known
-        (record {
-          stands = stands_front z.code pc first second k.stands;
-          fork = fork_either when d (size second) ways.held.at ways.failed.at middle low counted;
-        }) i
-    test_follows bs (fails t) when d pc ways w u r known k i =
-        test_follows bs t (not when) d pc
-        (record { end = ways.end; held = ways.failed; failed = ways.held; if_held = ways.if_failed; if_failed = ways.if_held }) w u r known
-        (record { stands = k.stands; fork = fork_turned when d ways.held.at ways.failed.at _ k.fork }) i
+  test_follows : (z : Setting) (bs : List Bound) (t : Test) (when : Bool) (d pc : ℕ) (ways : Ways z bs) (w : WordState) (u : Core)
+      → Ready bs (EachTestWay z.room t ways.held.fits ways.failed.fits) w
+      → KnownTest z bs t → Forked z when d pc (test_code bs t when d) ways.held.at ways.failed.at → StandsFor z pc w u
+      → Follows z ways.end (test_spent t ways.held.cost ways.failed.cost w) u (tested t ways.held.does ways.failed.does w)
+  test_follows z bs (holds p) when d pc ways w u r known k i =
+      let a = steps_code bs [] p in
+      let os = waiting_after [] p in
+      let last = holds_code os when d in
+      let next = Moves z.room 1 0 (λ s. ways.held.fits s × ways.failed.fits s) in
+      leaf_follows z bs p next pc ways.end (λ v. 8 + spent_by_top ways.held.cost ways.failed.cost v) (way_by_top ways.held.does ways.failed.does) w u
+      (steps_follow z bs p next [] pc w u r known (stands_front z.code pc a last k.stands) (dressed z pc w u i))
+      (ready_on bs next (behaviour p w).end (well z.room p next r.place w r.fit r.matches) (words p w known.of_words r.words_in)
+      (bounded_on bs p w known.spares r.bounded))
+      (λ x v q j. by_top z bs when d ways os (pc + forms_bytes a) v x v.stack (forked_behind z when d pc a last ways.held.at ways.failed.at k) q refl j)
+  test_follows z bs (compares e p) when d pc ways w u r known k i =
+      let a = steps_code bs [] p in
+      let os = waiting_after [] p in
+      let last = compares_code os e when d in
+      let next = Moves z.room 2 0 (λ s. ways.held.fits s × ways.failed.fits s) in
+      leaf_follows z bs p next pc ways.end (λ v. 10 + spent_by_two e ways.held.cost ways.failed.cost v) (way_by_two e ways.held.does ways.failed.does) w u
+      (steps_follow z bs p next [] pc w u r known (stands_front z.code pc a last k.stands) (dressed z pc w u i))
+      (ready_on bs next (behaviour p w).end (well z.room p next r.place w r.fit r.matches) (words p w known.of_words r.words_in)
+      (bounded_on bs p w known.spares r.bounded))
+      (λ x v q j. by_two z bs when d ways os e (pc + forms_bytes a) v x v.stack (forked_behind z when d pc a last ways.held.at ways.failed.at k) q refl j)
+  test_follows z bs (both t e) when d pc ways w u r known k i =
+      let second = test_code bs e when d in
+      let first = test_code bs t false (size second + (if not when then d else 0)) in
+      let middle = pc + forms_bytes first in
+      let back = forked_behind z when d pc first second ways.held.at ways.failed.at k in
+      let counted = fork_at when d ways.held.at ways.failed.at (middle + forms_bytes second) (middle + 2 * size second) (omega (arith, whole_size second))
+      back.fork in
+      let low : middle < 0x10000 → middle + 2 * size second < 0x10000 =
+      λ less. omega (arith, stands_low z middle second back.stands less, whole_size second) in
+      let cost = test_spent e ways.held.cost ways.failed.cost in
+      let inner : Way = record {
+        at = middle;
+        fits = EachTestWay z.room e ways.held.fits ways.failed.fits;
+        cost = cost;
+        does = tested e ways.held.does ways.failed.does;
+      } in
+      let inner_known : KnownTest z bs e = known_second (λ n. TestSpares n t) (λ n. TestSpares n e) bs known in
+      let first_known : KnownTest z bs t = known_first (λ n. TestSpares n t) (λ n. TestSpares n e) bs known in
+      test_follows z bs t false (size second + (if not when then d else 0)) pc (record {
+        end = ways.end;
+        held = inner;
+        failed = ways.failed;
+        if_held = λ v x q j. test_follows z bs e when d middle ways v x q inner_known back j;
+        if_failed = ways.if_failed;
+      }) w u r first_known
+      (record {
+        stands = stands_front z.code pc first second k.stands;
+        fork = fork_both when d (size second) ways.held.at ways.failed.at middle low counted;
+      }) i
+  test_follows z bs (either t e) when d pc ways w u r known k i =
+      let second = test_code bs e when d in
+      let first = test_code bs t true (size second + (if when then d else 0)) in
+      let middle = pc + forms_bytes first in
+      let back = forked_behind z when d pc first second ways.held.at ways.failed.at k in
+      let counted = fork_at when d ways.held.at ways.failed.at (middle + forms_bytes second) (middle + 2 * size second) (omega (arith, whole_size second))
+      back.fork in
+      let low : middle < 0x10000 → middle + 2 * size second < 0x10000 =
+      λ less. omega (arith, stands_low z middle second back.stands less, whole_size second) in
+      let cost = test_spent e ways.held.cost ways.failed.cost in
+      let inner : Way = record {
+        at = middle;
+        fits = EachTestWay z.room e ways.held.fits ways.failed.fits;
+        cost = cost;
+        does = tested e ways.held.does ways.failed.does;
+      } in
+      let inner_known : KnownTest z bs e = known_second (λ n. TestSpares n t) (λ n. TestSpares n e) bs known in
+      let first_known : KnownTest z bs t = known_first (λ n. TestSpares n t) (λ n. TestSpares n e) bs known in
+      test_follows z bs t true (size second + (if when then d else 0)) pc (record {
+        end = ways.end;
+        held = ways.held;
+        failed = inner;
+        if_held = ways.if_held;
+        if_failed = λ v x q j. test_follows z bs e when d middle ways v x q inner_known back j;
+      }) w u r first_known
+      (record {
+        stands = stands_front z.code pc first second k.stands;
+        fork = fork_either when d (size second) ways.held.at ways.failed.at middle low counted;
+      }) i
+  test_follows z bs (fails t) when d pc ways w u r known k i =
+      test_follows z bs t (not when) d pc
+      (record { end = ways.end; held = ways.failed; failed = ways.held; if_held = ways.if_failed; if_failed = ways.if_held }) w u r known
+      (record { stands = k.stands; fork = fork_turned when d ways.held.at ways.failed.at _ k.fork }) i
 
-    steps_follow : (bs : List Bound) (p : Program) (next : Place → Type 0) (os : List Waiting) (pc : ℕ) (w : WordState) (u : Core)
-        → Ready bs (EachWay z.room p next) w → KnownProgram bs p → Stands z.code pc (steps_code bs os p) → Describes z os pc w u
-        → Does z (waiting_after os p) (pc + forms_bytes (steps_code bs os p)) (spent p w + owed os) u (behaviour p w)
-    steps_follow bs nothing next os pc w u r known h d =
-        let e : pc ≡ pc + 0 = omega arith in
-        record { spent = 0; within = omega arith; runs = nothing_run z (subst (λ n. Describes z os n w u) e d) }
-    steps_follow bs (step first more) next os pc w u r known h d =
-        let a = step_code bs os first in
-        let mid = waiting_behind os first in
-        let rest = steps_code bs mid more in
-        let b = step_behaviour first w in
-        let pc' = pc + forms_bytes a in
-        let end = pc' + forms_bytes rest in
-        let after = waiting_after mid more in
-        let all = behaviour (step first more) w in
-        let first_known : KnownStep bs first = known_first (λ n. StepSpares n first) (λ n. Spares n more) bs known in
-        let more_known : KnownProgram bs more = known_second (λ n. StepSpares n first) (λ n. Spares n more) bs known in
-        let there : end ≡ pc + forms_bytes (a ++ rest) = omega (arith, forms_bytes-append a rest) in
-        subst (λ p. Does z after p (spent (step first more) w + owed os) u all) there
-        (reach_more z (owed after) (Describes z after end) (step_spent first w + owed os + spent_on b.end (spent more)) (spent (step first more) w + owed os) u
-        all.effects all.end (omega arith)
-        (reach_way z (owed mid) (owed after) (Describes z mid pc') (Describes z after end) (step_spent first w + owed os) (spent more) u
-        (Ready bs (EachWay z.room more next)) b.effects b.end (behaviour more)
-        (step_follows bs first (EachWay z.room more next) os pc w u r first_known (stands_front z.code pc a rest h) d)
-        (ready_on bs (EachWay z.room more next) b.end (step_well z.room first (EachWay z.room more next) r.place w r.fit r.matches)
-        (words_step first w first_known.of_words r.words_in) (step_bounded bs first w first_known.spares r.bounded))
-        (λ t v q j. reach_more z (owed after) (Describes z after end) (spent more v + owed mid) (owed mid + spent more v) t (behaviour more v).effects
-        (behaviour more v).end (omega arith)
-        (steps_follow bs more next mid pc' v t q more_known
-        (stands_back z.code pc a rest h) j))))
+  steps_follow : (z : Setting) (bs : List Bound) (p : Program) (next : Place → Type 0) (os : List Waiting) (pc : ℕ) (w : WordState) (u : Core)
+      → Ready bs (EachWay z.room p next) w → KnownProgram z bs p → Stands z.code pc (steps_code bs os p) → Describes z os pc w u
+      → Does z (waiting_after os p) (pc + forms_bytes (steps_code bs os p)) (spent p w + owed os) u (behaviour p w)
+  steps_follow z bs nothing next os pc w u r known h d =
+      let e : pc ≡ pc + 0 = omega arith in
+      record { spent = 0; within = omega arith; runs = nothing_run z (subst (λ n. Describes z os n w u) e d) }
+  steps_follow z bs (step first more) next os pc w u r known h d =
+      let a = step_code bs os first in
+      let mid = waiting_behind os first in
+      let rest = steps_code bs mid more in
+      let b = step_behaviour first w in
+      let pc' = pc + forms_bytes a in
+      let end = pc' + forms_bytes rest in
+      let after = waiting_after mid more in
+      let all = behaviour (step first more) w in
+      let first_known : KnownStep z bs first = known_first (λ n. StepSpares n first) (λ n. Spares n more) bs known in
+      let more_known : KnownProgram z bs more = known_second (λ n. StepSpares n first) (λ n. Spares n more) bs known in
+      let there : end ≡ pc + forms_bytes (a ++ rest) = omega (arith, forms_bytes-append a rest) in
+      subst (λ p. Does z after p (spent (step first more) w + owed os) u all) there
+      (reach_more z (owed after) (Describes z after end) (step_spent first w + owed os + spent_on b.end (spent more)) (spent (step first more) w + owed os) u
+      all.effects all.end (omega arith)
+      (reach_way z (owed mid) (owed after) (Describes z mid pc') (Describes z after end) (step_spent first w + owed os) (spent more) u
+      (Ready bs (EachWay z.room more next)) b.effects b.end (behaviour more)
+      (step_follows z bs first (EachWay z.room more next) os pc w u r first_known (stands_front z.code pc a rest h) d)
+      (ready_on bs (EachWay z.room more next) b.end (step_well z.room first (EachWay z.room more next) r.place w r.fit r.matches)
+      (words_step first w first_known.of_words r.words_in) (step_bounded bs first w first_known.spares r.bounded))
+      (λ t v q j. reach_more z (owed after) (Describes z after end) (spent more v + owed mid) (owed mid + spent more v) t (behaviour more v).effects
+      (behaviour more v).end (omega arith)
+      (steps_follow z bs more next mid pc' v t q more_known
+      (stands_back z.code pc a rest h) j))))
 
 none_has_no_word : (v w : ℕ) → None ≡ Some v → w ≡ v
 none_has_no_word v w e = cc
 
 -- a whole program with its place in code, and where its stack begins
-module _ (z : Setting) (p : Program) (whole : IsWhole p) (of_words : OfWords p) (below : LocalsBelow z.locals p) (room : whole.room ≡ z.room) where
+module _ (z : Setting) (p : Program) (whole : IsWhole p) (of_words : OfWords p) (owned : EachLocal (Owns z) p) (room : whole.room ≡ z.room) where
   by_end : (pc most : ℕ) (u : Core) (es : List Effect) (e : End) → FollowsEnd z pc most u es e → IsSound e → ComesTo z.code most u es e
   by_end pc most u es (GoesOn w) a g = g
   by_end pc most u es (Jumps to w) a g = a
@@ -543,20 +545,32 @@ module _ (z : Setting) (p : Program) (whole : IsWhole p) (of_words : OfWords p) 
   by_end pc most u es Broken a g = g
 
   -- the machine whose stack is there stands for the state at the start
-  pub begun : (mid : ℕ) (u t : Core) → HasStack mid z.base u t → StandsFor z mid (started u.fram u.inputs) t
-  begun mid u t k =
+  pub begun : (mid : ℕ) (t : Core) → (let u = z.entered in HasStack mid z.top u t → StandsFor z mid (started u.fram u.inputs) t)
+  begun mid t k =
       record {
         at = k.at;
-        memory = record { depth = omega (arith, k.sp); fits = omega arith; stack = tt; vars = λ n v l q. none_has_no_word v _ q };
+        memory =
+            record {
+              depth = omega (arith, k.sp);
+              fits = omega arith;
+              stack = tt;
+              vars = λ n v own q. none_has_no_word v _ q;
+              keeps =
+                  record {
+                    ram_words = λ a from out. ap (λ (f : ℕ → ℕ). f a) k.ram;
+                    registers = λ n from few. ap (λ (f : ℕ → ℕ). get_or (register_words f) n 0) k.work;
+                  };
+            };
         fram = k.fram;
         inputs = k.inputs;
       }
 
   -- behind what sets its stack the code does what the program does
-  steps_do : (at mid : ℕ) (u : Core) → Stands z.code mid (block_code [] p) → IsEntry z.code.events at u
-      → Runs z.code [] stack_cycles u (HasStack mid z.base u)
-      → let s = started u.fram u.inputs in let b = behaviour p s in ComesTo z.code (code_spent p s) u b.effects b.end
-  steps_do at mid u h entry set =
+  steps_do : (at mid : ℕ) → Stands z.code mid (block_code [] p) → (let u = z.entered in IsEntry z.code.events at u
+      → Runs z.code [] stack_cycles u (HasStack mid z.top u)
+      → let s = started u.fram u.inputs in let b = behaviour p s in ComesTo z.code (code_spent p s) u b.effects b.end)
+  steps_do at mid h entry set =
+      let u = z.entered in
       let s = started u.fram u.inputs in
       let b = behaviour p s in
       let end = mid + forms_bytes (block_code [] p) in
@@ -570,7 +584,7 @@ module _ (z : Setting) (p : Program) (whole : IsWhole p) (of_words : OfWords p) 
       by_end end (code_spent p s) u b.effects b.end
       (then_end z end (spent p s) b.effects b.end set (λ t k. block_follows z [] p mid s t h
       (λ hs. steps_follow z [] p (λ q. ⊥) [] mid s t r
-      (record { of_words = of_words; below = below; count = whole.loops_count; spares = tt }) hs (dressed z mid s t (begun mid u t k)))))
+      (record { of_words = of_words; owned = owned; count = whole.loops_count; spares = tt }) hs (dressed z mid s t (begun mid t k)))))
       (whole_ends_soundly p u.fram u.inputs whole)
 
 -- the code does what the program does: with events its stack is there at the entry, else it is set where a local stands in RAM
@@ -581,38 +595,24 @@ code_does_as_program code at p u tidy h whole fits o entry = by code.events refl
         → let s = started u.fram u.inputs in let b = behaviour p s in ComesTo code (code_spent p s) u b.effects b.end
     by true e h fits entry =
         let fit = fits refl in
-        let z : Setting = record {
-          code = code;
-          tidy = tidy;
-          locals = whole.locals;
-          room = whole.room;
-          base = stack_start;
-          even = refl;
-          start = λ k. omega arith;
-          low = fit.low;
-          roomy = fit.room;
-        } in
-        steps_do z p whole o whole.low_locals refl at at u h (subst (λ b. IsEntry b at u) (sym e) entry)
-        (dearer z (omega arith) (nothing_run z (record { at = entry.pc; sp = entry.sp; fram = refl; inputs = refl })))
+        let z = uncalled code tidy u whole.locals whole.room stack_start refl (λ k. omega arith) fit.low fit.room in
+        let owned = each_local (Owns z) whole.locals p (uncalled_owns code tidy u whole.locals whole.room stack_start refl (λ k. omega arith) fit.low fit.room)
+        whole.low_locals in
+        steps_do z p whole o owned refl at at h (subst (λ b. IsEntry b at u) (sym e) entry)
+        (dearer z (omega arith) (nothing_run z (record { at = entry.pc; sp = entry.sp; fram = refl; inputs = refl; ram = refl; work = refl })))
     by false e h fits entry =
         let locals = locals_of p in
+        let top = stack_base locals in
         let few = program_least whole.locals p whole.low_locals in
-        let room = whole.fits.fits in
-        let z : Setting = record {
-          code = code;
-          tidy = tidy;
-          locals = locals;
-          room = whole.room;
-          base = stack_base locals;
-          even = omega arith;
-          start = λ k. absurd (cc (k, e));
-          low = omega arith;
-          roomy = record { fits = omega (arith, room, few) };
-        } in
+        let even : top % 2 ≡ 0 = omega arith in
+        let none : code.events ≡ true → top ≤ stack_start = λ k. absurd (cc (k, e)) in
+        let roomy : HasStackRoom top whole.room = let room = whole.fits.fits in record { fits = omega (arith, room, few) } in
+        let low : top ≤ stack_base locals = omega arith in
+        let z = uncalled code tidy u locals whole.room top even none low roomy in
+        let owned = each_local (Owns z) locals p (uncalled_owns code tidy u locals whole.room top even none low roomy) (program_below locals p (omega arith)) in
         let front = stack_set false locals in
         let mid = at + forms_bytes front in
-        let set : Runs code [] stack_cycles u (HasStack mid (stack_base locals) u) =
-        subst (λ n. Runs code [] stack_cycles u (HasStack (n + forms_bytes front) (stack_base locals) u)) entry.pc
+        let set : Runs code [] stack_cycles u (HasStack mid top u) =
+        subst (λ n. Runs code [] stack_cycles u (HasStack (n + forms_bytes front) top u)) entry.pc
         (stack_part z locals u e entry.sp (subst (λ n. Stands code n front) (sym entry.pc) (stands_front code at front (block_code [] p) h))) in
-        steps_do z p whole o (program_below locals p (omega arith)) refl at mid u (stands_back code at front (block_code [] p) h)
-        (subst (λ b. IsEntry b at u) (sym e) entry) set
+        steps_do z p whole o owned refl at mid (stands_back code at front (block_code [] p) h) (subst (λ b. IsEntry b at u) (sym e) entry) set

@@ -1,5 +1,5 @@
 -- The code of a word program, which does the same wherever it stands: the stack is at SP, its top first, below the words that wait to be pushed; the
--- locals stand in R8 to R15 and, from the ninth on, in RAM above the stack; R4 to R7 are for work.
+-- locals stand in R8 to R15 and, from the ninth on, in RAM above the stack; R4 to R7 are for work. What a call calls has code of its own elsewhere.
 use Rattle.std.specs.Prelude.{ℕ, zero, suc, ◌+◌, ◌-◌, ◌*◌, Bool, true, false, not, List, [], ◌∷◌, ◌++◌, get_or, ◌==◌, if◌then◌else◌, nat_le, nat_lt, ◌&&◌}
 use Rattle.std.specs.Prelude.{◌^◌, Option, Some, None}
 use Rattle.std.specs.Int.{w16, trailing_zeros}
@@ -19,7 +19,7 @@ use Rattle.array_versions.specs.machine_effects.event_places.Places.{tail_place,
 use Rattle.code_forms.specs.Forms as forms
 use Rattle.code_forms.specs.Forms.{WorkRegister, R4, R5, R6, R7, R8, R9, R10, R11, R12, R13, R14, R15, Register, Number, Constant, Fram, Ram, Indexed, Popped}
 use Rattle.code_forms.specs.Forms.{Head, Slot, Source, ToRegister, ToFram, ToRam, ToIndexed, Target, Form, Move, Calculate, Update, Push, Modify, SetStack}
-use Rattle.code_forms.specs.Forms.{Jump, Skip, Branch}
+use Rattle.code_forms.specs.Forms.{Jump, Skip, Branch, Call, Return, KeepStack, RestoreStack, StackNext}
 use Rattle.code_forms.specs.Code.{over, back_by, back_over}
 pub use Rattle.code_forms.specs.Code.{size}
 use Rattle.word_code.specs.declared.bounds.Bound.{Bound}
@@ -43,9 +43,9 @@ use Rattle.array_versions.specs.declared.operations.LongOperation.TheVariants as
 use Rattle.array_versions.specs.Program.{Step, Test, Program, number, load, keep, update, local, set_local, update_local, unary, binary, shift, long, element}
 use Rattle.array_versions.specs.Program.{emit_word, list_entry, versioned_read, versioned_write, versioned_update, logged_write, logged_update, sense}
 use Rattle.array_versions.specs.Program.{next_event, freeze_events, truth, choose, repeat, store_number, move_word, jump, holds, compares, both, either, fails}
-use Rattle.array_versions.specs.Program.{nothing, step}
+use Rattle.array_versions.specs.Program.{call, give, nothing, step}
 use Rattle.array_versions.specs.Form.{locals_of}
-pub use Rattle.array_versions.specs.Form.{stack_base}
+pub use Rattle.array_versions.specs.Form.{stack_base, local_address}
 use Rattle.array_versions.specs.Behaviour.{WordState}
 use Rattle.array_versions.specs.Cost.{spent}
 
@@ -56,10 +56,6 @@ local_registers = R8 ∷ R9 ∷ R10 ∷ R11 ∷ R12 ∷ R13 ∷ R14 ∷ R15 ∷ 
 -- the register of a local below 8
 abbrev pub local_register : ℕ → WorkRegister
 local_register n = get_or local_registers n R15
-
--- where any other local stands in RAM: the ninth in its last word, each other one a word below the one before
-abbrev pub local_address : ℕ → ℕ
-local_address n = 0x240E - 2 * n
 
 -- where the stack begins from an attempt's start on: with events below the room for any locals, else at the end of RAM
 abbrev pub entry_stack : Bool → ℕ
@@ -999,6 +995,41 @@ freeze_code = index_code ++ Move (Register R4) (ToFram sent_place) ∷ []
 abbrev pub local_code : List Waiting → ℕ → List Form
 local_code os n = if nat_lt n 8 then [] else (flushed os ++ Push (Ram (local_address n)) ∷ [])
 
+-- ---- functions: their values are in their first locals as they are entered, and the word that they give is in R4 behind them
+
+-- the words that wait below so many
+abbrev pub below_words : ℕ → List Waiting → List Waiting
+below_words zero os = os
+below_words (suc n) os = below_words n (below_top os)
+
+-- so many words on top come to registers of locals, from a local on: the top to the last
+abbrev pub values_code : (first count : ℕ) → List Waiting → List Form
+values_code first zero os = []
+values_code first (suc n) os = Move (source_from (top_of os)) (ToRegister (local_register (first + n))) ∷ values_code first n (below_top os)
+
+-- a call of a function whose locals stand in registers: what waits below its values is pushed in front of the call
+abbrev pub light_call : (entry first count : ℕ) → List Waiting → List Form
+light_call entry first count os = (values_code first count os ++ flushed (below_words count os)) ++ Call entry ∷ []
+
+-- so many words of the stack, from R4's address on, come to locals: the first to the last
+abbrev pub frame_code : (first count : ℕ) → List Form
+frame_code first zero = []
+frame_code first (suc n) = Move (StackNext R4) (local_target (first + n)) ∷ frame_code first n
+
+-- a call of a function with locals in RAM: SP is set below them, in front of its call the caller's SP is pushed, and behind it that is SP again
+abbrev pub framed_call : (entry frame first count : ℕ) → List Waiting → List Form
+framed_call entry frame first count os =
+    flushed os ++ (KeepStack R4 ∷ SetStack frame ∷ (frame_code first count ++ Push (Register R4) ∷ Call entry ∷ RestoreStack ∷ []))
+
+-- by whether it has some
+abbrev pub call_code : (entry : ℕ) → Option ℕ → (first count : ℕ) → List Waiting → List Form
+call_code entry None first count os = light_call entry first count os
+call_code entry (Some f) first count os = framed_call entry f first count os
+
+-- the word that a function gives comes to R4, and it returns
+abbrev pub give_code : List Waiting → List Form
+give_code os = four_from (top_of os) ++ Return ∷ []
+
 -- what waits behind a step; nothing does behind other stores, behind an assignment to a local and where ways part or meet
 abbrev pub waiting_behind : List Waiting → Step → List Waiting
 waiting_behind os (number w) = waiting.Number w ∷ os
@@ -1013,6 +1044,7 @@ waiting_behind os (element base length) = element_behind (top_number (top_of os)
 waiting_behind os (versioned_read place list) = waiting.R4 ∷ kept (below_top os)
 waiting_behind os sense = waiting.R4 ∷ kept os
 waiting_behind os next_event = waiting.R4 ∷ []
+waiting_behind os (call entry frame first count body) = waiting.R4 ∷ []
 waiting_behind os _ = []
 
 -- what waits behind a program
@@ -1063,6 +1095,8 @@ abbrev mutual
   step_code bs os (store_number a w) = flushed os ++ Move (number_source w) (ToFram a) ∷ []
   step_code bs os (move_word from to) = flushed os ++ Move (Fram from) (ToFram to) ∷ []
   step_code bs os (jump to) = flushed os ++ Branch to ∷ []
+  step_code bs os (call entry frame first count body) = call_code entry frame first count os
+  step_code bs os give = give_code os
 
   -- the code of a test: it goes over so many words behind it where the test's truth is this one, else on
   pub test_code : List Bound → Test → Bool → ℕ → List Form
@@ -1089,6 +1123,10 @@ block_code bs p = steps_code bs [] p ++ flushed (waiting_after [] p)
 abbrev pub code_of : Bool → Program → List Form
 code_of events p = stack_set events (locals_of p) ++ block_code [] p
 
--- its cycles from a state on, at most, on the way that the program takes
+-- the code of a function's body
+abbrev pub routine_code : Program → List Form
+routine_code body = block_code [] body
+
+-- the cycles of a program's code from a state on, at most, on the way that the program takes
 abbrev pub code_spent : Program → WordState → ℕ
 code_spent p s = stack_cycles + spent p s

@@ -1,5 +1,5 @@
 -- What the code of a word program does.
-use Rattle.std.specs.Prelude.{◌≡◌, ℕ, suc, ◌*◌, ◌<◌, ◌≤◌, Bool, true, List, length}
+use Rattle.std.specs.Prelude.{◌≡◌, ℕ, suc, ◌*◌, ◌%◌, ◌<◌, ◌≤◌, Bool, true, List, length}
 use Rattle.array_versions.specs.fram_board.Effects.{Effect}
 use Rattle.array_versions.specs.machine_effects.World.{IsPrefix}
 use Rattle.array_versions.specs.machine_effects.Inputs.{InputsAreWords}
@@ -9,11 +9,11 @@ use Rattle.code_forms.specs.Forms.{Core, board_of}
 use Rattle.code_forms.specs.Code.{Stands, IsTidy, Runs, Starves, forms_bytes}
 use Rattle.code_forms.specs.Laws.{StepsReadFromSp}
 use Rattle.code_forms.specs.Placed.{words_of as instruction_words, instructions, AreInstructions}
-use Rattle.array_versions.specs.Program.{Program}
-use Rattle.array_versions.specs.Behaviour.{WordState, started, End, GoesOn, Jumps, Short, Strays, Broken, behaviour}
+use Rattle.array_versions.specs.Program.{Step, Test, Program, truth, choose, repeat, call, holds, compares, both, either, fails, nothing, step}
+use Rattle.array_versions.specs.Behaviour.{WordState, started, End, GoesOn, Jumps, Gives, Short, Strays, Broken, behaviour}
 use Rattle.array_versions.specs.Form.{IsWhole, FitsEvents, OfWords}
 use Rattle.array_versions.specs.Cost.{words_of}
-use Rattle.word_code.specs.Code.{entry_stack, code_of, code_spent}
+use Rattle.word_code.specs.Code.{entry_stack, routine_code, code_of, code_spent}
 
 -- the machine at the entry of a program's code: the stack is empty, FRAM and the inputs are words
 pub record IsEntry (events : Bool) (at : ℕ) (u : Core) : Type 0 where
@@ -35,12 +35,35 @@ ComesTo code most u es (Jumps to s) = Runs code es most u (HasJumped to s)
 ComesTo code most u es Short = Starves code es most u
 ComesTo code most u es Strays = Unit {0}
 ComesTo code most u es (GoesOn s) = ⊥
+ComesTo code most u es (Gives v s) = ⊥
 ComesTo code most u es Broken = ⊥
 
--- code in which the code of a whole program stands does what the program does, within its cycles on the way that it takes; with events its
+abbrev mutual
+  -- each function that a step calls has the code of its body where the call says, and so have those that it calls
+  pub StepRoutinesStand : Code → Step → Type 0
+  StepRoutinesStand code (truth t) = TestRoutinesStand code t
+  StepRoutinesStand code (choose t taken otherwise) = TestRoutinesStand code t × RoutinesStand code taken × RoutinesStand code otherwise
+  StepRoutinesStand code (repeat n from below body) = RoutinesStand code body
+  StepRoutinesStand code (call entry frame first count body) = (entry % 2 ≡ 0) × Stands code entry (routine_code body) × RoutinesStand code body
+  StepRoutinesStand code _ = Unit {0}
+
+  -- the same of a test
+  pub TestRoutinesStand : Code → Test → Type 0
+  TestRoutinesStand code (holds p) = RoutinesStand code p
+  TestRoutinesStand code (compares op p) = RoutinesStand code p
+  TestRoutinesStand code (both t u) = TestRoutinesStand code t × TestRoutinesStand code u
+  TestRoutinesStand code (either t u) = TestRoutinesStand code t × TestRoutinesStand code u
+  TestRoutinesStand code (fails t) = TestRoutinesStand code t
+
+  -- the same of each step of a program
+  pub RoutinesStand : Code → Program → Type 0
+  RoutinesStand code nothing = Unit {0}
+  RoutinesStand code (step first more) = StepRoutinesStand code first × RoutinesStand code more
+
+-- code in which the code of a whole program stands, and that of what it calls, does what the program does, within its cycles on the way that it takes; with events its
 -- stack has room where that of such code begins
 abbrev pub CodeDoesAsProgram : Type 0
-CodeDoesAsProgram = (code : Code) (at : ℕ) (p : Program) (u : Core) → IsTidy code → Stands code at (code_of code.events p)
+CodeDoesAsProgram = (code : Code) (at : ℕ) (p : Program) (u : Core) → IsTidy code → Stands code at (code_of code.events p) → RoutinesStand code p
     → (whole : IsWhole p) → (code.events ≡ true → FitsEvents p whole) → OfWords p → IsEntry code.events at u
     → let s = started u.fram u.inputs in let b = behaviour p s in ComesTo code (code_spent p s) u b.effects b.end
 
