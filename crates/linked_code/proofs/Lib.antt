@@ -1,5 +1,6 @@
 mod Parts
 mod Linked
+mod Called
 mod Rooms
 mod Stretches
 mod Above
