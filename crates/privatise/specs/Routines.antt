@@ -1,10 +1,11 @@
 -- The functions that a task reaches: where their code stands, and where they have their locals. Those of a function that doesn't have them in registers
 -- stand in RAM, below the frames of all that may have called it.
-use Rattle.std.specs.Prelude.{ℕ, ◌+◌, ◌-◌, ◌*◌, Bool, if◌then◌else◌, List, [], ◌∷◌, Option, Some, None}
+use Rattle.std.specs.Prelude.{◌≡◌, ℕ, ◌+◌, ◌-◌, ◌*◌, Bool, true, if◌then◌else◌, List, [], ◌∷◌, length, Option, Some, None, slice_get}
+use Rattle.task_ast.specs.Paths.{CheckedFunction}
 use Rattle.cost_bound.specs.Summary.{Summary}
 use Rattle.cost_bound.specs.Summaries.{summaries}
 use Rattle.cost_bound.specs.Counts.{CheckedBlock, reaches_of}
-use Rattle.cost_bound.specs.Frames.{stack_of}
+use Rattle.cost_bound.specs.Frames.{frame_of, stack_of}
 use Rattle.cost_bound.specs.Allowance.{CheckedProgram}
 use Rattle.memory_map.specs.address_space.Limits.{stack_top}
 use Rattle.memory_map.specs.declared.place.RoutinePlace.{RoutinePlace}
@@ -63,3 +64,34 @@ routines_from stack marks k at (s ∷ ss) [] = []
 abbrev pub task_routines : KnownFunctions → CheckedBlock → ℕ → List RoutinePlace
 task_routines known body at =
     routines_from (stack_of known.summaries body) (λ k. reaches_of known.summaries k body) 0 at known.summaries known.locals
+
+-- ---- what is known of each
+
+-- a function with what is known of it
+pub record Known : Type 0 where
+  pub function : CheckedFunction
+  pub summary : Summary
+  pub locals : FunctionLocals
+
+-- the function of a number
+pub record IsFunction (p : CheckedProgram) (number : ℕ) (f : Known) : Type 0 where
+  pub function : slice_get p.functions number ≡ Some f.function
+  pub summary : slice_get (summaries p) number ≡ Some f.summary
+  pub locals : slice_get (all_locals p.functions) number ≡ Some f.locals
+
+-- its frame, in words
+abbrev pub frame_words : Known → ℕ
+frame_words f = frame_of (length f.function.parameters) f.function.body
+
+-- the words from the end of RAM down to the lowest that its frame has, in a task with a stack of so many words
+abbrev pub floor_words : ℕ → Known → ℕ
+floor_words stack f = words_above stack f.summary.depth + frame_words f
+
+-- the place of a function that a task with this text reaches
+pub record IsRoutineOf (p : CheckedProgram) (body : CheckedBlock) (r : RoutinePlace) : Type 0 where
+  pub known : Known
+  pub is : IsFunction p r.function known
+  pub reached : reaches_of (summaries p) r.function body ≡ true
+  pub words : r.code.words ≡ routine_room known.summary
+  pub first : r.first ≡ first_local (stack_of (summaries p) body) known.summary.depth known.locals
+  pub frame : r.frame ≡ frame_of_locals (stack_of (summaries p) body) known.summary.depth known.locals
