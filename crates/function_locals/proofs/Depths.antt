@@ -1,5 +1,6 @@
 -- The frames of all that a function calls are within its depth.
-use Rattle.std.proofs.Common.{◌≡◌, ℕ, zero, suc, ◌+◌, ◌<◌, ◌≤◌, ◌||◌, ◌==◌, Bool, true, false, List, [], ◌∷◌, ◌++◌, length, take, max, get_or, refl, sym, ap, ◌∙◌}
+use Rattle.std.proofs.Common.{◌≡◌, ℕ, zero, suc, ◌+◌, ◌<◌, ◌≤◌, ◌||◌, ◌==◌, Bool, true, false, List, [], ◌∷◌, ◌++◌, length, take, max, get_or, refl, sym, ap}
+use Rattle.std.proofs.Common.{◌∙◌}
 use Rattle.std.proofs.Common.{subst, arith, if◌then◌else◌, Some, None, eqb-true}
 use Rattle.std.specs.Prelude.{slice_get}
 use Rattle.std.proofs.lemmas.List.{length_push}
@@ -184,16 +185,17 @@ module _ (fs : List CheckedFunction) (below : FunctionsCallBelow 0 fs) where
       let depth : s.depth ≡ frame f + deepest (function_summaries (take k fs)) f.body = ap (λ x. x.depth) (made k f s is at) in
       omega (arith, low, depth)
 
+  -- the function of a number is no deeper than another
+  abbrev IsWithin : Summary → ℕ → Type 0
+  IsWithin s j = (z : Summary) × (slice_get known j ≡ Some z) × (z.depth ≤ s.depth)
+
   -- what a function reaches is in front of it, and within its depth
   within : (fuel k : ℕ) (f : CheckedFunction) (s : Summary) (j : ℕ) → k < fuel → slice_get fs k ≡ Some f → slice_get known k ≡ Some s
-      → s.reaches j ≡ true → (z : Summary) × (slice_get known j ≡ Some z) × (z.depth ≤ s.depth)
+      → s.reaches j ≡ true → IsWithin s j
   within zero k f s j l is at r = absurd (let none : ⊥ = omega arith in none)
   within (suc fuel) k f s j l is at r =
       or_either (some_called_from (λ n. block_calls n f.body) (λ x. x.reaches j) 0 (function_summaries (take k fs))) (block_calls j f.body) reaches far near
     where
-      abbrev Within : Type 0
-      Within = (z : Summary) × (slice_get known j ≡ Some z) × (z.depth ≤ s.depth)
-
       reaches : reaches_of (function_summaries (take k fs)) j f.body ≡ true
       reaches = sym (ap (λ x. x.reaches j) (made k f s is at)) ∙ r
 
@@ -202,14 +204,14 @@ module _ (fs : List CheckedFunction) (below : FunctionsCallBelow 0 fs) where
           let g = element fs n (let m = slice_get_within fs k f is in omega (arith, m, lt)) in
           (function_summary (function_summaries (take n fs)) g.0, answer_of function_summary fs n g.0 g.1)
 
-      near : block_calls j f.body ≡ true → Within
+      near : block_calls j f.body ≡ true → IsWithin s j
       near calls =
           let lt : j < 0 + k = block_below (0 + k) j f.body (below_at 0 fs k f below is) calls in
           let z = there j (omega (arith, lt)) in
           let c = callees j k f s z.0 is at z.1 calls in
           (z.0, z.1, omega (arith, c))
 
-      far : some_called_from (λ n. block_calls n f.body) (λ x. x.reaches j) 0 (function_summaries (take k fs)) ≡ true → Within
+      far : some_called_from (λ n. block_calls n f.body) (λ x. x.reaches j) 0 (function_summaries (take k fs)) ≡ true → IsWithin s j
       far some =
           let x = found (λ n. block_calls n f.body) (λ y. y.reaches j) 0 (function_summaries (take k fs)) some in
           let count = answers_length function_summary [] (take k fs) in

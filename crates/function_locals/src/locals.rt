@@ -60,10 +60,7 @@ fn greatest_end(known: &[FunctionLocals], calls: &[bool; SHARED]) -> u16
 }
 
 /// Behind the registers that the functions take which a text calls, these being the locals of the functions in front of it.
-pub fn base(
-    known: &[FunctionLocals],
-    body: &[Stmt<VariableName, TaskName, FunctionName>],
-) -> u16
+pub fn base(known: &[FunctionLocals], body: &[Stmt<VariableName, TaskName, FunctionName>]) -> u16
     requires few { length known.now ≤ 64 }
     ensures { result ≡ base_of known.now (block_view body.now) }
 {
@@ -86,9 +83,7 @@ fn function_locals(
 }
 
 /// The locals of the functions of a source.
-pub fn all_locals(
-    functions: &[FunctionDeclaration<VariableName, TaskName, FunctionName>],
-) -> Locals
+pub fn all_locals(functions: &[FunctionDeclaration<VariableName, TaskName, FunctionName>]) -> Locals
     requires few { length functions.now ≤ 64 }
     ensures { result.items ≡ all_locals (map function_of functions.now) }
 {

@@ -110,12 +110,10 @@ parts_end at (part ∷ parts) = parts_end (part_end part) parts
 pub chained_append : (at : ℕ) (parts others : List CodePart) → chained at (parts ++ others) ≡ chained at parts ++ chained (parts_end at parts) others
 chained_append at [] others = refl
 chained_append at (part ∷ parts) others =
+    let behind = chained (parts_end (part_end part) parts) others in
     ap (λ ms. repeated ((part.address - at) / 2) filler ++ (part.forms ++ ms)) (chained_append (part_end part) parts others)
     ∙ ap (λ ms. repeated ((part.address - at) / 2) filler ++ ms) (sym (append_assoc part.forms (chained (part_end part) parts) behind))
     ∙ sym (append_assoc (repeated ((part.address - at) / 2) filler) (part.forms ++ chained (part_end part) parts) behind)
-  where
-    abbrev behind : List Form
-    behind = chained (parts_end (part_end part) parts) others
 
 -- parts in order, in front of others
 pub order_split : (at end : ℕ) (parts others : List CodePart) → PartsInOrder at (parts ++ others) end

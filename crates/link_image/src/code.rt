@@ -115,7 +115,13 @@ fn push_task(
     let mut code = Vec::new(alloc);
     emit(alloc, events, &programs.own, &mut code)?;
     push_part(words, start, at, code.as_slice())?;
-    push_routines(alloc, words, start, task.routines(), programs.routines.as_slice())
+    push_routines(
+        alloc,
+        words,
+        start,
+        task.routines(),
+        programs.routines.as_slice(),
+    )
 }
 
 // Adds the code of each task at its place.

@@ -117,9 +117,15 @@ module _ (stack : ℕ) (marks : ℕ → Bool) where
           (placed (k + 1) (at + 2 * routine_room t) ss ls n s l e f there))
       by false = subst (IsPlacedIn (routines_from stack marks (k + 1) at ss ls)) next (placed (k + 1) at ss ls n s l e f there)
 
-pub routines_stand : AllRoutinesStand
-routines_stand p body at = record {
-  each = λ j r e.
+module _ (p : CheckedProgram) (body : CheckedBlock) (at : ℕ) where
+  abbrev stack : ℕ
+  stack = stack_of (summaries p) body
+
+  abbrev marks : ℕ → Bool
+  marks k = reaches_of (summaries p) k body
+
+  of_each : (j : ℕ) (r : RoutinePlace) → slice_get (task_routines (known_functions p) body at) j ≡ Some r → IsRoutineOf p body r
+  of_each j r e =
       let h = among stack marks 0 at (summaries p) (all_locals p.functions) j r e in
       let f = functions_at p.functions h.index h.locals h.locals_is in
       let number : h.index ≡ r.function = ap (λ x. x.function) (sym h.is) in
@@ -134,15 +140,14 @@ routines_stand p body at = record {
         words = ap (λ x. x.code.words) h.is;
         first = ap (λ x. x.first) h.is;
         frame = ap (λ x. x.frame) h.is;
-      };
-  all = λ k f is reached. placed stack marks 0 at (summaries p) (all_locals p.functions) k f.summary f.locals is.summary is.locals reached;
-}
-  where
-    abbrev stack : ℕ
-    stack = stack_of (summaries p) body
+      }
 
-    abbrev marks : ℕ → Bool
-    marks k = reaches_of (summaries p) k body
+pub routines_stand : AllRoutinesStand
+routines_stand p body at = record {
+  each = of_each p body at;
+  all = λ k f is reached. placed (stack_of (summaries p) body) (λ n. reaches_of (summaries p) n body) 0 at (summaries p) (all_locals p.functions) k f.summary
+      f.locals is.summary is.locals reached;
+}
 
 -- ---- frames
 
@@ -157,21 +162,18 @@ within_stack : (stack frame deep depth most : ℕ) → stack ≡ most + deep + 1
 within_stack stack frame deep depth most e h k = omega (arith, e, h, k)
 
 pub frames_stand : AllFramesStand
-frames_stand p body functions calls = record {
-  callees_of_task = λ k f is called. below_called stack (frame_of 0 body) (deepest known body) f.summary.depth refl (depths.called body k f.summary is.summary
-      called);
-  callees = λ j k f g is it reached called. below_function stack (frame_words f) (deepest known body) f.summary.depth g.summary.depth (frame_of 0 body) refl
-      (depths.reached body k f.summary calls is.summary reached)
-      (depths.callees j k f.function f.summary g.summary is.function is.summary it.summary called);
-  task_within = omega arith;
-  within = λ k f is reached. within_stack stack (frame_words f) (deepest known body) f.summary.depth (frame_of 0 body) refl
-      (depths.reached body k f.summary calls is.summary reached) (depths.frame k f.function f.summary is.function is.summary);
-}
-  where
-    abbrev known : List Summary
-    known = summaries p
-
-    abbrev stack : ℕ
-    stack = stack_of known body
-
-    depths = depths_stand p.functions functions
+frames_stand p body functions calls =
+    let known : List Summary = summaries p in
+    let stack = stack_of known body in
+    let most = frame_of 0 body in
+    let deep = deepest known body in
+    let depths = depths_stand p.functions functions in
+    record {
+      callees_of_task = λ k f is called. below_called stack most deep f.summary.depth refl (depths.called body k f.summary is.summary called);
+      callees = λ j k f g is it reached called. below_function stack (frame_words f) deep f.summary.depth g.summary.depth most refl
+          (depths.reached body k f.summary calls is.summary reached)
+          (depths.callees j k f.function f.summary g.summary is.function is.summary it.summary called);
+      task_within = omega arith;
+      within = λ k f is reached. within_stack stack (frame_words f) deep f.summary.depth most refl
+          (depths.reached body k f.summary calls is.summary reached) (depths.frame k f.function f.summary is.function is.summary);
+    }

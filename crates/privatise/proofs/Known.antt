@@ -44,8 +44,10 @@ all_at P (t ∷ ts) (suc k) task h at = all_at P ts k task (All-tail P t ts h) a
 
 module _ (as' bs : List Summary) (ls : List FunctionLocals) (few : length as' ≤ 64) (same : AreSame as' bs) (shared : List SharedDeclaration)
     (low : length shared ≤ 256) where
-  abbrev here there : KnownFunctions
+  abbrev here : KnownFunctions
   here = record { summaries = as'; locals = ls }
+
+  abbrev there : KnownFunctions
   there = record { summaries = bs; locals = ls }
 
   body_same : (b : CheckedBlock) → capped (body_words as' shared b) ≡ capped (body_words bs shared b)

@@ -1,5 +1,6 @@
 -- One more task gets its layout.
-use Rattle.std.proofs.Common.{◌≡◌, ℕ, zero, suc, ◌+◌, ◌*◌, ◌%◌, ◌<◌, ◌≤◌, true, false, List, [], ◌∷◌, ◌++◌, length, take, drop, map, get_or, refl, sym, ◌∙◌, ap, subst}
+use Rattle.std.proofs.Common.{◌≡◌, ℕ, zero, suc, ◌+◌, ◌*◌, ◌%◌, ◌<◌, ◌≤◌, true, false, List, [], ◌∷◌, ◌++◌, length, take, drop, map, get_or, refl, sym, ◌∙◌}
+use Rattle.std.proofs.Common.{ap, subst}
 use Rattle.std.proofs.Common.{arith, Option, Some, None}
 use Rattle.std.proofs.Math.Seq.{drop-length}
 use Rattle.std.specs.Prelude.{slice_get, All, IsSomeAnd}
@@ -84,7 +85,8 @@ all_privates places numbers i privates l h = subst (λ ns. ArePrivates places ns
 
 -- the layouts of the first tasks, and the address for the next
 pub record TasksBelow (known : KnownFunctions) (shared : List SharedDeclaration) (places : List VariablePlace)
-    (tasks : List (TaskDeclaration VariableName TaskName FunctionName)) (plans : List TaskPlanValue) (address : ℕ) (i at : ℕ) (layouts : List TaskPlace) : Type 0 where
+    (tasks : List (TaskDeclaration VariableName TaskName FunctionName)) (plans : List TaskPlanValue)
+    (address : ℕ) (i at : ℕ) (layouts : List TaskPlace) : Type 0 where
   pub count : length layouts ≡ i
   pub each : (k : ℕ) (t : TaskPlace) → slice_get layouts k ≡ Some t → (task : CheckedTask) (plan : TaskPlanValue) → slice_get (map task_of tasks) k
       ≡ Some task → slice_get plans k ≡ Some plan → IsTaskLayout known shared task.body plan t
@@ -95,7 +97,8 @@ pub record TasksBelow (known : KnownFunctions) (shared : List SharedDeclaration)
   pub even : at % 2 ≡ 0
 
 pub no_tasks : (known : KnownFunctions) (shared : List SharedDeclaration) (places : List VariablePlace)
-    (tasks : List (TaskDeclaration VariableName TaskName FunctionName)) (plans : List TaskPlanValue) (address : ℕ) → address % 2 ≡ 0 → TasksBelow known shared places tasks plans address 0 address []
+    (tasks : List (TaskDeclaration VariableName TaskName FunctionName)) (plans : List TaskPlanValue) (address : ℕ) → address % 2 ≡ 0
+    → TasksBelow known shared places tasks plans address 0 address []
 no_tasks known shared places tasks plans address even = record {
   count = refl;
   each = λ k t e. let no : None ≡ Some t = e in cc;
@@ -156,17 +159,18 @@ module _ (known : KnownFunctions) (shared : List SharedDeclaration) (places : Li
       → length known.locals ≡ length known.summaries → IsPlacedTask known shared places (task_of task) plan at t
       → later ≡ at + 2 * body (task_of task).body → ys ≡ xs ++ t ∷ [] → TasksBelow known shared places tasks plans address i at xs
       → TasksBelow known shared places tasks plans address (i + 1) later ys
-  one_task plan t later xs ys planned same placed behind e h = subst (λ zs. TasksBelow known shared places tasks plans address (i + 1) later zs) (sym e) (record {
-    count = length_push xs t ∙ ap (λ k. k + 1) h.count;
-    each = each_push (λ k x. (task : CheckedTask) (plan : TaskPlanValue) → slice_get (map task_of tasks) k ≡ Some task → slice_get plans k ≡ Some plan
-        → IsTaskLayout known shared task.body plan x) xs t h.each here;
-    privates = All-push (λ t. All (HasItsPlace places) t.privates) xs t h.privates placed.privates;
-    code = subst (λ rs. AreInOrder address rs later) (sym (flat_map-append code_regions xs (t ∷ [])))
-        (in_order_append address (flat_map code_regions xs) at (flat_map code_regions (t ∷ [])) later h.code
-        (subst (λ rs. AreInOrder at rs later) (sym (append-nil (code_regions t))) in_order));
-    room = on at later (body (task_of task).body) _ _ behind (ap (λ s. at + 2 * s) (sym step) ∙ h.room);
-    even = even_behind at (body (task_of task).body) later h.even behind;
-  })
+  one_task plan t later xs ys planned same placed behind e h = subst (λ zs. TasksBelow known shared places tasks plans address (i + 1) later zs) (sym e)
+      (record {
+        count = length_push xs t ∙ ap (λ k. k + 1) h.count;
+        each = each_push (λ k x. (task : CheckedTask) (plan : TaskPlanValue) → slice_get (map task_of tasks) k ≡ Some task → slice_get plans k ≡ Some plan
+            → IsTaskLayout known shared task.body plan x) xs t h.each here;
+        privates = All-push (λ t. All (HasItsPlace places) t.privates) xs t h.privates placed.privates;
+        code = subst (λ rs. AreInOrder address rs later) (sym (flat_map-append code_regions xs (t ∷ [])))
+            (in_order_append address (flat_map code_regions xs) at (flat_map code_regions (t ∷ [])) later h.code
+            (subst (λ rs. AreInOrder at rs later) (sym (append-nil (code_regions t))) in_order));
+        room = on at later (body (task_of task).body) _ _ behind (ap (λ s. at + 2 * s) (sym step) ∙ h.room);
+        even = even_behind at (body (task_of task).body) later h.even behind;
+      })
     where
       in_order : AreInOrder at (code_regions t) later
       in_order =
@@ -178,8 +182,8 @@ module _ (known : KnownFunctions) (shared : List SharedDeclaration) (places : Li
           let even_start : end_of t.code % 2 ≡ 0 = omega (arith, start, even) in (
             record { from = omega (arith, at_t); even = omega (arith, at_t, even) },
             subst (λ rs. AreInOrder (end_of t.code) (map (λ r. r.code) rs) later) (sym placed.layout.routines)
-            (subst (λ n. AreInOrder (end_of t.code) _ n) end
-            (task_in_order known.summaries known.locals (task_of task).body (end_of t.code) same even_start)),
+                (subst (λ n. AreInOrder (end_of t.code) _ n) end
+                (task_in_order known.summaries known.locals (task_of task).body (end_of t.code) same even_start)),
           )
 
       there : slice_get (map task_of tasks) i ≡ Some (task_of task)
@@ -196,7 +200,8 @@ over : (at rest all : ℕ) → rest ≡ 0 → at + 2 * rest ≡ all → at ≤ a
 over at rest all e h = omega (arith, e, h)
 
 pub all_tasks : (known : KnownFunctions) (shared : List SharedDeclaration) (places : List VariablePlace)
-    (tasks : List (TaskDeclaration VariableName TaskName FunctionName)) (plans : List TaskPlanValue) (address : ℕ) (i at : ℕ) (layouts : List TaskPlace) → i ≡ length tasks
+    (tasks : List (TaskDeclaration VariableName TaskName FunctionName)) (plans : List TaskPlanValue)
+    (address : ℕ) (i at : ℕ) (layouts : List TaskPlace) → i ≡ length tasks
     → TasksBelow known shared places tasks plans address i at layouts → ArePlacedTasks known shared places (map task_of tasks) plans address layouts
 all_tasks known shared places tasks plans address i at layouts e h = record {
   count = h.count ∙ e ∙ sym (length-map tasks task_of);

@@ -5,4 +5,5 @@ use Rattle.function_locals.specs.Events.{tasks_fit}
 use Rattle.function_locals.proofs.events.tasks_fit.Given as goal
 
 abbrev pub invariant-loop-task : goal.invariant-loop-task
-invariant-loop-task l = tasks_fit (known_of l.functions) l.locals (map task_of (drop l.task-index l.tasks)) ≡ tasks_fit (known_of l.functions) l.locals (map task_of l.tasks)
+invariant-loop-task l =
+    tasks_fit (known_of l.functions) l.locals (map task_of (drop l.task-index l.tasks)) ≡ tasks_fit (known_of l.functions) l.locals (map task_of l.tasks)
