@@ -1,5 +1,5 @@
 -- A layout doesn't look at what 64 bits don't keep of functions.
-use Rattle.std.proofs.Common.{◌≡◌, ℕ, zero, suc, ◌+◌, ◌*◌, ◌≤◌, List, [], ◌∷◌, length, get_or, refl, sym, ap, ◌∙◌, subst, arith, Some, None}
+use Rattle.std.proofs.Common.{◌≡◌, ℕ, zero, suc, ◌+◌, ◌*◌, ◌≤◌, List, [], ◌∷◌, length, get_or, refl, sym, ap, ◌∙◌, map, subst, arith, Some, None}
 use Rattle.std.specs.Prelude.{slice_get, All}
 use Rattle.std.proofs.lemmas.Option.{same_Some}
 use Rattle.std.proofs.lemmas.List.Elements.{All-nil, All-cons, All-head, All-tail}
@@ -9,16 +9,27 @@ use Rattle.cost_bound.specs.Table.{capped}
 use Rattle.cost_bound.specs.Summary.{Summary}
 use Rattle.cost_bound.specs.Counts.{CheckedBlock, routine_words}
 use Rattle.cost_bound.specs.Frames.{stack_of}
-use Rattle.cost_bound.specs.Machine.{AreSame}
-use Rattle.cost_bound.specs.Allowance.{CheckedTask, greatest, own_words, total}
-use Rattle.cost_bound.proofs.Interface.{own_same, routines_same, scalars_same, stack_same, total_same}
+use Rattle.cost_bound.specs.Machine.{known_of, AreSame}
+use Rattle.cost_bound.specs.Summaries.{function_summary, summaries}
+use Rattle.cost_bound.specs.Allowance.{CheckedProgram, CheckedTask, greatest, own_words, stack_words, total}
+use Rattle.cost_bound.proofs.Interface.{known_length, own_same, routines_same, scalars_same, stack_same, total_same}
 use Rattle.function_locals.specs.declared.locals.FunctionLocals.{FunctionLocals}
+use Rattle.function_locals.specs.Locals.{function_locals, all_locals}
+use Rattle.task_ast.proofs.Interface.{answers_length}
+use Rattle.task_ast.specs.View.{task_of}
+use Rattle.task_ast.specs.declared.TaskDeclaration.{TaskDeclaration}
+use Rattle.task_ast.specs.declared.names.VariableName.{VariableName}
+use Rattle.task_ast.specs.declared.names.TaskName.{TaskName}
+use Rattle.task_ast.specs.declared.names.FunctionName.{FunctionName}
+use Rattle.memory_map.specs.address_space.Limits.{program_end}
+use Rattle.privatise.specs.View.{functions_in}
+use Rattle.privatise.specs.declared.routines.Functions.{Functions}
 use Rattle.war_analysis.specs.PlanValue.{TaskPlanValue}
 use Rattle.memory_map.specs.declared.place.VariablePlace.{VariablePlace}
 use Rattle.memory_map.specs.MemoryMap.{TaskPlace}
 use Rattle.memory_map.specs.Places.{AreInOrder, code_regions, end_of}
 use Rattle.privatise.specs.Sizes.{body_words, boot_words, entry_words, own_boot_words}
-use Rattle.privatise.specs.Routines.{KnownFunctions, task_routines}
+use Rattle.privatise.specs.Routines.{KnownFunctions, known_functions}
 use Rattle.privatise.specs.Layouts.{IsTaskLayout}
 use Rattle.privatise.specs.Placing.{ArePlacedTasks}
 use Rattle.privatise.proofs.Routines.{task_same}
@@ -93,3 +104,42 @@ module _ (as' bs : List Summary) (ls : List FunctionLocals) (few : length as' �
     privates = h.privates;
     code = subst (λ n. AreInOrder address (flat_map code_regions layouts) (address + 2 * n)) (total_exact ts small) h.code;
   }
+
+  pub total_room : (ts : List CheckedTask) (at : ℕ) → total (body_words bs shared) ts ≤ 22000 → at + 2 * total (body_words bs shared) ts ≤ program_end
+      → at + 2 * total (body_words as' shared) ts ≤ program_end
+  total_room ts at small room = let e = total_exact ts small in omega (arith, e, room)
+
+-- ---- of a source
+
+-- what the layouts of tasks are made of
+pub record TaskSources : Type 0 where
+  pub shared : List SharedDeclaration
+  pub places : List VariablePlace
+  pub tasks : List (TaskDeclaration VariableName TaskName FunctionName)
+  pub plans : List TaskPlanValue
+
+module _ (fs : Functions) (p : CheckedProgram) (few : length (known_of fs.summaries.now) ≤ 64) (same : AreSame (known_of fs.summaries.now) (summaries p))
+    (locals : fs.locals.now ≡ all_locals p.functions) (low : length p.shared ≤ 256) (small : total (body_words (summaries p) p.shared) p.tasks ≤ 22000)
+    (stack : stack_words p ≤ 1000) where
+  -- tasks that are placed by what is kept of functions are placed by what is known of the source's
+  pub moved_tasks : (a b : TaskSources) (address : ℕ) (layouts : List TaskPlace) → a ≡ b → b.shared ≡ p.shared → map task_of b.tasks ≡ p.tasks
+      → ArePlacedTasks (functions_in fs) a.shared a.places (map task_of a.tasks) a.plans address layouts
+      → ArePlacedTasks (known_functions p) p.shared b.places p.tasks b.plans address layouts
+  moved_tasks a b address layouts e shared tasks h =
+      let there = subst (λ (x : TaskSources). ArePlacedTasks (functions_in fs) x.shared x.places (map task_of x.tasks) x.plans address layouts) e h in
+      let here = subst (λ ts. ArePlacedTasks (functions_in fs) p.shared b.places ts b.plans address layouts) tasks
+      (subst (λ ds. ArePlacedTasks (functions_in fs) ds b.places (map task_of b.tasks) b.plans address layouts) shared there) in
+      subst (λ ls. ArePlacedTasks (record { summaries = summaries p; locals = ls }) p.shared b.places p.tasks b.plans address layouts) locals
+      (placed_same (known_of fs.summaries.now) (summaries p) fs.locals.now few same p.shared low b.places p.tasks b.plans address layouts small
+      (greatest_all (stack_of (summaries p)) 1000 p.tasks stack) here)
+
+-- as many functions have locals as are kept
+pub locals_count : (p : CheckedProgram) (fs : Functions) → AreSame (known_of fs.summaries.now) (summaries p) → fs.locals.now ≡ all_locals p.functions
+    → length fs.locals.now ≡ length fs.summaries.now
+locals_count p fs same locals =
+    let n = answers_length function_locals [] p.functions in
+    let m = answers_length function_summary [] p.functions in
+    let kept = known_length fs.summaries.now in
+    let count = same.count in
+    let many = ap length locals in
+    omega (arith, n, m, kept, count, many)

@@ -33,7 +33,7 @@ use Rattle.memory_map.specs.declared.runtime.Runtime.{Runtime}
 use Rattle.memory_map.specs.MemoryMap.{TaskPlace, parts, row_region}
 use Rattle.memory_map.specs.View.{map_with}
 use Rattle.memory_map.specs.Places.{end_of, list_entry_room, home_region, copy_regions, version_regions, code_regions, IsBehind, AreInOrder, IsLaidOut}
-use Rattle.privatise.specs.Routines.{KnownFunctions, known_functions}
+use Rattle.privatise.specs.Routines.{known_functions}
 use Rattle.privatise.specs.Sizes.{home_words, copy_part, copy_words, body_words, boot_words, commit_words}
 use Rattle.memory_map.specs.declared.runtime.Logging.TheVariants.{Redo}
 use Rattle.privatise.specs.Layouts.{IsPlaceOf, AreVariables, IsLayout, runtime_for}
@@ -304,20 +304,6 @@ code_room_by a t n rest e f h = omega (arith, e, f, h)
 pub code_room : (p : CheckedProgram) (allow : Allow) (s : Sizes) (r : Regions) → IsAllowed p allow → AreSizes p s → AreRegions allow s r
     → r.code.address + 2 * total (body_words (summaries p) p.shared) p.tasks ≤ program_end
 code_room p allow s r a k g = code_room_by r.code.address _ s.code _ (starts allow s r g).code (sym k.code) (sizes_fit p allow s a k)
-
--- what the layouts of tasks are made of
-pub record TaskSources : Type 0 where
-  pub known : KnownFunctions
-  pub shared : List SharedDeclaration
-  pub places : List VariablePlace
-  pub tasks : List (TaskDeclaration VariableName TaskName FunctionName)
-  pub plans : List TaskPlanValue
-
--- the same of equal lists
-pub tasks_moved : (a b : TaskSources) (address : ℕ) (layouts : List TaskPlace) → a ≡ b
-    → ArePlacedTasks a.known a.shared a.places (map task_of a.tasks) a.plans address layouts
-    → ArePlacedTasks b.known b.shared b.places (map task_of b.tasks) b.plans address layouts
-tasks_moved a b address layouts e h = subst (λ x. ArePlacedTasks x.known x.shared x.places (map task_of x.tasks) x.plans address layouts) e h
 
 -- ---- the whole
 
