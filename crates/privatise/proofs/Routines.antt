@@ -91,6 +91,14 @@ module _ (stack : ℕ) (marks : ℕ → Bool) (address : ℕ) (fs : List Functio
       low = (let l = h.low in omega (arith, l, at_end));
     }
 
+    -- whichever it is
+    pub next_placed : (b : Bool) → marks k ≡ b → (more : List RoutinePlace) (later : ℕ)
+        → later ≡ (if b then at + 2 * routine_room (summary_of f) else at)
+        → more ≡ (if b then routines ++ routine_at stack k at (summary_of f) l ∷ [] else routines) → Placed (k + 1) later more
+    next_placed true e more later at_end is = one_placed more later e at_end is
+    next_placed false e more later at_end is =
+        subst (λ n. Placed (k + 1) n more) (sym at_end) (subst (λ rs. Placed (k + 1) at rs) (sym is) (passed_over e))
+
   pub all_placed : (k at : ℕ) (routines : List RoutinePlace) → drop k fs ≡ [] → Placed k at routines
       → routines ≡ routines_from stack marks 0 address (known_of fs) ls
   all_placed k at routines past h =
