@@ -63,7 +63,8 @@ place_tasks-requires-clause-small c =
     let known = known_of c.args.functions.summaries.now in
     let count = known_length c.args.functions.summaries.now in
     rw (c.as_slice-shared.ensures.value, c.as_slice-tasks.ensures.value)
-    (total_small known (summaries p) c.args.functions.locals.now (omega (arith, count, c.requires.few_functions)) c.requires.same p.shared c.requires.few p.tasks
+    (total_small known (summaries p) c.args.functions.locals.now (omega (arith, count, c.requires.few_functions)) c.requires.same p.shared c.requires.few
+    p.tasks
     (code_small p c.args.allow.now c.sizes_of.result c.requires.allowed c.sizes_of.ensures))
 
 pub place_tasks-requires-clause-room : goal.place_tasks-requires-clause-room
