@@ -7,9 +7,7 @@ use Rattle.word_code.specs.array_versions.Program.{Program}
 use Rattle.boot_runtime.specs.memory_map.MemoryMap.{MemoryMap, TaskPlace}
 use Rattle.boot_runtime.specs.memory_map.Places.{end_of}
 use Rattle.boot_runtime.specs.runtime_code.Addresses.{stack_origin}
-use Rattle.word_code.specs.array_versions.Form.{locals_of}
-use Rattle.word_code.specs.Code.{stack_base}
-use Rattle.word_code.specs.TaskForms.{EachForm, NamesRamFrom}
+use Rattle.word_code.specs.TaskForms.{EachForm, NamesRamFrom, named_from}
 use Rattle.linked_code.specs.Parts.{CodePart}
 use Rattle.linked_code.specs.Linked.{linked, linked_code, boot_part, commit_part, task_part, CodeFits}
 
@@ -39,12 +37,12 @@ abbrev pub LinkedStands : Type 0
 LinkedStands = (l : MemoryMap) (programs : List Program) → CodeFits l programs → PartsStand l programs (linked_code l programs)
 
 -- No part of the code names a word of RAM below where its stack begins: boot and commit, which have none, name no word of RAM at all, and the code of a
--- task none below its locals. A word of RAM that is read else is at SP
+-- task none below its locals and the frames of what it calls. A word of RAM that is read else is at SP
 pub record PartsKeepAbove (l : MemoryMap) (programs : List Program) : Type 0 where
   pub boot : EachForm (NamesRamFrom (stack_origin l.runtime.events)) (boot_part l).forms
   pub commit : EachForm (NamesRamFrom (stack_origin l.runtime.events)) (commit_part l).forms
   pub tasks : (k : ℕ) (t : TaskPlace) (p : Program) → slice_get l.tasks k ≡ Some t → slice_get programs k ≡ Some p
-      → EachForm (NamesRamFrom (stack_base (locals_of p))) (task_part l.runtime.events t p).forms
+      → EachForm (NamesRamFrom (named_from p)) (task_part l.runtime.events t p).forms
 
 -- so it is of any programs, wherever they stand
 abbrev pub LinkedKeepsAbove : Type 0
