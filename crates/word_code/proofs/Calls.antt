@@ -408,9 +408,11 @@ module _ (z : Setting) where
       let high = back.high in let parity = z.even in let roomy = z.roomy.fits in
       let sp : t.sp ≡ z.top = omega (arith, i.memory.depth, ap (length {A = ℕ}) none) in
       let word : t.ram t.sp ≡ z.entered.ram z.top = ap t.ram sp ∙ i.memory.keeps.ram_words z.top (omega arith) back.outside in
-      hop z Return 3 t (record t { pc = t.ram t.sp; sp = t.sp + 2 }) [] 3 (HasReturned z v w) (ap z.code.at i.at ∙ h.0)
-      (record { even = omega (arith, sp); low = omega (arith, sp); high = omega (arith, sp) }, λ k. (let start = back.start k in omega (arith, sp, start)),
-      ap (λ a. a % 2) word ∙ back.even) refl (omega arith)
+      hop z Return 3 t (record t { pc = t.ram t.sp; sp = t.sp + 2 }) [] 3 (HasReturned z v w) (ap z.code.at i.at ∙ h.0) (
+        record { even = omega (arith, sp); low = omega (arith, sp); high = omega (arith, sp) },
+        λ k. (let start = back.start k in omega (arith, sp, start)),
+        ap (λ a. a % 2) word ∙ back.even,
+      ) refl (omega arith)
       (record { pc = word; sp = ap (λ n. n + 2) sp; result = k.held; fram = i.fram; inputs = i.inputs; keeps = i.memory.keeps })
 
   -- where nothing waits below the top

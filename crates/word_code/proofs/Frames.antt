@@ -244,9 +244,10 @@ module _ (z : Setting) where
         → ((a : ℕ) → f ≤ a → ram' a ≡ ram a) → HaveWords first words regs ram → HaveWords first words regs ram'
     have_same [] regs ram ram' owns same h = tt
     have_same (v ∷ words) regs ram ram' owns same h =
-        let m = first + length words in
-        (same_local regs regs ram ram' m (λ l. refl) (λ l. same (local_address m) (address_from m l (owns (length words) (omega arith)))) ∙ h.0,
-        have_same words regs ram ram' (λ j l. owns j (omega (arith, l))) same h.1)
+        let m = first + length words in (
+          same_local regs regs ram ram' m (λ l. refl) (λ l. same (local_address m) (address_from m l (owns (length words) (omega arith)))) ∙ h.0,
+          have_same words regs ram ram' (λ j l. owns j (omega (arith, l))) same h.1,
+        )
       where
         address_from : (n : ℕ) → 8 ≤ n → IsOwn x.own x.end f z.low n → f ≤ local_address n
         address_from n l (inl at) =
@@ -301,9 +302,11 @@ module _ (z : Setting) where
         let from : q.pc ≡ pc + 6 = r.pc ∙ back ∙ omega (arith, at1) in
         let q' : Core = record q { pc = q.pc + 2; sp = q.ram q.sp } in
         hop z RestoreStack 2 q q' [] 2 (Describes z (waiting.R4 ∷ []) (pc + 8) (record v' { stack = v ∷ w.stack; locals = w.locals }))
-        (ap z.code.at from ∙ h.1.1.0)
-        (record { even = omega (arith, there, sp); low = omega (arith, there, sp); high = omega (arith, there, sp) },
-        λ k. absurd (let light = z.light k in let framed = x.fits.0 in (cc)), ap (λ n. n % 2) word ∙ even_behind) refl (omega arith)
+        (ap z.code.at from ∙ h.1.1.0) (
+          record { even = omega (arith, there, sp); low = omega (arith, there, sp); high = omega (arith, there, sp) },
+          λ k. absurd (let light = z.light k in let framed = x.fits.0 in (cc)),
+          ap (λ n. n % 2) word ∙ even_behind,
+        ) refl (omega arith)
         (record {
           rest = w.stack;
           is = record {

@@ -258,9 +258,10 @@ module _ (z : Setting) where
   set_ram sp n v ram words vs ls e own m =
       let d = m.depth in
       let low = at.top in
-      assign sp n v ram (put ram (local_address n) v) words words vs ls m
-      (stack_below ram (local_address n) v sp vs (omega arith) m.stack,
-      record { ram_words = λ a t out. other a out ∙ m.keeps.ram_words a t out; registers = m.keeps.registers })
+      assign sp n v ram (put ram (local_address n) v) words words vs ls m (
+        stack_below ram (local_address n) v sp vs (omega arith) m.stack,
+        record { ram_words = λ a t out. other a out ∙ m.keeps.ram_words a t out; registers = m.keeps.registers },
+      )
       (λ k. by (nat_lt k 8) k refl)
     where
       at : InRam n
