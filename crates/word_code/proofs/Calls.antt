@@ -1,23 +1,23 @@
 -- Calls: values come to where the function that is called has its first locals, its code runs in a setting of its own, and behind its return the
 -- caller goes on.
-use Rattle.word_code.proofs.Names.{◌≡◌, ℕ, zero, suc, ◌+◌, ◌-◌, ◌*◌, ◌%◌, ◌<◌, ◌≤◌, Bool, true, false, nat_lt, nat_eq, if◌then◌else◌, List, [], ◌∷◌, ◌++◌}
+use Rattle.word_code.proofs.Names.{◌≡◌, ℕ, zero, suc, ◌+◌, ◌-◌, ◌*◌, ◌%◌, ◌<◌, ◌≤◌, Bool, true, false, nat_eq, if◌then◌else◌, List, [], ◌∷◌, ◌++◌}
 use Rattle.word_code.proofs.Names.{length, get_or, Option, Some, None, refl, sym, ap, ◌∙◌, subst, arith, inl, inr, same_Some, eq-eqb, ne_eqb, eqb-true, lt-ltb}
-use Rattle.word_code.proofs.Names.{append-nil, AllByRecursion, Effect, put, put_same, put_other, Goes, cycles_of, work_number, Core, Source, source_bytes}
-use Rattle.word_code.proofs.Names.{source_value, source_read, R4, Register, ToRegister, ToRam, Form, Move, Push, SetStack, Call, Return, KeepStack, RestoreStack}
-use Rattle.word_code.proofs.Names.{StackNext, instruction_of, form_bytes, Stands, forms_bytes, Runs, IsRam, HasPushRoom, stack_top, stack_start}
-use Rattle.word_code.proofs.Names.{WordState, Behaviour, End, GoesOn, Jumps, Gives, Short, Strays, Broken, with_stack, with_top, behaves, called, parameter_words}
+use Rattle.word_code.proofs.Names.{append-nil, Effect, put, put_same, put_other, Goes, cycles_of, work_number, Core, source_bytes}
+use Rattle.word_code.proofs.Names.{source_value, source_read, R4, ToRegister, Move, Call, Return}
+use Rattle.word_code.proofs.Names.{instruction_of, form_bytes, Stands, forms_bytes, Runs, stack_start}
+use Rattle.word_code.proofs.Names.{WordState, Behaviour, End, Gives, Short, with_stack, with_top, behaves, called, parameter_words}
 use Rattle.word_code.proofs.Names.{called_behind, with_words, words_spent, Program, IsCalled, IsFormed, IsOwn, frame_begin, entry_place, Matches, matches_local}
-use Rattle.word_code.proofs.Names.{start_matches, stack_words, local_words as state_local, Waiting, top_of, below_top, source_from, any_held, flushed}
-use Rattle.word_code.proofs.Names.{four_from, local_register, local_address, local_target, below_words, values_code, light_call, frame_code, framed_call}
+use Rattle.word_code.proofs.Names.{start_matches, local_words as state_local, Waiting, top_of, below_top, source_from, any_held, flushed}
+use Rattle.word_code.proofs.Names.{four_from, local_register, local_address, below_words, values_code, light_call}
 use Rattle.word_code.proofs.Names.{give_code, stands_front, stands_back, length-append, Starves}
 use Rattle.array_versions.specs.Laws.{IsStateOfWords}
 use Rattle.word_code.specs.declared.waiting.Waiting.TheVariants as waiting
-use Rattle.word_code.proofs.Stretches.{Setting, bounds_of, IsReturn, two_parts, hop, runs_on, so_runs, nothing_run, dearer, dearer_stall}
-use Rattle.word_code.proofs.Memory.{AreWords, local_words, local_word, register_at, register_put, in_register, in_ram, below_eight, from_eight, StackIs}
-use Rattle.word_code.proofs.Memory.{stack_upper, address_same, Owns, Memory, memory_after, drop_memory, push_needs}
-use Rattle.word_code.proofs.Follows.{StandsFor, FollowsEnd, Reaches, reach_more, then_reach, HasReturned, Pays}
-use Rattle.word_code.proofs.Operands.{Describes, Waits, Top, AreThese, waiting_words, words_same, owed, load_cycles, load_price, load_owed, bare, describes_on}
-use Rattle.word_code.proofs.Operands.{flush_under, flush_part, take_part, four_part, waiting_length}
+use Rattle.word_code.proofs.Stretches.{Setting, bounds_of, two_parts, hop, runs_on, so_runs, nothing_run, dearer, dearer_stall}
+use Rattle.word_code.proofs.Memory.{AreWords, local_words, local_word, register_at, register_put}
+use Rattle.word_code.proofs.Memory.{Memory, memory_after, push_needs}
+use Rattle.word_code.proofs.Follows.{StandsFor, FollowsEnd, Reaches, reach_more, then_reach, HasReturned}
+use Rattle.word_code.proofs.Operands.{Describes, Waits, waiting_words, words_same, owed, load_cycles, load_price, load_owed, bare, describes_on}
+use Rattle.word_code.proofs.Operands.{flush_under, take_part, four_part}
 use Rattle.word_code.proofs.Registers.{With, HasWord}
 use Rattle.word_code.proofs.Results.{Does, does_behind}
 

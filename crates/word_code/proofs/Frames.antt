@@ -1,15 +1,15 @@
 -- Calls of functions with locals in RAM: the values are pushed, SP is set below those locals, and the values are moved there.
-use Rattle.word_code.proofs.Names.{◌≡◌, ℕ, zero, suc, ◌+◌, ◌-◌, ◌*◌, ◌%◌, ◌<◌, ◌≤◌, Bool, true, false, nat_lt, nat_eq, if◌then◌else◌, List, [], ◌∷◌, ◌++◌}
-use Rattle.word_code.proofs.Names.{length, get_or, Option, Some, refl, sym, ap, ◌∙◌, subst, arith, inl, inr, eq-eqb, ne_eqb, put, put_same, put_other, cycles_of}
-use Rattle.word_code.proofs.Names.{work_number, Core, R4, Register, ToRegister, ToRam, Form, Move, Push, SetStack, Call, KeepStack, RestoreStack, StackNext}
-use Rattle.word_code.proofs.Names.{instruction_of, form_bytes, Stands, forms_bytes, Runs, IsRam, HasPushRoom, stack_top, stands_front, stands_back, forms_bytes-append}
+use Rattle.word_code.proofs.Names.{◌≡◌, ℕ, ◌+◌, ◌-◌, ◌*◌, ◌%◌, ◌<◌, ◌≤◌, Bool, true, false, nat_lt, if◌then◌else◌, List, [], ◌∷◌, ◌++◌}
+use Rattle.word_code.proofs.Names.{length, get_or, Some, refl, sym, ap, ◌∙◌, subst, arith, inl, inr, eq-eqb, ne_eqb, put, put_same, put_other, cycles_of}
+use Rattle.word_code.proofs.Names.{work_number, Core, R4, Register, ToRegister, ToRam, Move, Push, SetStack, Call, KeepStack, RestoreStack, StackNext}
+use Rattle.word_code.proofs.Names.{instruction_of, form_bytes, Stands, forms_bytes, Runs, IsRam, stands_front, stands_back, forms_bytes-append}
 use Rattle.word_code.proofs.Names.{WordState, Behaviour, with_stack, called_behind, called, Program, IsCalled, IsFormed, IsOwn, Waiting, flushed, length-append}
 use Rattle.word_code.proofs.Names.{local_register, local_address, local_target, frame_code, framed_call}
 use Rattle.word_code.specs.declared.waiting.Waiting.TheVariants as waiting
-use Rattle.word_code.proofs.Stretches.{Setting, bounds_of, hop, runs_on, so_runs, nothing_run, dearer}
+use Rattle.word_code.proofs.Stretches.{Setting, bounds_of, hop, runs_on, so_runs, nothing_run}
 use Rattle.word_code.proofs.Memory.{local_words, local_word, register_at, register_put, below_eight, from_eight, StackIs, stack_same, stack_upper, address_same}
 use Rattle.word_code.proofs.Memory.{Memory, drop_memory}
-use Rattle.word_code.proofs.Follows.{StandsFor, FollowsEnd, Reaches, reach_more, then_reach, HasReturned}
+use Rattle.word_code.proofs.Follows.{StandsFor, FollowsEnd, Reaches, reach_more, then_reach}
 use Rattle.word_code.proofs.Operands.{Describes, owed, flush_part}
 use Rattle.word_code.proofs.Results.{Does, does_behind}
 use Rattle.word_code.proofs.Calls.{Popped, HaveWords, register_word, Enters, callee, begins, resumes, call_ends, stays_above}
