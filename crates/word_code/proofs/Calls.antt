@@ -224,7 +224,7 @@ module _ (z : Setting) where
       gives = true;
       entered = t;
       ordered = x.ordered;
-      few = let r = x.registers in let o = z.ordered in let f = z.few in omega (arith, r);
+      few = let r : x.end ≤ z.own = x.registers in let o = z.ordered in let f = z.few in omega (arith, r);
       even = e.even;
       high = let h = e.high in let i = z.high in omega (arith, h);
       start = λ k. let s = callee_start top e.high k in omega (arith, s);
@@ -249,11 +249,12 @@ module _ (z : Setting) where
       pub begins : (entry : ℕ) (words : List ℕ) (w : WordState) → t.pc ≡ entry → t.sp ≡ top → t.fram ≡ w.fram → t.inputs ≡ w.inputs
           → HaveWords first words (local_words t.work) t.ram → StandsFor inner entry (called first words w) t
       begins entry words w at sp fram inputs have =
+          let depth : t.sp + 2 * 0 ≡ top = omega (arith, sp) in
           record {
             at = at;
             memory =
                 record {
-                  depth = omega (arith, sp);
+                  depth = depth;
                   fits = omega arith;
                   stack = tt;
                   vars = λ n v own q. params_are first words (local_words t.work) t.ram n v have q;
@@ -269,10 +270,13 @@ module _ (z : Setting) where
           → ((n : ℕ) → z.own ≤ n → n < 8 → get_or (local_words t.work) n 0 ≡ get_or regs n 0)
           → HasReturned inner v s q → Memory z sp q.ram (local_words q.work) vs w.locals
       resumes sp v s w regs ram vs q high low m same h =
-          let r = x.registers in
+          let r : x.end ≤ z.own = x.registers in
+          let from_top : (a : ℕ) → sp ≤ a → top ≤ a = λ a from. omega (arith, from, high) in
+          let from_low : (a : ℕ) → sp ≤ a → z.low ≤ a = λ a from. omega (arith, from, low) in
+          let from_end : (n : ℕ) → z.own ≤ n → x.end ≤ n = λ n own. omega (arith, own, r) in
           memory_after z sp ram q.ram regs (local_words q.work) vs w.locals
-          (λ a from. h.keeps.ram_words a (omega arith) (λ k. omega (arith, from)) ∙ m.1 a from)
-          (λ n own few. h.keeps.registers n (omega (arith, own)) few ∙ same n own few) m.0
+          (λ a from. h.keeps.ram_words a (from_top a from) (λ k. from_low a from) ∙ m.1 a from)
+          (λ n own few. h.keeps.registers n (from_end n own) few ∙ same n own few) m.0
 
       -- behind its code, by how its body ends: so many cycles are spent behind its return
       pub call_ends : (last most behind end : ℕ) (s : WordState) (es : List Effect) (b : End) → FollowsEnd inner last most t es b
@@ -335,7 +339,8 @@ module _ (z : Setting) where
         let sp = u.sp in
         let top = sp - 2 in
         let t : Core = record u { pc = entry; sp = sp - 2; ram = put u.ram (sp - 2) (u.pc + 4) } in
-        let depth = m.depth in let deep = z.deep in let roomy = z.roomy.fits in let parity = z.even in let fits = x.fits in
+        let depth = m.depth in let deep = z.deep in let roomy = z.roomy.fits in let parity = z.even in
+        let fits : x.lowest + 2 * (x.room + 1) ≤ z.low = x.fits in
         let above = stays_above m in
         let at = (z.tidy pc _ h.0).even in
         let back : t.ram top ≡ u.pc + 4 = put_same u.ram (sp - 2) (u.pc + 4) in
@@ -343,12 +348,12 @@ module _ (z : Setting) where
         let e : Enters None first count body x top t = record {
           even = omega arith;
           high = omega arith;
-          above = λ l. omega (arith, l);
+          above = λ l. absurd (let less : z.low < z.low = l in omega arith);
           outside = λ l. l;
           deep = omega (arith, fits);
           back = ap (λ a. a % 2) back ∙ omega (arith, at, i.at);
         } in
-        let registers = x.registers in let ordered = z.ordered in let most = z.few in
+        let registers : x.end ≤ z.own = x.registers in let ordered = z.ordered in let most = z.few in
         let small : (j : ℕ) → j < length words → first + j < 8 =
         λ j l. let own = light_param x.own x.end z.low (first + j) (x.parameters j (omega (arith, l, few))) in omega (arith, own) in
         let have = registers_have first words (local_words t.work) t.ram small k.have in
@@ -370,14 +375,15 @@ module _ (z : Setting) where
           };
           stack = ap (λ y. y ∷ w.stack) (sym r.result);
           there = (tt, tt);
-          fits = room;
+          fits = omega (arith, room);
         })) in
         reach_more z 3 after (5 + (cost + (0 + 3))) (8 + cost) u all.effects all.end (omega arith)
         (then_reach z 3 after 5 (cost + (0 + 3)) u (λ q. q ≡ t) [] all.effects all.end hopped
         (λ q same. subst (λ y. Reaches z 3 after (cost + (0 + 3)) y all.effects all.end) (sym same) reached))
 
     light_own : (j : ℕ) → j < count → first + j < z.own
-    light_own j l = let own = light_param x.own x.end z.low (first + j) (x.parameters j l) in let r = x.registers in omega (arith, own, r)
+    light_own j l = let own = light_param x.own x.end z.low (first + j) (x.parameters j l) in
+        let r : x.end ≤ z.own = x.registers in omega (arith, own, r)
 
     -- with the values in front of it
     pub light_reaches : (entry last cost pc : ℕ) (os : List Waiting) (w : WordState) (b : Behaviour) (u : Core) (p : Popped count w.stack) → entry % 2 ≡ 0
