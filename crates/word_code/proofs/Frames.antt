@@ -2,7 +2,7 @@
 use Rattle.word_code.proofs.Names.{◌≡◌, ℕ, ◌+◌, ◌-◌, ◌*◌, ◌%◌, ◌<◌, ◌≤◌, Bool, true, false, nat_lt, if◌then◌else◌, List, [], ◌∷◌, ◌++◌}
 use Rattle.word_code.proofs.Names.{length, get_or, Some, refl, sym, ap, ◌∙◌, subst, arith, inl, inr, eq-eqb, ne_eqb, put, put_same, put_other}
 use Rattle.word_code.proofs.Names.{work_number, Core, R4, Register, ToRegister, ToRam, Move, Push, SetStack, Call, KeepStack, RestoreStack, StackNext}
-use Rattle.word_code.proofs.Names.{instruction_of, form_bytes, Stands, forms_bytes, Runs, IsRam, stands_front, stands_back, forms_bytes-append}
+use Rattle.word_code.proofs.Names.{form_bytes, Stands, forms_bytes, Runs, IsRam, stands_front, stands_back, forms_bytes-append}
 use Rattle.word_code.proofs.Names.{WordState, Behaviour, with_stack, called_behind, called, Program, IsCalled, IsFormed, IsOwn, Waiting, flushed, length-append}
 use Rattle.word_code.proofs.Names.{local_register, local_address, local_target, frame_code, framed_call}
 use Rattle.word_code.specs.declared.waiting.Waiting.TheVariants as waiting
