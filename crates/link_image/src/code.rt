@@ -54,6 +54,7 @@ fn push_part(words: &mut Vec<u16>, start: u16, at: u16, code: &[Form]) -> Result
 }
 
 // Adds the code of a task at its place, by whether there are events.
+#[tactic(auto, using(crate::proofs::Low::whole_low))]
 fn push_task(
     alloc: Global,
     events: bool,
