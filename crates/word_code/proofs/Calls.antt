@@ -324,7 +324,7 @@ module _ (z : Setting) where
 
   module _ (first count : ℕ) (body : Program) (x : IsCalled (λ inner. IsFormed inner true body) (bounds_of z) None first count body) where
     -- the code of a light function runs from its entry on
-    LightRuns : (entry last cost : ℕ) (words : List ℕ) (w : WordState) (b : Behaviour) → Type 0
+    abbrev pub LightRuns : (entry last cost : ℕ) (words : List ℕ) (w : WordState) (b : Behaviour) → Type 0
     LightRuns entry last cost words w b = (top : ℕ) (t : Core) (e : Enters None first count body x top t)
         → StandsFor (callee None first count body x top t e) entry (called first words w) t
         → FollowsEnd (callee None first count body x top t e) last cost t b.effects b.end

@@ -225,7 +225,7 @@ module _ (z : Setting) where
 
   module _ (f first count : ℕ) (body : Program) (x : IsCalled (λ inner. IsFormed inner true body) (bounds_of z) (Some f) first count body) where
     -- the code of the function runs from its entry on
-    FramedRuns : (entry last cost : ℕ) (words : List ℕ) (w : WordState) (b : Behaviour) → Type 0
+    abbrev pub FramedRuns : (entry last cost : ℕ) (words : List ℕ) (w : WordState) (b : Behaviour) → Type 0
     FramedRuns entry last cost words w b = (top : ℕ) (t : Core) (e : Enters z (Some f) first count body x top t)
         → StandsFor (callee z (Some f) first count body x top t e) entry (called first words w) t
         → FollowsEnd (callee z (Some f) first count body x top t e) last cost t b.effects b.end
