@@ -7,6 +7,8 @@ mod Facts
 mod Ways
 mod Views
 mod Kept
+mod Locals
+mod Filled
 mod Spent
 pub mod Interface
 pub use Rattle.machine_effects.proofs as machine_effects

@@ -85,7 +85,7 @@ pub record Answer (gives : Bool) (next : Place → Type 0) : Type 1 where
   pub leads : Leads gives fit next go
 
 -- the state in which a function begins that is called
-entry_matches : (first : ℕ) (ws : List ℕ) (s : WordState) → Matches (entry_place first (length ws)) (called first ws s)
+pub entry_matches : (first : ℕ) (ws : List ℕ) (s : WordState) → Matches (entry_place first (length ws)) (called first ws s)
 entry_matches first [] s = record { depth = refl; assigned = λ n e. absurd (let f = e in (cc)) }
 entry_matches first (w ∷ ws) s =
     let q = entry_place first (length ws) in

@@ -87,8 +87,8 @@ long_words with_longs.HighWord = 3
 abbrev pub entry_words : ℕ → ℕ
 entry_words words = if words == 1 then 16 else 17
 
--- the cycles of a call of so many values beside those of the function's body, with the push of its word: where the function has a frame the values are
--- pushed first, then moved there
+-- the cycles of a call of so many values beside those of the function's body, with the push of the word that it gives: where the function has a frame
+-- the values are pushed first, then moved there
 abbrev pub call_cycles : Option ℕ → ℕ → ℕ
 call_cycles None count = 8 + 2 * count
 call_cycles (Some f) count = 16 + 5 * count

@@ -191,6 +191,10 @@ pub record CallBounds : Type 0 where
   pub low : ℕ  -- its stack stays at or above this address, that of what it calls is below
   pub framed : Bool  -- whether what it calls may have locals in RAM
 
+-- those of a program that calls nothing
+abbrev pub no_calls : CallBounds
+no_calls = record { first = 0; low = 0; framed = false }
+
 -- where the locals of a function begin in RAM: those of a light one nowhere
 abbrev pub frame_begin : Option ℕ → ℕ → ℕ
 frame_begin None low = low
@@ -338,7 +342,8 @@ pub record FitsEvents (p : Program) (whole : IsWhole p) : Type 0 where
   pub lowest : whole.bounds.low + 2 * whole.room ≤ stack_start
   pub light : whole.bounds.framed ≡ false
 
--- a whole program whose stack has that room
+-- a whole program whose stack has that room, and that calls nothing
 pub record FitsTheStack (p : Program) : Type 0 where
   pub whole : IsWhole p
   pub fits : FitsEvents p whole
+  pub alone : IsFormed no_calls false p

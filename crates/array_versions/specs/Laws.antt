@@ -4,10 +4,26 @@ use Rattle.std.specs.List.{AllByRecursion}
 use Rattle.machine_effects.specs.fram_board.Effects.{Effect}
 use Rattle.machine_effects.specs.World.{fram_after, readings_taken}
 use Rattle.machine_effects.specs.Inputs.{Inputs, InputsAreWords, TakesExactly}
-use Rattle.array_versions.specs.Program.{Program, joined}
+use Rattle.array_versions.specs.Program.{Program, joined, filled}
 use Rattle.array_versions.specs.Behaviour.{WordState, started, End, GoesOn, Jumps, Gives, Short, Strays, Broken, behaviour, then_on}
-use Rattle.array_versions.specs.Form.{IsWhole, OfWords}
+use Rattle.array_versions.specs.Form.{IsWhole, OfWords, locals_of}
 use Rattle.array_versions.specs.Cost.{cycles_of, words_of, spent_on, spent}
+
+-- a program has as many words whatever the bodies are of the functions that it calls
+abbrev pub FilledWords : Type 0
+FilledWords = (bodies : ℕ → Program) (p : Program) → words_of (filled bodies p) ≡ words_of p
+
+-- and as many locals
+abbrev pub FilledLocals : Type 0
+FilledLocals = (bodies : ℕ → Program) (p : Program) → locals_of (filled bodies p) ≡ locals_of p
+
+-- with bodies of words it is of words
+abbrev pub FilledOfWords : Type 0
+FilledOfWords = (bodies : ℕ → Program) (p : Program) → ((entry : ℕ) → OfWords (bodies entry)) → OfWords p → OfWords (filled bodies p)
+
+-- two programs have their bodies each by itself
+abbrev pub FilledJoined : Type 0
+FilledJoined = (bodies : ℕ → Program) (p q : Program) → filled bodies (joined p q) ≡ joined (filled bodies p) (filled bodies q)
 
 -- a program behind another goes on where that one ends
 abbrev pub JoinedGoOn : Type 0

@@ -1,7 +1,7 @@
 //! Laws of word programs. The functions do nothing: their contracts are the laws.
 
 ghost use Rattle.array_versions.specs.Laws.{JoinedGoOn, JoinedCycles, JoinedWords, JoinedSpend, WaysKeepToCycles, BehavesByEffects, WholeEndsSoundly};
-ghost use Rattle.array_versions.specs.Laws.{WordsStayWords};
+ghost use Rattle.array_versions.specs.Laws.{WordsStayWords, FilledWords, FilledLocals, FilledOfWords, FilledJoined};
 ghost use Rattle.array_versions.specs.Allowance.{StepsKeepToCycles, StepsKeepToWords, TestsKeepToCycles, TestsKeepToWords};
 
 /// A program behind another does its steps behind the other's.
@@ -41,6 +41,20 @@ pub fn whole_programs_end_soundly()
 #[tactic(auto, using(crate::proofs::Facts::words_stay_words))]
 pub fn words_stay_words()
     ensures { WordsStayWords }
+{}
+
+/// The bodies of the functions that a program calls are no part of its words and its locals.
+#[tactic(auto, using(crate::proofs::Filled::filled_words, crate::proofs::Filled::filled_locals))]
+pub fn programs_are_filled()
+    ensures words { FilledWords }
+    ensures locals { FilledLocals }
+{}
+
+/// With bodies of words a program is of words; and two programs have theirs each by itself.
+#[tactic(auto, using(crate::proofs::Filled::filled_of_words, crate::proofs::Filled::filled_joined))]
+pub fn filled_programs_are_joined()
+    ensures of_words { FilledOfWords }
+    ensures joined { FilledJoined }
 {}
 
 /// Each step costs no more cycles and words than the allowance of a source has for what it is a part of.

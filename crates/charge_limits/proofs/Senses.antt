@@ -2,7 +2,7 @@
 use Rattle.std.proofs.Common.{◌≡◌, ℕ, ◌+◌, ◌-◌, ◌*◌, max, arith}
 use Rattle.array_versions.specs.Program.{Step, Test, Program}
 use Rattle.array_versions.specs.Program.{sense, truth}
-use Rattle.array_versions.specs.Program.{choose, repeat, holds, compares, both, either, fails, nothing, step, joined, behind}
+use Rattle.array_versions.specs.Program.{choose, repeat, call, holds, compares, both, either, fails, nothing, step, joined, behind}
 
 abbrev mutual
   pub step_senses : Step → ℕ
@@ -10,6 +10,7 @@ abbrev mutual
   step_senses (truth t) = test_senses t
   step_senses (choose t taken otherwise) = test_senses t + max (senses taken) (senses otherwise)
   step_senses (repeat n from below body) = (below - from) * senses body
+  step_senses (call entry frame first count body) = senses body
   step_senses _ = 0
 
   pub test_senses : Test → ℕ

@@ -13,8 +13,9 @@ use Rattle.array_versions.specs.Operations.{unary_word, plain_word, binary_word,
 use Rattle.array_versions.specs.Program.{Step, Test, Program, number, load, keep, update, local, set_local, update_local, unary, binary, shift, long, element}
 use Rattle.array_versions.specs.Program.{emit_word, list_entry, versioned_read, versioned_write, versioned_update, logged_write, logged_update, sense}
 use Rattle.array_versions.specs.Program.{next_event, freeze_events, truth, choose, repeat, store_number, move_word, jump, holds, compares, both, either, fails}
-use Rattle.array_versions.specs.Program.{nothing, step}
-use Rattle.array_versions.specs.Behaviour.{WordState, End, GoesOn, Jumps, Short, Strays, Broken, Behaviour, behaves, goes_on, behind_effects, on_end, then_on}
+use Rattle.array_versions.specs.Program.{nothing, step, call, give}
+use Rattle.array_versions.specs.Behaviour.{WordState, End, GoesOn, Jumps, Gives, Short, Strays, Broken, Behaviour, behaves, goes_on, behind_effects, on_end}
+use Rattle.array_versions.specs.Behaviour.{then_on, called, behind_call, called_behind}
 use Rattle.array_versions.specs.Behaviour.{is_place, at_place, with_top, with_two, with_words, with_stack, pushed, stored, with_local, local_pushed, strays}
 use Rattle.array_versions.specs.Behaviour.{local_updated, reading_pushed, raised, event_index, none_answered, word_answered, event_answered}
 use Rattle.array_versions.specs.Behaviour.{with_looks, event_pushed, word_stored, element_pushed, word_emitted, entry_stored, ends_before}
@@ -39,6 +40,7 @@ module _ (weight : ℕ) where
   end_takes : (n : ℕ) (e : End) (next : WordState → Behaviour) → ((s : WordState) → Takes n (next s)) → Takes n (on_end e next)
   end_takes n (GoesOn s) next f = f s
   end_takes n (Jumps to s) next f = omega arith
+  end_takes n (Gives v s) next f = omega arith
   end_takes n Short next f = omega arith
   end_takes n Strays next f = omega arith
   end_takes n Broken next f = omega arith
@@ -231,6 +233,21 @@ module _ (weight : ℕ) where
 
   -- ---- programs
 
+  -- nothing is taken behind the body of a function
+  behind_call_none : (s : WordState) (e : End) → None0 (behind_call s e)
+  behind_call_none s (Gives v t) = omega arith
+  behind_call_none s Short = omega arith
+  behind_call_none s Strays = omega arith
+  behind_call_none s (GoesOn t) = omega arith
+  behind_call_none s (Jumps to t) = omega arith
+  behind_call_none s Broken = omega arith
+
+  called_takes : (n : ℕ) (s : WordState) (b : Behaviour) → Takes n b → Takes n (called_behind s b)
+  called_takes n s b h =
+      let all = weighed-append weight b.effects (behind_call s b.end).effects in
+      let rest = behind_call_none s b.end in
+      omega (arith, all, h, rest)
+
   more_take : (n m : ℕ) (b : Behaviour) → n ≤ m → Takes n b → Takes m b
   more_take n m b l h = omega (arith, l, h)
 
@@ -286,6 +303,11 @@ module _ (weight : ℕ) where
     step_takes (store_number a w) s = word_none a w s
     step_takes (move_word from to) s = at_takes 0 from (word_stored to (s.fram from) s) (word_none to (s.fram from) s)
     step_takes (jump to) s = jumped_none to s
+    step_takes (call entry frame first count body) s =
+        words_take (senses body) count s.stack (λ words vs. called_behind (with_stack vs s) (behaviour body (called first words (with_stack vs s))))
+        (λ words vs. let t = with_stack vs s in
+        called_takes (senses body) t (behaviour body (called first words t)) (program_takes body (called first words t)))
+    step_takes give s = top_takes 0 s.stack (λ v vs. behaves [] (Gives v (with_stack vs s))) (λ v vs. omega arith)
 
     tested_takes : (t : Test) (n : ℕ) (held failed : WordState → Behaviour) → ((s : WordState) → Takes n (held s)) → ((s : WordState) → Takes n (failed s))
         → (s : WordState) → Takes (test_senses t + n) (tested t held failed s)

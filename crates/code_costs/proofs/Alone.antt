@@ -1,6 +1,6 @@
 -- Code by itself, in a setting of its own: what it comes to there, it comes to where it stands, within the cycles of its dearest path.
 use Rattle.code_costs.proofs.Names.{◌≡◌, ℕ, ◌+◌, ◌≤◌, List, arith, Effect, Core, Form, Stands, Runs, placed, instructions, WordState}
-use Rattle.code_costs.proofs.Names.{End, GoesOn, Jumps, Short, Waiting, Setting, so_runs, dearer, dearer_stall, StandsFor, Reaches}
+use Rattle.code_costs.proofs.Names.{End, GoesOn, Jumps, Gives, HasReturned, Short, Waiting, Setting, so_runs, dearer, dearer_stall, StandsFor, Reaches}
 use Rattle.code_costs.proofs.Names.{Describes, forward_most, runs_so, starves_so, stands_alone, tidy_alone}
 
 module _ (z : Setting) (pc : ℕ) (ms : List Form) (h : Stands z.code pc ms) where
@@ -13,7 +13,13 @@ module _ (z : Setting) (pc : ℕ) (ms : List Form) (h : Stands z.code pc ms) whe
   pub stands_in : (q : ℕ) (w : WordState) (u : Core) → StandsFor z q w u → StandsFor alone q w u
   stands_in q w u i = record {
     at = i.at;
-    memory = record { depth = i.memory.depth; fits = i.memory.fits; stack = i.memory.stack; vars = i.memory.vars };
+    memory = record {
+      depth = i.memory.depth;
+      fits = i.memory.fits;
+      stack = i.memory.stack;
+      vars = i.memory.vars;
+      keeps = record { ram_words = i.memory.keeps.ram_words; registers = i.memory.keeps.registers };
+    };
     fram = i.fram;
     inputs = i.inputs;
   }
@@ -21,9 +27,25 @@ module _ (z : Setting) (pc : ℕ) (ms : List Form) (h : Stands z.code pc ms) whe
   pub stands_out : (q : ℕ) (w : WordState) (u : Core) → StandsFor alone q w u → StandsFor z q w u
   stands_out q w u i = record {
     at = i.at;
-    memory = record { depth = i.memory.depth; fits = i.memory.fits; stack = i.memory.stack; vars = i.memory.vars };
+    memory = record {
+      depth = i.memory.depth;
+      fits = i.memory.fits;
+      stack = i.memory.stack;
+      vars = i.memory.vars;
+      keeps = record { ram_words = i.memory.keeps.ram_words; registers = i.memory.keeps.registers };
+    };
     fram = i.fram;
     inputs = i.inputs;
+  }
+
+  returned_out : (v : ℕ) (w : WordState) (u : Core) → HasReturned alone v w u → HasReturned z v w u
+  returned_out v w u r = record {
+    pc = r.pc;
+    sp = r.sp;
+    result = r.result;
+    fram = r.fram;
+    inputs = r.inputs;
+    keeps = record { ram_words = r.keeps.ram_words; registers = r.keeps.registers };
   }
 
   pub describes_in : (os : List Waiting) (q : ℕ) (w : WordState) (u : Core) → Describes z os q w u → Describes alone os q w u
@@ -45,6 +67,8 @@ module _ (z : Setting) (pc : ℕ) (ms : List Form) (h : Stands z.code pc ms) whe
       record { spent = forward_most ms bound; within = omega arith; runs = runs_there at (dearer alone (omega (arith, a.within, l)) a.runs) (f w) }
   reaches_there left next most bound u R Q es (Jumps to w) at l f a =
       dearer z {most = forward_most ms bound} (omega arith) (runs_there at (dearer alone l a) (λ t j. j))
+  reaches_there left next most bound u R Q es (Gives v w) at l f a =
+      dearer z {most = forward_most ms bound} (omega arith) (runs_there at (dearer alone l a) (returned_out v w))
   reaches_there left next most bound u R Q es Short at l f a =
       dearer_stall z es (forward_most ms bound) (forward_most ms bound + next) u (omega arith)
       (starves_so z.code pc ms u (record { tidy = z.tidy; stands = h; begins = at }) es bound (dearer_stall alone es most bound u l a))

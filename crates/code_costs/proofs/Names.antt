@@ -16,24 +16,25 @@ pub use Rattle.word_code.proofs.Interface.{raise_part, Bounded, Spared, spared_s
 pub use Rattle.word_code.proofs.Interface.{ready_on}
 pub use Rattle.word_code.proofs.Interface.{ready_with, ready_popped, turn_ready, Known, known_first, known_second, KnownStep, KnownTest, KnownProgram}
 pub use Rattle.word_code.proofs.Interface.{one_pushed}
-pub use Rattle.word_code.proofs.Interface.{zero_pushed, step_follows, begun, program_below, program_least}
+pub use Rattle.word_code.proofs.Interface.{zero_pushed, step_follows, begun, Owns, bounds_of, at_start, at_base, uncalled, uncalled_owns, HasReturned}
+pub use Rattle.word_code.proofs.Interface.{popped, callee, light_reaches, framed_reaches, give_part, call_room, call_ready}
 pub use Rattle.word_code.specs.array_versions.fram_board.Effects.{Effect}
 pub use Rattle.word_code.specs.code_forms.Forms.{Core, Form, Jump, Skip, Branch, form_bytes, instruction_of, R4}
 pub use Rattle.word_code.specs.code_forms.Code.{Stands, forms_bytes, IsTidy, Runs, Starves}
 pub use Rattle.word_code.specs.code_forms.Placed.{placed, instructions}
 pub use Rattle.word_code.specs.array_versions.Program.{Step, Test, Program, number, truth, choose, repeat, jump, holds, compares, both, either, fails}
-pub use Rattle.word_code.specs.array_versions.Program.{nothing, step, unary, binary, long}
+pub use Rattle.word_code.specs.array_versions.Program.{nothing, step, call, give, unary, binary, long}
 pub use Rattle.word_code.specs.array_versions.declared.operations.UnaryOperation.{UnaryOperation}
 pub use Rattle.word_code.specs.array_versions.declared.operations.UnaryOperation.TheVariants.{Negate, Complement}
 pub use Rattle.word_code.specs.array_versions.declared.operations.BinaryOperation.{BinaryOperation}
 pub use Rattle.word_code.specs.array_versions.declared.operations.BinaryOperation.TheVariants.{Multiply, Divide, Remainder, Plain}
 pub use Rattle.word_code.specs.array_versions.declared.operations.LongOperation.{LongOperation}
-pub use Rattle.word_code.specs.array_versions.Behaviour.{WordState, End, GoesOn, Jumps, Short, Strays, Broken, Behaviour, behind_effects, on_end, started}
-pub use Rattle.word_code.specs.array_versions.Behaviour.{turns}
+pub use Rattle.word_code.specs.array_versions.Behaviour.{WordState, End, GoesOn, Jumps, Gives, Short, Strays, Broken, Behaviour, behind_effects, on_end, started}
+pub use Rattle.word_code.specs.array_versions.Behaviour.{turns, called, called_behind}
 pub use Rattle.word_code.specs.array_versions.Behaviour.{step_behaviour, behaviour, then_on, tested, with_stack, with_local, with_top, with_two, way_by_top}
 pub use Rattle.word_code.specs.array_versions.Behaviour.{way_by_two, number_pushed, behaves, broken}
 pub use Rattle.word_code.specs.array_versions.Form.{Place, start, assigning, Moves, EachTurn, EachStepWay, EachTestWay, EachWay, StepSpares, TestSpares, Spares}
-pub use Rattle.word_code.specs.array_versions.Form.{IsWhole, FitsEvents, OfWords, LocalsBelow, locals_of}
+pub use Rattle.word_code.specs.array_versions.Form.{IsWhole, FitsEvents, OfWords, EachLocal, IsFormed, locals_of}
 pub use Rattle.word_code.specs.array_versions.Cost.{step_cycles, step_spent, unary_cycles, binary_cycles, long_cycles}
 pub use Rattle.word_code.specs.array_versions.Operations.{is_true, compare_words}
 pub use Rattle.word_code.specs.array_versions.Laws.{IsStateOfWords, EndsInWords, IsSound}
@@ -43,11 +44,13 @@ pub use Rattle.word_code.specs.declared.waiting.Waiting.{Waiting}
 pub use Rattle.word_code.specs.Code.{power, flushed, top_of, below_top, kept, top_to_four, compare_form, is_turned, compare_sides, compare_source, holding}
 pub use Rattle.word_code.specs.Code.{failing}
 pub use Rattle.word_code.specs.Code.{decision, holds_code, compares_code, truth_code, number_code, turn_end, turns_code, jump_back, pass_over, size, bound_of}
+pub use Rattle.word_code.specs.Code.{routine_code, light_call, framed_call, give_code}
 pub use Rattle.word_code.specs.Code.{stack_base, stack_set, waiting_behind, waiting_after, step_code, test_code, steps_code, block_code, code_of}
 pub use Rattle.word_code.specs.array_versions.machine_effects.address_space.Limits.{stack_start}
-pub use Rattle.word_code.specs.Laws.{IsEntry, HasJumped, ComesTo}
+pub use Rattle.word_code.specs.Laws.{IsEntry, HasJumped, ComesTo, StepRoutinesStand, RoutinesStand}
+pub use Rattle.word_code.specs.array_versions.machine_effects.Machine.{Code}
 pub use Rattle.code_paths.specs.Paths.{forward_most}
 pub use Rattle.code_paths.proofs.Interface.{runs_so, starves_so, stands_alone, tidy_alone}
 pub use Rattle.code_costs.specs.Dearest.{bits_in, by_number_most, any_most, flush_most, leaf_most, back_cycles, turn_most, turns_most, step_most, test_most}
-pub use Rattle.code_costs.specs.Dearest.{steps_most}
+pub use Rattle.code_costs.specs.Dearest.{steps_most, call_most, give_most}
 pub use Rattle.code_costs.specs.Dearest.{block_most, most_spent}

@@ -1,7 +1,8 @@
 -- Stretches of code one behind the other, by what follows them.
 use Rattle.code_costs.proofs.Names.{◌≡◌, ℕ, ◌+◌, List, [], ◌++◌, sym, subst, arith, append-nil, forms_bytes-append, Effect, Core, Form, Stands, forms_bytes}
-use Rattle.code_costs.proofs.Names.{Runs, Starves, WordState, End, GoesOn, Jumps, Short, Behaviour, behind_effects, on_end, Waiting, Setting, runs_on}
+use Rattle.code_costs.proofs.Names.{Runs, Starves, WordState, End, GoesOn, Jumps, Gives, Short, Behaviour, behind_effects, on_end, Waiting, Setting, runs_on}
 use Rattle.code_costs.proofs.Names.{stands_front, stands_back, StandsFor, OnGoesOn, Reaches, reach_more, then_reach, Describes, dressed, flush_part, HasJumped}
+use Rattle.code_costs.proofs.Names.{HasReturned}
 use Rattle.code_costs.proofs.Names.{flushed, flush_most}
 use Rattle.code_costs.proofs.Alone.{alone, stand, stands_out, describes_in, runs_there}
 
@@ -26,6 +27,7 @@ module _ (z : Setting) where
         };
       }
   reach_as next most u Q R es (Jumps to w) f a = a
+  reach_as next most u Q R es (Gives v w) f a = a
   reach_as next most u Q R es Short f a = a
   reach_as next most u Q R es _ f a = tt
 
@@ -38,6 +40,7 @@ module _ (z : Setting) where
     runs = subst (λ l. Runs z.code l (a.spent + c) u (R w)) (append-nil es) (runs_on z a.runs (λ t h. f t w h));
   }
   then_more c next most u Q R es (Jumps to w) a f = a
+  then_more c next most u Q R es (Gives v w) a f = a
   then_more c next most u Q R es Short a f = a
   then_more c next most u Q R es _ a f = tt
 
@@ -50,6 +53,7 @@ module _ (z : Setting) where
       reach_more z next R (a.spent + c) most u (es ++ (go w).effects) (go w).end a.within
       (then_reach z next R a.spent c u (Q w) es (go w).effects (go w).end a.runs (λ t h. f t w p h))
   on_way c next most u P Q R es (Jumps to w) go a p f = subst (λ l. Runs z.code l most u (HasJumped to w)) (sym (append-nil es)) a
+  on_way c next most u P Q R es (Gives v w) go a p f = subst (λ l. Runs z.code l most u (HasReturned z v w)) (sym (append-nil es)) a
   on_way c next most u P Q R es Short go a p f = subst (λ l. Starves z.code l most u) (sym (append-nil es)) a
   on_way c next most u P Q R es _ go a p f = tt
 

@@ -1,12 +1,13 @@
 -- What the code of a word program costs at most, whatever the words are that decide its ways: its dearest way. What follows costs so much; behind a jump
--- nothing does.
+-- nothing does, and behind a return what is behind its call.
 use Rattle.std.specs.Prelude.{ℕ, zero, suc, ◌+◌, ◌-◌, ◌*◌, ◌/◌, ◌==◌, max, Bool, true, false, not, nat_le, if◌then◌else◌, List, [], ◌∷◌, ◌++◌}
 use Rattle.std.specs.Prelude.{Option, Some, None}
 use Rattle.word_code.specs.declared.bounds.Bound.{Bound}
 use Rattle.word_code.specs.declared.waiting.Waiting.{Waiting}
 use Rattle.word_code.specs.declared.waiting.Waiting.TheVariants as waiting
-use Rattle.word_code.specs.array_versions.Program.{Step, Test, Program, binary, truth, choose, repeat, jump, holds, compares, both, either, fails, nothing}
-use Rattle.word_code.specs.array_versions.Program.{step}
+use Rattle.word_code.specs.array_versions.Program.{Step, Test, Program, binary, truth, choose, repeat, jump, call, give, holds, compares, both, either, fails}
+use Rattle.word_code.specs.array_versions.Program.{nothing, step}
+use Rattle.word_code.specs.array_versions.Cost.{call_cycles}
 use Rattle.word_code.specs.array_versions.Form.{locals_of}
 use Rattle.word_code.specs.array_versions.declared.operations.BinaryOperation.TheVariants.{Multiply}
 use Rattle.word_code.specs.Code.{owed, power, flushed, holds_code, compares_code, number_code, turn_end, pass_over, size, bound_of, stack_set, waiting_behind}
@@ -32,7 +33,7 @@ abbrev pub product_most : List Waiting → ℕ
 product_most (waiting.Number n ∷ os) = by_number_most (power n) n
 product_most os = 152
 
--- a step that is no test, no choice, no loop and no jump, whatever its code is: products and quotients, which go by the bits of a word, have the most
+-- a step that is no test, no choice, no loop, no jump, no call and no return, whatever its code is: products and quotients, which go by the bits of a word, have the most
 abbrev pub any_most : List Waiting → Step → ℕ
 any_most os (binary Multiply) = product_most os
 any_most os _ = 202
@@ -54,6 +55,14 @@ abbrev pub turns_most : ℕ → (ℕ → ℕ) → ℕ → ℕ → ℕ
 turns_most zero body end next = next
 turns_most (suc m) body end next = body (end + turns_most m body end next)
 
+-- a call, beside the body of what it calls
+abbrev pub call_most : Option ℕ → ℕ → List Waiting → ℕ
+call_most frame count os = call_cycles frame count + owed os
+
+-- a return
+abbrev pub give_most : List Waiting → ℕ
+give_most os = 5 + owed os
+
 abbrev mutual
   -- the code of a step in the bodies of loops with these bounds, where these words wait
   pub step_most : List Bound → List Waiting → Step → ℕ → ℕ
@@ -70,6 +79,9 @@ abbrev mutual
       let made : ℕ → ℕ = λ more. steps_most inner [] body (flush_most (waiting_after [] body) + more) in
       flush_most os + (forward_most (number_code n from) 5 + turns_most (below - from) made end next)
   step_most bs os (jump to) next = flush_most os + 3
+  step_most bs os (call entry frame first count body) next =
+      call_most frame count os + steps_most [] [] body (flush_most (waiting_after [] body) + 0) + next
+  step_most bs os give next = give_most os
   step_most bs os s next = leaf_most bs os s + next
 
   -- the code of a test that goes over so many words where its truth is this one, by what follows where it holds and where it fails

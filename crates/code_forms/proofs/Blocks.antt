@@ -13,7 +13,8 @@ use Rattle.machine_effects.proofs.Interface.{stay, one_step, join, join_stall, s
 use Rattle.code_forms.specs.Forms.{WorkRegister, Core, CoreOutcome, CoreStretch, board_of, outcome_of_core, source_read, Target, ToRegister, ToFram, ToRam}
 use Rattle.code_forms.specs.Forms.{source_effects, behind_source}
 use Rattle.code_forms.specs.Forms.{ToIndexed, ToPointed, ToOutnum, ToOutdata, target_written, Form, Move, Calculate, Compare, Update, Push, Modify, SetStack}
-use Rattle.code_forms.specs.Forms.{EnableInterrupts, Sense, Jump, Skip, Branch, BranchIndexed, SkipBy, instruction_of, form_bytes, sensed, form_step, FormNeeds}
+use Rattle.code_forms.specs.Forms.{EnableInterrupts, Sense, Jump, Skip, Branch, BranchIndexed, SkipBy, Call, Return, KeepStack, RestoreStack, instruction_of, form_bytes}
+use Rattle.code_forms.specs.Forms.{sensed, form_step, FormNeeds}
 use Rattle.code_forms.specs.Code.{Stands, forms_bytes, IsStraight, AreStraight, forms_run, OfNext, FormsNeed, IsTidy, IsAtForm, OfState, StepsAreForms}
 use Rattle.code_forms.specs.Code.{Comes, Runs, Starves}
 use Rattle.code_forms.specs.Laws.{StraightCodeLeads}
@@ -99,6 +100,10 @@ goes_to (Skip n) u h = elim h [ ]
 goes_to (Branch a) u h = elim h [ ]
 goes_to (BranchIndexed b x) u h = elim h [ ]
 goes_to (SkipBy b) u h = elim h [ ]
+goes_to (Call a) u h = elim h [ ]
+goes_to Return u h = elim h [ ]
+goes_to (KeepStack b) u h = refl
+goes_to RestoreStack u h = refl
 
 -- goes on from where a stretch ends
 abbrev pub on_status : Status Core Stop → List Effect → ℕ → (Core → MachineStretch) → MachineStretch

@@ -23,7 +23,7 @@ use Rattle.machine_effects.specs.msp_step.declared.operand.Location.TheVariants 
 use Rattle.machine_effects.specs.msp_step.Registers.{Registers, with_register}
 use Rattle.machine_effects.specs.msp_step.Access.{Access, Completed, then_do, read_at}
 use Rattle.machine_effects.specs.msp_step.Effect.{written_back, store, read_modify_write, shifted, rotated, exchanged, sign_extended}
-use Rattle.machine_effects.specs.msp_step.Effect.{push_effect, pushed, reads_destination, writes_destination, with_flags, Operated, finish, word_sum, source}
+use Rattle.machine_effects.specs.msp_step.Effect.{push_effect, pushed, call_effect, called, reads_destination, writes_destination, with_flags, Operated, finish, word_sum, source}
 use Rattle.machine_effects.specs.msp_step.Effect.{after_source, two_operand_effect, destination_location, Written, distance, is_met, operated}
 use Rattle.machine_effects.specs.msp_step.Step.{effect}
 use Rattle.machine_effects.specs.event_places.Places.{handler_place, head_place, ring_place, is_ring}
@@ -37,12 +37,12 @@ use Rattle.machine_effects.specs.Inputs.{Look, first_look, other_looks, look_eff
 use Rattle.machine_effects.specs.Machine.{MachineOutcome, MachineBus, machine_bus, machine_outcome, step_with, word_address, is_readable, IsPlace, IsRam}
 use Rattle.machine_effects.specs.Machine.{looks_there, source_looks, machine_executed, executed_looking, code_executed}
 use Rattle.code_forms.specs.Forms.{WorkRegister, work_number, index_of, Core, register_file, board_of, outcome_of_core, Source, Register, Number, Constant}
-use Rattle.code_forms.specs.Forms.{Fram, Ram, Pointed, PointedNext, Indexed, Popped, Head, Slot}
+use Rattle.code_forms.specs.Forms.{Fram, Ram, Pointed, PointedNext, Indexed, Popped, StackNext, Head, Slot}
 use Rattle.code_forms.specs.Forms.{source_operand, source_bytes, source_value, source_read, source_effects, SourceNeeds, CoreOutcome, behind_source}
 use Rattle.code_forms.specs.Forms.{Target, ToRegister, ToFram, ToRam, ToIndexed, ToPointed, ToOutnum, ToOutdata, target_operand, target_bytes, target_written}
 use Rattle.code_forms.specs.Forms.{TargetNeeds, Move, Calculate, Compare, Update, Push, Modify, SetStack, Sense, Jump, Skip, Branch, BranchIndexed}
 use Rattle.code_forms.specs.Forms.{SkipBy, instruction_of, flags_after, calculated, sensed, form_step, FormNeeds, IsNotMov, HasPushRoom, IsCodeAddress, IsSlot}
-use Rattle.code_forms.specs.Forms.{EnableInterrupts, Modification, modified}
+use Rattle.code_forms.specs.Forms.{EnableInterrupts, Call, Return, KeepStack, RestoreStack, Modification, modified}
 use Rattle.instruction_forms.specs.declared.kinds.Modification.TheVariants as change
 use Rattle.code_forms.specs.Laws.{FormsDoAsInstructions}
 use Rattle.code_forms.proofs.Registers.{set_pc, set_sp, set_work, get_work, high, number, set_flags, flags_back, enable, is_on, no_port}
@@ -68,6 +68,7 @@ begun (Pointed b) u = inside u.sp None u
 begun (PointedNext b) u = inside u.sp None u
 begun (Indexed b x) u = inside u.sp None u
 begun Popped u = inside u.sp None u
+begun (StackNext b) u = inside u.sp None u
 
 -- what it sees of the ring
 abbrev ring_of : Source → Core → Option Look
@@ -82,6 +83,7 @@ ring_of (Pointed b) u = None
 ring_of (PointedNext b) u = None
 ring_of (Indexed b x) u = None
 ring_of Popped u = None
+ring_of (StackNext b) u = None
 
 abbrev regs_in : Core → ℕ → Registers
 regs_in u p = register_file p u.sp u.enabled u.flags u.work
@@ -194,6 +196,14 @@ module _ (u : Core) (p : ℕ) where
       let v = h.0.even in let l = h.0.high in
       let e : word_sum u.sp 2 / 2 * 2 ≡ u.sp + 2 = omega arith in
       rw (read_ram (inside u.sp None u) u.sp h.0 (omega arith), set_sp p u.sp (word_sum u.sp 2) (u.sp + 2) u.enabled u.flags u.work e) refl
+  from_source (StackNext b) h =
+      let e : word_sum (u.work (work_number b)) 2 ≡ u.work (work_number b) + 2 = let hi = h.0.high in omega arith in
+      rw (
+        up b (word_sum (regs_in u p (index_number (index_of b))) 2),
+        got b,
+        read_ram (inside u.sp None u) (u.work (work_number b)) h.0 h.1,
+        e,
+      ) refl
   from_source Head h = from_head u.inputs.looks
   from_source (Slot b) h = from_slot u.inputs.looks b h
 
@@ -212,6 +222,7 @@ from_length (Pointed b) = refl
 from_length (PointedNext b) = refl
 from_length (Indexed b x) = refl
 from_length Popped = refl
+from_length (StackNext b) = refl
 from_length Head = refl
 from_length (Slot b) = refl
 
@@ -225,6 +236,7 @@ from_small (Pointed b) = (omega arith, refl)
 from_small (PointedNext b) = (omega arith, refl)
 from_small (Indexed b x) = (omega arith, refl)
 from_small Popped = (omega arith, refl)
+from_small (StackNext b) = (omega arith, refl)
 from_small Head = (omega arith, refl)
 from_small (Slot b) = (omega arith, refl)
 
@@ -241,6 +253,7 @@ read_same (Pointed b) u h = refl
 read_same (PointedNext b) u h = refl
 read_same (Indexed b x) u h = refl
 read_same Popped u h = refl
+read_same (StackNext b) u h = refl
 read_same Head u h = refl
 read_same (Slot b) u h = refl
 
@@ -281,6 +294,7 @@ code_begun (Pointed b) u i h e = by_test (looks_there i) _ _ e ∙ none_behind _
 code_begun (PointedNext b) u i h e = by_test (looks_there i) _ _ e ∙ none_behind _
 code_begun (Indexed b x) u i h e = by_test (looks_there i) _ _ (e ∙ below_no_ring (u.work (work_number b)) x h.high) ∙ none_behind _
 code_begun Popped u i h e = by_test (looks_there i) _ _ e ∙ none_behind _
+code_begun (StackNext b) u i h e = by_test (looks_there i) _ _ e ∙ none_behind _
 code_begun Head u i h e =
     ap (λ c. if c then executed_looking u.inputs.looks (board_of u) i else machine_executed (board_of u) i) e
 code_begun (Slot b) u i h e =
@@ -422,6 +436,7 @@ read_flags (Pointed b) u = refl
 read_flags (PointedNext b) u = refl
 read_flags (Indexed b x) u = refl
 read_flags Popped u = refl
+read_flags (StackNext b) u = refl
 read_flags Head u = refl
 read_flags (Slot b) u = refl
 
@@ -456,6 +471,7 @@ read_memory (Pointed b) u = refl
 read_memory (PointedNext b) u = refl
 read_memory (Indexed b x) u = refl
 read_memory Popped u = refl
+read_memory (StackNext b) u = refl
 read_memory Head u = refl
 read_memory (Slot b) u = refl
 
@@ -630,6 +646,88 @@ skips_by b u c h =
     on_two Add (Register b) (dst.Reg reg.Pc) u c tt
     ∙ rw (set_flags (u.pc + 2) u.sp u.enabled u.flags sum.1 u.work, set_pc (u.pc + 2) u.sp sum.0 sum.0 u.enabled sum.1 u.work e) refl
 
+-- CALL, behind its operand
+call_half : (a : ℕ) (u : Core) → IsCodeAddress u.pc
+    → call_effect machine_bus (source_operand (Number a)) (regs_in u u.pc) (begun (Number a) u) ≡ called machine_bus a (regs_in u (u.pc + 4)) (inside u.sp None u)
+call_half a u c =
+    let even = c.even in let high = c.high in
+    let l = from_length (Number a) in
+    let first : word_sum u.pc 2 / 2 * 2 ≡ u.pc + 2 = omega arith in
+    let behind : ext_of (Number a) u / 2 * 2 ≡ u.pc + 4 = omega (arith, l) in
+    let next : ℕ × Registers → MachineBus → Access MachineBus (Registers × Option Written) =
+    λ y l. called machine_bus y.0 (with_register y.1 0 (ext_of (Number a) u)) l in
+    ap (λ q. then_do (source machine_bus q Word (source_operand (Number a)) (begun (Number a) u)) next)
+    (set_pc u.pc u.sp (word_sum u.pc 2) (u.pc + 2) u.enabled u.flags u.work first)
+    ∙ ap (λ y. then_do y next) (from_source u (u.pc + 2) (Number a) tt)
+    ∙ ap (λ r. called machine_bus a r (inside u.sp None u)) (set_pc (u.pc + 2) u.sp (ext_of (Number a) u) (u.pc + 4) u.enabled u.flags u.work behind)
+
+called_at : (a pc c floor : ℕ) (t : Core) → HasPushRoom t.sp → a % 2 ≡ 0
+    → machine_outcome pc c (called machine_bus a (regs_in t t.pc) (inside floor None t)) ≡ Goes [] c
+    (board_of (record t { pc = a; sp = t.sp - 2; ram = put t.ram (t.sp - 2) t.pc }))
+called_at a pc c floor t h to =
+    let even = h.even in let room = h.room.fits in let high = h.high in
+    let k : IsRam (t.sp - 2) = record { even = omega arith; low = omega arith; high = omega arith } in
+    let word = is_word_ram (t.sp - 2) k in let below = low_ram (t.sp - 2) k in let ram = is_ram_ram (t.sp - 2) k in let g = even_ram (t.sp - 2) k in
+    let l : word_sum t.sp 0xFFFE ≡ t.sp - 2 = omega arith in
+    let m : (t.sp - 2) / 2 * 2 ≡ t.sp - 2 = omega arith in
+    let n : a / 2 * 2 ≡ a = omega arith in
+    rw (
+      l,
+      set_sp t.pc t.sp (t.sp - 2) (t.sp - 2) t.enabled t.flags t.work m,
+      set_pc t.pc (t.sp - 2) a a t.enabled t.flags t.work n,
+      word,
+      below,
+      ram,
+      g,
+    ) refl
+
+calls : (a : ℕ) (u : Core) → IsCodeAddress u.pc → FormNeeds false (Call a) u
+    → step_with (Some (instruction_of (Call a))) (board_of u) ≡ outcome_of_core (form_step (Call a) u)
+unfolding effect
+calls a u c h =
+    let on = is_on u.pc u.sp u.enabled u.flags u.work in
+    let t : Core = record u { pc = u.pc + 4 } in
+    let after : Core = record t { pc = a; sp = t.sp - 2; ram = put t.ram (t.sp - 2) t.pc } in
+    let made : machine_outcome u.pc 5 (effect machine_bus (instruction_of (Call a)) (regs_in u u.pc) (begun (Number a) u)) ≡ Goes [] 5 (board_of after) =
+    rw (call_half a u c) (called_at a u.pc 5 u.sp t h.1 h.0) in
+    ap (λ b. if b then Stops [] 0 stop.Off else code_executed (board_of u) (instruction_of (Call a))) on
+    ∙ code_begun (Number a) u (instruction_of (Call a)) tt refl
+    ∙ ap (step_behind []) made
+
+returns : (u : Core) → IsCodeAddress u.pc → FormNeeds false Return u
+    → step_with (Some (instruction_of Return)) (board_of u) ≡ outcome_of_core (form_step Return u)
+returns u c h =
+    let v = u.ram u.sp in
+    let even = h.2 in
+    let e : v / 2 * 2 ≡ v = omega arith in
+    on_two Mov Popped (dst.Reg reg.Pc) u c (h.0, h.1)
+    ∙ rw (set_pc (u.pc + 2) (u.sp + 2) v v u.enabled u.flags u.work e) refl
+
+keeps_stack : (b : WorkRegister) (u : Core) → IsCodeAddress u.pc
+    → step_with (Some (instruction_of (KeepStack b))) (board_of u) ≡ outcome_of_core (form_step (KeepStack b) u)
+unfolding effect
+keeps_stack b u c =
+    let even = c.even in let high = c.high in
+    let on = is_on u.pc u.sp u.enabled u.flags u.work in
+    let first : word_sum u.pc 2 / 2 * 2 ≡ u.pc + 2 = omega arith in
+    let behind : word_sum (word_sum (word_sum u.pc 2) 0) 0 / 2 * 2 ≡ u.pc + 2 = omega arith in
+    rw (
+      on,
+      set_pc u.pc u.sp (word_sum u.pc 2) (u.pc + 2) u.enabled u.flags u.work first,
+      set_pc (u.pc + 2) u.sp (word_sum (word_sum (word_sum u.pc 2) 0) 0)
+          (u.pc + 2) u.enabled u.flags u.work behind,
+      up u (u.pc + 2) b u.sp,
+    ) refl
+
+restores_stack : (u : Core) → IsCodeAddress u.pc → FormNeeds false RestoreStack u
+    → step_with (Some (instruction_of RestoreStack)) (board_of u) ≡ outcome_of_core (form_step RestoreStack u)
+restores_stack u c h =
+    let v = u.ram u.sp in
+    let even = h.2 in
+    let e : v / 2 * 2 ≡ v = omega arith in
+    on_two Mov Popped (dst.Reg (reg.Index index.Sp)) u c (h.0, λ q. absurd cc)
+    ∙ rw (set_sp (u.pc + 2) (u.sp + 2) v v u.enabled u.flags u.work e) refl
+
 -- an operation on one register
 modified_half : (f : Width → ℕ → Flags → Operated) (b : WorkRegister) (u : Core) → IsCodeAddress u.pc
     → read_modify_write machine_bus f Word (mode.Reg (source_register.Index (index_of b))) (regs_in u u.pc) (inside u.sp None u) ≡
@@ -695,6 +793,7 @@ needs_so events (Pointed b) u h = h
 needs_so events (PointedNext b) u h = h
 needs_so events (Indexed b x) u h = h
 needs_so events Popped u h = (h.0, λ e. absurd cc)
+needs_so events (StackNext b) u h = h
 needs_so events Head u h = h
 needs_so events (Slot b) u h = h
 
@@ -714,3 +813,7 @@ form_does events (Skip n) u c h = skips n u c h
 form_does events (Branch a) u c h = branches a u c h
 form_does events (BranchIndexed b x) u c h = branches_indexed b x u c h
 form_does events (SkipBy b) u c h = skips_by b u c h
+form_does events (Call a) u c h = calls a u c h
+form_does events Return u c h = returns u c (h.0, λ e. absurd cc, h.2)
+form_does events (KeepStack b) u c h = keeps_stack b u c
+form_does events RestoreStack u c h = restores_stack u c (h.0, λ e. absurd cc, h.2)

@@ -4,16 +4,17 @@ use Rattle.std.proofs.lemmas.Option.{same_Some}
 use Rattle.machine_effects.specs.msp_step.declared.machine.Stop.{Stop}
 use Rattle.machine_effects.specs.Going.{Status, At, Halted}
 use Rattle.machine_effects.specs.Machine.{Code, MachineBoard}
-use Rattle.code_forms.specs.Forms.{Core, Source, Register, Number, Constant, Fram, Ram, Pointed, PointedNext, Indexed, Popped, Head, Slot, SourceNeeds}
-use Rattle.code_forms.specs.Forms.{source_ram}
+use Rattle.code_forms.specs.Forms.{Core, Source, Register, Number, Constant, Fram, Ram, Pointed, PointedNext, Indexed, Popped, StackNext, Head, Slot}
+use Rattle.code_forms.specs.Forms.{SourceNeeds, source_ram, work_number}
 use Rattle.code_forms.specs.Forms.{Form, Move, Calculate, Compare, Update, Push, Modify, SetStack, Sense, Jump, Skip, Branch, BranchIndexed, SkipBy, FormNeeds}
-use Rattle.code_forms.specs.Forms.{EnableInterrupts, ram_read}
+use Rattle.code_forms.specs.Forms.{EnableInterrupts, Call, Return, KeepStack, RestoreStack, ram_read}
 use Rattle.code_forms.specs.Code.{IsAtForm, OfState}
 use Rattle.code_forms.specs.Laws.{ReadsFromSp, FormsReadFromSp}
 
 source_from_sp : (events : Bool) (x : Source) (u : Core) (a : ℕ) → SourceNeeds events x u → source_ram x u ≡ Some a → u.sp ≤ a
 source_from_sp events (Ram b) u a h e = subst (λ n. u.sp ≤ n) (same_Some b a e) h.1
 source_from_sp events Popped u a h e = let same = same_Some u.sp a e in omega (arith, same)
+source_from_sp events (StackNext b) u a h e = subst (λ n. u.sp ≤ n) (same_Some (u.work (work_number b)) a e) h.1
 source_from_sp events (Register b) u a h e = absurd (cc)
 source_from_sp events (Number n) u a h e = absurd (cc)
 source_from_sp events (Constant k) u a h e = absurd (cc)
@@ -39,6 +40,10 @@ form_from_sp events (Skip n) u a h e = absurd (cc)
 form_from_sp events (Branch b) u a h e = absurd (cc)
 form_from_sp events (BranchIndexed b x) u a h e = absurd (cc)
 form_from_sp events (SkipBy b) u a h e = absurd (cc)
+form_from_sp events (Call b) u a h e = absurd (cc)
+form_from_sp events Return u a h e = let same = same_Some u.sp a e in omega (arith, same)
+form_from_sp events (KeepStack b) u a h e = absurd (cc)
+form_from_sp events RestoreStack u a h e = let same = same_Some u.sp a e in omega (arith, same)
 
 reads_at : (code : Code) (x : Status MachineBoard Stop) → OfState x (IsAtForm code) → OfState x (ReadsFromSp code)
 reads_at code (At s) h = record { at = h; from = λ a e. form_from_sp code.events h.form h.core a h.needs e }

@@ -18,7 +18,8 @@ use Rattle.machine_effects.specs.Machine.{MachineBoard, MachineOutcome, machine_
 use Rattle.machine_effects.specs.Machine.{code_executed}
 use Rattle.machine_effects.specs.Machine.{IsLookingStep, NoInstruction, Executes, Code, step_with, exec, is_exposed, undisturbed, astray, word_address}
 use Rattle.code_forms.specs.Forms.{Form, Move, Calculate, Compare, Update, Push, Modify, SetStack, Sense, Jump, Skip, Branch, BranchIndexed}
-use Rattle.code_forms.specs.Forms.{EnableInterrupts, SkipBy, source_operand, Target, ToRegister, target_operand, target_bytes, instruction_of, form_bytes}
+use Rattle.code_forms.specs.Forms.{EnableInterrupts, SkipBy, Call, Return, KeepStack, RestoreStack, source_operand, Target, ToRegister, target_operand, target_bytes}
+use Rattle.code_forms.specs.Forms.{instruction_of, form_bytes}
 use Rattle.code_forms.specs.Forms.{Core}
 use Rattle.code_forms.specs.Code.{Stands, forms_bytes}
 use Rattle.code_forms.specs.Placed.{placed_at, placed, words_of, instructions, Holds, AreInstructions, IsOutside}
@@ -45,6 +46,10 @@ bytes_are (Skip n) = refl
 bytes_are (Branch a) = refl
 bytes_are (BranchIndexed b x) = refl
 bytes_are (SkipBy b) = refl
+bytes_are (Call a) = refl
+bytes_are Return = refl
+bytes_are (KeepStack b) = refl
+bytes_are RestoreStack = refl
 
 to_small : (y : Target) → target_bytes y ≤ 2
 to_small (ToRegister b) = omega arith
@@ -66,6 +71,10 @@ form_small (Skip n) = omega arith
 form_small (Branch a) = omega arith
 form_small (BranchIndexed b x) = omega arith
 form_small (SkipBy b) = omega arith
+form_small (Call a) = omega arith
+form_small Return = omega arith
+form_small (KeepStack b) = omega arith
+form_small RestoreStack = omega arith
 
 encoding_some : (i : Instr) → 0 < length (encoding i)
 encoding_some i = grind arith

@@ -14,11 +14,11 @@ use Rattle.machine_effects.specs.Machine.{pushes, keeps_stack, breaks_rules, is_
 use Rattle.machine_effects.specs.Laws.{KeepsTheHandler}
 use Rattle.machine_effects.proofs.Interface.{code_keeps_the_handler}
 use Rattle.code_forms.specs.Forms.{WorkRegister, Core, CoreOutcome, board_of, outcome_of_core, Source, Register, Number, Constant, Fram, Ram, Pointed}
-use Rattle.code_forms.specs.Forms.{PointedNext, Indexed, Popped, Head, Slot, source_read, SourceNeeds, HasPushRoom, IsPrepared}
+use Rattle.code_forms.specs.Forms.{PointedNext, Indexed, Popped, StackNext, Head, Slot, source_read, SourceNeeds, HasPushRoom, IsPrepared}
 use Rattle.code_forms.specs.Forms.{Target, ToRegister, ToFram, ToRam, ToIndexed, ToPointed, ToOutnum, ToOutdata, target_written}
 use Rattle.code_forms.specs.Forms.{Form, Move, Calculate, Compare, Update, Push, Modify, SetStack, EnableInterrupts, Sense, Jump, Skip, Branch, BranchIndexed}
 use Rattle.code_forms.specs.Forms.{SkipBy, instruction_of, source_value, source_bytes, target_bytes, source_effects, behind_source, sensed, form_step}
-use Rattle.code_forms.specs.Forms.{FormNeeds}
+use Rattle.code_forms.specs.Forms.{FormNeeds, Call, Return, KeepStack, RestoreStack}
 use Rattle.machine_effects.specs.msp_cycles.Cycles.{cycles_of}
 use Rattle.code_forms.specs.Code.{OfNext}
 use Rattle.code_forms.specs.Laws.{CodeGoesUndisturbed, CodeStaysPrepared, CodeStaysOpen}
@@ -53,6 +53,10 @@ begins i p = second_way (stack_start == p) (stack_start == stack_start) (goes_up
 pops : (i : Option Instr) (p : ℕ) → p + 2 ≤ stack_start → keeps_stack i p (p + 2) ≡ true
 pops i p l =
     third_way ((p + 2) == p) ((p + 2) == stack_start) (goes_up p (p + 2)) (goes_down i p (p + 2)) (grind (arith, nat_tests, l))
+
+-- up, by however much
+rises : (i : Option Instr) (p q : ℕ) → p ≤ q → q ≤ stack_start → keeps_stack i p q ≡ true
+rises i p q l h = third_way (q == p) (q == stack_start) (goes_up p q) (goes_down i p q) (grind (arith, nat_tests, l, h))
 
 down : (i : Option Instr) (p : ℕ) → pushes i ≡ true → stack_floor + 2 ≤ p → keeps_stack i p (p - 2) ≡ true
 down i p is l =
@@ -108,6 +112,7 @@ read_kept events i (Pointed b) u h = all_stays events i u (source_read (Pointed 
 read_kept events i (PointedNext b) u h = all_stays events i u (source_read (PointedNext b) u) refl refl
 read_kept events i (Indexed b x) u h = all_stays events i u (source_read (Indexed b x) u) refl refl
 read_kept events i Popped u h = record { enabled = refl; stack = λ e. pops i u.sp (h.1 e) }
+read_kept events i (StackNext b) u h = all_stays events i u (source_read (StackNext b) u) refl refl
 read_kept events i Head u h = all_stays events i u (source_read Head u) refl refl
 read_kept events i (Slot b) u h = all_stays events i u (source_read (Slot b) u) refl refl
 
@@ -153,6 +158,7 @@ push_kept Popped u h =
     let i = Some (instruction_of (Push Popped)) in
     let back : u.sp ≡ u.sp + 2 - 2 = omega arith in
     (refl, subst (λ n. keeps_stack i u.sp n ≡ true) back (stays i u.sp))
+push_kept (StackNext b) u h = (refl, lowered (StackNext b) u h)
 push_kept Head u h = (refl, lowered Head u h)
 push_kept (Slot b) u h = (refl, lowered (Slot b) u h)
 
@@ -212,6 +218,13 @@ module _ (events : Bool) (u : Core) where
   form_kept (Branch a) h = plain_kept (Branch a) (all_stays events (Some (instruction_of (Branch a))) u _ refl refl)
   form_kept (BranchIndexed b x) h = plain_kept (BranchIndexed b x) (all_stays events (Some (instruction_of (BranchIndexed b x))) u _ refl refl)
   form_kept (SkipBy b) h = plain_kept (SkipBy b) (all_stays events (Some (instruction_of (SkipBy b))) u _ refl refl)
+  form_kept (Call a) h =
+      let room = h.1.room.fits in
+      plain_kept (Call a) (record { enabled = refl; stack = λ e. down (Some (instruction_of (Call a))) u.sp refl (omega arith) })
+  form_kept Return h = plain_kept Return (record { enabled = refl; stack = λ e. pops (Some (instruction_of Return)) u.sp (h.1 e) })
+  form_kept (KeepStack b) h = plain_kept (KeepStack b) (all_stays events (Some (instruction_of (KeepStack b))) u _ refl refl)
+  form_kept RestoreStack h = plain_kept RestoreStack
+      (record { enabled = refl; stack = λ e. let up = h.1 e in rises (Some (instruction_of RestoreStack)) u.sp (u.ram u.sp) up.0 up.1 })
 
 undisturbed_by : (events : Bool) (i : Option Instr) (u : Core) (o : CoreOutcome) → OfNext o (IsKept events i u)
     → undisturbed events i (board_of u) (outcome_of_core o) ≡ outcome_of_core o

@@ -3,6 +3,7 @@ use Rattle.std.proofs.Common.{◌≡◌, ℕ, ◌+◌, ◌-◌, ◌*◌, ◌/◌
 use Rattle.std.proofs.lemmas.Bool.Decides.{nat_tests}
 use Rattle.code_forms.specs.msp_isa.declared.instructions.Instr.{Instr}
 use Rattle.code_forms.specs.msp_isa.declared.instructions.Instr.TheVariants as instr
+use Rattle.code_forms.specs.msp_isa.declared.instructions.OneOp.TheVariants as one
 use Rattle.code_forms.specs.msp_isa.declared.instructions.Condition.{Condition}
 use Rattle.code_forms.specs.msp_isa.declared.operands.Dst.TheVariants as dst
 use Rattle.code_forms.specs.msp_isa.declared.registers.Reg.TheVariants as reg
@@ -10,7 +11,7 @@ use Rattle.instruction_forms.specs.declared.kinds.Modification.TheVariants as ch
 use Rattle.machine_effects.specs.msp_step.Effect.{distance}
 use Rattle.machine_effects.specs.Going.{Goes, Stops}
 use Rattle.code_forms.specs.Forms.{Core, CoreOutcome, Form, Move, Calculate, Compare, Update, Push, Modify, SetStack, Sense, Jump, Skip, Branch, BranchIndexed}
-use Rattle.code_forms.specs.Forms.{SkipBy, EnableInterrupts, WorkRegister, Target, ToRegister, ToFram, ToRam, ToIndexed, ToPointed, ToOutnum, ToOutdata}
+use Rattle.code_forms.specs.Forms.{SkipBy, EnableInterrupts, Call, Return, KeepStack, RestoreStack, WorkRegister, Target, ToRegister, ToFram, ToRam, ToIndexed, ToPointed, ToOutnum, ToOutdata}
 use Rattle.code_forms.specs.Forms.{source_read}
 use Rattle.machine_effects.specs.fram_board.Effects.{Effect}
 use Rattle.code_forms.specs.Forms.{behind_source, source_effects, target_written, sensed, form_step, instruction_of, form_bytes}
@@ -61,6 +62,10 @@ costs_so (Branch a) u = refl
 costs_so (BranchIndexed b x) u = refl
 costs_so (SkipBy b) u = refl
 costs_so EnableInterrupts u = refl
+costs_so (Call a) u = refl
+costs_so Return u = refl
+costs_so (KeepStack b) u = refl
+costs_so RestoreStack u = refl
 
 written_at : (y : Target) (c v : ℕ) (u : Core) → OfNext (target_written y c v u) (λ t. t.pc ≡ u.pc)
 written_at (ToRegister b) c v u = refl
@@ -98,6 +103,10 @@ goes_behind (Branch a) u h = elim h [ ]
 goes_behind (BranchIndexed b x) u h = elim h [ ]
 goes_behind (SkipBy b) u h = elim h [ ]
 goes_behind EnableInterrupts u h = refl
+goes_behind (Call a) u h = elim h [ ]
+goes_behind Return u h = elim h [ ]
+goes_behind (KeepStack b) u h = refl
+goes_behind RestoreStack u h = refl
 
 -- an instruction that writes PC
 abbrev pub writes_pc : Instr → Bool
@@ -108,7 +117,12 @@ writes_pc (instr.Two op w s (dst.Reg (reg.Index r))) = false
 writes_pc (instr.Two op w s (dst.Indexed r x)) = false
 writes_pc (instr.Two op w s (dst.Symbolic x)) = false
 writes_pc (instr.Two op w s (dst.Absolute a)) = false
-writes_pc (instr.One o) = false
+writes_pc (instr.One (one.Call x)) = true
+writes_pc (instr.One (one.Push w x)) = false
+writes_pc (instr.One (one.Rrc w x)) = false
+writes_pc (instr.One (one.Rra w x)) = false
+writes_pc (instr.One (one.Swpb x)) = false
+writes_pc (instr.One (one.Sxt x)) = false
 writes_pc (instr.Jump c o) = true
 writes_pc instr.Reti = true
 
@@ -125,7 +139,10 @@ straight_leaves_pc (Calculate op x b) h = refl
 straight_leaves_pc (Compare x a) h = refl
 straight_leaves_pc (Update op x a) h = refl
 straight_leaves_pc (Push x) h = refl
-straight_leaves_pc (Modify m b) h = refl
+straight_leaves_pc (Modify change.Rrc b) h = refl
+straight_leaves_pc (Modify change.Rra b) h = refl
+straight_leaves_pc (Modify change.Swpb b) h = refl
+straight_leaves_pc (Modify change.Sxt b) h = refl
 straight_leaves_pc (SetStack n) h = refl
 straight_leaves_pc (Sense b) h = refl
 straight_leaves_pc (Jump c o) h = elim h [ ]
@@ -134,6 +151,10 @@ straight_leaves_pc (Branch a) h = elim h [ ]
 straight_leaves_pc (BranchIndexed b x) h = elim h [ ]
 straight_leaves_pc (SkipBy b) h = elim h [ ]
 straight_leaves_pc EnableInterrupts h = refl
+straight_leaves_pc (Call a) h = elim h [ ]
+straight_leaves_pc Return h = elim h [ ]
+straight_leaves_pc (KeepStack b) h = refl
+straight_leaves_pc RestoreStack h = refl
 
 -- the other way round
 pub straight_by_pc : (m : Form) → writes_pc (instruction_of m) ≡ false → IsStraight m
@@ -151,6 +172,10 @@ straight_by_pc (Branch a) e = absurd (cc e)
 straight_by_pc (BranchIndexed b x) e = absurd (cc e)
 straight_by_pc (SkipBy b) e = absurd (cc e)
 straight_by_pc EnableInterrupts e = tt
+straight_by_pc (Call a) e = absurd (cc e)
+straight_by_pc Return e = absurd (cc e)
+straight_by_pc (KeepStack b) e = tt
+straight_by_pc RestoreStack e = tt
 
 -- a form with the instruction of a jump is that jump
 pub jump_by_instruction : (m : Form) (c : Condition) (o : ℕ) → instruction_of m ≡ instr.Jump c o → m ≡ Jump c o
@@ -168,6 +193,10 @@ jump_by_instruction (Branch a) c o e = absurd (cc e)
 jump_by_instruction (BranchIndexed b x) c o e = absurd (cc e)
 jump_by_instruction (SkipBy b) c o e = absurd (cc e)
 jump_by_instruction EnableInterrupts c o e = absurd (cc e)
+jump_by_instruction (Call a) c o e = absurd (cc e)
+jump_by_instruction Return c o e = absurd (cc e)
+jump_by_instruction (KeepStack b) c o e = absurd (cc e)
+jump_by_instruction RestoreStack c o e = absurd (cc e)
 
 -- a jump by fewer than 512 words goes forward
 pub forward_distance : (o : ℕ) → nat_lt o 512 ≡ true → distance o ≡ 2 * o

@@ -16,7 +16,7 @@ use Rattle.machine_effects.specs.Going.{Goes, Stops, Halted, stretch, continued,
 use Rattle.machine_effects.specs.Machine.{MachineBoard, MachineOutcome, Code, exec}
 use Rattle.code_forms.specs.Forms.{Core, CoreOutcome, board_of, outcome_of_core, Form, Move, Calculate, Compare, Update, Push, Modify, SetStack, Sense}
 use Rattle.code_forms.specs.Forms.{Jump, Skip}
-use Rattle.code_forms.specs.Forms.{Branch, BranchIndexed, SkipBy, EnableInterrupts, instruction_of, form_bytes, form_step}
+use Rattle.code_forms.specs.Forms.{Branch, BranchIndexed, SkipBy, Call, Return, KeepStack, RestoreStack, EnableInterrupts, instruction_of, form_bytes, form_step}
 use Rattle.code_forms.specs.Code.{forms_bytes, IsStraight, OfNext, IsTidy, Runs, Starves}
 use Rattle.code_forms.specs.Placed.{placed, placed_at, instructions}
 use Rattle.code_forms.proofs.Interface.{bytes_are, does}
@@ -198,6 +198,10 @@ module _ (events : Bool) (p : ℕ) (all : List Form) (tidy : IsTidy (placed even
   one_step n (Branch a) ms q low high far rest forward k u same at e forms = absurd (cc forward)
   one_step n (BranchIndexed b x) ms q low high far rest forward k u same at e forms = absurd (cc forward)
   one_step n (SkipBy b) ms q low high far rest forward k u same at e forms = absurd (cc forward)
+  one_step n (Call a) ms q low high far rest forward k u same at e forms = absurd (cc forward)
+  one_step n Return ms q low high far rest forward k u same at e forms = absurd (cc forward)
+  one_step n (KeepStack b) ms q low high far rest forward k u same at e forms = one_straight n (KeepStack b) ms q low high far rest k u tt same at e forms
+  one_step n RestoreStack ms q low high far rest forward k u same at e forms = one_straight n RestoreStack ms q low high far rest k u tt same at e forms
 
   -- so many steps, from so many bytes behind the front of these forms on
   abbrev SpendsWithin : List Form → Type 0

@@ -4,7 +4,7 @@ use Rattle.msp_cycles.specs.Cycles.{cycles_of}
 use Rattle.msp_isa.specs.declared.instructions.Condition.{Condition}
 use Rattle.msp_isa.specs.declared.instructions.Condition.TheVariants.{Always}
 use Rattle.code_forms.specs.Forms.{Form, Move, Calculate, Compare, Update, Push, Modify, SetStack, Sense, Jump, Skip, Branch, BranchIndexed, SkipBy}
-use Rattle.code_forms.specs.Forms.{EnableInterrupts}
+use Rattle.code_forms.specs.Forms.{EnableInterrupts, Call, Return, KeepStack, RestoreStack}
 use Rattle.code_forms.specs.Forms.{instruction_of, form_bytes}
 use Rattle.code_forms.specs.Code.{forms_bytes}
 
@@ -38,6 +38,8 @@ goes_forward (Skip n) = false
 goes_forward (Branch a) = false
 goes_forward (BranchIndexed b x) = false
 goes_forward (SkipBy b) = false
+goes_forward (Call a) = false
+goes_forward Return = false
 goes_forward (Move x y) = true
 goes_forward (Calculate op x b) = true
 goes_forward (Compare x a) = true
@@ -47,6 +49,8 @@ goes_forward (Modify m b) = true
 goes_forward (SetStack n) = true
 goes_forward (Sense b) = true
 goes_forward EnableInterrupts = true
+goes_forward (KeepStack b) = true
+goes_forward RestoreStack = true
 
 -- so it is with each of them
 abbrev pub all_forward : List Form → Bool

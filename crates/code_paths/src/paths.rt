@@ -30,9 +30,11 @@ fn goes_forward(form: &Form) -> bool
     match form {
         Form::Jump(_, offset) => offset.bits() < 512,
         Form::Skip(_) | Form::Branch(_) | Form::BranchIndexed(_, _) | Form::SkipBy(_) => false,
+        Form::Call(_) | Form::Return => false,
         Form::Move(_, _) | Form::Calculate(_, _, _) | Form::Compare(_, _) => true,
         Form::Update(_, _, _) | Form::Push(_) | Form::Modify(_, _) => true,
         Form::SetStack(_) | Form::Sense(_) | Form::EnableInterrupts => true,
+        Form::KeepStack(_) | Form::RestoreStack => true,
     }
 }
 

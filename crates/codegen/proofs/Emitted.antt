@@ -6,6 +6,7 @@ use Rattle.codegen.proofs.Names.{slice_index_or, on_ok_weaker, Condition, Source
 use Rattle.codegen.proofs.Names.{Comparison, PlainOperation, ArrayPlace, ListPlace, LoggedPlace, Step, Test, Program}
 use Rattle.codegen.proofs.Names.{versioned_read, versioned_write, versioned_update, logged_write, logged_update, choose, holds, compares, both, either, step}
 use Rattle.codegen.proofs.Names.{step_of, steps_of, test_of, Bound, Waiting, waiting_source, flushed, top_of}
+use Rattle.codegen.proofs.Names.{R4, WorkRegister, Target, Move, ToRegister, StackNext, source_from, local_register, local_target, values_code, below_words, frame_code}
 use Rattle.codegen.proofs.Names.{below_top, repeated, size, waiting_behind, step_code, steps_code}
 use Rattle.word_code.specs.array_versions.declared.program.WordStep.{WordStep, the_lemmas}
 use Rattle.word_code.specs.array_versions.declared.program.WordStep.TheVariants.{VersionedRead, VersionedWrite, VersionedUpdate}
@@ -16,8 +17,7 @@ use Rattle.std.specs.Result.{OnOk}
 use Rattle.std.specs.declared.alloc.Global.{Global}
 use Rattle.std.specs.declared.boxed.Box.{Box}
 use Rattle.std.specs.declared.vec.Vec.{Vec}
-use Rattle.word_code.proofs.Interface.{test_takes, program_least}
-use Rattle.word_code.specs.array_versions.Form.{IsWhole, locals_of}
+use Rattle.word_code.proofs.Interface.{test_takes}
 
 -- ---- one level of a step and of a test
 
@@ -97,6 +97,40 @@ forms_owed ms n k code new all l f h =
     let s : n - k ≡ suc j = omega arith in
     ap (λ x. x ++ times_code j ms) f ∙ append_assoc code ms (times_code j ms) ∙ ap (λ x. code ++ times_code x ms) (sym s) ∙ h
 
+-- one more word to a register, of those that are owed
+pub values_step : (first n k : ℕ) (os os' : List Waiting) (x : Source) (r : WorkRegister) (code new all : List Form) → k < n → x ≡ source_from (top_of os)
+    → r ≡ local_register (first + (n - 1 - k)) → os' ≡ below_top os → new ≡ code ++ Move x (ToRegister r) ∷ []
+    → code ++ values_code first (n - k) os ≡ all → new ++ values_code first (n - (k + 1)) os' ≡ all
+values_step first n k os os' x r code new all l from to left f h =
+    let j = n - (k + 1) in
+    let up : n - k ≡ suc j = omega arith in
+    let at : n - 1 - k ≡ j = omega arith in
+    let form = Move (source_from (top_of os)) (ToRegister (local_register (first + j))) in
+    let rest = values_code first j (below_top os) in
+    let same : Move x (ToRegister r) ≡ form =
+    ap (λ y. Move y (ToRegister r)) from ∙ ap (λ y. Move (source_from (top_of os)) (ToRegister y)) (to ∙ ap (λ i. local_register (first + i)) at) in
+    ap (λ ws. new ++ values_code first j ws) left ∙ ap (λ c. c ++ rest) (f ∙ ap (λ m. code ++ m ∷ []) same) ∙ append_assoc code (form ∷ []) rest
+    ∙ ap (λ i. code ++ values_code first i os) (sym up) ∙ h
+
+-- and what waits below them
+pub words_step : (n k : ℕ) (os os' all : List Waiting) → k < n → os' ≡ below_top os → below_words (n - k) os ≡ all → below_words (n - (k + 1)) os' ≡ all
+words_step n k os os' all l left h =
+    let j = n - (k + 1) in
+    let up : n - k ≡ suc j = omega arith in
+    ap (below_words j) left ∙ ap (λ i. below_words i os) (sym up) ∙ h
+
+-- one more word to a local of a function, of those that are owed
+pub moves_step : (first n k : ℕ) (y : Target) (code new all : List Form) → k < n → y ≡ local_target (first + (n - 1 - k))
+    → new ≡ code ++ Move (StackNext R4) y ∷ [] → code ++ frame_code first (n - k) ≡ all → new ++ frame_code first (n - (k + 1)) ≡ all
+moves_step first n k y code new all l to f h =
+    let j = n - (k + 1) in
+    let up : n - k ≡ suc j = omega arith in
+    let at : n - 1 - k ≡ j = omega arith in
+    let form = Move (StackNext R4) (local_target (first + j)) in
+    let rest = frame_code first j in
+    let same = ap (λ x. Move (StackNext R4) x) (to ∙ ap (λ i. local_target (first + i)) at) in
+    ap (λ c. c ++ rest) (f ∙ ap (λ m. code ++ m ∷ []) same) ∙ append_assoc code (form ∷ []) rest ∙ ap (λ i. code ++ frame_code first i) (sym up) ∙ h
+
 -- one form so many times
 pub times_one : (k : ℕ) (m : Form) → times_code k (m ∷ []) ≡ repeated k m
 times_one zero m = refl
@@ -124,7 +158,3 @@ test_size bs t when d own e = omega (arith, ap size e, (test_takes bs t when d).
 -- a jump of one word behind code
 pub one_more : (ms : List Form) (k : Condition) (d : ℕ) → size (ms ++ Jump k d ∷ []) ≡ size ms + 1
 one_more ms k d = omega (arith, forms_bytes-append ms (Jump k d ∷ []))
-
--- of a whole program no local is further up than RAM has room
-pub whole_locals : (p : Program) → IsWhole p → locals_of p ≤ 1016
-whole_locals p whole = omega (arith, program_least whole.locals p whole.low_locals, whole.fits.fits)

@@ -10,7 +10,7 @@ pub use Rattle.std.specs.List.{remove, slice_index_or}
 pub use Rattle.word_code.specs.msp_isa.declared.instructions.Condition.{Condition}
 pub use Rattle.word_code.proofs.code_forms.Interface.{forms_bytes-append}
 pub use Rattle.word_code.specs.code_forms.Code.{forms_bytes}
-pub use Rattle.word_code.specs.code_forms.Forms.{Source, Form, Push, Jump, Calculate, Number, R4}
+pub use Rattle.word_code.specs.code_forms.Forms.{Source, Form, Push, Jump, Calculate, Number, R4, WorkRegister, Target, Move, ToRegister, StackNext}
 -- word programs
 pub use Rattle.word_code.specs.array_versions.Cost.{step_words, test_words, words_of}
 pub use Rattle.word_code.specs.array_versions.Form.{StepLocalsBelow, TestLocalsBelow, LocalsBelow, locals_of, OfWords}
@@ -34,6 +34,7 @@ pub use Rattle.word_code.specs.Code.{shift_middle, own_code, read_code, stored_c
 pub use Rattle.word_code.specs.Code.{number_code, turn_end, turns_code, waiting_after, is_inside, test_code, block_code, rest_source, to_rest}
 pub use Rattle.word_code.specs.Code.{right_to_rest, update_sides, made_code, first_update, by_version, inside_update, indexed_update, known_update, update_at}
 pub use Rattle.word_code.specs.Code.{local_register, ram_update, mark_code, next_code, word_code, first_code, divide_middle, attempt_form, if_below}
+pub use Rattle.word_code.specs.Code.{values_code, below_words, frame_code}
 pub use Rattle.word_code.specs.Code.{element_behind, last_code, end_test, longer_code, copy_code}
 pub use Rattle.word_code.specs.declared.bounds.Bound.{Bound}
 pub use Rattle.word_code.specs.declared.waiting.Waiting.{Waiting}

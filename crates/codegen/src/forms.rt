@@ -1,6 +1,6 @@
 //! What numbers and locals are in forms of instructions.
 
-ghost use Rattle.std.specs.Prelude.{◌≡◌, ◌<◌};
+ghost use Rattle.std.specs.Prelude.{◌≡◌, ◌+◌, ◌<◌};
 ghost use Rattle.word_code.specs.Code as place;
 
 use word_code::forms::{Konst, Source, Target, WorkRegister};
@@ -38,7 +38,7 @@ pub fn local_register(n: u16) -> WorkRegister
 
 /// Where any other local stands in RAM.
 pub fn local_address(n: u16) -> u16
-    requires { n < 1016 }
+    requires { n < 0x1207 }
     ensures { result ≡ place.local_address n }
 {
     0x240e - 2 * n
@@ -46,12 +46,34 @@ pub fn local_address(n: u16) -> u16
 
 /// A local as what MOV writes.
 pub fn local_target(n: u16) -> Target
-    requires { n < 1016 }
+    requires { n < 0x1207 }
     ensures { result ≡ place.local_target n }
 {
     if n < 8 {
         Target::ToRegister(local_register(n))
     } else {
         Target::ToRam(local_address(n))
+    }
+}
+
+/// The register of the local so far behind another, where it has one.
+#[tactic(auto, using(crate::proofs::Behind::register_of_more))]
+pub fn register_behind(first: u16, n: u16) -> WorkRegister
+    ensures { result ≡ place.local_register (first + n) }
+{
+    match first.checked_add(n) {
+        Some(local) => local_register(local),
+        None => WorkRegister::R15,
+    }
+}
+
+/// That local as what MOV writes.
+#[tactic(auto, using(crate::proofs::Behind::target_of_more))]
+pub fn target_behind(first: u16, n: u16) -> Target
+    ensures { result ≡ place.local_target (first + n) }
+{
+    match first.checked_add(n) {
+        Some(local) if local < 0x1207 => local_target(local),
+        _ => Target::ToRam(0),
     }
 }

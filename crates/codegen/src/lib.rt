@@ -2,6 +2,7 @@
 #![tactic(auto)]
 
 mod bounds;
+mod calls;
 mod decisions;
 mod forms;
 mod in_place;
@@ -20,5 +21,5 @@ mod waiting;
 pub use array_versions::{
     BinaryOperation, Comparison, LongOperation, PlainOperation, WordProgram, WordStep, WordTest,
 };
-pub use program::emit;
+pub use program::{emit, emit_routine};
 pub use word_code::forms::{Form, instruction_of};

@@ -3,11 +3,12 @@
 ghost use Rattle.std.specs.Prelude.{◌≡◌, [], ◌++◌, ◌+◌, ◌<◌, ◌≤◌, if◌then◌else◌, OnOk, OnErr};
 ghost use Rattle.word_code.specs.array_versions.Program as value;
 ghost use Rattle.word_code.specs.array_versions.View.{program_of, steps_of, step_of, test_of};
-ghost use Rattle.word_code.specs.array_versions.Form.{IsWhole, LocalsBelow, StepLocalsBelow, TestLocalsBelow, OfWords, StepOfWords, TestOfWords};
+ghost use Rattle.word_code.specs.array_versions.Form.{LocalsBelow, StepLocalsBelow, TestLocalsBelow, OfWords, StepOfWords, TestOfWords};
 ghost use Rattle.word_code.specs.array_versions.Cost.{words_of, step_words, test_words};
-ghost use Rattle.word_code.specs.Code.{block_code, code_of, step_code, steps_code, test_code, truth_code, waiting_behind, waiting_after};
+ghost use Rattle.word_code.specs.Code.{block_code, code_of, routine_code, step_code, steps_code, test_code, truth_code, waiting_behind, waiting_after};
 
 use crate::bounds::bounds_within;
+use crate::calls::{emit_call, emit_give};
 use crate::decisions::{code_words, emit_compares, emit_holds, emit_jump_back, emit_pass_over};
 use crate::in_place::emit_versioned_update;
 use crate::locals::{emit_stack_set, steps_locals};
@@ -226,6 +227,13 @@ pub fn emit_step(
         WordStep::StoreNumber { address, word } => emit_store(*address, *word, waiting, code),
         WordStep::MoveWord { from, to } => emit_move_word(*from, *to, waiting, code),
         WordStep::Jump(to) => emit_jump(*to, waiting, code),
+        WordStep::Call {
+            entry,
+            frame,
+            first,
+            count,
+        } => emit_call(*entry, *frame, *first, *count, waiting, code),
+        WordStep::Give => emit_give(waiting, code),
     }
 }
 
@@ -268,10 +276,10 @@ pub fn emit_block(
     emit_flushed(&waiting, code)
 }
 
-/// Appends the code of a program, which may stand at any address. Without memory for it the code stays as it was. A program is whole
-/// where each of its ways ends in a jump, takes no word from an empty stack and reads no local before it is assigned, and where RAM
-/// from 1C20 to 23FF has room for its locals and its stack. Locals from the ninth on stand in RAM, down from 23FE; SP is 2400 where the
-/// code is entered, and is first set below them. With events SP is 2210 there, and stays.
+/// Appends the code of a program, which may stand at any address. Without memory for it the code stays as it was. It does what the program does where
+/// that is whole, with the bodies of what it calls: each of its ways ends in a jump, takes no word from an empty stack and reads no local before it is
+/// assigned, and RAM from 1C20 to 23FF has room for its locals, its stack and what it calls. Locals from the ninth on stand in RAM, down from 23FE; SP
+/// is 2400 where the code is entered, and is first set below them. With events SP is 2210 there, and stays.
 pub fn emit(
     alloc: Global,
     events: bool,
@@ -279,7 +287,7 @@ pub fn emit(
     code: &mut Vec<Form>,
 ) -> Result<(), AllocError>
     requires room { words_of (program_of program.now) ≤ 0x7FFF }
-    requires whole { IsWhole (program_of program.now) }
+    requires locals { LocalsBelow 1016 (program_of program.now) }
     ensures code { OnOk result (code.new.items ≡ code.old.items ++ code_of events (program_of program.now)) }
     ensures of_words { OnOk result (OfWords (program_of program.now)) }
     ensures err { OnErr result (code.new.items ≡ code.old.items) }
@@ -287,5 +295,22 @@ pub fn emit(
     let mut own = Vec::new(alloc);
     emit_stack_set(events, steps_locals(&program.steps), &mut own)?;
     emit_block(alloc, &[], &program.steps, &mut own)?;
+    code.extend_from_slice(&own)
+}
+
+/// Appends the code of a function's body, which may stand at any address. Without memory for it the code stays as it was.
+pub fn emit_routine(
+    alloc: Global,
+    body: &WordProgram,
+    code: &mut Vec<Form>,
+) -> Result<(), AllocError>
+    requires room { words_of (program_of body.now) ≤ 0x7FFF }
+    requires locals { LocalsBelow 1016 (program_of body.now) }
+    ensures code { OnOk result (code.new.items ≡ code.old.items ++ routine_code (program_of body.now)) }
+    ensures of_words { OnOk result (OfWords (program_of body.now)) }
+    ensures err { OnErr result (code.new.items ≡ code.old.items) }
+{
+    let mut own = Vec::new(alloc);
+    emit_block(alloc, &[], &body.steps, &mut own)?;
     code.extend_from_slice(&own)
 }

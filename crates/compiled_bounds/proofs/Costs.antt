@@ -14,7 +14,7 @@ use Rattle.source_values.specs.Runs.{body_of, task_body}
 use Rattle.war_analysis.specs.PlanValue.{TaskPlanValue}
 use Rattle.linked_code.specs.Rooms.{PrivatesAreCounted}
 use Rattle.array_versions.specs.Program.{Program}
-use Rattle.array_versions.specs.Behaviour.{WordState, End, GoesOn, Jumps, Short, Strays, Broken, behaviour, started}
+use Rattle.array_versions.specs.Behaviour.{WordState, End, GoesOn, Jumps, Gives, Short, Strays, Broken, behaviour, started}
 use Rattle.array_versions.specs.Cost.{spent}
 use Rattle.word_code.specs.Code.{stack_cycles}
 use Rattle.privatise.specs.Layouts.{IsLayoutFor}
@@ -46,6 +46,7 @@ use Rattle.compiled_bounds.proofs.Commits.{commit_within_bound, logged_commit_wi
 entries_cost : (l : MemoryMap) (layout : TaskPlace) (e : End) → entry_cycles (places_of l layout) e ≤ 26 * length layout.privates
 entries_cost l layout (GoesOn s) = omega arith
 entries_cost l layout (Jumps to s) = omega arith
+entries_cost l layout (Gives v s) = omega arith
 entries_cost l layout Short = omega arith
 entries_cost l layout Strays = omega arith
 entries_cost l layout Broken = omega arith

@@ -6,7 +6,7 @@ use Rattle.cost_bound.specs.Summaries.{summaries}
 use Rattle.cost_bound.specs.Allowance.{task_bound, uses_events, versions_of, list_of}
 use Rattle.cost_bound.specs.Counts.{emits_of}
 use Rattle.source_values.specs.Runs.{CheckedProgram, State, task_body}
-use Rattle.array_versions.specs.Behaviour.{End, GoesOn, Jumps, Short, Strays, Broken, behaviour, started}
+use Rattle.array_versions.specs.Behaviour.{End, GoesOn, Jumps, Gives, Short, Strays, Broken, behaviour, started}
 use Rattle.array_versions.specs.Form.{FitsTheStack, OfWords}
 use Rattle.word_code.specs.Code.{code_spent}
 use Rattle.memory_map.specs.MemoryMap.{MemoryMap, with_events}
@@ -59,6 +59,7 @@ abbrev pub LeavesFor : ℕ → End → Type 0
 LeavesFor address (Jumps to s) = to ≡ address
 LeavesFor address Short = Unit {0}
 LeavesFor address (GoesOn s) = ⊥
+LeavesFor address (Gives v s) = ⊥
 LeavesFor address Strays = ⊥
 LeavesFor address Broken = ⊥
 

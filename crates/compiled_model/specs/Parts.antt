@@ -6,7 +6,7 @@ use Rattle.cost_bound.specs.Summaries.{summaries}
 use Rattle.cost_bound.specs.Allowance.{task_bound, uses_events, versions_of}
 use Rattle.source_values.specs.Runs.{CheckedProgram, State, Completion, completion_of, attempt_of, task_body}
 use Rattle.array_versions.specs.Program.{Program, nothing}
-use Rattle.array_versions.specs.Behaviour.{Behaviour, End, GoesOn, Jumps, Short as Starves, Strays, Broken, behaviour, started}
+use Rattle.array_versions.specs.Behaviour.{Behaviour, End, GoesOn, Jumps, Gives, Short as Starves, Strays, Broken, behaviour, started}
 use Rattle.memory_map.specs.declared.runtime.Logging.{Logging}
 use Rattle.memory_map.specs.declared.runtime.Logging.TheVariants.{Redo, Undo}
 use Rattle.memory_map.specs.declared.runtime.Role.{Role}
@@ -43,6 +43,7 @@ whole_task p s given =
 abbrev pub has_jumped : End → Bool
 has_jumped (Jumps to s) = true
 has_jumped (GoesOn s) = false
+has_jumped (Gives v s) = false
 has_jumped Starves = false
 has_jumped Strays = false
 has_jumped Broken = false

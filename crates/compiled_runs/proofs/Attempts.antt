@@ -10,7 +10,7 @@ use Rattle.machine_effects.proofs.Interface.{join, join_stall, fram_after-append
 use Rattle.code_forms.specs.Forms.{Core, board_of}
 use Rattle.code_forms.specs.Code.{Runs, Starves}
 use Rattle.source_values.specs.Runs.{CheckedProgram}
-use Rattle.array_versions.specs.Behaviour.{WordState, Behaviour, End, GoesOn, Jumps, Short as Starving, Strays, Broken, behaviour, started}
+use Rattle.array_versions.specs.Behaviour.{WordState, Behaviour, End, GoesOn, Jumps, Gives, Short as Starving, Strays, Broken, behaviour, started}
 use Rattle.array_versions.specs.Laws.{EndsByEffects}
 use Rattle.array_versions.proofs.Interface.{behaves_by_effects}
 use Rattle.word_code.specs.Laws.{HasJumped, ComesTo}
@@ -153,6 +153,7 @@ module _ (p : CheckedProgram) (l : MemoryMap) (start commit : (ℕ → ℕ) → 
     by_end (Jumps to w) e t q = jumps_on to w e t q
     by_end Starving e t q = lacks_on q
     by_end (GoesOn w) e t q = absurd t
+    by_end (Gives v w) e t q = absurd t
     by_end Strays e t q = absurd t
     by_end Broken e t q = absurd t
 

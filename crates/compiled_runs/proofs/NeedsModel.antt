@@ -7,7 +7,7 @@ use Rattle.machine_effects.specs.Inputs.{Inputs, InputsAreWords}
 use Rattle.machine_effects.proofs.Interface.{fram_after-append, each_store-front, put_other}
 use Rattle.crash_rules.proofs.Interface.{world_fram, holds_both}
 use Rattle.source_values.specs.Runs.{CheckedProgram, State}
-use Rattle.array_versions.specs.Behaviour.{Behaviour, End, GoesOn, Jumps, Short as Starving, Strays, Broken, behaviour, started}
+use Rattle.array_versions.specs.Behaviour.{Behaviour, End, GoesOn, Jumps, Gives, Short as Starving, Strays, Broken, behaviour, started}
 use Rattle.memory_map.specs.declared.runtime.Logging.{Logging}
 use Rattle.memory_map.specs.declared.runtime.Logging.TheVariants.{Redo, Undo}
 use Rattle.memory_map.specs.declared.runtime.Role.{Role}
@@ -34,6 +34,7 @@ use Rattle.compiled_runs.proofs.Costs.{by_redo, decided_fram}
 by_end : (p : CheckedProgram) (l : MemoryMap) (t : ℕ) (f : ℕ → ℕ) (e : End) → has_jumped e ≡ true → ListsAtEnd p l t f e → ListsWithin p l t f
 by_end p l t f (Jumps to w) h k = k
 by_end p l t f (GoesOn w) h k = absurd (cc h)
+by_end p l t f (Gives v w) h k = absurd (cc h)
 by_end p l t f Starving h k = absurd (cc h)
 by_end p l t f Strays h k = absurd (cc h)
 by_end p l t f Broken h k = absurd (cc h)

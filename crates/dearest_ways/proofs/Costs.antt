@@ -6,12 +6,13 @@ use Rattle.word_code.specs.declared.waiting.Waiting.{Waiting}
 use Rattle.word_code.specs.array_versions.Program.{Step, Test, Program, number, load, keep, update, local, set_local, update_local, unary, binary, shift, long}
 use Rattle.word_code.specs.array_versions.Program.{element, emit_word, list_entry, versioned_read, versioned_write, versioned_update, sense, next_event}
 use Rattle.word_code.specs.array_versions.Program.{freeze_events, truth, choose, repeat, store_number, move_word, jump, holds, compares, both, either, fails}
-use Rattle.word_code.specs.array_versions.Program.{logged_write, logged_update, nothing, step}
+use Rattle.word_code.specs.array_versions.Program.{logged_write, logged_update, call, give, nothing, step}
 use Rattle.word_code.specs.array_versions.Form.{locals_of}
 use Rattle.word_code.specs.Code.{owed, holds_code, compares_code, number_code, turn_end, pass_over, size, bound_of, stack_set, waiting_behind, waiting_after}
 use Rattle.word_code.specs.Code.{test_code, block_code}
 use Rattle.code_paths.specs.Paths.{capped, forward_most}
 use Rattle.code_costs.specs.Dearest.{flush_most, leaf_most, turn_most, turns_most, step_most, test_most, steps_most, block_most, most_spent}
+use Rattle.code_costs.specs.Dearest.{call_most}
 use Rattle.code_ways.specs.Ways.{WaysValue, AreWaysOf, AreForksOf, straight_ways, choice_ways, ways_behind}
 use Rattle.code_ways.specs.Ways.{WayValue, both_ways, dearer_of, some_way, way_behind}
 use Rattle.code_ways.proofs.Interface.{behind_are, straight_are, choice_are, leaving_are, forked_are, both_are, turned_are, one_are, chosen_are, turns_are}
@@ -65,6 +66,8 @@ mutual
       let begun = behind_are (λ x. set + x) (turns_most (below - from) made end) _ _ (straight_are set) turns in
       behind_are (λ x. flush_most os + x) (λ x. set + turns_most (below - from) made end x) _ _ (straight_are (flush_most os)) begun
   step_are bs os k (jump to) = behind_are (λ n. flush_most os + n) (λ n. 3) _ _ (straight_are (flush_most os)) (leaving_are 3)
+  step_are bs os k (call entry frame first count body) = straight_are (call_most frame count os + block_most [] body 0)
+  step_are bs os k give = record { some = tt; cost = λ n. omega arith }
   step_are bs os k (number w) = leaf_are bs os (number w)
   step_are bs os k (load a) = leaf_are bs os (load a)
   step_are bs os k (keep a) = leaf_are bs os (keep a)

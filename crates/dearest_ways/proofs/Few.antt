@@ -3,7 +3,7 @@ use Rattle.std.proofs.Common.{◌≤◌, arith}
 use Rattle.word_code.specs.array_versions.Program.{Step, Test, Program, number, load, keep, update, local, set_local, update_local, unary, binary, shift, long}
 use Rattle.word_code.specs.array_versions.Program.{element, emit_word, list_entry, versioned_read, versioned_write, versioned_update, sense, next_event}
 use Rattle.word_code.specs.array_versions.Program.{freeze_events, truth, choose, repeat, store_number, move_word, jump, holds, compares, both, either, fails}
-use Rattle.word_code.specs.array_versions.Program.{logged_write, logged_update, nothing, step}
+use Rattle.word_code.specs.array_versions.Program.{logged_write, logged_update, call, give, nothing, step}
 use Rattle.word_code.specs.array_versions.Cost.{step_words, test_words, words_of}
 use Rattle.dearest_ways.specs.Ways.{step_choices, test_choices, program_choices}
 
@@ -41,6 +41,8 @@ mutual
   step_few freeze_events = omega arith
   step_few (store_number a w) = omega arith
   step_few (move_word from to) = omega arith
+  step_few (call entry frame first count body) = omega arith
+  step_few give = omega arith
 
   test_few : (t : Test) → test_choices t ≤ test_words t
   test_few (holds p) = let h = program_few p in omega (arith, h)

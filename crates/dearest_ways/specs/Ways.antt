@@ -3,18 +3,19 @@
 use Rattle.std.specs.Prelude.{◌≡◌, ℕ, suc, ◌+◌, ◌-◌, Bool, true, false, not, if◌then◌else◌, List, [], ◌∷◌, ◌++◌}
 use Rattle.word_code.specs.declared.bounds.Bound.{Bound}
 use Rattle.word_code.specs.declared.waiting.Waiting.{Waiting}
-use Rattle.word_code.specs.array_versions.Program.{Step, Test, Program, truth, choose, repeat, jump, holds, compares, both, either, fails, nothing, step}
+use Rattle.word_code.specs.array_versions.Program.{Step, Test, Program, truth, choose, repeat, jump, call, give, holds, compares, both, either, fails}
+use Rattle.word_code.specs.array_versions.Program.{nothing, step}
 use Rattle.word_code.specs.array_versions.Form.{locals_of}
 use Rattle.word_code.specs.Code.{owed, holds_code, compares_code, number_code, turn_end, pass_over, size, bound_of, stack_set, waiting_behind}
 use Rattle.word_code.specs.Code.{waiting_after, test_code, block_code}
 use Rattle.code_paths.specs.Paths.{capped, forward_most}
-use Rattle.code_costs.specs.Dearest.{flush_most, leaf_most, turn_most}
+use Rattle.code_costs.specs.Dearest.{flush_most, leaf_most, turn_most, call_most, give_most, block_most}
 use Rattle.code_ways.specs.Choices.{counts_from}
 use Rattle.code_ways.specs.Ways.{WayValue, WaysValue, ForksValue, straight_ways, choice_ways, leaving_ways, ways_behind, all_turns, forked_ways, both_forks}
 use Rattle.code_ways.specs.Ways.{one_of_forks, turned_forks, chosen_ways, most_of}
 use Rattle.dearest_ways.specs.declared.program.DearestWay.{DearestWay}
 
--- how many choices there are
+-- how many choices there are; those of what is called aren't counted
 abbrev mutual
   pub step_choices : Step → ℕ
   step_choices (truth t) = test_choices t
@@ -59,6 +60,8 @@ abbrev mutual
       let turn = ways_behind (ended body (ways_further inner [] k (straight_ways 0) body)) (straight_cost end) in
       ways_behind (straight_cost (flush_most os)) (ways_behind (straight_cost (forward_most (number_code n from) 5)) (all_turns (below - from) turn))
   step_ways bs os k (jump to) = ways_behind (straight_cost (flush_most os)) (leaving_ways 3)
+  step_ways bs os k (call entry frame first count body) = straight_cost (call_most frame count os + block_most [] body 0)
+  step_ways bs os k give = leaving_ways (capped (give_most os))
   step_ways bs os k s = straight_cost (leaf_most bs os s)
 
   -- those of a test's code that goes over so many words where its truth is this one

@@ -4,14 +4,15 @@ ghost use Rattle.std.specs.Prelude.{◌≡◌, ◌==◌, ◌+◌, ◌*◌, ◌^�
 ghost use Rattle.word_code.specs.array_versions.Program.{truth, repeat};
 ghost use Rattle.word_code.specs.array_versions.View.{program_of, steps_of, step_of, test_of};
 ghost use Rattle.word_code.specs.array_versions.Form.{IsWhole, LocalsBelow, StepLocalsBelow, TestLocalsBelow};
-ghost use Rattle.word_code.specs.array_versions.Cost.{words_of, step_words, test_words};
+ghost use Rattle.word_code.specs.array_versions.Cost.{words_of, step_words, test_words, call_cycles};
+ghost use Rattle.word_code.specs.declared.waiting.Waiting.TheVariants.{R4};
 ghost use Rattle.word_code.specs.Code.{owed_by, owed, power, size, holds_code, compares_code, number_code, turn_end, pass_over, test_code};
 ghost use Rattle.word_code.specs.Code.{block_code, waiting_behind, waiting_after, bound_of};
 ghost use Rattle.code_paths.specs.Paths.{capped, forward_most};
 ghost use Rattle.code_costs.specs.Dearest.{any_most, bits_in, by_number_most, product_most, flush_most, leaf_most};
-ghost use Rattle.code_costs.specs.Dearest.{back_cycles, turn_most, turns_most, step_most};
+ghost use Rattle.code_costs.specs.Dearest.{back_cycles, turn_most, turns_most, step_most, call_most, give_most};
 ghost use Rattle.code_costs.specs.Dearest.{test_most, steps_most, block_most, most_spent};
-ghost use Rattle.code_ways.specs.Ways.{choice_ways, forks_of, ways_behind, ways_of};
+ghost use Rattle.code_ways.specs.Ways.{choice_ways, forks_of, leaving_ways, ways_behind, ways_of};
 ghost use Rattle.dearest_ways.specs.Ways.{straight_cost, step_choices, test_choices, program_choices, step_ways, test_forks};
 ghost use Rattle.dearest_ways.specs.Ways.{steps_ways, block_ways, IsDearestWay};
 
@@ -122,7 +123,7 @@ fn product_most(waiting: &[Waiting]) -> u64
     }
 }
 
-// What a step costs that is no test, no choice, no loop and no jump, whatever its code is.
+// What a step costs that is no test, no choice, no loop, no jump, no call and no return, whatever its code is.
 fn any_most(waiting: &[Waiting], step: &WordStep) -> u64
     ensures { result ≡ any_most waiting.now (step_of step.now) }
 {
@@ -431,6 +432,42 @@ fn loop_ways(
     behind(alloc, front, behind(alloc, set, turns)?)
 }
 
+// The cycles of a call beside those of what it calls.
+fn call_cycles(frame: Option<u16>, count: u16) -> u64
+    ensures value { result ≡ call_cycles frame count }
+    ensures low { result ≤ 0x100000 }
+{
+    match frame {
+        None => 8 + 2 * count as u64,
+        Some(_) => 16 + 5 * count as u64,
+    }
+}
+
+// A call, whose function's body isn't a part of the step; its word waits behind it.
+fn call_ways(
+    frame: Option<u16>,
+    count: u16,
+    waiting: &mut Vec<Waiting>,
+) -> Result<Ways, AllocError>
+    ensures ways { IfOk result (λ w. ways_of w ≡ straight_cost (call_most frame count waiting.old.items)) }
+    ensures waiting { OnOk result (waiting.new.items ≡ R4 ∷ []) }
+{
+    let cycles = plus(call_cycles(frame, count), owed(waiting));
+    waiting.clear();
+    waiting.push(Waiting::R4)?;
+    Ok(straight(cycles))
+}
+
+// A return, behind which nothing waits.
+fn give_ways(waiting: &mut Vec<Waiting>) -> Ways
+    ensures ways { ways_of result ≡ leaving_ways (capped (give_most waiting.old.items)) }
+    ensures waiting { waiting.new.items ≡ [] }
+{
+    let cycles = plus(5, owed(waiting));
+    waiting.clear();
+    leaving(cycles)
+}
+
 // A step; the words that wait in front of it become those that wait behind it.
 #[cycle(ways)]
 fn step_ways(
@@ -475,6 +512,8 @@ fn step_ways(
             let front = flush(alloc, waiting)?;
             behind(alloc, front, leaving(3))
         }
+        WordStep::Call { frame, count, .. } => call_ways(*frame, *count, waiting),
+        WordStep::Give => Ok(give_ways(waiting)),
         _ => leaf(alloc, bounds, step, waiting),
     }
 }

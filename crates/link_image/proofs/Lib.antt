@@ -1,3 +1,4 @@
+mod Low
 mod Names
 mod Written
 mod Placing

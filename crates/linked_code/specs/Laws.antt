@@ -45,7 +45,7 @@ abbrev pub LinkedStands : Type 0
 LinkedStands = (l : MemoryMap) (programs : List TaskPrograms) → CodeFits l programs → PartsStand l programs (linked_code l programs)
 
 -- No part of the code names a word of RAM below where its stack begins: boot and commit, which have none, name no word of RAM at all, and the code of a
--- task none below its locals. A word of RAM that is read else is at SP
+-- task none below its locals and those of the functions that it calls. A word of RAM that is read else is at SP
 pub record PartsKeepAbove (l : MemoryMap) (programs : List TaskPrograms) : Type 0 where
   pub boot : EachForm (NamesRamFrom (stack_origin l.runtime.events)) (boot_part l).forms
   pub commit : EachForm (NamesRamFrom (stack_origin l.runtime.events)) (commit_part l).forms

@@ -4,7 +4,7 @@ use Rattle.lower.proofs.Names.{◌≡◌, ℕ, zero, suc, ◌+◌, ◌-◌, ◌*
 use Rattle.lower.proofs.Names.{refl, sym, subst, arith, Summary, CheckedStatement, CheckedChoice, CheckedBlock, cycles_column, statement_price}
 use Rattle.lower.proofs.Names.{conditions_price}
 use Rattle.lower.proofs.Names.{blocks_price, block_price, word_place, NextTask, Gate, ListLength, Base, SentBase, Run, runs_of, is_true, compare_words, Step}
-use Rattle.lower.proofs.Names.{Test, Program, choose, repeat, store_number, move_word, jump, nothing, step, joined, WordState, End, GoesOn, Jumps, Short}
+use Rattle.lower.proofs.Names.{Test, Program, choose, repeat, store_number, move_word, jump, nothing, step, joined, WordState, End, GoesOn, Jumps, Gives, Short}
 use Rattle.lower.proofs.Names.{Strays, Broken, Behaviour, behaves, broken, on_end, then_on, is_place, strays, with_stack, with_top, way_by_top, way_by_two}
 use Rattle.lower.proofs.Names.{with_local, turns, step_behaviour, tested, behaviour, test_cycles, cycles_of, spent_on, top_spent, spent_by_top, spent_by_two}
 use Rattle.lower.proofs.Names.{turns_spent, step_spent, test_spent, spent, joined_go_on, joined_cycles, joined_spend, ways_keep_to_cycles, Places, emission}
@@ -23,16 +23,18 @@ Within p most e n = n ≤ most + entry_cycles p e
 
 -- ---- a transition leaves
 
--- neither behind the last step nor short
+-- neither behind the last step, nor by giving a word, nor short
 abbrev Leaves : End → Type 0
 Leaves (GoesOn s) = ⊥
 Leaves (Jumps to s) = Unit {0}
+Leaves (Gives v s) = ⊥
 Leaves Short = ⊥
 Leaves Strays = Unit {0}
 Leaves Broken = Unit {0}
 
 leaves_pay : (p : Places) (e : End) (n most : ℕ) → Leaves e → n ≤ most + 26 * length p.privates → Within p most e n
 leaves_pay p (GoesOn s) n most l h = absurd l
+leaves_pay p (Gives v s) n most l h = absurd l
 leaves_pay p Short n most l h = absurd l
 leaves_pay p e n most l h = h
 

@@ -14,7 +14,7 @@ use Rattle.task_ast.specs.declared.names.Variable.TheVariants.{Shared, Local}
 use Rattle.source_values.specs.Values.{Variables, Attempt, Evaluated, word_at, converted, made_of, truth_word, value_of}
 use Rattle.memory_map.specs.event_places.Places.{sent_place, answer_place}
 use Rattle.source_values.specs.Statements.{Outcome, goes_on, to_task, returns, short, run_block, block_emits}
-use Rattle.array_versions.specs.Behaviour.{WordState, End, GoesOn, Jumps, Short, Strays, Broken, Behaviour, behaviour, event_index}
+use Rattle.array_versions.specs.Behaviour.{WordState, End, GoesOn, Jumps, Gives, Short, Strays, Broken, Behaviour, behaviour, event_index}
 use Rattle.cost_bound.specs.Counts.{stores_of}
 use Rattle.memory_map.specs.MemoryMap.{MemoryMap, word_place, where_events}
 use Rattle.address_space.specs.Limits.{program_end}
@@ -183,6 +183,7 @@ EndsAt there left (GoesOn s) None = ⊥
 EndsAt there left Short (Some x) = ⊥
 EndsAt there left Short None = Unit {0}
 EndsAt there left (Jumps to s) o = ⊥
+EndsAt there left (Gives v s) o = ⊥
 EndsAt there left Strays o = ⊥
 EndsAt there left Broken o = Unit {0}
 
@@ -306,6 +307,7 @@ EndsAs p b stack left es (Jumps to s) (goes_on m) = ⊥
 EndsAs p b stack left es (Jumps to s) (to_task task m) = Left p b left es to s task m
 EndsAs p b stack left es (Jumps to s) (returns u m) = ⊥
 EndsAs p b stack left es (Jumps to s) short = ⊥
+EndsAs p b stack left es (Gives v s) o = ⊥
 EndsAs p b stack left es Short (goes_on m) = ⊥
 EndsAs p b stack left es Short (to_task task m) = ⊥
 EndsAs p b stack left es Short (returns u m) = ⊥

@@ -3,7 +3,7 @@ use Rattle.std.specs.Prelude.{ℕ, ◌+◌, ◌*◌, ◌≤◌, List, length}
 use Rattle.task_ast.specs.Paths.{CheckedExpression, CheckedBlock}
 use Rattle.cost_bound.specs.Summary.{Summary}
 use Rattle.cost_bound.specs.Table.{cycles_column, words_column, expression_price, block_price}
-use Rattle.array_versions.specs.Behaviour.{WordState, End, GoesOn, Jumps, Short, Strays, Broken, behaviour}
+use Rattle.array_versions.specs.Behaviour.{WordState, End, GoesOn, Jumps, Gives, Short, Strays, Broken, behaviour}
 use Rattle.array_versions.specs.Cost.{cycles_of, words_of, spent}
 use Rattle.memory_map.specs.Spots.{Places, private_words}
 use Rattle.lower.specs.Lowered.{lowered_expression, lowered_block}
@@ -22,6 +22,7 @@ ExpressionsKeepToCycles = (known : List Summary) (p : Places) (e : CheckedExpres
 abbrev pub entry_cycles : Places → End → ℕ
 entry_cycles p (GoesOn s) = 0
 entry_cycles p (Jumps to s) = 26 * length p.privates
+entry_cycles p (Gives v s) = 0
 entry_cycles p Short = 0
 entry_cycles p Strays = 26 * length p.privates
 entry_cycles p Broken = 26 * length p.privates

@@ -9,17 +9,18 @@ use Rattle.array_versions.specs.Operations.{unary_word, plain_word, binary_word,
 use Rattle.array_versions.specs.Program.{Step, Test, Program, number, load, keep, update, local, set_local, update_local, unary, binary, shift, long, element}
 use Rattle.array_versions.specs.Program.{emit_word, list_entry, versioned_read, versioned_write, versioned_update, logged_write, logged_update, sense}
 use Rattle.array_versions.specs.Program.{next_event, freeze_events, truth, choose, repeat, store_number, move_word, jump, holds, compares, both, either, fails}
-use Rattle.array_versions.specs.Program.{nothing, step}
+use Rattle.array_versions.specs.Program.{nothing, step, call, give}
 use Rattle.machine_effects.specs.fram_board.Effects.{Effect}
 use Rattle.array_versions.specs.Behaviour.{WordState, End, GoesOn, Jumps, Behaviour, behaves, goes_on, strays, broken, behind_effects, is_place, with_top}
 use Rattle.array_versions.specs.Behaviour.{with_two}
+use Rattle.array_versions.specs.Behaviour.{Gives, called}
 use Rattle.array_versions.specs.Behaviour.{with_words, with_stack, pushed, with_local, local_pushed, local_updated, reading_pushed, event_index, none_answered}
 use Rattle.array_versions.specs.Behaviour.{word_answered, with_looks, event_pushed, word_stored, element_pushed, word_emitted, versioned_pushed}
 use Rattle.array_versions.specs.Behaviour.{versioned_stored, logged_stored, logged_updated}
 use Rattle.array_versions.specs.Behaviour.{versioned_updated, number_pushed, way_by_top, way_by_two, turns, step_behaviour, tested, behaviour}
 use Rattle.event_rules.specs.Taking.{Ended, Next, Blind}
 use Rattle.task_attempts.proofs.Asks.{Takes, Looks, Sees, AnswersNone, AnswersWord, Counts, Freezes, AsksFrom, Reaches, Does, Leads, does_behind, then_does}
-use Rattle.task_attempts.proofs.Asks.{still, one_does, loads, element_pushes, versioned_pushes, word_stores, emitted_stores, entry_stores, versioned_stores}
+use Rattle.task_attempts.proofs.Asks.{called_does, still, one_does, loads, element_pushes, versioned_pushes, word_stores, emitted_stores, entry_stores, versioned_stores}
 use Rattle.task_attempts.proofs.Asks.{versioned_updates, logged_stores, logged_updates}
 
 -- ---- an answer
@@ -135,6 +136,11 @@ mutual
   step_does (store_number a v) s = word_stores a v s
   step_does (move_word from to) s = one_does (is_place from) s (word_stored to (s.fram from) s) strays (word_stores to (s.fram from) s) Ended
   step_does (jump to) s = jump_does (to % 2 == 0) to s
+  step_does (call entry frame first count body) s = words_do count s s.stack _ (λ ws vs.
+      let t = with_stack vs s in
+      let b = behaviour body (called first ws t) in
+      called_does s t b.effects b.end (does_behind b.effects b.end (still refl refl) (program_does body (called first ws t))))
+  step_does give s = popped s (λ v t. behaves [] (Gives v t)) (λ v t. still refl refl)
 
   test_does : (t : Test) (s : WordState) (held failed : WordState → Behaviour) → Leads held → Leads failed → Does s (tested t held failed s)
   test_does (holds p) s held failed f g =
@@ -158,6 +164,7 @@ mutual
 -- at whatever end
 asks_by : (s : WordState) (es : List Effect) (e : End) → Reaches s es e → AsksFrom s es
 asks_by s es (GoesOn t) k = k.asks
+asks_by s es (Gives v t) k = k.asks
 asks_by s es (Jumps to t) k = k
 asks_by s es _ k = k
 

@@ -12,7 +12,8 @@ use Rattle.array_versions.specs.declared.program.ListPlace.{ListPlace}
 use Rattle.array_versions.specs.declared.program.LoggedPlace.{LoggedPlace}
 use Rattle.array_versions.specs.declared.operations.PlainOperation.{PlainOperation}
 use Rattle.array_versions.specs.Operations.{plain_word}
-use Rattle.array_versions.specs.Behaviour.{WordState, End, GoesOn, Jumps, Short, Strays, Broken, Behaviour, behaves, goes_on, strays, is_place, at_place}
+use Rattle.array_versions.specs.Behaviour.{WordState, End, GoesOn, Jumps, Gives, Short, Strays, Broken, Behaviour, behaves, goes_on, strays, is_place, at_place}
+use Rattle.array_versions.specs.Behaviour.{called_behind}
 use Rattle.array_versions.specs.Behaviour.{pushed, stored, behind_effects, then_on, word_stored, element_pushed, word_emitted, raised, entry_stored}
 use Rattle.array_versions.specs.Behaviour.{ends_before}
 use Rattle.array_versions.specs.Behaviour.{listed_behind, own_element, versioned_pushed, first_stored, own_stored, versioned_stored, own_place, own_updated}
@@ -50,6 +51,7 @@ pub record Arrives (s : WordState) (es : List Effect) (t : WordState) : Type 0 w
 abbrev pub Reaches : WordState → List Effect → End → Type 0
 Reaches s es (GoesOn t) = Arrives s es t
 Reaches s es (Jumps to t) = AsksFrom s es
+Reaches s es (Gives v t) = Arrives s es t
 Reaches s es Short = AsksFrom s es
 Reaches s es Strays = AsksFrom s es
 Reaches s es Broken = AsksFrom s es
@@ -78,6 +80,7 @@ arrives_behind {s} {t} {u} {es} {fs} k l = record {
 pub does_behind : {s t : WordState} {es : List Effect} (fs : List Effect) (e : End) → Arrives s es t → Reaches t fs e → Reaches s (es ++ fs) e
 does_behind fs (GoesOn u) k l = arrives_behind k l
 does_behind fs (Jumps to u) k l = asks_behind fs k l
+does_behind fs (Gives v u) k l = arrives_behind k l
 does_behind fs Short k l = asks_behind fs k l
 does_behind fs Strays k l = asks_behind fs k l
 does_behind fs Broken k l = asks_behind fs k l
@@ -85,12 +88,26 @@ does_behind fs Broken k l = asks_behind fs k l
 ended : (s : WordState) (es : List Effect) → AsksFrom s es → AsksFrom s (es ++ [])
 ended s es k = subst (AsksFrom s) (sym (append-nil es)) k
 
+-- with a state behind them
+arrived : {s t : WordState} (es : List Effect) → Arrives s es t → Arrives s (es ++ []) t
+arrived {s} {t} es k = subst (λ l. Arrives s l t) (sym (append-nil es)) k
+
 pub then_does : (s : WordState) (es : List Effect) (e : End) (next : WordState → Behaviour) → Reaches s es e → Leads next → Does s (then_on (behaves es e) next)
 then_does s es (GoesOn t) next k l = does_behind (next t).effects (next t).end k (l t)
 then_does s es (Jumps to t) next k l = ended s es k
+then_does s es (Gives v t) next k l = arrived es k
 then_does s es Short next k l = ended s es k
 then_does s es Strays next k l = ended s es k
 then_does s es Broken next k l = ended s es k
+
+-- a function that is called, by how its body ends, whose stack and locals aren't its caller's
+pub called_does : (s t : WordState) (es : List Effect) (e : End) → Reaches s es e → Does s (called_behind t (behaves es e))
+called_does s t es (Gives v u) k = arrived es (record { asks = k.asks; fram = k.fram; looks = k.looks })
+called_does s t es Short k = ended s es k
+called_does s t es Strays k = ended s es k
+called_does s t es Broken k = ended s es k
+called_does s t es (GoesOn u) k = ended s es k.asks
+called_does s t es (Jumps to u) k = ended s es k
 
 -- ---- parts of steps
 
@@ -115,6 +132,7 @@ place_low a e = grind (arith, nat_tests)
 stores_first : (s : WordState) (es : List Effect) (a v : ℕ) (e : End) → a < tail_place → Reaches (stored a v s) es e → Reaches s (Store a v ∷ es) e
 stores_first s es a v (GoesOn t) low k = record { asks = Next (Stores low) k.asks; fram = k.fram; looks = k.looks }
 stores_first s es a v (Jumps to t) low k = Next (Stores low) k
+stores_first s es a v (Gives w t) low k = record { asks = Next (Stores low) k.asks; fram = k.fram; looks = k.looks }
 stores_first s es a v Short low k = Next (Stores low) k
 stores_first s es a v Strays low k = Next (Stores low) k
 stores_first s es a v Broken low k = Next (Stores low) k

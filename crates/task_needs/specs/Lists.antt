@@ -4,7 +4,7 @@ use Rattle.alp_words.specs.Words.{HoldsWords}
 use Rattle.machine_effects.specs.World.{World, fram_after}
 use Rattle.machine_effects.specs.Inputs.{Inputs, InputsAreWords}
 use Rattle.source_values.specs.Runs.{CheckedProgram, State}
-use Rattle.array_versions.specs.Behaviour.{End, Jumps, GoesOn, Short, Strays, Broken, behaviour, started}
+use Rattle.array_versions.specs.Behaviour.{End, Jumps, Gives, GoesOn, Short, Strays, Broken, behaviour, started}
 use Rattle.word_code.specs.Code.{code_spent}
 use Rattle.memory_map.specs.declared.runtime.Logging.{Logging}
 use Rattle.memory_map.specs.declared.runtime.Logging.TheVariants.{Redo}
@@ -25,6 +25,7 @@ pub record ListsWithin (p : CheckedProgram) (l : MemoryMap) (t : ℕ) (f : ℕ �
 abbrev pub ListsAtEnd : CheckedProgram → MemoryMap → ℕ → (ℕ → ℕ) → End → Type 0
 ListsAtEnd p l t f (Jumps to s) = ListsWithin p l t f
 ListsAtEnd p l t f (GoesOn s) = Unit {0}
+ListsAtEnd p l t f (Gives v s) = Unit {0}
 ListsAtEnd p l t f Short = Unit {0}
 ListsAtEnd p l t f Strays = Unit {0}
 ListsAtEnd p l t f Broken = Unit {0}

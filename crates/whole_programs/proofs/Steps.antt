@@ -1,26 +1,26 @@
--- Each step of a task's program: its locals are below 256, its loops count, and its numbers are words.
-use Rattle.std.proofs.Common.{ℕ, ◌%◌, ◌<◌, List, arith}
+-- Each step of a task's program: its locals are below 256, its loops count, it calls nothing and leaves by jumps, and its numbers are words.
+use Rattle.std.proofs.Common.{ℕ, ◌%◌, ◌<◌, false, List, refl, arith}
 use Rattle.alp_words.specs.Words.{IsWord}
 use Rattle.task_ast.specs.Paths.{CheckedBlock}
 use Rattle.task_ast.specs.declared.SharedDeclaration.{SharedDeclaration}
 use Rattle.array_versions.specs.Program.{Step, Test, Program, nothing, step, joined}
-use Rattle.array_versions.specs.Form.{StepLocalsBelow, TestLocalsBelow, LocalsBelow, StepLoopsCount, TestLoopsCount, LoopsCount, StepOfWords}
+use Rattle.array_versions.specs.Form.{StepLocalsBelow, TestLocalsBelow, LocalsBelow, no_calls, StepIsFormed, TestIsFormed, IsFormed, StepOfWords}
 use Rattle.array_versions.specs.Form.{TestOfWords, OfWords, Spares}
 use Rattle.memory_map.specs.Spots.{Places}
 use Rattle.lower.specs.Lowered.{lowered_block}
 use Rattle.checked_trees.specs.WellFormed.{WellFormedBlock}
 use Rattle.whole_programs.proofs.Placed.{PlacesOfWords}
-use Rattle.whole_programs.proofs.Built.{Leaf, a_number, Stores, a_store, EachStep, block_has}
+use Rattle.whole_programs.proofs.Built.{Leaf, a_number, Stores, a_store, to_the_commit, EachStep, block_has}
 use Rattle.whole_programs.proofs.Spared.{block_spares}
 
 abbrev pub Sound : Program → Type 0
-Sound p = LocalsBelow 256 p × LoopsCount p × OfWords p
+Sound p = LocalsBelow 256 p × IsFormed no_calls false p × OfWords p
 
 abbrev StepSound : Step → Type 0
-StepSound s = StepLocalsBelow 256 s × StepLoopsCount s × StepOfWords s
+StepSound s = StepLocalsBelow 256 s × StepIsFormed no_calls false s × StepOfWords s
 
 abbrev TestSound : Test → Type 0
-TestSound c = TestLocalsBelow 256 c × TestLoopsCount c × TestOfWords c
+TestSound c = TestLocalsBelow 256 c × TestIsFormed no_calls false c × TestOfWords c
 
 -- a step without a local has its numbers alone; the first clauses make them proofs by cases
 leaf_sound : (d e : ℕ) (s : Step) → Leaf d e s → StepOfWords s → StepSound s
@@ -29,6 +29,7 @@ leaf_sound d e s k h = (tt, tt, h)
 
 store_sound : (p : Places) (s : Step) → Stores p s → StepOfWords s → StepSound s
 store_sound p s (a_store v) h = (tt, tt, h)
+store_sound p s to_the_commit h = (tt, refl, h)
 store_sound p s k h = (tt, tt, h)
 
 sound_joined : (p q : Program) → Sound p → Sound q → Sound (joined p q)

@@ -1,5 +1,5 @@
 -- The word programs of an accepted source are whole.
-use Rattle.std.proofs.Common.{◌≡◌, ◌%◌, ℕ, suc, List, [], ◌∷◌, Some, refl, arith, slice_get}
+use Rattle.std.proofs.Common.{◌≡◌, ◌%◌, ◌<◌, ◌≤◌, ℕ, suc, List, [], ◌∷◌, Some, refl, arith, slice_get}
 use Rattle.std.specs.Prelude.{All}
 use Rattle.std.proofs.lemmas.List.Elements.{All-nil, All-cons}
 use Rattle.task_ast.specs.Paths.{CheckedTask, CheckedBlock}
@@ -8,7 +8,8 @@ use Rattle.memory_map.specs.MemoryMap.{MemoryMap, TaskPlace}
 use Rattle.memory_map.specs.Places.{HasItsPlace}
 use Rattle.memory_map.proofs.Interface.{even_of}
 use Rattle.array_versions.specs.Program as word
-use Rattle.array_versions.specs.Form.{IsWhole, FitsTheStack, OfWords}
+use Rattle.array_versions.specs.Form.{no_calls, IsWhole, FitsTheStack, OfWords}
+use Rattle.array_versions.proofs.Interface.{each_local_as}
 use Rattle.memory_map.specs.Spots.{Places, places_of}
 use Rattle.lower.specs.Seen.{some_path_writes, map_seen, task_seen}
 use Rattle.lower.specs.Lowered.{lowered_block, lowered_task, lowered_tasks}
@@ -29,12 +30,17 @@ block_whole p shared b words even formed =
         whole = record {
           locals = 256;
           room = enough;
+          bounds = no_calls;
           fits = record { fits = omega arith };
+          lowest = omega arith;
+          registers = omega arith;
           low_locals = sound.0;
-          loops_count = sound.1;
+          own_locals = each_local_as (λ n. n < 256) (λ n. 0 ≤ n) (λ n l. omega arith) (lowered_block p b) sound.0;
+          formed = sound.1;
           ways = task_way p words shared even b formed.statements (safe_paths b formed.assigned) formed.ends;
         };
-        fits = record { low = omega arith; room = record { fits = omega arith } };
+        fits = record { low = omega arith; room = record { fits = omega arith }; lowest = omega arith; light = refl };
+        alone = sound.1;
       },
       sound.2,
     )

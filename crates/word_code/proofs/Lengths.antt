@@ -17,7 +17,9 @@ use Rattle.word_code.proofs.Names.{read_code, stored_code, write_code, compare_f
 use Rattle.word_code.proofs.Names.{truth_code, number_source, turn_end, ram_turn_end, turns_code, waiting_behind, waiting_after, step_code, test_code}
 use Rattle.word_code.proofs.Names.{steps_code, top_number, element_at, bound_of, is_inside, block_code, code_of, rests, rest_source, indexed_update}
 use Rattle.word_code.proofs.Names.{known_update, known_index, update_at, CodeHasItsBytes, CodeHasItsWords, made_code, first_update, by_version, inside_update}
-use Rattle.word_code.proofs.Names.{max, stack_base, stack_set, step_locals, test_locals, locals_of, StepLocalsBelow, TestLocalsBelow, LocalsBelow}
+use Rattle.word_code.proofs.Names.{max, stack_base, stack_set, step_locals, test_locals, locals_of, call, give, zero, suc, Call, Return, KeepStack, RestoreStack}
+use Rattle.word_code.proofs.Names.{StackNext, below_words, values_code, light_call, frame_code, framed_call, give_code, routine_code}
+use Rattle.word_code.specs.TaskForms.{call_named, step_named, test_named, named_of}
 use Rattle.array_versions.specs.msp_step.msp_isa.Encoding.{encoding}
 use Rattle.array_versions.specs.msp_step.msp_isa.declared.instructions.TwoOp.TheVariants as op
 use Rattle.array_versions.specs.msp_step.msp_isa.declared.instructions.Condition.TheVariants as condition
@@ -29,7 +31,6 @@ use Rattle.word_code.proofs.UpdateBytes.{reads_bytes, near_size}
 use Rattle.word_code.proofs.CodeTakes.{IsRead, Takes, behind, so_takes, joined, either_takes, nothing_takes, made_of, number_bytes, number_is, source_is}
 use Rattle.word_code.proofs.CodeTakes.{side_is, side_takes, kept_bytes_of, kept_bytes, source_short, shift_takes, shift_most, flushed_takes, cleared_by}
 use Rattle.word_code.proofs.CodeTakes.{cleared_takes, four_takes, five_takes, top_to_four_takes, top_to_five_takes, two_takes, set_bytes, set_small, set_most}
-use Rattle.word_code.proofs.Locals.{program_below, test_below}
 use Rattle.word_code.proofs.LongLengths.{long_takes}
 
 -- ---- facts on numbers
@@ -264,11 +265,42 @@ module _ {k : ℕ} where
   behind_below n os x = joined (flushed_takes (below_top os)) x (omega (arith, source_short os))
 
   -- what sets the place of the stack
-  set_takes : (events : Bool) → Takes k (stack_set events k) 0 (set_bytes k)
-  set_takes true = nothing_takes 0 (set_bytes k) (omega arith)
-  set_takes false =
-      either_takes (nat_lt 8 k) (λ b. if b then 4 else 0) (made_of (SetStack (stack_base k) ∷ []) 4 (refl, tt) (omega arith))
+  set_takes : (events : Bool) (locals : ℕ) → locals ≤ k → Takes k (stack_set events locals) 0 (set_bytes locals)
+  set_takes true locals l = nothing_takes 0 (set_bytes locals) (omega arith)
+  set_takes false locals l =
+      either_takes (nat_lt 8 locals) (λ b. if b then 4 else 0) (made_of (SetStack (stack_base locals) ∷ []) 4 (omega (arith, l), tt) (omega arith))
       (nothing_takes 0 0 (omega arith))
+
+  -- calls
+  values_take : (first n : ℕ) (os : List Waiting) → Takes k (values_code first n os) (kept_bytes (below_words n os)) (2 * n + kept_bytes os)
+  values_take first zero os = nothing_takes (kept_bytes os) (2 * 0 + kept_bytes os) (omega arith)
+  values_take first (suc n) os =
+      joined (side_takes false (local_register (first + n)) os) (values_take first n (below_top os)) (omega arith)
+
+  light_takes : (entry first count : ℕ) (os : List Waiting)
+      → Takes k (light_call entry first count os) (kept_bytes (waiting.R4 ∷ [])) (2 * (3 + count) + kept_bytes os)
+  light_takes entry first count os =
+      joined (behind (values_take first count os) (flushed_takes (below_words count os))) (made_of (Call entry ∷ []) 4 (tt, tt) (omega arith)) (omega arith)
+
+  moved_takes : (b : Bool) (m : ℕ) → m < k
+      → Takes k (Move (StackNext R4) (if b then ToRegister (local_register m) else ToRam (local_address m)) ∷ []) 0 4
+  moved_takes true m l = made_of (Move (StackNext R4) (ToRegister (local_register m)) ∷ []) 4 ((tt, tt), tt) (omega arith)
+  moved_takes false m l = made_of (Move (StackNext R4) (ToRam (local_address m)) ∷ []) 4 ((tt, above k m l), tt) (omega arith)
+
+  frame_takes : (first n : ℕ) → first + n ≤ k → Takes k (frame_code first n) 0 (4 * n)
+  frame_takes first zero l = nothing_takes 0 0 (omega arith)
+  frame_takes first (suc n) l =
+      joined (moved_takes (nat_lt (first + n) 8) (first + n) (omega (arith, l))) (frame_takes first n (omega (arith, l))) (omega arith)
+
+  framed_takes : (entry f first count : ℕ) (os : List Waiting) → call_named (Some f) first count ≤ k
+      → Takes k (framed_call entry f first count os) (kept_bytes (waiting.R4 ∷ [])) (2 * (8 + 2 * count) + kept_bytes os)
+  framed_takes entry f first count os l =
+      let front = made_of (KeepStack R4 ∷ SetStack f ∷ []) 6 (tt, (omega (arith, l), tt)) (omega arith) in
+      let last = made_of (Push (Register R4) ∷ Call entry ∷ RestoreStack ∷ []) 8 (tt, (tt, (tt, tt))) (omega arith) in
+      joined (flushed_takes os) (behind front (behind (frame_takes first count (omega (arith, l))) last)) (omega arith)
+
+  give_takes : (os : List Waiting) → Takes k (give_code os) 0 (4 + kept_bytes os)
+  give_takes os = joined (four_takes os) (made_of (Return ∷ []) 2 (tt, tt) (omega arith)) (omega arith)
 
   -- steps with no word waiting in front of them, and then those that wait behind them are pushed
   block_takes : (bs : List Bound) (p : Program)
@@ -320,7 +352,7 @@ module _ {k : ℕ} where
 
   -- steps leave the bytes with which the place of the stack is set, where they name a local that stands in RAM
   mutual
-    step_takes : (bs : List Bound) (s : Step) (os : List Waiting) → StepLocalsBelow k s
+    step_takes : (bs : List Bound) (s : Step) (os : List Waiting) → step_named s ≤ k
         → Takes k (step_code bs os s) (set_bytes (step_locals s) + kept_bytes (waiting_behind os s)) (2 * step_words s + kept_bytes os)
     step_takes bs (number w) os l = nothing_takes _ _ (omega arith)
     step_takes bs (load a) os l = nothing_takes _ _ (omega arith)
@@ -329,11 +361,11 @@ module _ {k : ℕ} where
         let last = made_of (Move x (ToFram a) ∷ []) (4 + source_bytes x) ((source_is k (top_of os), tt), tt) (omega arith) in
         joined (cleared_by (any_at a (below_top os)) (below_top os)) last (omega (arith, source_short os))
     step_takes bs (update o a) os l = behind_below 4 os (record { each = (source_is k (top_of os), tt); bytes = omega arith })
-    step_takes bs (local n) os l = so_takes (local_takes (nat_lt n 8) n os l) (omega (arith, set_small (n + 1)))
+    step_takes bs (local n) os l = so_takes (local_takes (nat_lt n 8) n os (omega (arith, l))) (omega (arith, set_small (n + 1)))
     step_takes bs (set_local n) os l =
-        so_takes (behind_below 4 os (target_takes (nat_lt n 8) n _ l (source_is k (top_of os)))) (omega (arith, set_small (n + 1)))
+        so_takes (behind_below 4 os (target_takes (nat_lt n 8) n _ (omega (arith, l)) (source_is k (top_of os)))) (omega (arith, set_small (n + 1)))
     step_takes bs (update_local o n) os l =
-        so_takes (behind_below 12 os (update_takes o n _ l (source_is k (top_of os)))) (omega (arith, set_small (n + 1)))
+        so_takes (behind_below 12 os (update_takes o n _ (omega (arith, l)) (source_is k (top_of os)))) (omega (arith, set_small (n + 1)))
     step_takes bs (unary o) os l = joined (top_to_five_takes os) (unary_takes o) (omega arith)
     step_takes bs (binary o) os l = so_takes (operation_takes o os) (omega arith)
     step_takes bs (shift o n) os l = joined (top_to_four_takes os) (shift_takes o n) (omega arith)
@@ -363,44 +395,47 @@ module _ {k : ℕ} where
         let push = made_of truth_code 6 (search arith) (omega arith) in
         so_takes (behind_flushed os (behind (test_fits bs t false 2 l) push)) (omega arith)
     step_takes bs (choose t taken otherwise) os l =
-        let other = block_takes bs otherwise (steps_takes bs otherwise [] l.2) in
+        let other = block_takes bs otherwise (steps_takes bs otherwise [] (omega (arith, l))) in
         let over = pass_fits (size (block_code bs otherwise)) in
-        let first = behind (block_takes bs taken (steps_takes bs taken [] l.1)) over in
-        let test = test_fits bs t false (size (block_code bs taken ++ pass_over (size (block_code bs otherwise)))) l.0 in
+        let first = behind (block_takes bs taken (steps_takes bs taken [] (omega (arith, l)))) over in
+        let test = test_fits bs t false (size (block_code bs taken ++ pass_over (size (block_code bs otherwise)))) (omega (arith, l)) in
         let ways = max (locals_of taken) (locals_of otherwise) in
         so_takes (behind_flushed os (behind test (behind first other)))
         (omega (arith, set_most (test_locals t) ways, set_most (locals_of taken) (locals_of otherwise)))
     step_takes bs (repeat n from below body) os l =
         let inner = bound_of n below ∷ bs in
-        let turns = turns_takes n below (block_code inner body) l.0 (block_takes inner body (steps_takes inner body [] l.1)) in
+        let turns = turns_takes n below (block_code inner body) (omega (arith, l)) (block_takes inner body (steps_takes inner body [] (omega (arith, l)))) in
         let left = set_bytes (locals_of body) in
         let most = 2 * words_of body + 20 in
         let some = either_takes (nat_lt from below) (λ b. most) turns (nothing_takes left most (omega (arith, set_small (locals_of body)))) in
-        let first = target_takes (nat_lt n 8) n (number_source from) l.0 (number_is k from) in
+        let first = target_takes (nat_lt n 8) n (number_source from) (omega (arith, l)) (number_is k from) in
         so_takes (behind_flushed os (behind first some))
         (omega (arith, set_most (n + 1) (locals_of body), set_small (n + 1), number_bytes from))
     step_takes bs (store_number a w) os l =
         behind_flushed os (record { each = ((number_is k w, tt), tt); bytes = omega (arith, number_bytes w) })
     step_takes bs (move_word from to) os l = behind_flushed os (record { each = ((tt, tt), tt); bytes = omega arith })
     step_takes bs (jump to) os l = behind_flushed os (record { each = (tt, tt); bytes = omega arith })
+    step_takes bs (call entry None first count body) os l = light_takes entry first count os
+    step_takes bs (call entry (Some f) first count body) os l = framed_takes entry f first count os l
+    step_takes bs give os l = give_takes os
 
-    test_fits : (bs : List Bound) (t : Test) (when : Bool) (d : ℕ) → TestLocalsBelow k t
+    test_fits : (bs : List Bound) (t : Test) (when : Bool) (d : ℕ) → test_named t ≤ k
         → Takes k (test_code bs t when d) (set_bytes (test_locals t)) (2 * test_words t)
     test_fits bs (holds p) when d l = joined (steps_takes bs p [] l) (holds_takes (waiting_after [] p) when d) (omega arith)
     test_fits bs (compares c p) when d l = joined (steps_takes bs p [] l) (compares_takes (waiting_after [] p) c when d) (omega arith)
     test_fits bs (both t u) when d l =
-        let first = test_fits bs t false (size (test_code bs u when d) + (if not when then d else 0)) l.0 in
-        joined first (test_fits bs u when d l.1) (omega (arith, set_most (test_locals t) (test_locals u)))
+        let first = test_fits bs t false (size (test_code bs u when d) + (if not when then d else 0)) (omega (arith, l)) in
+        joined first (test_fits bs u when d (omega (arith, l))) (omega (arith, set_most (test_locals t) (test_locals u)))
     test_fits bs (either t u) when d l =
-        let first = test_fits bs t true (size (test_code bs u when d) + (if when then d else 0)) l.0 in
-        joined first (test_fits bs u when d l.1) (omega (arith, set_most (test_locals t) (test_locals u)))
+        let first = test_fits bs t true (size (test_code bs u when d) + (if when then d else 0)) (omega (arith, l)) in
+        joined first (test_fits bs u when d (omega (arith, l))) (omega (arith, set_most (test_locals t) (test_locals u)))
     test_fits bs (fails t) when d l = test_fits bs t (not when) d l
 
-    steps_takes : (bs : List Bound) (p : Program) (os : List Waiting) → LocalsBelow k p
+    steps_takes : (bs : List Bound) (p : Program) (os : List Waiting) → named_of p ≤ k
         → Takes k (steps_code bs os p) (set_bytes (locals_of p) + kept_bytes (waiting_after os p)) (2 * words_of p + kept_bytes os)
     steps_takes bs nothing os l = nothing_takes _ _ (omega arith)
     steps_takes bs (step first more) os l =
-        joined (step_takes bs first os l.0) (steps_takes bs more (waiting_behind os first) l.1)
+        joined (step_takes bs first os (omega (arith, l))) (steps_takes bs more (waiting_behind os first) (omega (arith, l)))
         (omega (arith, set_most (step_locals first) (locals_of more)))
 
 -- ---- programs
@@ -412,20 +447,49 @@ pass_takes d = pass_fits d
 pub turn_end_takes : (n below : ℕ) → Takes (n + 1) (turn_end n below) 0 14
 turn_end_takes n below = turn_end_fits n below (omega arith)
 
-pub test_takes : (bs : List Bound) (t : Test) (when : Bool) (d : ℕ) → Takes (test_locals t) (test_code bs t when d) 0 (2 * test_words t)
-test_takes bs t when d = so_takes (test_fits bs t when d (test_below (test_locals t) t (omega arith))) (omega arith)
+pub test_takes : (bs : List Bound) (t : Test) (when : Bool) (d : ℕ) → Takes (test_named t) (test_code bs t when d) 0 (2 * test_words t)
+test_takes bs t when d = so_takes (test_fits bs t when d (omega arith)) (omega arith)
 
-block_fits : (bs : List Bound) (p : Program) → Takes (locals_of p) (block_code bs p) (set_bytes (locals_of p)) (2 * words_of p)
-block_fits bs p = let k = locals_of p in block_takes bs p (steps_takes bs p [] (program_below k p (omega arith)))
+block_fits : (bs : List Bound) (p : Program) → Takes (named_of p) (block_code bs p) (set_bytes (locals_of p)) (2 * words_of p)
+block_fits bs p = block_takes bs p (steps_takes bs p [] (omega arith))
 
-pub inner_takes : (bs : List Bound) (p : Program) → Takes (locals_of p) (block_code bs p) 0 (2 * words_of p)
+pub inner_takes : (bs : List Bound) (p : Program) → Takes (named_of p) (block_code bs p) 0 (2 * words_of p)
 inner_takes bs p = so_takes (block_fits bs p) (omega arith)
 
-pub whole_takes : (events : Bool) (p : Program) → Takes (locals_of p) (code_of events p) 0 (2 * words_of p)
-whole_takes events p = joined (set_takes events) (block_fits [] p) (omega arith)
+-- a program's own locals are among those that its code names
+mutual
+  step_names : (s : Step) → step_locals s ≤ step_named s
+  step_names (local n) = omega arith
+  step_names (set_local n) = omega arith
+  step_names (update_local o n) = omega arith
+  step_names (truth t) = test_names t
+  step_names (choose t p q) = omega (arith, test_names t, program_names p, program_names q)
+  step_names (repeat n from below p) = omega (arith, program_names p)
+  step_names _ = omega arith
+
+  test_names : (t : Test) → test_locals t ≤ test_named t
+  test_names (holds p) = program_names p
+  test_names (compares c p) = program_names p
+  test_names (both t u) = omega (arith, test_names t, test_names u)
+  test_names (either t u) = omega (arith, test_names t, test_names u)
+  test_names (fails t) = test_names t
+
+  program_names : (p : Program) → locals_of p ≤ named_of p
+  program_names nothing = omega arith
+  program_names (step s p) = omega (arith, step_names s, program_names p)
+
+pub whole_takes : (events : Bool) (p : Program) → Takes (named_of p) (code_of events p) 0 (2 * words_of p)
+whole_takes events p = joined (set_takes events (locals_of p) (program_names p)) (block_fits [] p) (omega arith)
 
 pub code_short : (events : Bool) (p : Program) → forms_bytes (code_of events p) ≤ 2 * words_of p
 code_short events p = omega (arith, (whole_takes events p).bytes)
+
+-- the code of a function's body
+pub routine_takes : (p : Program) → Takes (named_of p) (routine_code p) 0 (2 * words_of p)
+routine_takes p = inner_takes [] p
+
+pub routine_short : (p : Program) → forms_bytes (routine_code p) ≤ 2 * words_of p
+routine_short p = omega (arith, (routine_takes p).bytes)
 
 instructions_length : (ms : List Form) → 2 * length (instruction_words (instructions ms)) ≡ forms_bytes ms
 instructions_length [] = refl
@@ -433,7 +497,10 @@ instructions_length (m ∷ ms) =
     omega (arith, bytes_are m, instructions_length ms, length-append (encoding (instruction_of m)) (instruction_words (instructions ms)))
 
 pub code_has_its_bytes : CodeHasItsBytes
-code_has_its_bytes events p = code_short events p
+code_has_its_bytes events p = (code_short events p, routine_short p)
 
 pub code_has_its_words : CodeHasItsWords
-code_has_its_words events p = omega (arith, code_short events p, instructions_length (code_of events p))
+code_has_its_words events p = (
+  omega (arith, code_short events p, instructions_length (code_of events p)),
+  omega (arith, routine_short p, instructions_length (routine_code p)),
+)

@@ -1,20 +1,24 @@
 -- Whatever holds of each form that the code of tasks is made of holds of each form of a program's code: a fact is a list of cases on forms.
 use Rattle.word_code.proofs.Names.{ℕ, Bool, List, [], ◌∷◌, Form, Move, Calculate, Update, Push, Jump, SetStack, instruction_of, instructions}
 use Rattle.word_code.proofs.Names.{AreInstructions, Ram}
-use Rattle.word_code.proofs.Names.{ToRam, Source, Program, code_of, locals_of, stack_base, CodeIsInstructions}
+use Rattle.word_code.proofs.Names.{ToRam, Source, Program, code_of, routine_code, stack_base, CodeIsInstructions}
 use Rattle.array_versions.specs.msp_step.msp_isa.Encoding.{IsInstruction}
 use Rattle.code_forms.specs.Forms as forms
-use Rattle.word_code.specs.TaskForms.{EachForm, NamesRamFrom, SourceFrom, IsTaskSource, IsTaskForm, CodeIsOfTaskForms, CodeNamesRamFrom}
+use Rattle.word_code.specs.TaskForms.{named_of, named_from, EachForm, NamesRamFrom, SourceFrom, IsTaskSource, IsTaskForm, CodeIsOfTaskForms, CodeNamesRamFrom}
 use Rattle.word_code.proofs.CodeTakes.{IsCoded}
-use Rattle.word_code.proofs.Lengths.{whole_takes}
+use Rattle.word_code.proofs.Lengths.{whole_takes, routine_takes}
 
 pub each_weaker : (F G : Form → Type 0) (ms : List Form) → ((m : Form) → F m → G m) → EachForm F ms → EachForm G ms
 each_weaker F G [] f h = tt
 each_weaker F G (m ∷ ms) f h = (f m h.0, each_weaker F G ms f h.1)
 
 -- a program's code has each fact that all forms of tasks' code have
-pub code_has : (F : Form → Type 0) (events : Bool) (p : Program) → ((m : Form) → IsCoded (locals_of p) m → F m) → EachForm F (code_of events p)
-code_has F events p f = each_weaker (IsCoded (locals_of p)) F (code_of events p) f (whole_takes events p).each
+pub code_has : (F : Form → Type 0) (events : Bool) (p : Program) → ((m : Form) → IsCoded (named_of p) m → F m) → EachForm F (code_of events p)
+code_has F events p f = each_weaker (IsCoded (named_of p)) F (code_of events p) f (whole_takes events p).each
+
+-- and so has that of a function's body
+pub routine_has : (F : Form → Type 0) (p : Program) → ((m : Form) → IsCoded (named_of p) m → F m) → EachForm F (routine_code p)
+routine_has F p f = each_weaker (IsCoded (named_of p)) F (routine_code p) f (routine_takes p).each
 
 -- ---- they are instructions
 
@@ -27,10 +31,13 @@ are_instructions [] h = tt
 are_instructions (m ∷ ms) h = (h.0, are_instructions ms h.1)
 
 pub code_are : (events : Bool) (p : Program) → AreInstructions (instructions (code_of events p))
-code_are events p = are_instructions (code_of events p) (code_has (λ m. IsInstruction (instruction_of m)) events p (form_is (locals_of p)))
+code_are events p = are_instructions (code_of events p) (code_has (λ m. IsInstruction (instruction_of m)) events p (form_is (named_of p)))
+
+pub routine_are : (p : Program) → AreInstructions (instructions (routine_code p))
+routine_are p = are_instructions (routine_code p) (routine_has (λ m. IsInstruction (instruction_of m)) p (form_is (named_of p)))
 
 pub code_is_instructions : CodeIsInstructions
-code_is_instructions events p = code_are events p
+code_is_instructions events p = (code_are events p, routine_are p)
 
 -- ---- they are of a task's code
 
@@ -39,7 +46,10 @@ task_form k (Jump c offset) h = tt
 task_form k _ h = h
 
 pub code_is_of_task_forms : CodeIsOfTaskForms
-code_is_of_task_forms events p = code_has (IsTaskForm (stack_base (locals_of p))) events p (task_form (locals_of p))
+code_is_of_task_forms events p = (
+  code_has (IsTaskForm (named_from p)) events p (task_form (named_of p)),
+  routine_has (IsTaskForm (named_from p)) p (task_form (named_of p)),
+)
 
 -- ---- they name no word of RAM below the stack
 
@@ -58,4 +68,7 @@ form_names k (SetStack n) h = h
 form_names k _ h = tt
 
 pub code_names_ram_from : CodeNamesRamFrom
-code_names_ram_from events p = code_has (NamesRamFrom (stack_base (locals_of p))) events p (form_names (locals_of p))
+code_names_ram_from events p = (
+  code_has (NamesRamFrom (named_from p)) events p (form_names (named_of p)),
+  routine_has (NamesRamFrom (named_from p)) p (form_names (named_of p)),
+)

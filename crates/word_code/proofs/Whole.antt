@@ -10,13 +10,14 @@ use Rattle.word_code.proofs.Names.{fails, nothing, step, WordState}
 use Rattle.word_code.proofs.Names.{started, End, GoesOn, Jumps, Short, Strays, Broken, Behaviour, with_stack, with_local, with_top, with_two, is_place}
 use Rattle.word_code.proofs.Names.{local_pushed, local_updated, number_pushed, way_by_top, way_by_two, step_behaviour, then_on, tested, behaviour, Place, start}
 use Rattle.word_code.proofs.Names.{assigning, Moves, EachTurn, EachStepWay, EachTestWay, EachWay, StepSpares, TestSpares}
-use Rattle.word_code.proofs.Names.{Spares, StepLoopsCount, TestLoopsCount, LoopsCount, StepOfWords, TestOfWords, OfWords, top_spent, spent_by_top}
+use Rattle.word_code.proofs.Names.{Spares, StepEachLocal, TestEachLocal, EachLocal, StepIsFormed, TestIsFormed, IsFormed, StepOfWords, TestOfWords, OfWords, top_spent, spent_by_top}
 use Rattle.word_code.proofs.Names.{spent_by_two, step_spent, spent_on, test_spent, spent, Matches, GoesWell, matches_local, start_matches, step_well, well}
 use Rattle.word_code.proofs.Names.{whole_ends_soundly, local_words, words_step, words, Leaves, leaves, Bound, Waiting, number_source, flushed, below_top, kept}
 use Rattle.word_code.proofs.Names.{top_to_four, entry_code, compare_form, holding, failing, size, pass_over, decision, holds_code, compares_code, truth_code}
 use Rattle.word_code.proofs.Names.{number_code, turns_code, waiting_behind, waiting_after, bound_of, step_code, test_code, steps_code, block_code}
-use Rattle.word_code.proofs.Names.{ComesTo, CodeDoesAsProgram, locals_of, stack_base, stack_start, stack_set, stack_cycles, code_of, code_spent}
-use Rattle.word_code.proofs.Names.{IsWhole, FitsEvents, IsEntry, HasStackRoom, get_or, ◌%◌}
+use Rattle.word_code.proofs.Names.{ComesTo, CodeDoesAsProgram, locals_of, stack_base, stack_set, stack_cycles, code_of, code_spent}
+use Rattle.word_code.proofs.Names.{IsWhole, FitsEvents, IsEntry, get_or, StepRoutinesStand, TestRoutinesStand, RoutinesStand, call, give, Gives, called}
+use Rattle.word_code.proofs.Names.{called_behind, entry_place, routine_code, light_call, framed_call, length-append}
 use Rattle.array_versions.specs.Laws.{IsStateOfWords, EndsInWords, IsSound}
 use Rattle.array_versions.specs.msp_step.msp_isa.declared.instructions.Condition.TheVariants as condition
 use Rattle.array_versions.specs.msp_step.msp_isa.declared.operands.Konst.TheVariants as konst
@@ -29,9 +30,10 @@ use Rattle.word_code.proofs.Results.{unary_part, binary_part, shift_reaches, ele
 use Rattle.word_code.proofs.Operands.{owed, owed_kept, load_owed, Describes, dressed, flush_part, top_to_four_part}
 use Rattle.word_code.proofs.Sides.{Aiming, compare_sides_part, compare_stays, reading_cycles, side_owed}
 use Rattle.word_code.specs.Code.{is_turned, compare_sides, compare_source}
-use Rattle.word_code.proofs.Stretches.{Setting, runs_on, nothing_run, dearer}
-use Rattle.word_code.proofs.Locals.{program_below, program_least, EachStepLocal, EachTestLocal, EachLocal, each_local, uncalled, uncalled_owns, HasStack}
-use Rattle.word_code.proofs.Locals.{stack_part}
+use Rattle.word_code.proofs.Stretches.{Setting, bounds_of, runs_on, nothing_run, dearer}
+use Rattle.word_code.proofs.Locals.{at_start, at_base, uncalled, uncalled_owns, HasStack, stack_part}
+use Rattle.word_code.proofs.Calls.{Popped, popped, front_words, enters, enters_words, callee, light_reaches, give_part}
+use Rattle.word_code.proofs.Frames.{framed_reaches}
 use Rattle.word_code.proofs.Follows.{StandsFor, Follows, FollowsEnd, OnGoesOn, more_cycles, then_hop, ends_at, guarded, reach_more, reach_way, reaches}
 use Rattle.word_code.proofs.Follows.{then_end, then_follows, reach_guarded}
 use Rattle.word_code.proofs.Parts.{constant_part, store_part, move_part, jump_part}
@@ -53,16 +55,16 @@ pub record Ready (bs : List Bound) (next : Place → Type 0) (w : WordState) : T
   pub words_in : IsStateOfWords w
   pub bounded : Bounded bs w.locals
 
-pub ready_on : (bs : List Bound) (next : Place → Type 0) (e : End) → GoesWell next e → EndsInWords e → OnGoesOn (λ v. Bounded bs v.locals) e
+pub ready_on : (gives : Bool) (bs : List Bound) (next : Place → Type 0) (e : End) → GoesWell gives next e → EndsInWords e → OnGoesOn (λ v. Bounded bs v.locals) e
     → OnGoesOn (Ready bs next) e
-ready_on bs next (GoesOn w) g h b = record { place = g.0; fit = g.1; matches = g.2; words_in = h; bounded = b }
-ready_on bs next _ g h b = tt
+ready_on gives bs next (GoesOn w) g h b = record { place = g.0; fit = g.1; matches = g.2; words_in = h; bounded = b }
+ready_on gives bs next _ g h b = tt
 
 -- the same with the word of a local
-pub ready_with : (bs : List Bound) (next : Place → Type 0) (n k : ℕ) (e : End) → GoesWell next e → EndsInWords e → OnGoesOn (λ v. Bounded bs v.locals) e
+pub ready_with : (gives : Bool) (bs : List Bound) (next : Place → Type 0) (n k : ℕ) (e : End) → GoesWell gives next e → EndsInWords e → OnGoesOn (λ v. Bounded bs v.locals) e
     → Leaves n (Some k) e → OnGoesOn (λ v. Ready bs next v × (v.locals n ≡ Some k)) e
-ready_with bs next n k (GoesOn w) g h b l = (record { place = g.0; fit = g.1; matches = g.2; words_in = h; bounded = b }, l)
-ready_with bs next n k _ g h b l = tt
+ready_with gives bs next n k (GoesOn w) g h b l = (record { place = g.0; fit = g.1; matches = g.2; words_in = h; bounded = b }, l)
+ready_with gives bs next n k _ g h b l = tt
 
 -- what is left where so many words are taken
 pub ready_popped : (bs : List Bound) (next : Place → Type 0) (q : Place) (n : ℕ) (w : WordState) (us : List ℕ) → next (record q { depth = q.depth - n + 0 })
@@ -95,23 +97,37 @@ record Way : Type 1 where
   cost : WordState → ℕ
   does : WordState → Behaviour
 
--- what is known beforehand of a part of a program: its numbers are words, its locals are there, its loops count, and it spares the numbers of the loops around
-pub record Known (words locals loops spared : Type 0) : Type 0 where
+-- what is known beforehand of a part of a program: its numbers are words, its locals are its own, its loops count and what it calls may be called, the code of
+-- that stands, and it spares the numbers of the loops around
+pub record Known (words locals forms routines spared : Type 0) : Type 0 where
   pub of_words : words
   pub owned : locals
-  pub count : loops
+  pub formed : forms
+  pub routines : routines
   pub spares : spared
 
 -- of one part, and of the other, where it is known of both
-pub known_first : {A B C D E F : Type 0} (S T : ℕ → Type 0) (bs : List Bound) → Known (A × B) (C × D) (E × F) (Spared bs (λ n. S n × T n))
-    → Known A C E (Spared bs S)
+pub known_first : {A B C D E F G H : Type 0} (S T : ℕ → Type 0) (bs : List Bound)
+    → Known (A × B) (C × D) (E × F) (G × H) (Spared bs (λ n. S n × T n)) → Known A C E G (Spared bs S)
 known_first S T bs k =
-    record { of_words = k.of_words.0; owned = k.owned.0; count = k.count.0; spares = spared_so bs (λ n. S n × T n) S (λ n q. q.0) k.spares }
+    record {
+      of_words = k.of_words.0;
+      owned = k.owned.0;
+      formed = k.formed.0;
+      routines = k.routines.0;
+      spares = spared_so bs (λ n. S n × T n) S (λ n q. q.0) k.spares;
+    }
 
-pub known_second : {A B C D E F : Type 0} (S T : ℕ → Type 0) (bs : List Bound) → Known (A × B) (C × D) (E × F) (Spared bs (λ n. S n × T n))
-    → Known B D F (Spared bs T)
+pub known_second : {A B C D E F G H : Type 0} (S T : ℕ → Type 0) (bs : List Bound)
+    → Known (A × B) (C × D) (E × F) (G × H) (Spared bs (λ n. S n × T n)) → Known B D F H (Spared bs T)
 known_second S T bs k =
-    record { of_words = k.of_words.1; owned = k.owned.1; count = k.count.1; spares = spared_so bs (λ n. S n × T n) T (λ n q. q.1) k.spares }
+    record {
+      of_words = k.of_words.1;
+      owned = k.owned.1;
+      formed = k.formed.1;
+      routines = k.routines.1;
+      spares = spared_so bs (λ n. S n × T n) T (λ n q. q.1) k.spares;
+    }
 
 module _ (z : Setting) where
   -- 1 is pushed, and the jump leads past the other number
@@ -261,15 +277,36 @@ module _ (z : Setting) where
       (λ t v d. flush_part z os mid v t d (stands_back z.code pc a (flushed os) h)))
 
   abbrev pub KnownStep : List Bound → Step → Type 0
-  KnownStep bs first = Known (StepOfWords first) (EachStepLocal (Owns z) first) (StepLoopsCount first) (Spared bs (λ n. StepSpares n first))
+  KnownStep bs first =
+      Known (StepOfWords first) (StepEachLocal (Owns z) first) (StepIsFormed (bounds_of z) z.gives first) (StepRoutinesStand z.code first)
+      (Spared bs (λ n. StepSpares n first))
 
   abbrev pub KnownTest : List Bound → Test → Type 0
-  KnownTest bs t = Known (TestOfWords t) (EachTestLocal (Owns z) t) (TestLoopsCount t) (Spared bs (λ n. TestSpares n t))
+  KnownTest bs t =
+      Known (TestOfWords t) (TestEachLocal (Owns z) t) (TestIsFormed (bounds_of z) z.gives t) (TestRoutinesStand z.code t) (Spared bs (λ n. TestSpares n t))
 
   abbrev pub KnownProgram : List Bound → Program → Type 0
-  KnownProgram bs p = Known (OfWords p) (EachLocal (Owns z) p) (LoopsCount p) (Spared bs (λ n. Spares n p))
+  KnownProgram bs p =
+      Known (OfWords p) (EachLocal (Owns z) p) (IsFormed (bounds_of z) z.gives p) (RoutinesStand z.code p) (Spared bs (λ n. Spares n p))
 
--- another program that is called runs in a setting of its own
+-- the word that is given has room
+pub call_room : (z : Setting) {q : Place} (count : ℕ) (w : WordState) (p : Popped count w.stack)
+    → (q.depth ≡ length w.stack) × (q.depth - count + 1 ≤ z.room) → length p.rest < z.room
+call_room z count w p h = omega (arith, h.0, h.1, ap (length {A = ℕ}) p.is, length-append p.words p.rest, p.count)
+
+-- the body of a function that is called begins with its parameters
+pub call_ready : (first count room : ℕ) (body : Program) (w : WordState) (p : Popped count w.stack) → EachWay room body (λ q. ⊥) (entry_place first count)
+    → IsStateOfWords w → Ready [] (EachWay room body (λ q. ⊥)) (called first p.words w)
+call_ready first count room body w p ways words_in =
+    record {
+      place = entry_place first count;
+      fit = ways;
+      matches = subst (λ n. Matches (entry_place first n) (called first p.words w)) p.count (enters first p.words w);
+      words_in = enters_words first p.words w (front_words p.words p.rest (subst AreWords p.is words_in.stack)) words_in;
+      bounded = tt;
+    }
+
+-- a function that is called runs in a setting of its own
 mutual
   pub step_follows : (z : Setting) (bs : List Bound) (first : Step) (next : Place → Type 0) (os : List Waiting) (pc : ℕ) (w : WordState) (u : Core)
       → Ready bs (EachStepWay z.room first next) w → KnownStep z bs first → Stands z.code pc (step_code bs os first) → Describes z os pc w u
@@ -340,10 +377,11 @@ mutual
       (test_follows z bs t false 2 at ways w x r known (record { stands = stands_front z.code at a truth_code s; fork = fork }) i))
   step_follows z bs (choose t taken otherwise) next os pc w u r known h d =
       let taken_spares = spared_so bs (λ m. StepSpares m (choose t taken otherwise)) (λ m. Spares m taken) (λ m k. k.1) known.spares in
-      let taken_known : KnownProgram z bs taken = record { of_words = known.of_words.1; owned = known.owned.1; count = known.count.1; spares = taken_spares } in
+      let taken_known : KnownProgram z bs taken =
+      record { of_words = known.of_words.1; owned = known.owned.1; formed = known.formed.1; routines = known.routines.1; spares = taken_spares } in
       let other_spares = spared_so bs (λ m. StepSpares m (choose t taken otherwise)) (λ m. Spares m otherwise) (λ m k. k.2) known.spares in
       let other_known : KnownProgram z bs otherwise =
-      record { of_words = known.of_words.2; owned = known.owned.2; count = known.count.2; spares = other_spares } in
+      record { of_words = known.of_words.2; owned = known.owned.2; formed = known.formed.2; routines = known.routines.2; spares = other_spares } in
       let b = block_code bs taken in
       let other = block_code bs otherwise in
       let over = pass_over (size other) in
@@ -376,7 +414,8 @@ mutual
             (λ hs. steps_follow z bs otherwise next [] middle v y q other_known hs (dressed z middle v y j));
       } in
       let test_spares = spared_so bs (λ m. StepSpares m (choose t taken otherwise)) (λ m. TestSpares m t) (λ m q. q.0) known.spares in
-      let test_known : KnownTest z bs t = record { of_words = known.of_words.0; owned = known.owned.0; count = known.count.0; spares = test_spares } in
+      let test_known : KnownTest z bs t =
+      record { of_words = known.of_words.0; owned = known.owned.0; formed = known.formed.0; routines = known.routines.0; spares = test_spares } in
       ends_at z end (at + forms_bytes (a ++ (first ++ other))) (step_spent (choose t taken otherwise) w) x
       (step_behaviour (choose t taken otherwise) w) (omega (arith, forms_bytes-append a (first ++ other), forms_bytes-append first other))
       (test_follows z bs t false (size first) at ways w x r test_known (record { stands = stands_front z.code at a (first ++ other) s; fork = fork }) i))
@@ -396,13 +435,13 @@ mutual
       (λ stands m k s t p less j. block_follows z inner body top (with_local n k s) t stands (λ hb.
       steps_follow z inner body (turn m) [] top (with_local n k s) t
       (turn_ready bs (EachWay z.room body (turn m)) n k below s p others (let x = known.of_words.2 in omega arith) less)
-      (record { of_words = known.of_words.3; owned = known.owned.1; count = known.count.1; spares = (known.count.0, around) }) hb
+      (record { of_words = known.of_words.3; owned = known.owned.1; formed = known.formed.1; routines = known.routines; spares = (known.formed.0, around) }) hb
       (dressed z top (with_local n k s) t j)))
-      (λ m k s p less. ready_with bs (turn m) n k (behaviour body (with_local n k s)).end
-      (well z.room body (turn m) (assigning n p.place) (with_local n k s) p.fit (matches_local p.place s n k p.matches))
+      (λ m k s p less. ready_with z.gives bs (turn m) n k (behaviour body (with_local n k s)).end
+      (well (bounds_of z) z.gives z.room body known.formed.1 (turn m) (assigning n p.place) (with_local n k s) p.fit (matches_local p.place s n k p.matches))
       (words body (with_local n k s) known.of_words.3 (local_words s n k p.words_in (let x = known.of_words.2 in omega arith)))
       (bounded_on bs body (with_local n k s) around (bounded_with bs s.locals n k others p.bounded))
-      (leaves n (Some k) body (with_local n k s) known.count.0 (assigned_same s.locals n k))))
+      (leaves n (Some k) body (with_local n k s) known.formed.0 (assigned_same s.locals n k))))
   step_follows z bs (store_number a v) next os pc w u r known h d =
       alone_part z os (Move (number_source v) (ToFram a) ∷ []) 5 pc w u (step_behaviour (store_number a v) w) h d
       (λ t s i. store_part z a v (pc + forms_bytes (flushed os)) w t s i)
@@ -413,6 +452,42 @@ mutual
   step_follows z bs (jump to) next os pc w u r known h d =
       alone_part z os (Branch to ∷ []) 3 pc w u (step_behaviour (jump to) w) h d
       (λ t s i. jump_part z to (pc + forms_bytes (flushed os)) w t r.fit s i)
+  step_follows z bs (call entry None first count body) next os pc w u r known h d =
+      let x = known.formed in
+      let p = popped count w.stack (omega (arith, r.fit.0, r.matches.depth)) in
+      let s = called first p.words w in
+      let b = behaviour body s in
+      let last = entry + forms_bytes (routine_code body) in
+      let end = pc + forms_bytes (light_call entry first count os) in
+      subst (λ c. Does z (waiting.R4 ∷ []) end c u (step_behaviour (call entry None first count body) w))
+      (ap (λ c. 8 + 2 * count + c + owed os) (sym (p.spends (λ words. spent body (called first words w)))))
+      (subst (λ a. Does z (waiting.R4 ∷ []) end (8 + 2 * count + spent body s + owed os) u a)
+      (sym (p.does (λ words vs. called_behind (with_stack vs w) (behaviour body (called first words w)))))
+      (light_reaches z first count body x entry last (spent body s) pc os w b u p known.routines.0 (call_room z count w p (r.matches.depth, r.fit.1))
+      (λ top t e i. let y = callee z None first count body x top t e in
+      block_follows y [] body entry s t known.routines.1 (λ hs. steps_follow y [] body (λ q. ⊥) [] entry s t
+      (call_ready first count x.room body w p x.ways r.words_in)
+      (record { of_words = known.of_words.4; owned = x.locals; formed = x.deeper; routines = known.routines.2; spares = tt }) hs
+      (dressed y entry s t i))) h d))
+  step_follows z bs (call entry (Some f) first count body) next os pc w u r known h d =
+      let x = known.formed in
+      let p = popped count w.stack (omega (arith, r.fit.0, r.matches.depth)) in
+      let s = called first p.words w in
+      let b = behaviour body s in
+      let last = entry + forms_bytes (routine_code body) in
+      let end = pc + forms_bytes (framed_call entry f first count os) in
+      subst (λ c. Does z (waiting.R4 ∷ []) end c u (step_behaviour (call entry (Some f) first count body) w))
+      (ap (λ c. 16 + 5 * count + c + owed os) (sym (p.spends (λ words. spent body (called first words w)))))
+      (subst (λ a. Does z (waiting.R4 ∷ []) end (16 + 5 * count + spent body s + owed os) u a)
+      (sym (p.does (λ words vs. called_behind (with_stack vs w) (behaviour body (called first words w)))))
+      (framed_reaches z f first count body x entry last (spent body s) pc os w b u p known.routines.0 (call_room z count w p (r.matches.depth, r.fit.1))
+      (λ top t e i. let y = callee z (Some f) first count body x top t e in
+      block_follows y [] body entry s t known.routines.1 (λ hs. steps_follow y [] body (λ q. ⊥) [] entry s t
+      (call_ready first count x.room body w p x.ways r.words_in)
+      (record { of_words = known.of_words.4; owned = x.locals; formed = x.deeper; routines = known.routines.2; spares = tt }) hs
+      (dressed y entry s t i))) h d))
+  step_follows z bs give next os pc w u r known h d =
+      give_part z os pc w w.stack u known.formed refl (omega (arith, r.fit, r.matches.depth)) h d
 
   test_follows : (z : Setting) (bs : List Bound) (t : Test) (when : Bool) (d pc : ℕ) (ways : Ways z bs) (w : WordState) (u : Core)
       → Ready bs (EachTestWay z.room t ways.held.fits ways.failed.fits) w
@@ -425,7 +500,7 @@ mutual
       let next = Moves z.room 1 0 (λ s. ways.held.fits s × ways.failed.fits s) in
       leaf_follows z bs p next pc ways.end (λ v. 8 + spent_by_top ways.held.cost ways.failed.cost v) (way_by_top ways.held.does ways.failed.does) w u
       (steps_follow z bs p next [] pc w u r known (stands_front z.code pc a last k.stands) (dressed z pc w u i))
-      (ready_on bs next (behaviour p w).end (well z.room p next r.place w r.fit r.matches) (words p w known.of_words r.words_in)
+      (ready_on z.gives bs next (behaviour p w).end (well (bounds_of z) z.gives z.room p known.formed next r.place w r.fit r.matches) (words p w known.of_words r.words_in)
       (bounded_on bs p w known.spares r.bounded))
       (λ x v q j. by_top z bs when d ways os (pc + forms_bytes a) v x v.stack (forked_behind z when d pc a last ways.held.at ways.failed.at k) q refl j)
   test_follows z bs (compares e p) when d pc ways w u r known k i =
@@ -435,7 +510,7 @@ mutual
       let next = Moves z.room 2 0 (λ s. ways.held.fits s × ways.failed.fits s) in
       leaf_follows z bs p next pc ways.end (λ v. 10 + spent_by_two e ways.held.cost ways.failed.cost v) (way_by_two e ways.held.does ways.failed.does) w u
       (steps_follow z bs p next [] pc w u r known (stands_front z.code pc a last k.stands) (dressed z pc w u i))
-      (ready_on bs next (behaviour p w).end (well z.room p next r.place w r.fit r.matches) (words p w known.of_words r.words_in)
+      (ready_on z.gives bs next (behaviour p w).end (well (bounds_of z) z.gives z.room p known.formed next r.place w r.fit r.matches) (words p w known.of_words r.words_in)
       (bounded_on bs p w known.spares r.bounded))
       (λ x v q j. by_two z bs when d ways os e (pc + forms_bytes a) v x v.stack (forked_behind z when d pc a last ways.held.at ways.failed.at k) q refl j)
   test_follows z bs (both t e) when d pc ways w u r known k i =
@@ -525,7 +600,7 @@ mutual
       (reach_way z (owed mid) (owed after) (Describes z mid pc') (Describes z after end) (step_spent first w + owed os) (spent more) u
       (Ready bs (EachWay z.room more next)) b.effects b.end (behaviour more)
       (step_follows z bs first (EachWay z.room more next) os pc w u r first_known (stands_front z.code pc a rest h) d)
-      (ready_on bs (EachWay z.room more next) b.end (step_well z.room first (EachWay z.room more next) r.place w r.fit r.matches)
+      (ready_on z.gives bs (EachWay z.room more next) b.end (step_well (bounds_of z) z.gives z.room first first_known.formed (EachWay z.room more next) r.place w r.fit r.matches)
       (words_step first w first_known.of_words r.words_in) (step_bounded bs first w first_known.spares r.bounded))
       (λ t v q j. reach_more z (owed after) (Describes z after end) (spent more v + owed mid) (owed mid + spent more v) t (behaviour more v).effects
       (behaviour more v).end (omega arith)
@@ -536,10 +611,12 @@ none_has_no_word : (v w : ℕ) → None ≡ Some v → w ≡ v
 none_has_no_word v w e = cc
 
 -- a whole program with its place in code, and where its stack begins
-module _ (z : Setting) (p : Program) (whole : IsWhole p) (of_words : OfWords p) (owned : EachLocal (Owns z) p) (room : whole.room ≡ z.room) where
+module _ (z : Setting) (p : Program) (whole : IsWhole p) (of_words : OfWords p) (owned : EachLocal (Owns z) p) (room : whole.room ≡ z.room)
+    (formed : IsFormed (bounds_of z) z.gives p × RoutinesStand z.code p) where
   by_end : (pc most : ℕ) (u : Core) (es : List Effect) (e : End) → FollowsEnd z pc most u es e → IsSound e → ComesTo z.code most u es e
   by_end pc most u es (GoesOn w) a g = g
   by_end pc most u es (Jumps to w) a g = a
+  by_end pc most u es (Gives v w) a g = g
   by_end pc most u es Short a g = a
   by_end pc most u es Strays a g = tt
   by_end pc most u es Broken a g = g
@@ -584,35 +661,29 @@ module _ (z : Setting) (p : Program) (whole : IsWhole p) (of_words : OfWords p) 
       by_end end (code_spent p s) u b.effects b.end
       (then_end z end (spent p s) b.effects b.end set (λ t k. block_follows z [] p mid s t h
       (λ hs. steps_follow z [] p (λ q. ⊥) [] mid s t r
-      (record { of_words = of_words; owned = owned; count = whole.loops_count; spares = tt }) hs (dressed z mid s t (begun mid t k)))))
+      (record { of_words = of_words; owned = owned; formed = formed.0; routines = formed.1; spares = tt }) hs (dressed z mid s t (begun mid t k)))))
       (whole_ends_soundly p u.fram u.inputs whole)
 
 -- the code does what the program does: with events its stack is there at the entry, else it is set where a local stands in RAM
 pub code_does_as_program : CodeDoesAsProgram
-code_does_as_program code at p u tidy h whole fits o entry = by code.events refl h fits entry
+code_does_as_program code at p u tidy h routines whole fits o entry = by code.events refl h fits entry
   where
     by : (events : Bool) → code.events ≡ events → Stands code at (code_of events p) → (events ≡ true → FitsEvents p whole) → IsEntry events at u
         → let s = started u.fram u.inputs in let b = behaviour p s in ComesTo code (code_spent p s) u b.effects b.end
     by true e h fits entry =
-        let fit = fits refl in
-        let z = uncalled code tidy u whole.locals whole.room stack_start refl (λ k. omega arith) fit.low fit.room in
-        let owned = each_local (Owns z) whole.locals p (uncalled_owns code tidy u whole.locals whole.room stack_start refl (λ k. omega arith) fit.low fit.room)
-        whole.low_locals in
-        steps_do z p whole o owned refl at at h (subst (λ b. IsEntry b at u) (sym e) entry)
+        let b = at_start code p whole (fits refl) in
+        let z = uncalled code tidy u p whole b in
+        steps_do z p whole o (uncalled_owns code tidy u p whole b) refl (whole.formed, routines) at at h (subst (λ b. IsEntry b at u) (sym e) entry)
         (dearer z (omega arith) (nothing_run z (record { at = entry.pc; sp = entry.sp; fram = refl; inputs = refl; ram = refl; work = refl })))
     by false e h fits entry =
+        let b = at_base code p whole e in
+        let z = uncalled code tidy u p whole b in
         let locals = locals_of p in
         let top = stack_base locals in
-        let few = program_least whole.locals p whole.low_locals in
-        let even : top % 2 ≡ 0 = omega arith in
-        let none : code.events ≡ true → top ≤ stack_start = λ k. absurd (cc (k, e)) in
-        let roomy : HasStackRoom top whole.room = let room = whole.fits.fits in record { fits = omega (arith, room, few) } in
-        let low : top ≤ stack_base locals = omega arith in
-        let z = uncalled code tidy u locals whole.room top even none low roomy in
-        let owned = each_local (Owns z) locals p (uncalled_owns code tidy u locals whole.room top even none low roomy) (program_below locals p (omega arith)) in
         let front = stack_set false locals in
         let mid = at + forms_bytes front in
         let set : Runs code [] stack_cycles u (HasStack mid top u) =
         subst (λ n. Runs code [] stack_cycles u (HasStack (n + forms_bytes front) top u)) entry.pc
         (stack_part z locals u e entry.sp (subst (λ n. Stands code n front) (sym entry.pc) (stands_front code at front (block_code [] p) h))) in
-        steps_do z p whole o owned refl at mid (stands_back code at front (block_code [] p) h) (subst (λ b. IsEntry b at u) (sym e) entry) set
+        steps_do z p whole o (uncalled_owns code tidy u p whole b) refl (whole.formed, routines) at mid (stands_back code at front (block_code [] p) h)
+        (subst (λ b. IsEntry b at u) (sym e) entry) set

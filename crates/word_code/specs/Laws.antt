@@ -91,14 +91,15 @@ RunsReadFromSp = (code : Code) (es : List Effect) (most : ℕ) (u : Core) (to : 
 abbrev pub StarvingReadsFromSp : Type 0
 StarvingReadsFromSp = (code : Code) (es : List Effect) (most : ℕ) (u : Core) (a : Starves code es most u) → StepsReadFromSp code (suc a.steps) u
 
--- the code is at most as long as the program's words say
+-- the code is at most as long as the program's words say, and so is that of a function's body
 abbrev pub CodeHasItsBytes : Type 0
-CodeHasItsBytes = (events : Bool) (p : Program) → forms_bytes (code_of events p) ≤ 2 * words_of p
+CodeHasItsBytes = (events : Bool) (p : Program) → (forms_bytes (code_of events p) ≤ 2 * words_of p) × (forms_bytes (routine_code p) ≤ 2 * words_of p)
 
 -- and encoded it has at most so many words
 abbrev pub CodeHasItsWords : Type 0
-CodeHasItsWords = (events : Bool) (p : Program) → length (instruction_words (instructions (code_of events p))) ≤ words_of p
+CodeHasItsWords = (events : Bool) (p : Program) → (length (instruction_words (instructions (code_of events p))) ≤ words_of p)
+    × (length (instruction_words (instructions (routine_code p))) ≤ words_of p)
 
 -- each of its instructions has its words
 abbrev pub CodeIsInstructions : Type 0
-CodeIsInstructions = (events : Bool) (p : Program) → AreInstructions (instructions (code_of events p))
+CodeIsInstructions = (events : Bool) (p : Program) → AreInstructions (instructions (code_of events p)) × AreInstructions (instructions (routine_code p))
