@@ -1,4 +1,5 @@
 pub mod Program
+pub mod TaskPrograms
 pub mod View
 pub mod Operations
 pub mod Behaviour

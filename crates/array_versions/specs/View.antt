@@ -6,6 +6,8 @@ use Rattle.array_versions.specs.declared.program.WordStep.{WordStep, fold-WordSt
 use Rattle.array_versions.specs.declared.program.WordTest.{WordTest, fold-WordTest}
 use Rattle.array_versions.specs.declared.program.WordStep.TheOpen.{WordStep-F, WordTest-F}
 use Rattle.array_versions.specs.declared.program.WordProgram.{WordProgram}
+use Rattle.array_versions.specs.declared.tasks.TaskPrograms as tasks
+use Rattle.array_versions.specs.TaskPrograms.{TaskPrograms}
 
 -- a list of steps as a program
 abbrev pub steps_in_order : List Step → Program
@@ -68,3 +70,7 @@ steps_of ws = steps_in_order (map step_of ws)
 -- a program
 abbrev pub program_of : WordProgram → Program
 program_of p = steps_of p.steps.items
+
+-- the programs of a task
+abbrev pub programs_of : tasks.TaskPrograms → TaskPrograms
+programs_of p = record { own = program_of p.own; routines = map program_of p.routines.items }

@@ -5,8 +5,10 @@
 pub mod laws;
 mod operations;
 mod program;
+mod tasks;
 
 pub use operations::{
     BinaryOperation, Comparison, LongOperation, PlainOperation, ShiftOperation, UnaryOperation,
 };
 pub use program::{ArrayPlace, ListPlace, LoggedPlace, WordProgram, WordStep, WordTest};
+pub use tasks::TaskPrograms;

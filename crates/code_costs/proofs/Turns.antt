@@ -4,7 +4,7 @@ use Rattle.code_costs.proofs.Names.{List, [], ◌∷◌, ◌++◌}
 use Rattle.code_costs.proofs.Names.{Some, refl, sym, ap, ◌∙◌, subst, arith, eq-eqb, ne_eqb, forms_bytes-append, Core, Form, Jump, Skip, Stands}
 use Rattle.code_costs.proofs.Names.{forms_bytes, Runs}
 use Rattle.code_costs.proofs.Names.{stands_front, stands_back, WordState, Behaviour, with_local, turns, number_code, turn_end, turns_code, jump_back, size}
-use Rattle.code_costs.proofs.Names.{Setting, runs_on, StandsFor, OnGoesOn, Reaches, then_reach, Decided, back_part, whole_size, jump_to, near_is}
+use Rattle.code_costs.proofs.Names.{Setting, Owns, runs_on, StandsFor, OnGoesOn, Reaches, then_reach, Decided, back_part, whole_size, jump_to, near_is}
 use Rattle.code_costs.proofs.Names.{back_distance, raise_part, local_number, back_cycles, turn_most, turns_most, forward_most}
 use Rattle.word_code.specs.msp_isa.declared.instructions.Condition.TheVariants as condition
 use Rattle.word_code.specs.array_versions.msp_step.Effect.{word_sum}

@@ -10,8 +10,17 @@ use Rattle.code_forms.specs.Forms.{Form}
 use Rattle.code_forms.proofs.Interface.{instructions-append}
 use Rattle.runtime_code.proofs.Interface.{code_bytes}
 use Rattle.array_versions.specs.Program.{Program}
+use Rattle.array_versions.specs.TaskPrograms.{TaskPrograms}
+use Rattle.array_versions.specs.View.{programs_of}
 use Rattle.array_versions.specs.declared.program.WordProgram.{WordProgram}
+use Rattle.array_versions.specs.declared.tasks.TaskPrograms.{TaskPrograms as Programs}
+use Rattle.std.specs.List.{flat_map}
+use Rattle.memory_map.specs.declared.place.Region.{Region}
+use Rattle.memory_map.specs.declared.place.RoutinePlace.{RoutinePlace}
+use Rattle.memory_map.specs.Places.{code_regions}
+use Rattle.linked_code.specs.Linked.{routine_part, routine_parts, parts_of_task, RoutinesFit}
 use Rattle.linked_code.proofs.Interface.{in_order}
+use Rattle.link_image.specs.Needs.{TaskHasFewLocals, TaskIsEmitted, TasksAreEmitted}
 
 -- the words of forms
 abbrev pub words_in : List Form → List ℕ
@@ -55,27 +64,21 @@ part_words start old new all part parts even_start even from is rest =
           ∙ rest,
     )
 
--- ---- tasks
+-- ---- functions
 
-pub parts_more : (events : Bool) (ts : List TaskPlace) (ps : List WordProgram) (k : ℕ) (t : TaskPlace) (p : WordProgram) → k < length ts → k < length ps
-    → t ≡ get_or ts k t → p ≡ get_or ps k p
-    → task_parts events (drop k ts) (map program_of (drop k ps))
-    ≡ task_part events t (program_of p) ∷ task_parts events (drop (k + 1) ts) (map program_of (drop (k + 1) ps))
-parts_more events ts ps k t p l m a b =
-    at_drop_more (λ xs. task_parts events xs (map program_of (drop k ps))) ts k t l
-    ∙ ap (λ x. task_parts events (x ∷ drop (k + 1) ts) (map program_of (drop k ps))) (sym a)
-    ∙ at_drop_more (λ xs. task_parts events (t ∷ drop (k + 1) ts) (map program_of xs)) ps k p m
-    ∙ ap (λ x. task_parts events (t ∷ drop (k + 1) ts) (map program_of (x ∷ drop (k + 1) ps))) (sym b)
+pub routines_more : (rs : List RoutinePlace) (ps : List WordProgram) (k : ℕ) (r : RoutinePlace) (p : WordProgram) → k < length rs → k < length ps
+    → r ≡ get_or rs k r → p ≡ get_or ps k p
+    → routine_parts (drop k rs) (map program_of (drop k ps))
+    ≡ routine_part r (program_of p) ∷ routine_parts (drop (k + 1) rs) (map program_of (drop (k + 1) ps))
+routines_more rs ps k r p l m a b =
+    at_drop_more (λ xs. routine_parts xs (map program_of (drop k ps))) rs k r l
+    ∙ ap (λ x. routine_parts (x ∷ drop (k + 1) rs) (map program_of (drop k ps))) (sym a)
+    ∙ at_drop_more (λ xs. routine_parts (r ∷ drop (k + 1) rs) (map program_of xs)) ps k p m
+    ∙ ap (λ x. routine_parts (r ∷ drop (k + 1) rs) (map program_of (x ∷ drop (k + 1) ps))) (sym b)
 
 pub weaker_order : (from end more : ℕ) (parts : List CodePart) → end ≤ more → PartsInOrder from parts end → PartsInOrder from parts more
 weaker_order from end more [] l o = omega (arith, l, o)
 weaker_order from end more (part ∷ parts) l o = (o.0, weaker_order (part_end part) end more parts l o.1)
-
-pub same_count : (ts : List TaskPlace) (ps : List Program) → ProgramsFit ts ps → length ts ≡ length ps
-same_count [] [] f = refl
-same_count [] (p ∷ ps) f = absurd f
-same_count (t ∷ ts) [] f = absurd f
-same_count (t ∷ ts) (p ∷ ps) f = let r = same_count ts ps f.1 in omega (arith, r)
 
 -- parts in order end behind where they begin
 pub order_end : (from end : ℕ) (parts : List CodePart) → PartsInOrder from parts end → from ≤ end
@@ -83,13 +86,13 @@ order_end from end [] o = o
 order_end from end (part ∷ parts) o =
     let start = o.0.from in let rest = order_end (part_end part) end parts o.1 in omega (arith, start, rest)
 
--- the next task, and those behind it
-pub next_order : (events : Bool) (ts : List TaskPlace) (ps : List WordProgram) (at k : ℕ) (t : TaskPlace) (p : WordProgram) → k < length ts
-    → length ts ≡ length ps → t ≡ get_or ts k t → p ≡ get_or ps k p
-    → PartsInOrder at (task_parts events (drop k ts) (map program_of (drop k ps))) reset_vector
-    → PartsInOrder at (task_part events t (program_of p) ∷ task_parts events (drop (k + 1) ts) (map program_of (drop (k + 1) ps))) reset_vector
-next_order events ts ps at k t p l n a b o =
-    subst (λ parts. PartsInOrder at parts reset_vector) (parts_more events ts ps k t p l (omega (arith, l, n)) a b) o
+-- the next function, and those behind it
+pub next_routine : (rs : List RoutinePlace) (ps : List WordProgram) (at k : ℕ) (r : RoutinePlace) (p : WordProgram) → k < length rs
+    → length rs ≡ length ps → r ≡ get_or rs k r → p ≡ get_or ps k p
+    → PartsInOrder at (routine_parts (drop k rs) (map program_of (drop k ps))) reset_vector
+    → PartsInOrder at (routine_part r (program_of p) ∷ routine_parts (drop (k + 1) rs) (map program_of (drop (k + 1) ps))) reset_vector
+next_routine rs ps at k r p l n a b o =
+    subst (λ parts. PartsInOrder at parts reset_vector) (routines_more rs ps k r p l (omega (arith, l, n)) a b) o
 
 pub next_each : (P : Program → Type 0) (ps : List WordProgram) (k : ℕ) (p : WordProgram) → k < length ps → p ≡ get_or ps k p
     → All P (map program_of (drop k ps)) → P (program_of p) × All P (map program_of (drop (k + 1) ps))
@@ -97,20 +100,134 @@ next_each P ps k p l a h =
     let there = subst (All P) (at_drop_more (λ xs. map program_of xs) ps k p l ∙ ap (λ x. map program_of (x ∷ drop (k + 1) ps)) (sym a)) h in
     (All-head P (program_of p) (map program_of (drop (k + 1) ps)) there, All-tail P (program_of p) (map program_of (drop (k + 1) ps)) there)
 
+-- ---- tasks
+
+-- where parts end that begin at an address
+abbrev pub parts_end : ℕ → List CodePart → ℕ
+parts_end at [] = at
+parts_end at (part ∷ parts) = parts_end (part_end part) parts
+
+pub chained_append : (at : ℕ) (parts others : List CodePart) → chained at (parts ++ others) ≡ chained at parts ++ chained (parts_end at parts) others
+chained_append at [] others = refl
+chained_append at (part ∷ parts) others =
+    let behind = chained (parts_end (part_end part) parts) others in
+    ap (λ ms. repeated ((part.address - at) / 2) filler ++ (part.forms ++ ms)) (chained_append (part_end part) parts others)
+    ∙ ap (λ ms. repeated ((part.address - at) / 2) filler ++ ms) (sym (append_assoc part.forms (chained (part_end part) parts) behind))
+    ∙ sym (append_assoc (repeated ((part.address - at) / 2) filler) (part.forms ++ chained (part_end part) parts) behind)
+
+-- parts in order, in front of others
+pub order_split : (at end : ℕ) (parts others : List CodePart) → PartsInOrder at (parts ++ others) end
+    → PartsInOrder at parts (parts_end at parts) × PartsInOrder (parts_end at parts) others end
+order_split at end [] others o = (omega arith, o)
+order_split at end (part ∷ parts) others o = let rest = order_split (part_end part) end parts others o.1 in ((o.0, rest.0), rest.1)
+
+-- their words come up to where they end
+chained_bytes : (at end : ℕ) (parts : List CodePart) → at % 2 ≡ 0 → PartsInOrder at parts end
+    → at + 2 * length (words_in (chained at parts)) ≡ parts_end at parts
+chained_bytes at end [] even o = omega arith
+chained_bytes at end (part ∷ parts) even o =
+    let filling = repeated ((part.address - at) / 2) filler in
+    let more = chained (part_end part) parts in
+    let all = ap length (joined filling (part.forms ++ more) ∙ ap (λ ws. words_in filling ++ ws) (joined part.forms more)) in
+    let front = length-append (words_in filling) (words_in part.forms ++ words_in more) in
+    let back = length-append (words_in part.forms) (words_in more) in
+    let filled = filler_length ((part.address - at) / 2) in
+    let bytes = code_bytes part.forms in
+    let start = o.0.from in
+    let even_start = o.0.even in
+    let later : part_end part % 2 ≡ 0 = omega (arith, bytes, even_start) in
+    let rest = chained_bytes (part_end part) end parts later o.1 in
+    omega (arith, all, front, back, filled, bytes, start, even, even_start, rest)
+
+-- parts written behind others
+pub parts_words : (start : ℕ) (old new all : List ℕ) (parts others : List CodePart) (end : ℕ) → start % 2 ≡ 0
+    → PartsInOrder (start + 2 * length old) (parts ++ others) end → new ≡ old ++ words_in (chained (start + 2 * length old) parts)
+    → old ++ words_in (chained (start + 2 * length old) (parts ++ others)) ≡ all
+    → (start + 2 * length new ≡ parts_end (start + 2 * length old) parts) × (new ++ words_in (chained (start + 2 * length new) others) ≡ all)
+parts_words start old new all parts others end even order is rest =
+    let at = start + 2 * length old in
+    let count = ap length is ∙ length-append old (words_in (chained at parts)) in
+    let even_at : at % 2 ≡ 0 = omega (arith, even) in
+    let bytes = chained_bytes at (parts_end at parts) parts even_at (order_split at end parts others order).0 in
+    let ends : start + 2 * length new ≡ parts_end at parts = omega (arith, count, bytes) in (
+      ends,
+      ap₂ (λ n e. n ++ words_in (chained e others)) is ends
+          ∙ append_assoc old (words_in (chained at parts)) (words_in (chained (parts_end at parts) others))
+          ∙ ap (λ ws. old ++ ws) (sym (joined (chained at parts) (chained (parts_end at parts) others))
+          ∙ ap words_in (sym (chained_append at parts others)))
+          ∙ rest,
+    )
+
+pub parts_more : (events : Bool) (ts : List TaskPlace) (ps : List Programs) (k : ℕ) (t : TaskPlace) (p : Programs) → k < length ts → k < length ps
+    → t ≡ get_or ts k t → p ≡ get_or ps k p
+    → task_parts events (drop k ts) (map programs_of (drop k ps))
+    ≡ parts_of_task events t (programs_of p) ++ task_parts events (drop (k + 1) ts) (map programs_of (drop (k + 1) ps))
+parts_more events ts ps k t p l m a b =
+    at_drop_more (λ xs. task_parts events xs (map programs_of (drop k ps))) ts k t l
+    ∙ ap (λ x. task_parts events (x ∷ drop (k + 1) ts) (map programs_of (drop k ps))) (sym a)
+    ∙ at_drop_more (λ xs. task_parts events (t ∷ drop (k + 1) ts) (map programs_of xs)) ps k p m
+    ∙ ap (λ x. task_parts events (t ∷ drop (k + 1) ts) (map programs_of (x ∷ drop (k + 1) ps))) (sym b)
+
+pub same_count : (ts : List TaskPlace) (ps : List TaskPrograms) → ProgramsFit ts ps → length ts ≡ length ps
+same_count [] [] f = refl
+same_count [] (p ∷ ps) f = absurd f
+same_count (t ∷ ts) [] f = absurd f
+same_count (t ∷ ts) (p ∷ ps) f = let r = same_count ts ps f.1 in omega (arith, r)
+
+-- the next task, and those behind it
+pub next_order : (events : Bool) (ts : List TaskPlace) (ps : List Programs) (at k : ℕ) (t : TaskPlace) (p : Programs) → k < length ts
+    → length ts ≡ length ps → t ≡ get_or ts k t → p ≡ get_or ps k p
+    → PartsInOrder at (task_parts events (drop k ts) (map programs_of (drop k ps))) reset_vector
+    → PartsInOrder at (parts_of_task events t (programs_of p) ++ task_parts events (drop (k + 1) ts) (map programs_of (drop (k + 1) ps))) reset_vector
+next_order events ts ps at k t p l n a b o =
+    subst (λ parts. PartsInOrder at parts reset_vector) (parts_more events ts ps k t p l (omega (arith, l, n)) a b) o
+
+pub next_emitted : (ts : List TaskPlace) (ps : List Programs) (k : ℕ) (t : TaskPlace) (p : Programs) → k < length ts → k < length ps
+    → t ≡ get_or ts k t → p ≡ get_or ps k p → TasksAreEmitted (drop k ts) (map programs_of (drop k ps))
+    → TaskIsEmitted t (programs_of p) × TasksAreEmitted (drop (k + 1) ts) (map programs_of (drop (k + 1) ps))
+next_emitted ts ps k t p l m a b h = subst (λ x. x) same h
+  where
+    same : TasksAreEmitted (drop k ts) (map programs_of (drop k ps))
+        ≡ (TaskIsEmitted t (programs_of p) × TasksAreEmitted (drop (k + 1) ts) (map programs_of (drop (k + 1) ps)))
+    same = at_drop_more (λ xs. TasksAreEmitted xs (map programs_of (drop k ps))) ts k t l
+        ∙ ap (λ x. TasksAreEmitted (x ∷ drop (k + 1) ts) (map programs_of (drop k ps))) (sym a)
+        ∙ at_drop_more (λ xs. TasksAreEmitted (t ∷ drop (k + 1) ts) (map programs_of xs)) ps k p m
+        ∙ ap (λ x. TasksAreEmitted (t ∷ drop (k + 1) ts) (map programs_of (x ∷ drop (k + 1) ps))) (sym b)
+
 -- programs whose code has its places are short
-pub each_short : (from : ℕ) (ts : List TaskPlace) (ps : List Program) (end : ℕ) → AreInOrder from (map (λ t. t.code) ts) end → end < 0x10000
-    → ProgramsFit ts ps → All IsShort ps
-each_short from [] [] end o l f = All-nil IsShort
-each_short from [] (p ∷ ps) end o l f = absurd f
-each_short from (t ∷ ts) [] end o l f = All-nil IsShort
-each_short from (t ∷ ts) (p ∷ ps) end o l f =
-    let high = in_order_end (end_of t.code) (map (λ t. t.code) ts) end o.1 in
+routines_short : (from : ℕ) (rs : List RoutinePlace) (ps : List Program) (others : List Region) (end : ℕ)
+    → AreInOrder from (map (λ r. r.code) rs ++ others) end → end < 0x10000 → RoutinesFit rs ps
+    → (length rs ≡ length ps) × All IsShort ps × ((mid : ℕ) × AreInOrder mid others end)
+routines_short from [] [] others end o l f = (refl, All-nil IsShort, (from, o))
+routines_short from [] (p ∷ ps) others end o l f = absurd f
+routines_short from (r ∷ rs) [] others end o l f = absurd f
+routines_short from (r ∷ rs) (p ∷ ps) others end o l f =
+    let rest = routines_short (end_of r.code) rs ps others end o.1 l f.1 in
+    let high = in_order_end (end_of r.code) (map (λ r. r.code) rs ++ others) end o.1 in
     let w = f.0 in
-    All-cons IsShort p ps (omega (arith, high, w, l)) (each_short (end_of t.code) ts ps end o.1 l f.1)
+    let count = rest.0 in
+    (omega (arith, count), All-cons IsShort p ps (omega (arith, high, w, l)) rest.1.0, rest.1.1)
+
+pub each_emitted : (from : ℕ) (ts : List TaskPlace) (ps : List TaskPrograms) (end : ℕ) → AreInOrder from (flat_map code_regions ts) end → end < 0x10000
+    → ProgramsFit ts ps → All TaskHasFewLocals ps → TasksAreEmitted ts ps
+each_emitted from [] ps end o l f few = tt
+each_emitted from (t ∷ ts) [] end o l f few = tt
+each_emitted from (t ∷ ts) (p ∷ ps) end o l f few =
+    let there = routines_short (end_of t.code) t.routines p.routines (flat_map code_regions ts) end o.1 l f.0.routines in
+    let high = in_order_end (end_of t.code) (map (λ r. r.code) t.routines ++ flat_map code_regions ts) end o.1 in
+    let w = f.0.own in (
+      record {
+        count = there.0;
+        short = omega (arith, high, w, l);
+        shorts = there.1.0;
+        locals = All-head TaskHasFewLocals p ps few;
+      },
+      each_emitted there.1.1.0 ts ps end there.1.1.1 l f.1 (All-tail TaskHasFewLocals p ps few),
+    )
 
 -- ---- the whole code
 
-module _ (l : MemoryMap) (programs : List Program) (fits : CodeFits l programs) where
+module _ (l : MemoryMap) (programs : List TaskPrograms) (fits : CodeFits l programs) where
   -- what is written when so many words stand, with the other parts behind them
   pub record WrittenTo (start : ℕ) (words : List ℕ) (end : ℕ) (parts : List CodePart) : Type 0 where
     pub there : start + 2 * length words ≡ end

@@ -1,10 +1,11 @@
 -- What an image is made from: an accepted source with its plan and its layout.
-use Rattle.std.specs.Prelude.{◌≡◌, ◌<◌, ◌≤◌, ℕ, List, All, length}
+use Rattle.std.specs.Prelude.{◌≡◌, ◌<◌, ◌≤◌, ℕ, List, [], ◌∷◌, All, length}
 use Rattle.cost_bound.specs.declared.allowance.Allow.{Allow}
 use Rattle.source_values.specs.Runs.{CheckedProgram}
-use Rattle.memory_map.specs.MemoryMap.{MemoryMap}
+use Rattle.memory_map.specs.MemoryMap.{MemoryMap, TaskPlace}
 use Rattle.array_versions.specs.Program.{Program}
-use Rattle.array_versions.specs.Form.{IsWhole, OfWords}
+use Rattle.array_versions.specs.TaskPrograms.{TaskPrograms}
+use Rattle.array_versions.specs.Form.{LocalsBelow, OfWords}
 use Rattle.array_versions.specs.Cost.{words_of}
 use Rattle.lower.specs.Lowered.{lowered}
 use Rattle.linked_code.specs.Linked.{CodeFits}
@@ -15,11 +16,32 @@ use Rattle.source_maps.specs.Laws.{IsSourceMap}
 abbrev pub IsShort : Program → Type 0
 IsShort p = words_of p ≤ 0x7FFF
 
+-- a program whose locals stand in registers and in RAM
+abbrev pub HasFewLocals : Program → Type 0
+HasFewLocals p = LocalsBelow 1016 p
+
+-- the programs of a task are such
+pub record TaskHasFewLocals (p : TaskPrograms) : Type 0 where
+  pub own : HasFewLocals p.own
+  pub routines : All HasFewLocals p.routines
+
+-- code can be made of the programs of a task, and there is one for each function that it reaches
+pub record TaskIsEmitted (t : TaskPlace) (p : TaskPrograms) : Type 0 where
+  pub count : length t.routines ≡ length p.routines
+  pub short : IsShort p.own
+  pub shorts : All IsShort p.routines
+  pub locals : TaskHasFewLocals p
+
+abbrev pub TasksAreEmitted : List TaskPlace → List TaskPrograms → Type 0
+TasksAreEmitted [] ps = Unit {0}
+TasksAreEmitted (t ∷ ts) [] = Unit {0}
+TasksAreEmitted (t ∷ ts) (p ∷ ps) = TaskIsEmitted t p × TasksAreEmitted ts ps
+
 -- its code has room, its programs are whole, its names can be a map's, and it has a task
 pub record IsReadyToLink (text : List ℕ) (p : CheckedProgram) (allow : Allow) (l : MemoryMap) : Type 0 where
   pub fits : CodeFits l (lowered l p)
-  pub whole : All IsWhole (lowered l p)
-  pub of_words : All OfWords (lowered l p)
+  pub locals : All TaskHasFewLocals (lowered l p)
+  pub of_words : All (λ q. OfWords q.own) (lowered l p)
   pub same_tasks : length l.tasks ≡ length p.tasks
   pub same_variables : length l.variables ≡ length p.shared
   pub names : HasNames text p

@@ -2,15 +2,16 @@
 ghost use Rattle.std.specs.Prelude.{◌≡◌, ◌+◌, ◌-◌, ◌*◌, ◌/◌, ◌%◌, ◌<◌, ◌≤◌, ◌++◌, ◌∷◌, [], ℕ, All, IfOk, OnOk, length, map};
 ghost use Rattle.address_space.specs.Limits.{reset_vector};
 ghost use Rattle.code_forms.specs.Placed.{instructions, words_of};
-ghost use Rattle.array_versions.specs.View.{program_of};
-ghost use Rattle.array_versions.specs.Form.{IsWhole};
-ghost use Rattle.link_image.specs.Needs.{IsShort};
-ghost use Rattle.word_code.specs.Code.{repeated, code_of};
+ghost use Rattle.array_versions.specs.View.{program_of, programs_of};
+ghost use Rattle.link_image.specs.Needs.{HasFewLocals, TaskHasFewLocals, IsShort, TaskIsEmitted, TasksAreEmitted};
+ghost use Rattle.word_code.specs.Code.{repeated, routine_code};
 ghost use Rattle.linked_code.specs.Parts.{filler, chained, PartsInOrder};
-ghost use Rattle.linked_code.specs.Linked.{boot_code, bytes_of_boot, commit_code, StartsFit, linked, task_part, task_parts, CodeFits};
+ghost use Rattle.linked_code.specs.Linked.{boot_code, bytes_of_boot, commit_code, StartsFit, linked, routine_part, routine_parts, parts_of_task, task_parts};
+ghost use Rattle.linked_code.specs.Linked.{CodeFits};
 
-use codegen::{Form, WordProgram, emit, instruction_of};
-use memory_map::{Layout, Logging, TaskLayout};
+use array_versions::TaskPrograms;
+use codegen::{Form, WordProgram, emit, emit_routine, instruction_of};
+use memory_map::{Layout, Logging, RoutinePlace, TaskLayout};
 use msp_encode::encode;
 use runtime_code::start_address;
 use std::alloc::{AllocError, Global};
@@ -53,27 +54,74 @@ fn push_part(words: &mut Vec<u16>, start: u16, at: u16, code: &[Form]) -> Result
     push_code(words, code)
 }
 
-// Adds the code of a task at its place, by whether there are events.
-#[tactic(auto, using(crate::proofs::Low::whole_low))]
+// Adds the code of a function at its place.
+fn push_routine(
+    alloc: Global,
+    words: &mut Vec<u16>,
+    start: u16,
+    routine: &RoutinePlace,
+    program: &WordProgram,
+) -> Result<(), AllocError>
+    requires order { PartsInOrder (start + 2 * length words.old.items) (routine_part routine.now (program_of program.now) ∷ []) reset_vector }
+    requires short { IsShort (program_of program.now) }
+    requires locals { HasFewLocals (program_of program.now) }
+    ensures { OnOk result (words.new.items ≡ words.old.items
+        ++ (words_of (instructions (repeated ((routine.now.code.address - (start + 2 * length words.old.items)) / 2) filler))
+        ++ words_of (instructions (routine_code (program_of program.now))))) }
+{
+    let mut code = Vec::new(alloc);
+    emit_routine(alloc, program, &mut code)?;
+    push_part(words, start, routine.code.address, code.as_slice())
+}
+
+// Adds the code of each function of a task at its place.
+fn push_routines(
+    alloc: Global,
+    words: &mut Vec<u16>,
+    start: u16,
+    routines: &[RoutinePlace],
+    programs: &[WordProgram],
+) -> Result<(), AllocError>
+    requires even { start % 2 ≡ 0 }
+    requires count { length routines.now ≡ length programs.now }
+    requires order { PartsInOrder (start + 2 * length words.old.items) (routine_parts routines.now (map program_of programs.now)) reset_vector }
+    requires short { All IsShort (map program_of programs.now) }
+    requires locals { All HasFewLocals (map program_of programs.now) }
+    ensures { OnOk result (words.new.items ≡ words.old.items
+        ++ words_of (instructions (chained (start + 2 * length words.old.items) (routine_parts routines.now (map program_of programs.now))))) }
+{
+    for k in 0..routines.len() {
+        push_routine(alloc, words, start, &routines[k], &programs[k])?;
+    }
+    Ok(())
+}
+
+// Adds the code of a task, by whether there are events, and behind it that of each function that it reaches, at their places.
 fn push_task(
     alloc: Global,
     events: bool,
     words: &mut Vec<u16>,
     start: u16,
     task: &TaskLayout,
-    program: &WordProgram,
+    programs: &TaskPrograms,
 ) -> Result<(), AllocError>
-    requires order { PartsInOrder (start + 2 * length words.old.items) (task_part events task.now (program_of program.now) ∷ []) reset_vector }
-    requires whole { IsWhole (program_of program.now) }
-    requires short { IsShort (program_of program.now) }
+    requires even { start % 2 ≡ 0 }
+    requires order { PartsInOrder (start + 2 * length words.old.items) (parts_of_task events task.now (programs_of programs.now)) reset_vector }
+    requires emitted { TaskIsEmitted task.now (programs_of programs.now) }
     ensures { OnOk result (words.new.items ≡ words.old.items
-        ++ (words_of (instructions (repeated ((task.now.code.address - (start + 2 * length words.old.items)) / 2) filler))
-        ++ words_of (instructions (code_of events (program_of program.now))))) }
+        ++ words_of (instructions (chained (start + 2 * length words.old.items) (parts_of_task events task.now (programs_of programs.now))))) }
 {
     let at = task.code().address;
     let mut code = Vec::new(alloc);
-    emit(alloc, events, program, &mut code)?;
-    push_part(words, start, at, code.as_slice())
+    emit(alloc, events, &programs.own, &mut code)?;
+    push_part(words, start, at, code.as_slice())?;
+    push_routines(
+        alloc,
+        words,
+        start,
+        task.routines(),
+        programs.routines.as_slice(),
+    )
 }
 
 // Adds the code of each task at its place.
@@ -83,15 +131,14 @@ fn push_tasks(
     words: &mut Vec<u16>,
     start: u16,
     tasks: &[TaskLayout],
-    programs: &[WordProgram],
+    programs: &[TaskPrograms],
 ) -> Result<(), AllocError>
     requires even { start % 2 ≡ 0 }
     requires count { length tasks.now ≡ length programs.now }
-    requires order { PartsInOrder (start + 2 * length words.old.items) (task_parts events tasks.now (map program_of programs.now)) reset_vector }
-    requires whole { All IsWhole (map program_of programs.now) }
-    requires short { All IsShort (map program_of programs.now) }
+    requires order { PartsInOrder (start + 2 * length words.old.items) (task_parts events tasks.now (map programs_of programs.now)) reset_vector }
+    requires emitted { TasksAreEmitted tasks.now (map programs_of programs.now) }
     ensures { OnOk result (words.new.items ≡ words.old.items
-        ++ words_of (instructions (chained (start + 2 * length words.old.items) (task_parts events tasks.now (map program_of programs.now))))) }
+        ++ words_of (instructions (chained (start + 2 * length words.old.items) (task_parts events tasks.now (map programs_of programs.now))))) }
 {
     for k in 0..tasks.len() {
         push_task(alloc, events, words, start, &tasks[k], &programs[k])?;
@@ -130,11 +177,11 @@ fn commit_of(alloc: Global, logging: Logging, layout: &Layout) -> Result<Vec<For
 pub fn code_words(
     alloc: Global,
     layout: &Layout,
-    programs: &[WordProgram],
+    programs: &[TaskPrograms],
 ) -> Result<Vec<u16>, AllocError>
-    requires fits { CodeFits layout.now (map program_of programs.now) }
-    requires whole { All IsWhole (map program_of programs.now) }
-    ensures { IfOk result (λ words. words.items ≡ words_of (linked layout.now (map program_of programs.now))) }
+    requires fits { CodeFits layout.now (map programs_of programs.now) }
+    requires locals { All TaskHasFewLocals (map programs_of programs.now) }
+    ensures { IfOk result (λ words. words.items ≡ words_of (linked layout.now (map programs_of programs.now))) }
 {
     let start = layout.boot().address;
     let logging = layout.runtime().logging;

@@ -160,5 +160,5 @@ pub linked_keeps_above : LinkedKeepsAbove
 linked_keeps_above l programs = record {
   boot = boot_above l.runtime.logging l;
   commit = commit_above l.runtime.logging l;
-  tasks = λ k t p e f. (code_names_ram_from l.runtime.events p).0;
+  tasks = λ k t p e f. (code_names_ram_from l.runtime.events p.own).0;
 }

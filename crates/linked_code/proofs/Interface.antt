@@ -8,8 +8,8 @@ pub use Rattle.linked_code.proofs.Rooms.{layouts_have_room}
 -- to a task, the commit.
 pub use Rattle.linked_code.proofs.Stretches.{programs_count, to_start, to_raised, start_there, task_stands, entry_there, DoesBody, body_there, commit_there}
 pub use Rattle.linked_code.proofs.Stretches.{to_commit}
--- A program that calls nothing wants no other code.
-pub use Rattle.linked_code.proofs.Routines.{routines_stand}
+-- What a task calls stands where the call says.
+pub use Rattle.linked_code.proofs.Stretches.{routines_there}
 -- No part of it names a word of RAM below where its stack begins.
 pub use Rattle.linked_code.proofs.Above.{linked_keeps_above}
 -- Under undo: from the boot through the recovery to the start of an attempt, from there to a task, the commit.

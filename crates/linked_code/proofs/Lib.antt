@@ -1,7 +1,7 @@
 mod Parts
 mod Linked
+mod Called
 mod Rooms
-mod Routines
 mod Stretches
 mod Above
 mod Reached

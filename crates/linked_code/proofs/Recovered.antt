@@ -7,7 +7,7 @@ use Rattle.boot_runtime.specs.machine_effects.World.{fram_after}
 use Rattle.boot_runtime.specs.machine_effects.Inputs.{Inputs}
 use Rattle.boot_runtime.specs.code_forms.Forms.{Core}
 use Rattle.boot_runtime.specs.code_forms.Code.{Stands}
-use Rattle.word_code.specs.array_versions.Program.{Program}
+use Rattle.word_code.specs.array_versions.TaskPrograms.{TaskPrograms}
 use Rattle.boot_runtime.specs.memory_map.declared.runtime.Logging.TheVariants.{Undo}
 use Rattle.boot_runtime.specs.memory_map.declared.words.RuntimeWord.TheVariants.{CurrentTask, Gate, ListLength, EmitCount, Version}
 use Rattle.boot_runtime.specs.memory_map.MemoryMap.{MemoryMap, TaskPlace, word_place, with_events}
@@ -41,7 +41,7 @@ tasks_count : (ts : List TaskPlace) → length (map task_of ts) ≡ length ts
 tasks_count [] = refl
 tasks_count (t ∷ ts) = let e = tasks_count ts in omega (arith, e)
 
-module _ (l : MemoryMap) (programs : List Program) (fits : CodeFits l programs) (whole : ProgramsAreWhole programs) (logs : l.runtime.logging ≡ Undo) where
+module _ (l : MemoryMap) (programs : List TaskPrograms) (fits : CodeFits l programs) (whole : ProgramsAreWhole programs) (logs : l.runtime.logging ≡ Undo) where
   abbrev tasks : List LoggedTask
   tasks = logged_tasks l
 

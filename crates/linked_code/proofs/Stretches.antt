@@ -8,10 +8,12 @@ use Rattle.boot_runtime.specs.machine_effects.Inputs.{Inputs, InputsAreWords}
 use Rattle.boot_runtime.specs.machine_effects.Machine.{Code}
 use Rattle.boot_runtime.specs.code_forms.Forms.{Core}
 use Rattle.boot_runtime.specs.code_forms.Code.{Stands}
-use Rattle.word_code.specs.array_versions.Program.{Program, nothing}
+use Rattle.word_code.specs.array_versions.Program.{Step, Test, Program, truth, choose, repeat, call, holds, compares, both, either, fails, nothing, step}
+use Rattle.word_code.specs.array_versions.TaskPrograms.{TaskPrograms, no_programs, program_at}
+use Rattle.boot_runtime.specs.memory_map.declared.place.RoutinePlace.{RoutinePlace}
 use Rattle.word_code.specs.array_versions.Behaviour.{behaviour, started}
 use Rattle.word_code.specs.Code.{entry_stack, code_of, code_spent}
-use Rattle.word_code.specs.Laws.{IsEntry, ComesTo}
+use Rattle.word_code.specs.Laws.{IsEntry, ComesTo, RoutinesStand}
 use Rattle.word_code.proofs.Interface.{code_does_as_program}
 use Rattle.boot_runtime.specs.runtime_effects.Places.{listed}
 use Rattle.boot_runtime.specs.runtime_effects.Stages.{is_at_end, start_effects, commit_effects}
@@ -26,10 +28,10 @@ use Rattle.boot_runtime.proofs.Interface.{pending_commit_is_found, attempt_is_fo
 use Rattle.commit_runtime.specs.Listing.{commit_steps, commit_cycles}
 use Rattle.commit_runtime.proofs.Interface.{commit_is_made}
 use Rattle.linked_code.specs.Linked.{boot_code, bytes_of_boot, start_by, attempt_start, commit_code, bytes_of_commit}
-use Rattle.linked_code.specs.Linked.{linked_code, ProgramsFit, CodeFits, ProgramsAreWhole}
+use Rattle.linked_code.specs.Linked.{linked_code, TaskFits, ProgramsFit, CodeFits, ProgramsAreWhole}
 use Rattle.linked_code.specs.Laws.{IsLinkedCode, PartsStand}
+use Rattle.linked_code.proofs.Called.{routine_even, routines_stand}
 use Rattle.linked_code.proofs.Linked.{linked_is_code, linked_stands}
-use Rattle.linked_code.proofs.Routines.{routines_stand}
 use Rattle.boot_runtime.specs.memory_map.declared.runtime.Logging.TheVariants.{Redo}
 use Rattle.boot_runtime.specs.memory_map.declared.words.RuntimeWord.TheVariants.{CurrentTask, Gate, ListLength, EmitCount, SentBase, Version}
 use Rattle.boot_runtime.specs.memory_map.MemoryMap.{MemoryMap, TaskPlace, word_place, with_events}
@@ -37,7 +39,7 @@ use Rattle.boot_runtime.proofs.memory_map.Interface.{apart_of, even_of}
 
 -- a task's layout where there is none
 abbrev no_task : TaskPlace
-no_task = record { privates = []; code = record { address = 0; words = 0 } }
+no_task = record { privates = []; code = record { address = 0; words = 0 }; first = 0; routines = [] }
 
 entry_is : (ts : List TaskPlace) (k : ℕ) → entry_at (map entry_of ts) k ≡ entry_of (get_or ts k no_task)
 entry_is [] k = refl
@@ -49,7 +51,7 @@ entries_count [] = refl
 entries_count (t ∷ ts) = let e = entries_count ts in omega (arith, e)
 
 -- there are as many programs as tasks with places
-pub programs_count : (ts : List TaskPlace) (ps : List Program) → ProgramsFit ts ps → length ps ≡ length ts
+pub programs_count : (ts : List TaskPlace) (ps : List TaskPrograms) → ProgramsFit ts ps → length ps ≡ length ts
 programs_count [] [] f = refl
 programs_count [] (p ∷ ps) f = absurd f
 programs_count (t ∷ ts) [] f = absurd f
@@ -60,7 +62,16 @@ origin_is_entry : (events : Bool) → stack_origin events ≡ entry_stack events
 origin_is_entry true = refl
 origin_is_entry false = refl
 
-module _ (l : MemoryMap) (programs : List Program) (fits : CodeFits l programs) (whole : ProgramsAreWhole programs) where
+-- what fits of a task by its number
+fits_at : (ts : List TaskPlace) (ps : List TaskPrograms) (k : ℕ) → ProgramsFit ts ps → k < length ps
+    → TaskFits (get_or ts k no_task) (get_or ps k no_programs)
+fits_at [] [] k f l = absurd (omega arith)
+fits_at [] (p ∷ ps) k f l = absurd f
+fits_at (t ∷ ts) [] k f l = absurd f
+fits_at (t ∷ ts) (p ∷ ps) zero f l = f.0
+fits_at (t ∷ ts) (p ∷ ps) (suc k) f l = fits_at ts ps k f.1 (omega arith)
+
+module _ (l : MemoryMap) (programs : List TaskPrograms) (fits : CodeFits l programs) (whole : ProgramsAreWhole programs) where
   abbrev pub code : Code
   code = linked_code l programs
 
@@ -68,7 +79,7 @@ module _ (l : MemoryMap) (programs : List Program) (fits : CodeFits l programs) 
   tasks = task_entries l
 
   abbrev pub program : ℕ → Program
-  program k = get_or programs k nothing
+  program k = program_at programs k
 
   pub is_linked : IsLinkedCode l programs
   is_linked = linked_is_code l programs fits
@@ -82,10 +93,20 @@ module _ (l : MemoryMap) (programs : List Program) (fits : CodeFits l programs) 
       let t = get_or l.tasks k no_task in
       let count = programs_count l.tasks programs fits.tasks in
       let a = slice_get-get_or l.tasks k no_task (omega (arith, h, count)) in
-      let b = slice_get-get_or programs k nothing h in
-      let s : Stands code t.code.address (code_of l.runtime.events (program k)) = parts.tasks k t (program k) a b in
+      let b = slice_get-get_or programs k no_programs h in
+      let s : Stands code t.code.address (code_of l.runtime.events (program k)) = (parts.tasks k t (get_or programs k no_programs) a b).own in
       let d : t.code.address ≡ (entry_at tasks k).code = ap (λ x. x.code) (sym (entry_is l.tasks k)) in
       subst (λ q. Stands code q (code_of l.runtime.events (program k))) d s
+
+  -- and that of each function that it calls where it calls it
+  pub routines_there : (k : ℕ) → k < length programs → RoutinesStand code (program k)
+  routines_there k h =
+      let t = get_or l.tasks k no_task in
+      let p = get_or programs k no_programs in
+      let count = programs_count l.tasks programs fits.tasks in
+      let a = slice_get-get_or l.tasks k no_task (omega (arith, h, count)) in
+      let b = slice_get-get_or programs k no_programs h in
+      routines_stand code t p (routine_even l fits.rules k t a) (parts.tasks k t p a b).routines (fits_at l.tasks programs k fits.tasks h).calls
 
   -- where a task is entered on words, a program's code begins
   pub entry_there : (v : Core) (k : ℕ) (g : ℕ → ℕ) (inputs : Inputs)
@@ -110,8 +131,7 @@ module _ (l : MemoryMap) (programs : List Program) (fits : CodeFits l programs) 
   body_there v k g inputs h named words ready =
       let fit = whole.whole k named in
       let a : DoesBody v k v.fram v.inputs = code_does_as_program code (entry_at tasks k).code (program k) v is_linked.tidy
-      (task_stands k named) (routines_stand code false (program k) fit.alone) fit.whole (λ e. fit.fits) (whole.of_words k named)
-        (entry_there v k g inputs h words ready) in
+      (task_stands k named) (routines_there k named) fit.whole (λ e. fit.fits) (whole.of_words k named) (entry_there v k g inputs h words ready) in
       subst (λ q. DoesBody v k g q) h.inputs (subst (λ f. DoesBody v k f v.inputs) h.fram a)
 
   -- ---- under redo

@@ -9,7 +9,7 @@ pub fn linked_is_code()
     ensures { LinkedIsCode }
 {}
 
-/// Boot, commit and each task's code stand at their places in it.
+/// Boot, commit and each task's code stand at their places in it, and behind that the code of each function that it reaches.
 pub fn linked_code_stands()
     ensures { LinkedStands }
 {}

@@ -19,7 +19,8 @@ use Rattle.memory_map.specs.declared.runtime.Runtime.{Runtime}
 use Rattle.memory_map.specs.MemoryMap.{MemoryMap, TaskPlace, lone_redo}
 use Rattle.memory_map.specs.Places.{end_of, IsLaidOut}
 use Rattle.privatise.specs.Sizes.{home_words, copy_words, body_words, boot_words, commit_words}
-use Rattle.privatise.specs.Frames.{KnownFunctions, known_functions, base_of, task_routines}
+use Rattle.function_locals.specs.Locals.{base_of}
+use Rattle.privatise.specs.Routines.{KnownFunctions, known_functions, task_routines}
 
 -- a scalar has the place of a scalar, of one word, or of two where it is a long; an array one of its length, with copies and versions exactly where
 -- some task writes it

@@ -1,5 +1,5 @@
 pub mod Sizes
-pub mod Frames
+pub mod Routines
 pub mod View
 pub mod Layouts
 pub mod Placing

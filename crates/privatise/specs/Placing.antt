@@ -23,7 +23,7 @@ use Rattle.memory_map.specs.declared.layouts.Regions.{Regions}
 use Rattle.memory_map.specs.MemoryMap.{TaskPlace}
 use Rattle.memory_map.specs.Places.{home_region, copy_regions, version_regions, code_regions, AreInOrder, HasItsPlace, end_of, list_entry_room}
 use Rattle.privatise.specs.Sizes.{home_words, copy_part, copy_words, body_words, boot_words, commit_words}
-use Rattle.privatise.specs.Frames.{KnownFunctions}
+use Rattle.privatise.specs.Routines.{KnownFunctions}
 use Rattle.privatise.specs.Layouts.{IsTaskLayout}
 
 -- copies and versions of an array at the free addresses, where it is written

@@ -2,7 +2,6 @@
 //! variable, each copy and each task's code begins.
 #![tactic(auto)]
 
-mod frames;
 mod laws;
 mod placing;
 mod routines;
@@ -10,7 +9,7 @@ mod sizes;
 mod tasks;
 mod variables;
 
-pub use laws::{layouts_are_logged, one_layout, one_logged_layout};
+pub use laws::{frames_stand, layouts_are_logged, one_layout, one_logged_layout, routines_stand};
 pub use memory_map::{
     ArrayCopies, Layout, PrivateScalar, Region, ScalarWidth, TaskLayout, VariablePlace,
 };

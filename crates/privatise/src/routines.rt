@@ -1,16 +1,16 @@
 //! The functions that tasks reach.
-ghost use Rattle.std.specs.Prelude.{◌≡◌, ◌+◌, ◌*◌, ◌≤◌, ◌<◌, IfOk, length, false, slice_index_or};
+ghost use Rattle.std.specs.Prelude.{◌≡◌, ◌+◌, ◌*◌, ◌≤◌, ◌<◌, ◌++◌, ◌∷◌, [], IfOk, OnOk, length, true, false, if◌then◌else◌, slice_index_or};
 ghost use Rattle.task_ast.specs.View.{block_view};
 ghost use Rattle.cost_bound.specs.Counts.{all_called_from, routine_words};
 ghost use Rattle.cost_bound.specs.Frames.{stack_of};
 ghost use Rattle.cost_bound.specs.Machine.{summary_of, known_of};
 ghost use Rattle.memory_map.specs.address_space.Limits.{program_end};
 ghost use Rattle.privatise.specs.View.{functions_in};
-ghost use Rattle.privatise.specs.Frames.{words_above, frame_address, frame_of_locals, first_local, routine_room, routine_at, routines_from, task_routines};
+ghost use Rattle.privatise.specs.Routines.{words_above, frame_address, frame_of_locals, first_local, routine_room, routine_at, routines_from, task_routines};
 
-use crate::frames::{FunctionLocals, is_light};
 use crate::variables::address_behind;
 use cost_bound::{FunctionSummary, SHARED, reached_functions, stack};
+use function_locals::{FunctionLocals, is_light};
 use memory_map::{Region, RoutinePlace, STACK_TOP};
 use std::alloc::{AllocError, Global};
 use task_ast::{FunctionName, Stmt, TaskName, VariableName};
@@ -93,6 +93,31 @@ fn routine_at(
     }
 }
 
+// Adds a function to those of a task, where it is marked. The address behind its code.
+fn place_if(
+    marked: bool,
+    stack: u64,
+    number: u32,
+    address: u16,
+    function: &FunctionSummary,
+    locals: &FunctionLocals,
+    routines: &mut Vec<RoutinePlace>,
+) -> Result<u16, AllocError>
+    requires low { stack ≤ 1000 }
+    requires small { marked ≡ true → routine_room (summary_of function.now) ≤ 22000 }
+    requires room { marked ≡ true → address + 2 * routine_room (summary_of function.now) < 65536 }
+    ensures behind { IfOk result (λ n. n ≡ (if marked then address + 2 * routine_room (summary_of function.now) else address)) }
+    ensures routines { OnOk result (routines.new.items
+        ≡ (if marked then routines.old.items ++ routine_at stack number address (summary_of function.now) locals.now ∷ [] else routines.old.items)) }
+{
+    if !marked {
+        return Ok(address);
+    }
+    let routine = routine_at(stack, number, address, function, locals);
+    routines.push(routine)?;
+    Ok(address_behind(address, routine.code.words))
+}
+
 // The marked functions in a task with so many words of stack, their code from an address on.
 fn place_marked(
     alloc: Global,
@@ -109,20 +134,12 @@ fn place_marked(
     ensures { IfOk result (λ v. v.items
         ≡ routines_from stack (λ k. slice_index_or marks.now k false) 0 address (known_of functions.summaries.now) functions.locals.now) }
 {
+    let (summaries, locals) = (functions.summaries, functions.locals);
     let mut routines = Vec::new(alloc);
     let mut at = address;
-    for k in 0..functions.summaries.len() {
-        if marks[k] {
-            let routine = routine_at(
-                stack,
-                k as u32,
-                at,
-                &functions.summaries[k],
-                &functions.locals[k],
-            );
-            at = address_behind(at, routine.code.words);
-            routines.push(routine)?;
-        }
+    for k in 0..summaries.len() {
+        let (function, its) = (&summaries[k], &locals[k]);
+        at = place_if(marks[k], stack, k as u32, at, function, its, &mut routines)?;
     }
     Ok(routines)
 }

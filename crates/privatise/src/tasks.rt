@@ -11,10 +11,10 @@ ghost use Rattle.privatise.specs.Sizes.{body_words};
 ghost use Rattle.privatise.specs.View.{functions_in};
 ghost use Rattle.privatise.specs.Placing.{IsScalarPlaceAt, ArePrivates, IsPlacedTask, ArePlacedTasks};
 
-use crate::frames::base;
 use crate::routines::{Functions, place_routines};
 use crate::sizes::{own_words, task_words};
 use crate::variables::address_behind;
+use function_locals::base;
 use memory_map::{PrivateScalar, Region, TaskLayout, VariablePlace};
 use std::alloc::{AllocError, Global};
 use task_ast::{FunctionName, SharedDeclaration, TaskDeclaration, TaskName, VariableName};
@@ -102,17 +102,11 @@ pub fn place_tasks(
     let mut layouts = Vec::new(alloc);
     let mut at = address;
     for i in 0..tasks.len() {
-        let layout = task_layout(
-            alloc,
-            functions,
-            shared,
-            variables,
-            &tasks[i],
-            &plans[i],
-            at,
-        )?;
-        at = address_behind(at, task_words(functions.summaries, shared, &tasks[i]));
-        layouts.push(layout)?;
+        let declared = &tasks[i];
+        let task = task_layout(alloc, functions, shared, variables, declared, &plans[i], at)?;
+        let words = task_words(functions.summaries, shared, declared);
+        at = address_behind(at, words);
+        layouts.push(task)?;
     }
     Ok(layouts)
 }

@@ -1,23 +1,23 @@
 -- Calls: values come to where the function that is called has its first locals, its code runs in a setting of its own, and behind its return the
 -- caller goes on.
-use Rattle.word_code.proofs.Names.{◌≡◌, ℕ, zero, suc, ◌+◌, ◌-◌, ◌*◌, ◌%◌, ◌<◌, ◌≤◌, Bool, true, false, nat_lt, nat_eq, if◌then◌else◌, List, [], ◌∷◌, ◌++◌}
+use Rattle.word_code.proofs.Names.{◌≡◌, ℕ, zero, suc, ◌+◌, ◌-◌, ◌*◌, ◌%◌, ◌<◌, ◌≤◌, Bool, true, false, nat_eq, if◌then◌else◌, List, [], ◌∷◌, ◌++◌}
 use Rattle.word_code.proofs.Names.{length, get_or, Option, Some, None, refl, sym, ap, ◌∙◌, subst, arith, inl, inr, same_Some, eq-eqb, ne_eqb, eqb-true, lt-ltb}
-use Rattle.word_code.proofs.Names.{append-nil, AllByRecursion, Effect, put, put_same, put_other, Goes, cycles_of, work_number, Core, Source, source_bytes}
-use Rattle.word_code.proofs.Names.{source_value, source_read, R4, Register, ToRegister, ToRam, Form, Move, Push, SetStack, Call, Return, KeepStack, RestoreStack}
-use Rattle.word_code.proofs.Names.{StackNext, instruction_of, form_bytes, Stands, forms_bytes, Runs, IsRam, HasPushRoom, stack_top, stack_start}
-use Rattle.word_code.proofs.Names.{WordState, Behaviour, End, GoesOn, Jumps, Gives, Short, Strays, Broken, with_stack, with_top, behaves, called, parameter_words}
+use Rattle.word_code.proofs.Names.{append-nil, Effect, put, put_same, put_other, Goes, cycles_of, work_number, Core, source_bytes}
+use Rattle.word_code.proofs.Names.{source_value, source_read, R4, ToRegister, Move, Call, Return}
+use Rattle.word_code.proofs.Names.{instruction_of, form_bytes, Stands, forms_bytes, Runs, stack_start}
+use Rattle.word_code.proofs.Names.{WordState, Behaviour, End, Gives, Short, with_stack, with_top, behaves, called, parameter_words}
 use Rattle.word_code.proofs.Names.{called_behind, with_words, words_spent, Program, IsCalled, IsFormed, IsOwn, frame_begin, entry_place, Matches, matches_local}
-use Rattle.word_code.proofs.Names.{start_matches, stack_words, local_words as state_local, Waiting, top_of, below_top, source_from, any_held, flushed}
-use Rattle.word_code.proofs.Names.{four_from, local_register, local_address, local_target, below_words, values_code, light_call, frame_code, framed_call}
+use Rattle.word_code.proofs.Names.{start_matches, local_words as state_local, Waiting, top_of, below_top, source_from, any_held, flushed}
+use Rattle.word_code.proofs.Names.{four_from, local_register, local_address, below_words, values_code, light_call}
 use Rattle.word_code.proofs.Names.{give_code, stands_front, stands_back, length-append, Starves}
 use Rattle.array_versions.specs.Laws.{IsStateOfWords}
 use Rattle.word_code.specs.declared.waiting.Waiting.TheVariants as waiting
-use Rattle.word_code.proofs.Stretches.{Setting, bounds_of, IsReturn, two_parts, hop, runs_on, so_runs, nothing_run, dearer, dearer_stall}
-use Rattle.word_code.proofs.Memory.{AreWords, local_words, local_word, register_at, register_put, in_register, in_ram, below_eight, from_eight, StackIs}
-use Rattle.word_code.proofs.Memory.{stack_upper, address_same, Owns, Memory, memory_after, drop_memory, push_needs}
-use Rattle.word_code.proofs.Follows.{StandsFor, FollowsEnd, Reaches, reach_more, then_reach, HasReturned, Pays}
-use Rattle.word_code.proofs.Operands.{Describes, Waits, Top, AreThese, waiting_words, words_same, owed, load_cycles, load_price, load_owed, bare, describes_on}
-use Rattle.word_code.proofs.Operands.{flush_under, flush_part, take_part, four_part, waiting_length}
+use Rattle.word_code.proofs.Stretches.{Setting, bounds_of, two_parts, hop, runs_on, so_runs, nothing_run, dearer, dearer_stall}
+use Rattle.word_code.proofs.Memory.{AreWords, local_words, local_word, register_at, register_put}
+use Rattle.word_code.proofs.Memory.{Memory, memory_after, push_needs}
+use Rattle.word_code.proofs.Follows.{StandsFor, FollowsEnd, Reaches, reach_more, then_reach, HasReturned}
+use Rattle.word_code.proofs.Operands.{Describes, Waits, waiting_words, words_same, owed, load_cycles, load_price, load_owed, bare, describes_on}
+use Rattle.word_code.proofs.Operands.{flush_under, take_part, four_part}
 use Rattle.word_code.proofs.Registers.{With, HasWord}
 use Rattle.word_code.proofs.Results.{Does, does_behind}
 
@@ -224,7 +224,7 @@ module _ (z : Setting) where
       gives = true;
       entered = t;
       ordered = x.ordered;
-      few = let r = x.registers in let o = z.ordered in let f = z.few in omega (arith, r);
+      few = let r : x.end ≤ z.own = x.registers in let o = z.ordered in let f = z.few in omega (arith, r);
       even = e.even;
       high = let h = e.high in let i = z.high in omega (arith, h);
       start = λ k. let s = callee_start top e.high k in omega (arith, s);
@@ -249,11 +249,12 @@ module _ (z : Setting) where
       pub begins : (entry : ℕ) (words : List ℕ) (w : WordState) → t.pc ≡ entry → t.sp ≡ top → t.fram ≡ w.fram → t.inputs ≡ w.inputs
           → HaveWords first words (local_words t.work) t.ram → StandsFor inner entry (called first words w) t
       begins entry words w at sp fram inputs have =
+          let depth : t.sp + 2 * 0 ≡ top = omega (arith, sp) in
           record {
             at = at;
             memory =
                 record {
-                  depth = omega (arith, sp);
+                  depth = depth;
                   fits = omega arith;
                   stack = tt;
                   vars = λ n v own q. params_are first words (local_words t.work) t.ram n v have q;
@@ -269,10 +270,13 @@ module _ (z : Setting) where
           → ((n : ℕ) → z.own ≤ n → n < 8 → get_or (local_words t.work) n 0 ≡ get_or regs n 0)
           → HasReturned inner v s q → Memory z sp q.ram (local_words q.work) vs w.locals
       resumes sp v s w regs ram vs q high low m same h =
-          let r = x.registers in
+          let r : x.end ≤ z.own = x.registers in
+          let from_top : (a : ℕ) → sp ≤ a → top ≤ a = λ a from. omega (arith, from, high) in
+          let from_low : (a : ℕ) → sp ≤ a → z.low ≤ a = λ a from. omega (arith, from, low) in
+          let from_end : (n : ℕ) → z.own ≤ n → x.end ≤ n = λ n own. omega (arith, own, r) in
           memory_after z sp ram q.ram regs (local_words q.work) vs w.locals
-          (λ a from. h.keeps.ram_words a (omega arith) (λ k. omega (arith, from)) ∙ m.1 a from)
-          (λ n own few. h.keeps.registers n (omega (arith, own)) few ∙ same n own few) m.0
+          (λ a from. h.keeps.ram_words a (from_top a from) (λ k. from_low a from) ∙ m.1 a from)
+          (λ n own few. h.keeps.registers n (from_end n own) few ∙ same n own few) m.0
 
       -- behind its code, by how its body ends: so many cycles are spent behind its return
       pub call_ends : (last most behind end : ℕ) (s : WordState) (es : List Effect) (b : End) → FollowsEnd inner last most t es b
@@ -320,7 +324,7 @@ module _ (z : Setting) where
 
   module _ (first count : ℕ) (body : Program) (x : IsCalled (λ inner. IsFormed inner true body) (bounds_of z) None first count body) where
     -- the code of a light function runs from its entry on
-    LightRuns : (entry last cost : ℕ) (words : List ℕ) (w : WordState) (b : Behaviour) → Type 0
+    abbrev pub LightRuns : (entry last cost : ℕ) (words : List ℕ) (w : WordState) (b : Behaviour) → Type 0
     LightRuns entry last cost words w b = (top : ℕ) (t : Core) (e : Enters None first count body x top t)
         → StandsFor (callee None first count body x top t e) entry (called first words w) t
         → FollowsEnd (callee None first count body x top t e) last cost t b.effects b.end
@@ -335,7 +339,8 @@ module _ (z : Setting) where
         let sp = u.sp in
         let top = sp - 2 in
         let t : Core = record u { pc = entry; sp = sp - 2; ram = put u.ram (sp - 2) (u.pc + 4) } in
-        let depth = m.depth in let deep = z.deep in let roomy = z.roomy.fits in let parity = z.even in let fits = x.fits in
+        let depth = m.depth in let deep = z.deep in let roomy = z.roomy.fits in let parity = z.even in
+        let fits : x.lowest + 2 * (x.room + 1) ≤ z.low = x.fits in
         let above = stays_above m in
         let at = (z.tidy pc _ h.0).even in
         let back : t.ram top ≡ u.pc + 4 = put_same u.ram (sp - 2) (u.pc + 4) in
@@ -343,12 +348,12 @@ module _ (z : Setting) where
         let e : Enters None first count body x top t = record {
           even = omega arith;
           high = omega arith;
-          above = λ l. omega (arith, l);
+          above = λ l. absurd (let less : z.low < z.low = l in omega arith);
           outside = λ l. l;
           deep = omega (arith, fits);
           back = ap (λ a. a % 2) back ∙ omega (arith, at, i.at);
         } in
-        let registers = x.registers in let ordered = z.ordered in let most = z.few in
+        let registers : x.end ≤ z.own = x.registers in let ordered = z.ordered in let most = z.few in
         let small : (j : ℕ) → j < length words → first + j < 8 =
         λ j l. let own = light_param x.own x.end z.low (first + j) (x.parameters j (omega (arith, l, few))) in omega (arith, own) in
         let have = registers_have first words (local_words t.work) t.ram small k.have in
@@ -370,14 +375,15 @@ module _ (z : Setting) where
           };
           stack = ap (λ y. y ∷ w.stack) (sym r.result);
           there = (tt, tt);
-          fits = room;
+          fits = omega (arith, room);
         })) in
         reach_more z 3 after (5 + (cost + (0 + 3))) (8 + cost) u all.effects all.end (omega arith)
         (then_reach z 3 after 5 (cost + (0 + 3)) u (λ q. q ≡ t) [] all.effects all.end hopped
         (λ q same. subst (λ y. Reaches z 3 after (cost + (0 + 3)) y all.effects all.end) (sym same) reached))
 
     light_own : (j : ℕ) → j < count → first + j < z.own
-    light_own j l = let own = light_param x.own x.end z.low (first + j) (x.parameters j l) in let r = x.registers in omega (arith, own, r)
+    light_own j l = let own = light_param x.own x.end z.low (first + j) (x.parameters j l) in
+        let r : x.end ≤ z.own = x.registers in omega (arith, own, r)
 
     -- with the values in front of it
     pub light_reaches : (entry last cost pc : ℕ) (os : List Waiting) (w : WordState) (b : Behaviour) (u : Core) (p : Popped count w.stack) → entry % 2 ≡ 0
@@ -408,9 +414,11 @@ module _ (z : Setting) where
       let high = back.high in let parity = z.even in let roomy = z.roomy.fits in
       let sp : t.sp ≡ z.top = omega (arith, i.memory.depth, ap (length {A = ℕ}) none) in
       let word : t.ram t.sp ≡ z.entered.ram z.top = ap t.ram sp ∙ i.memory.keeps.ram_words z.top (omega arith) back.outside in
-      hop z Return 3 t (record t { pc = t.ram t.sp; sp = t.sp + 2 }) [] 3 (HasReturned z v w) (ap z.code.at i.at ∙ h.0)
-      (record { even = omega (arith, sp); low = omega (arith, sp); high = omega (arith, sp) }, λ k. (let start = back.start k in omega (arith, sp, start)),
-      ap (λ a. a % 2) word ∙ back.even) refl (omega arith)
+      hop z Return 3 t (record t { pc = t.ram t.sp; sp = t.sp + 2 }) [] 3 (HasReturned z v w) (ap z.code.at i.at ∙ h.0) (
+        record { even = omega (arith, sp); low = omega (arith, sp); high = omega (arith, sp) },
+        λ k. (let start = back.start k in omega (arith, sp, start)),
+        ap (λ a. a % 2) word ∙ back.even,
+      ) refl (omega arith)
       (record { pc = word; sp = ap (λ n. n + 2) sp; result = k.held; fram = i.fram; inputs = i.inputs; keeps = i.memory.keeps })
 
   -- where nothing waits below the top

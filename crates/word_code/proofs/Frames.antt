@@ -1,15 +1,15 @@
 -- Calls of functions with locals in RAM: the values are pushed, SP is set below those locals, and the values are moved there.
-use Rattle.word_code.proofs.Names.{◌≡◌, ℕ, zero, suc, ◌+◌, ◌-◌, ◌*◌, ◌%◌, ◌<◌, ◌≤◌, Bool, true, false, nat_lt, nat_eq, if◌then◌else◌, List, [], ◌∷◌, ◌++◌}
-use Rattle.word_code.proofs.Names.{length, get_or, Option, Some, refl, sym, ap, ◌∙◌, subst, arith, inl, inr, eq-eqb, ne_eqb, put, put_same, put_other, cycles_of}
-use Rattle.word_code.proofs.Names.{work_number, Core, R4, Register, ToRegister, ToRam, Form, Move, Push, SetStack, Call, KeepStack, RestoreStack, StackNext}
-use Rattle.word_code.proofs.Names.{instruction_of, form_bytes, Stands, forms_bytes, Runs, IsRam, HasPushRoom, stack_top, stands_front, stands_back, forms_bytes-append}
+use Rattle.word_code.proofs.Names.{◌≡◌, ℕ, ◌+◌, ◌-◌, ◌*◌, ◌%◌, ◌<◌, ◌≤◌, Bool, true, false, nat_lt, if◌then◌else◌, List, [], ◌∷◌, ◌++◌}
+use Rattle.word_code.proofs.Names.{length, get_or, Some, refl, sym, ap, ◌∙◌, subst, arith, inl, inr, eq-eqb, ne_eqb, put, put_same, put_other}
+use Rattle.word_code.proofs.Names.{work_number, Core, R4, Register, ToRegister, ToRam, Move, Push, SetStack, Call, KeepStack, RestoreStack, StackNext}
+use Rattle.word_code.proofs.Names.{form_bytes, Stands, forms_bytes, Runs, IsRam, stands_front, stands_back, forms_bytes-append}
 use Rattle.word_code.proofs.Names.{WordState, Behaviour, with_stack, called_behind, called, Program, IsCalled, IsFormed, IsOwn, Waiting, flushed, length-append}
 use Rattle.word_code.proofs.Names.{local_register, local_address, local_target, frame_code, framed_call}
 use Rattle.word_code.specs.declared.waiting.Waiting.TheVariants as waiting
-use Rattle.word_code.proofs.Stretches.{Setting, bounds_of, hop, runs_on, so_runs, nothing_run, dearer}
+use Rattle.word_code.proofs.Stretches.{Setting, bounds_of, hop, runs_on, so_runs, nothing_run}
 use Rattle.word_code.proofs.Memory.{local_words, local_word, register_at, register_put, below_eight, from_eight, StackIs, stack_same, stack_upper, address_same}
 use Rattle.word_code.proofs.Memory.{Memory, drop_memory}
-use Rattle.word_code.proofs.Follows.{StandsFor, FollowsEnd, Reaches, reach_more, then_reach, HasReturned}
+use Rattle.word_code.proofs.Follows.{StandsFor, FollowsEnd, Reaches, reach_more, then_reach}
 use Rattle.word_code.proofs.Operands.{Describes, owed, flush_part}
 use Rattle.word_code.proofs.Results.{Does, does_behind}
 use Rattle.word_code.proofs.Calls.{Popped, HaveWords, register_word, Enters, callee, begins, resumes, call_ends, stays_above}
@@ -87,7 +87,7 @@ module _ (z : Setting) where
         λ n l ne. register_put up m n y small l ∙ ap (λ b. if b then y else get_or (local_words up) n 0) (ne_eqb n m ne) in
         let c = k.unchanged in
         let needs = next_ram u behind pc v words t k in
-        hop z form 5 t after [] (cycles_of (instruction_of form)) (Moved own end frame u behind (pc + 2) m v words t) (ap z.code.at k.at ∙ h.0) (needs, tt) refl (omega arith)
+        hop z form 5 t after [] 2 (Moved own end frame u behind (pc + 2) m v words t) (ap z.code.at k.at ∙ h.0) (needs, tt) refl (omega arith)
         (record {
           filling = record {
             at = omega (arith, k.at);
@@ -225,14 +225,14 @@ module _ (z : Setting) where
 
   module _ (f first count : ℕ) (body : Program) (x : IsCalled (λ inner. IsFormed inner true body) (bounds_of z) (Some f) first count body) where
     -- the code of the function runs from its entry on
-    FramedRuns : (entry last cost : ℕ) (words : List ℕ) (w : WordState) (b : Behaviour) → Type 0
+    abbrev pub FramedRuns : (entry last cost : ℕ) (words : List ℕ) (w : WordState) (b : Behaviour) → Type 0
     FramedRuns entry last cost words w b = (top : ℕ) (t : Core) (e : Enters z (Some f) first count body x top t)
         → StandsFor (callee z (Some f) first count body x top t e) entry (called first words w) t
         → FollowsEnd (callee z (Some f) first count body x top t e) last cost t b.effects b.end
 
     -- the frame has room for the caller's SP and the return address
     frame_room : 0x1C00 + 36 ≤ f
-    frame_room = let spare = x.spare.fits in let fits = x.fits.3 in omega (arith, spare, fits)
+    frame_room = let spare = x.spare.fits in let fits : x.lowest + 2 * (x.room + 2) ≤ f = x.fits.3 in omega (arith, spare, fits)
 
     -- what the caller has behind the call, in front of it: FRAM, the inputs, and its memory without the values
     record Suspended (behind : ℕ) (w : WordState) (u : Core) : Type 0 where
@@ -244,13 +244,14 @@ module _ (z : Setting) where
         → ((a : ℕ) → f ≤ a → ram' a ≡ ram a) → HaveWords first words regs ram → HaveWords first words regs ram'
     have_same [] regs ram ram' owns same h = tt
     have_same (v ∷ words) regs ram ram' owns same h =
-        let m = first + length words in
-        (same_local regs regs ram ram' m (λ l. refl) (λ l. same (local_address m) (address_from m l (owns (length words) (omega arith)))) ∙ h.0,
-        have_same words regs ram ram' (λ j l. owns j (omega (arith, l))) same h.1)
+        let m = first + length words in (
+          same_local regs regs ram ram' m (λ l. refl) (λ l. same (local_address m) (address_from m l (owns (length words) (omega arith)))) ∙ h.0,
+          have_same words regs ram ram' (λ j l. owns j (omega (arith, l))) same h.1,
+        )
       where
         address_from : (n : ℕ) → 8 ≤ n → IsOwn x.own x.end f z.low n → f ≤ local_address n
         address_from n l (inl at) =
-            absurd (let less = at.1 in let r = x.registers in let ordered = z.ordered in let most = z.few in omega (arith, l))
+            absurd (let less = at.1 in let r : x.end ≤ z.own = x.registers in let ordered = z.ordered in let most = z.few in omega (arith, l))
         address_from n l (inr at) = at.1
 
     -- the caller's SP is pushed, then the call; behind it that is SP again
@@ -268,7 +269,8 @@ module _ (z : Setting) where
         let t2 : Core = record t1 { pc = entry; sp = t1.sp - 2; ram = put t1.ram (t1.sp - 2) (t1.pc + 4) } in
         let top = t1.sp - 2 in
         let four : t.work 4 ≡ behind = omega (arith, i.next) in
-        let room = frame_room in let parity = x.fits.1 in let below = x.fits.2 in let fits = x.fits.3 in
+        let room = frame_room in
+        let parity : f % 2 ≡ 0 = x.fits.1 in let below : f ≤ z.low = x.fits.2 in let fits : x.lowest + 2 * (x.room + 2) ≤ f = x.fits.3 in
         let deep = z.deep in let high = z.high in let low = i.low in let less = i.high in
         let at = (z.tidy pc _ h.0).even in
         let back : t2.ram top ≡ t1.pc + 4 = put_same t1.ram top (t1.pc + 4) in
@@ -279,8 +281,8 @@ module _ (z : Setting) where
         let e : Enters z (Some f) first count body x top t2 = record {
           even = omega (arith, sp);
           high = omega (arith, sp);
-          above = λ l. omega (arith, sp);
-          outside = λ l. omega (arith, sp, l);
+          above = λ l. (let under : top ≤ f = omega (arith, sp) in under);
+          outside = λ l. absurd (let from : f ≤ top = l in omega (arith, sp));
           deep = omega (arith, sp);
           back = ap (λ a. a % 2) back ∙ omega (arith, at, i.at);
         } in
@@ -301,9 +303,11 @@ module _ (z : Setting) where
         let from : q.pc ≡ pc + 6 = r.pc ∙ back ∙ omega (arith, at1) in
         let q' : Core = record q { pc = q.pc + 2; sp = q.ram q.sp } in
         hop z RestoreStack 2 q q' [] 2 (Describes z (waiting.R4 ∷ []) (pc + 8) (record v' { stack = v ∷ w.stack; locals = w.locals }))
-        (ap z.code.at from ∙ h.1.1.0)
-        (record { even = omega (arith, there, sp); low = omega (arith, there, sp); high = omega (arith, there, sp) },
-        λ k. absurd (let light = z.light k in let framed = x.fits.0 in (cc)), ap (λ n. n % 2) word ∙ even_behind) refl (omega arith)
+        (ap z.code.at from ∙ h.1.1.0) (
+          record { even = omega (arith, there, sp); low = omega (arith, there, sp); high = omega (arith, there, sp) },
+          λ k. absurd (let light = z.light k in let framed : z.framed ≡ true = x.fits.0 in (cc)),
+          ap (λ n. n % 2) word ∙ even_behind,
+        ) refl (omega arith)
         (record {
           rest = w.stack;
           is = record {
@@ -316,7 +320,7 @@ module _ (z : Setting) where
           };
           stack = ap (λ y. y ∷ w.stack) (sym r.result);
           there = (tt, tt);
-          fits = fit.0;
+          fits = omega (arith, fit.0);
         })) in
         reach_more z 3 after (3 + (5 + (cost + (2 + 3)))) (13 + cost) t all.effects all.end (omega arith)
         (then_reach z 3 after 3 (5 + (cost + (2 + 3))) t (λ q. q ≡ t1) [] all.effects all.end pushed (λ q same.
@@ -326,7 +330,7 @@ module _ (z : Setting) where
 
     -- code that calls it takes no events
     no_events : (b : Bool) → z.code.events ≡ b → z.code.events ≡ false
-    no_events true e = absurd (let light = z.light e in let framed = x.fits.0 in (cc))
+    no_events true e = absurd (let light = z.light e in let framed : z.framed ≡ true = x.fits.0 in (cc))
     no_events false e = e
 
     -- the values being pushed

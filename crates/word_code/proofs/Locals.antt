@@ -3,7 +3,7 @@ use Rattle.word_code.proofs.Names.{◌≡◌, ℕ, ◌+◌, ◌≤◌, Bool, tru
 use Rattle.word_code.proofs.Names.{local, set_local, update_local, truth, choose, repeat, holds, compares, both, either, fails, nothing, step, StepLocalsBelow}
 use Rattle.word_code.proofs.Names.{TestLocalsBelow, LocalsBelow, step_locals, test_locals, locals_of, Core, Form, SetStack, forms_bytes, Stands, Runs}
 use Rattle.word_code.proofs.Names.{stack_top, stack_base, stack_set, stack_cycles, stack_start, HasStackRoom, Code, IsTidy, IsWhole, FitsEvents, ◌<◌, ◌*◌, ◌%◌}
-use Rattle.word_code.proofs.Names.{StepEachLocal, TestEachLocal, EachLocal, inl, inr}
+use Rattle.word_code.proofs.Names.{StepEachLocal, TestEachLocal, EachLocal, inl, inr, local_address}
 use Rattle.word_code.proofs.Memory.{Owns, below_eight, from_eight}
 use Rattle.word_code.proofs.Stretches.{Setting, hop, nothing_run, dearer}
 
@@ -156,7 +156,11 @@ module _ (code : Code) (tidy : IsTidy code) (u : Core) (p : Program) (whole : Is
     where
       by : (few : Bool) → nat_lt n 8 ≡ few → Owns uncalled n
       by true e = inl (from, below_eight n e)
-      by false e = let eight = from_eight n e in inr (eight, omega (arith, l, eight), omega (arith, eight))
+      by false e =
+          let eight = from_eight n e in
+          let low : stack_base b.locals ≤ local_address n = omega (arith, l, eight) in
+          let high : local_address n < stack_top = omega (arith, eight) in
+          inr (eight, low, high)
 
   -- each local that it names is its own
   pub uncalled_owns : EachLocal (Owns uncalled) p

@@ -2,7 +2,7 @@
 use Rattle.word_code.proofs.Names.{◌≡◌, ℕ, zero, suc, ◌+◌, ◌-◌, ◌*◌, ◌<◌, ◌≤◌, List, [], ◌∷◌, length, ◌++◌, get_or, Option, Some, refl, sym, ap, ◌∙◌, subst, arith}
 use Rattle.word_code.proofs.Names.{Bool, true, false, nat_eq, nat_lt, eq-eqb, ne_eqb, if◌then◌else◌, nat_tests, same_Some, put, IsPlace, IsRam}
 use Rattle.word_code.proofs.Names.{stack_start, put_same, put_other, work_number, HasPushRoom, is_place, assigned, local_register, local_address, eqb-true}
-use Rattle.word_code.proofs.Names.{IsOwn, ◌⊎◌, inl, inr}
+use Rattle.word_code.proofs.Names.{IsOwn, inl, inr}
 use Rattle.word_code.proofs.Stretches.{Setting}
 pub use Rattle.array_versions.specs.alp_words.Words.{AreWords, HoldsWords}
 
@@ -258,9 +258,10 @@ module _ (z : Setting) where
   set_ram sp n v ram words vs ls e own m =
       let d = m.depth in
       let low = at.top in
-      assign sp n v ram (put ram (local_address n) v) words words vs ls m
-      (stack_below ram (local_address n) v sp vs (omega arith) m.stack,
-      record { ram_words = λ a t out. other a out ∙ m.keeps.ram_words a t out; registers = m.keeps.registers })
+      assign sp n v ram (put ram (local_address n) v) words words vs ls m (
+        stack_below ram (local_address n) v sp vs (omega arith) m.stack,
+        record { ram_words = λ a t out. other a out ∙ m.keeps.ram_words a t out; registers = m.keeps.registers },
+      )
       (λ k. by (nat_lt k 8) k refl)
     where
       at : InRam n

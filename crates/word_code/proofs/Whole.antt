@@ -15,7 +15,7 @@ use Rattle.word_code.proofs.Names.{spent_by_two, step_spent, spent_on, test_spen
 use Rattle.word_code.proofs.Names.{whole_ends_soundly, local_words, words_step, words, Leaves, leaves, Bound, Waiting, number_source, flushed, below_top, kept}
 use Rattle.word_code.proofs.Names.{top_to_four, entry_code, compare_form, holding, failing, size, pass_over, decision, holds_code, compares_code, truth_code}
 use Rattle.word_code.proofs.Names.{number_code, turns_code, waiting_behind, waiting_after, bound_of, step_code, test_code, steps_code, block_code}
-use Rattle.word_code.proofs.Names.{ComesTo, CodeDoesAsProgram, locals_of, stack_base, stack_start, stack_set, stack_cycles, code_of, code_spent}
+use Rattle.word_code.proofs.Names.{ComesTo, CodeDoesAsProgram, locals_of, stack_base, stack_set, stack_cycles, code_of, code_spent}
 use Rattle.word_code.proofs.Names.{IsWhole, FitsEvents, IsEntry, get_or, StepRoutinesStand, TestRoutinesStand, RoutinesStand, call, give, Gives, called}
 use Rattle.word_code.proofs.Names.{called_behind, entry_place, routine_code, light_call, framed_call, length-append}
 use Rattle.array_versions.specs.Laws.{IsStateOfWords, EndsInWords, IsSound}

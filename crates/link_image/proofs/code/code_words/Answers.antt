@@ -1,11 +1,12 @@
 use Rattle.link_image.proofs.Names.{◌≡◌, ◌∙◌, ◌+◌, ◌*◌, ◌++◌, ◌<◌, ◌≤◌, ap, sym, subst, length, map, arith, length-map, reset_vector, end_of, instructions}
-use Rattle.link_image.proofs.Names.{program_of}
+use Rattle.array_versions.specs.View.{programs_of}
 use Rattle.link_image.proofs.Names.{apart_of, chained, PartsInOrder, task_parts, Bool, List, ℕ, TaskPlace}
+use Rattle.link_image.specs.Needs.{TasksAreEmitted}
 use Rattle.link_image.proofs.code.code_words.Goals as goal
 use Rattle.linked_code.specs.Linked.{boot_code, commit_code, bytes_of_boot, bytes_of_commit, StartsFit}
 use Rattle.memory_map.specs.declared.runtime.Logging.{Logging}
 use Rattle.memory_map.specs.declared.runtime.Logging.TheVariants.{Redo, Undo}
-use Rattle.link_image.proofs.Written.{words_in, after_boot, commit_behind, after_commit, tasks_behind, same_count, each_short}
+use Rattle.link_image.proofs.Written.{words_in, after_boot, commit_behind, after_commit, tasks_behind, same_count, each_emitted}
 
 pub boot_of-requires-clause-room : goal.boot_of-requires-clause-room
 boot_of-requires-clause-room c =
@@ -42,7 +43,7 @@ commit_of-requires c =
 pub push_part-requires-2 : goal.push_part-requires-2
 push_part-requires-2 c =
     let l = c.args.layout.now in
-    let ps = map program_of c.args.programs.now in
+    let ps = map programs_of c.args.programs.now in
     let start : c.boot-start.result.address ≡ l.boot.address = ap (λ r. r.address) c.boot-start.ensures in
     let logs = ap (λ r. r.logging) c.runtime-logging.ensures in
     let boot = after_boot l ps c.requires.fits c.boot-start.result.address c.new-words.result.items c.push_part.new.words.items c.as_slice.result.now start
@@ -55,13 +56,13 @@ push_part-requires-2 c =
 
 pub push_tasks-requires-clause-count : goal.push_tasks-requires-clause-count
 push_tasks-requires-clause-count c =
-    let n = same_count c.args.layout.now.tasks (map program_of c.args.programs.now) c.requires.fits.tasks in
-    ap length c.tasks.ensures ∙ n ∙ length-map c.args.programs.now program_of
+    let n = same_count c.args.layout.now.tasks (map programs_of c.args.programs.now) c.requires.fits.tasks in
+    ap length c.tasks.ensures ∙ n ∙ length-map c.args.programs.now programs_of
 
 pub push_tasks-requires-clause-order : goal.push_tasks-requires-clause-order
 push_tasks-requires-clause-order c =
     let l = c.args.layout.now in
-    let ps = map program_of c.args.programs.now in
+    let ps = map programs_of c.args.programs.now in
     let start : c.boot-start.result.address ≡ l.boot.address = ap (λ r. r.address) c.boot-start.ensures in
     let logs = ap (λ r. r.logging) c.runtime-logging.ensures in
     let boot = after_boot l ps c.requires.fits c.boot-start.result.address c.new-words.result.items c.push_part.new.words.items c.as_slice.result.now start
@@ -77,17 +78,19 @@ push_tasks-requires-clause-order c =
     (subst (λ events. PartsInOrder end (task_parts events l.tasks ps) reset_vector) (sym (ap (λ r. r.events) c.runtime-events.ensures))
     (tasks_behind l ps c.requires.fits c.boot-start.result.address c.push_part-2.new.words.items commit))
 
-pub push_tasks-requires-clause-short : goal.push_tasks-requires-clause-short
-push_tasks-requires-clause-short c =
+pub push_tasks-requires-clause-emitted : goal.push_tasks-requires-clause-emitted
+push_tasks-requires-clause-emitted c =
     let l = c.args.layout.now in
     let fits = c.requires.fits in
     let high = fits.high in
-    each_short l.code.address l.tasks (map program_of c.args.programs.now) (end_of l.code) fits.rules.code (omega (arith, high)) fits.tasks
+    subst (λ ts. TasksAreEmitted ts (map programs_of c.args.programs.now)) (sym c.tasks.ensures)
+    (each_emitted l.code.address l.tasks (map programs_of c.args.programs.now) (end_of l.code) fits.rules.code (omega (arith, high)) fits.tasks
+    c.requires.locals)
 
 pub returns : goal.returns
 returns c =
     let l = c.args.layout.now in
-    let ps = map program_of c.args.programs.now in
+    let ps = map programs_of c.args.programs.now in
     let start : c.boot-start.result.address ≡ l.boot.address = ap (λ r. r.address) c.boot-start.ensures in
     let logs = ap (λ r. r.logging) c.runtime-logging.ensures in
     let boot = after_boot l ps c.requires.fits c.boot-start.result.address c.new-words.result.items c.push_part.new.words.items c.as_slice.result.now start

@@ -1,6 +1,6 @@
 use Rattle.std.proofs.Common.{false, slice_index_or}
-use Rattle.privatise.proofs.Locals.{end_more}
-use Rattle.privatise.proofs.frames.greatest_end.Goals as goal
+use Rattle.function_locals.proofs.Loops.{end_more}
+use Rattle.function_locals.proofs.locals.greatest_end.Goals as goal
 
 pub loop-k-preserved : goal.loop-k-preserved
 loop-k-preserved c =

@@ -1,47 +1,16 @@
--- Where the locals of functions and tasks stand. No function is active twice, so each has its locals at one place in a task: in registers above
--- those of all that it calls, where they fit, and else in RAM, below the frames of all that may have called it.
-use Rattle.std.specs.Prelude.{ℕ, ◌+◌, ◌-◌, ◌*◌, Bool, max, nat_le, if◌then◌else◌, List, [], ◌∷◌, length, Option, Some, None}
-use Rattle.task_ast.specs.Answers.{answers}
-use Rattle.task_ast.specs.Paths.{CheckedFunction, CheckedProgram}
-use Rattle.cost_bound.specs.Table.{capped}
+-- The functions that a task reaches: where their code stands, and where they have their locals. Those of a function that doesn't have them in registers
+-- stand in RAM, below the frames of all that may have called it.
+use Rattle.std.specs.Prelude.{◌≡◌, ℕ, ◌+◌, ◌-◌, ◌*◌, Bool, true, if◌then◌else◌, List, [], ◌∷◌, length, Option, Some, None, slice_get}
+use Rattle.task_ast.specs.Paths.{CheckedFunction}
 use Rattle.cost_bound.specs.Summary.{Summary}
 use Rattle.cost_bound.specs.Summaries.{summaries}
-use Rattle.cost_bound.specs.Counts.{CheckedBlock, block_calls, reaches_of}
-use Rattle.cost_bound.specs.Frames.{block_locals, stack_of}
+use Rattle.cost_bound.specs.Counts.{CheckedBlock, reaches_of}
+use Rattle.cost_bound.specs.Frames.{frame_of, stack_of}
+use Rattle.cost_bound.specs.Allowance.{CheckedProgram}
 use Rattle.memory_map.specs.address_space.Limits.{stack_top}
 use Rattle.memory_map.specs.declared.place.RoutinePlace.{RoutinePlace}
-use Rattle.privatise.specs.declared.frames.FunctionLocals.{FunctionLocals}
-
--- ---- registers
-
--- whether all locals of a function stand in registers
-abbrev pub is_light : FunctionLocals → Bool
-is_light l = nat_le (l.base + l.own) 8
-
--- behind the registers that a function takes, with all that it calls
-abbrev pub register_end : FunctionLocals → ℕ
-register_end l = if is_light l then l.base + l.own else l.base
-
--- the greatest of these at the functions that are called, the first of them being that of a number
-abbrev pub greatest_end : (ℕ → Bool) → ℕ → List FunctionLocals → ℕ
-greatest_end calls k [] = 0
-greatest_end calls k (l ∷ more) = max (if calls k then register_end l else 0) (greatest_end calls (k + 1) more)
-
--- behind the registers that the functions take which a text calls
-abbrev pub base_of : List FunctionLocals → CheckedBlock → ℕ
-base_of known b = greatest_end (λ k. block_calls k b) 0 known
-
--- the locals of a function, its parameters among them, as far as 64 bits keep their number
-abbrev pub own_locals : CheckedFunction → ℕ
-own_locals f = capped (length f.parameters + block_locals f.body)
-
--- a function's locals, where these are those of the functions in front of it
-abbrev pub function_locals : List FunctionLocals → CheckedFunction → FunctionLocals
-function_locals known f = record { base = base_of known f.body; own = own_locals f }
-
--- those of a source's functions
-abbrev pub all_locals : List CheckedFunction → List FunctionLocals
-all_locals fs = answers function_locals fs
+use Rattle.function_locals.specs.declared.locals.FunctionLocals.{FunctionLocals}
+use Rattle.function_locals.specs.Locals.{is_light, all_locals}
 
 -- what is known of a source's functions, in the order of the text
 pub record KnownFunctions : Type 0 where
@@ -95,3 +64,34 @@ routines_from stack marks k at (s ∷ ss) [] = []
 abbrev pub task_routines : KnownFunctions → CheckedBlock → ℕ → List RoutinePlace
 task_routines known body at =
     routines_from (stack_of known.summaries body) (λ k. reaches_of known.summaries k body) 0 at known.summaries known.locals
+
+-- ---- what is known of each
+
+-- a function with what is known of it
+pub record Known : Type 0 where
+  pub function : CheckedFunction
+  pub summary : Summary
+  pub locals : FunctionLocals
+
+-- the function of a number
+pub record IsFunction (p : CheckedProgram) (number : ℕ) (f : Known) : Type 0 where
+  pub function : slice_get p.functions number ≡ Some f.function
+  pub summary : slice_get (summaries p) number ≡ Some f.summary
+  pub locals : slice_get (all_locals p.functions) number ≡ Some f.locals
+
+-- its frame, in words
+abbrev pub frame_words : Known → ℕ
+frame_words f = frame_of (length f.function.parameters) f.function.body
+
+-- the words from the end of RAM down to the lowest that its frame has, in a task with a stack of so many words
+abbrev pub floor_words : ℕ → Known → ℕ
+floor_words stack f = words_above stack f.summary.depth + frame_words f
+
+-- the place of a function that a task with this text reaches
+pub record IsRoutineOf (p : CheckedProgram) (body : CheckedBlock) (r : RoutinePlace) : Type 0 where
+  pub known : Known
+  pub is : IsFunction p r.function known
+  pub reached : reaches_of (summaries p) r.function body ≡ true
+  pub words : r.code.words ≡ routine_room known.summary
+  pub first : r.first ≡ first_local (stack_of (summaries p) body) known.summary.depth known.locals
+  pub frame : r.frame ≡ frame_of_locals (stack_of (summaries p) body) known.summary.depth known.locals

@@ -1,6 +1,10 @@
 -- The locals of functions, as loops come to them.
-use Rattle.std.proofs.Common.{◌≡◌, ℕ, ◌+◌, ◌-◌, ◌<◌, ◌≤◌, Bool, false, List, [], ◌∷◌, ◌++◌, length, take, drop, map, max, get_or, refl, sym, ap, ◌∙◌, subst, arith}
-use Rattle.std.proofs.Common.{if◌then◌else◌, slice_index_or}
+use Rattle.std.proofs.Common.{◌≡◌, ℕ, ◌+◌, ◌-◌, ◌<◌, ◌≤◌, Bool, false, List, [], ◌∷◌, ◌++◌, length, take, drop, map, max, get_or, refl, sym, ap, ◌∙◌, subst}
+use Rattle.std.proofs.Common.{arith}
+use Rattle.std.proofs.Common.{if◌then◌else◌, slice_index_or, zero, suc, Some}
+use Rattle.std.specs.Prelude.{slice_get}
+use Rattle.std.proofs.lemmas.Option.{slice_get_within}
+use Rattle.task_ast.specs.Paths.{CheckedFunction}
 use Rattle.std.proofs.lemmas.List.{length_push, length-map, map-append, take_all, take_more}
 use Rattle.task_ast.specs.View.{function_of}
 use Rattle.task_ast.specs.declared.FunctionDeclaration.{FunctionDeclaration}
@@ -10,8 +14,8 @@ use Rattle.task_ast.specs.declared.names.FunctionName.{FunctionName}
 use Rattle.cost_bound.specs.Counts.{CheckedBlock, block_calls}
 use Rattle.cost_bound.proofs.Interface.{read_again}
 use Rattle.task_ast.proofs.Interface.{answers_append, answers_length, drop_back}
-use Rattle.privatise.specs.declared.frames.FunctionLocals.{FunctionLocals}
-use Rattle.privatise.specs.Frames.{register_end, greatest_end, base_of, function_locals, all_locals}
+use Rattle.function_locals.specs.declared.locals.FunctionLocals.{FunctionLocals}
+use Rattle.function_locals.specs.Locals.{register_end, greatest_end, base_of, function_locals, all_locals}
 
 -- one function more, in front of those that were looked at
 module _ (calls : ℕ → Bool) (kept : List FunctionLocals) (k : ℕ) (e : FunctionLocals) (pos : 0 < k) (h : k ≤ length kept) where
@@ -71,3 +75,23 @@ all_made fs i kept past h = h.are ∙ ap (λ gs. all_locals (map function_of gs)
 -- as many as functions
 pub locals_length : (fs : List Declared) → length (all_locals (map function_of fs)) ≡ length fs
 locals_length fs = let n = answers_length function_locals [] (map function_of fs) in let m = length-map fs function_of in omega (arith, n, m)
+
+-- each function has locals, and each locals are of a function
+within : {A : Type 0} (xs : List A) (k : ℕ) → k < length xs → (x : A) × (slice_get xs k ≡ Some x)
+within [] k l = absurd (let none : ⊥ = omega arith in none)
+within (x ∷ xs) zero l = (x, refl)
+within (x ∷ xs) (suc k) l = within xs k (omega arith)
+
+pub locals_at : (fs : List CheckedFunction) (k : ℕ) (f : CheckedFunction) → slice_get fs k ≡ Some f
+    → (l : FunctionLocals) × (slice_get (all_locals fs) k ≡ Some l)
+locals_at fs k f is =
+    let n = answers_length function_locals [] fs in
+    let inside = slice_get_within fs k f is in
+    within (all_locals fs) k (omega (arith, n, inside))
+
+pub functions_at : (fs : List CheckedFunction) (k : ℕ) (l : FunctionLocals) → slice_get (all_locals fs) k ≡ Some l
+    → (f : CheckedFunction) × (slice_get fs k ≡ Some f)
+functions_at fs k l is =
+    let n = answers_length function_locals [] fs in
+    let inside = slice_get_within (all_locals fs) k l is in
+    within fs k (omega (arith, n, inside))

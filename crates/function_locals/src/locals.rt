@@ -1,10 +1,11 @@
-//! Where the locals of functions stand.
-ghost use Rattle.std.specs.Prelude.{◌≡◌, ◌≤◌, IfOk, length, map, false, if◌then◌else◌, slice_index_or};
+//! The locals of functions, and the registers that they take.
+ghost use Rattle.std.specs.Prelude.{◌≡◌, ◌≤◌, length, map, false, if◌then◌else◌, slice_index_or};
+ghost use Rattle.arrayvec.specs.ArrayVec.{array_vec_len};
 ghost use Rattle.task_ast.specs.View.{block_view, function_of};
-ghost use Rattle.privatise.specs.Frames.{is_light, register_end, greatest_end, base_of, function_locals, all_locals};
+ghost use Rattle.function_locals.specs.Locals.{is_light, register_end, greatest_end, base_of, function_locals, all_locals};
 
-use cost_bound::{SHARED, block_locals, called_functions};
-use std::alloc::{AllocError, Global};
+use arrayvec::ArrayVec;
+use cost_bound::{FUNCTIONS, SHARED, block_locals, called_functions};
 use task_ast::{FunctionDeclaration, FunctionName, Stmt, TaskName, VariableName};
 
 /// The registers in which locals stand.
@@ -12,11 +13,14 @@ const REGISTERS: u64 = 8;
 
 /// The locals of a function: the registers below its base are of the functions that it calls, and it has so many locals of its own, its
 /// parameters among them; 2^64 - 1 where they are more.
-#[derive(Clone, Copy)]
+#[derive(Clone, Copy, Default)]
 pub struct FunctionLocals {
     pub base: u16,
     pub own: u64,
 }
+
+/// The locals of a source's functions, in the order of the text.
+pub type Locals = ArrayVec<FunctionLocals, FUNCTIONS>;
 
 /// Whether all locals of a function stand in registers.
 pub fn is_light(locals: &FunctionLocals) -> bool
@@ -56,10 +60,7 @@ fn greatest_end(known: &[FunctionLocals], calls: &[bool; SHARED]) -> u16
 }
 
 /// Behind the registers that the functions take which a text calls, these being the locals of the functions in front of it.
-pub fn base(
-    known: &[FunctionLocals],
-    body: &[Stmt<VariableName, TaskName, FunctionName>],
-) -> u16
+pub fn base(known: &[FunctionLocals], body: &[Stmt<VariableName, TaskName, FunctionName>]) -> u16
     requires few { length known.now ≤ 64 }
     ensures { result ≡ base_of known.now (block_view body.now) }
 {
@@ -81,18 +82,15 @@ fn function_locals(
     }
 }
 
-/// The locals of each function of a source.
-pub fn all_locals(
-    alloc: Global,
-    functions: &[FunctionDeclaration<VariableName, TaskName, FunctionName>],
-) -> Result<Vec<FunctionLocals>, AllocError>
+/// The locals of the functions of a source.
+pub fn all_locals(functions: &[FunctionDeclaration<VariableName, TaskName, FunctionName>]) -> Locals
     requires few { length functions.now ≤ 64 }
-    ensures { IfOk result (λ v. v.items ≡ all_locals (map function_of functions.now)) }
+    ensures { result.items ≡ all_locals (map function_of functions.now) }
 {
-    let mut known = Vec::new(alloc);
+    let mut known = ArrayVec::new();
     for i in 0..functions.len() {
-        let next = function_locals(known.as_slice(), &functions[i]);
-        known.push(next)?;
+        let next = function_locals(&known, &functions[i]);
+        known.push(next);
     }
-    Ok(known)
+    known
 }
