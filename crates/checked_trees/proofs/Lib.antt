@@ -6,7 +6,7 @@ mod Symbols
 mod NameTypes
 mod Widths
 mod Walk
-mod Tasks
+mod Bodies
 mod Paths
 mod Written
 mod Checked
