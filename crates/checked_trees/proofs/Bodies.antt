@@ -77,6 +77,10 @@ same_count : (values : CheckedValues) → values_length (values_back values) ≡
 same_count t.no_value = refl
 same_count (t.value e more) = ap suc (same_count more)
 
+back_count : (values : CheckedValues) → values_in (values_back values) ≡ values_in values
+back_count t.no_value = refl
+back_count (t.value e more) = ap suc (back_count more)
+
 -- a function has as many parameters as in the text
 has_parameters : (fs : List CheckedFunction) (k count : ℕ) → IsSomeAnd (slice_get (map function_back fs) k) (λ f. length f.parameters ≡ count)
     → HasParameters fs k count
@@ -147,11 +151,11 @@ module _ (shared : List SharedDeclaration) (fs : List CheckedFunction) (types : 
     expression_split (t.call f values) behind vs cs w h =
         let given = values_back values in
         let a = step_front (values_names types given behind) f.span (role.Call (values_length given)) _ _ h in
-        let v = values_split values behind vs cs w a.1 in
+        let v = values_split values behind vs cs w.0 a.1 in
         let counts =
         subst (λ n. IsSomeAnd (slice_get functions f.function) (λ g. length g.parameters ≡ n)) (same_count values) a.0.counts in
         record {
-          formed = (a.0.word, v.formed);
+          formed = (v.formed, a.0.word, subst (λ n. n ≤ enough) (back_count values) w.1);
           counts = (has_parameters fs f.function (values_in values) counts, v.counts);
           typed = word_is_as_wide f.word_type (width_type types (t.call f.span given)) a.0.word;
           rest = v.rest;

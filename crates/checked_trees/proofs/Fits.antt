@@ -1,11 +1,11 @@
--- What the grammar gives of a tree: each expression has room, numbers are of words, and a local has one word.
+-- What the grammar gives of a tree: each expression has room, numbers are of words, calls have few values, and a local has one word.
 use Rattle.std.proofs.Common.{ℕ, ◌+◌, ◌^◌, ◌<◌, ◌≤◌, Option, Some, None}
 use Rattle.std.specs.Prelude.{All}
 use Rattle.alp_words.specs.Words.{IsWord}
 use Rattle.task_ast.specs.Tree.{Expression, Values, Statement, Choice, Block, Function}
 use Rattle.task_ast.specs.Tree as t
 use Rattle.task_ast.specs.Types.{IsOneWord}
-use Rattle.checked_trees.specs.WellFormed.{stack_words, value_words, enough}
+use Rattle.checked_trees.specs.WellFormed.{stack_words, value_words, values_in, enough}
 
 abbrev mutual
   -- the numbers of an expression are of words
@@ -16,7 +16,7 @@ abbrev mutual
   IsOfWords (t.element x index) = IsOfWords index
   IsOfWords t.sense = Unit {0}
   IsOfWords t.next_event = Unit {0}
-  IsOfWords (t.call f values) = AreOfWords values
+  IsOfWords (t.call f values) = AreOfWords values × (values_in values ≤ enough)
   IsOfWords (t.unary op e) = IsOfWords e
   IsOfWords (t.binary op a b) = IsOfWords a × IsOfWords b
   IsOfWords (t.shift op e count) = IsOfWords e × IsWord count.value

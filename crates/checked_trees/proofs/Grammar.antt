@@ -22,7 +22,7 @@ use Rattle.task_grammar.specs.Grammar.{IsArm, IsBlock, IsStatements, Row, IsExte
 use Rattle.task_grammar.specs.Grammar.{IsParameters, IsFunction, IsTask, IsProgram}
 use Rattle.task_grammar.specs.Grammar as grammar
 use Rattle.source_values.specs.Runs.{is_long_extent}
-use Rattle.checked_trees.specs.WellFormed.{stack_words, enough, HasItsExtent}
+use Rattle.checked_trees.specs.WellFormed.{stack_words, value_words, values_in, enough, HasItsExtent}
 use Rattle.checked_trees.proofs.Fits.{ExpressionFits, ValuesFit, StatementFits, ChoiceFits, BlockFits, FunctionFits}
 use Rattle.checked_trees.proofs.Tokens.{AreSound}
 
@@ -116,6 +116,11 @@ two_needed (t.binary op a b) = let few = two_needed a in omega (arith, few)
 two_needed (t.shift op e count) = two_needed e
 two_needed (t.short_circuit op a b) = let few = two_needed a in omega (arith, few)
 
+-- each value of a call waits as a word
+count_needed : (values : Values) → values_in values ≤ value_words values
+count_needed t.no_value = omega arith
+count_needed (t.value e more) = let few = count_needed more in omega (arith, few)
+
 mutual
   expression_fits : (j : ℕ) (ts : List Token) (e : Expression) → IsExpression j ts e → (w beneath : ℕ) (rest : List Token) → IsRoomy w beneath
       → AreSound w (ts ++ rest)
@@ -157,7 +162,8 @@ mutual
       let own = token_room w beneath l (in_row w n (o ∷ ((xs ++ c ∷ []) ++ rest)) plain h) in
       let v = values_fit xs values inner (w + 1 + 1) beneath (c ∷ rest) (omega (arith, l)) (omega (arith, own)) b in
       let room = v.0.1 in
-      ((v.0.0, omega (arith, own, room)), left_past (w + 1) (w + 1 + 1) c rest (ap is_end is_c) (omega arith) v.1)
+      let few = count_needed values in
+      (((v.0.0, omega (arith, few, room)), omega (arith, own, room)), left_past (w + 1) (w + 1 + 1) c rest (ap is_end is_c) (omega arith) v.1)
   expression_fits j ts e (grammar.brackets o c xs inner is_o is_inner is_c) w beneath rest l h =
       let b = apart (w + 1) xs (c ∷ []) rest (past w o ((xs ++ c ∷ []) ++ rest) (ap is_end is_o) h) in
       let i = expression_fits weakest xs inner is_inner (w + 1) beneath (c ∷ rest) (omega (arith, l)) b in

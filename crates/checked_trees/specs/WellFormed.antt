@@ -75,6 +75,11 @@ abbrev mutual
   value_words t.no_value = 0
   value_words (t.value e more) = max (stack_words e) (value_words more + 1)
 
+-- how many values a call has
+abbrev pub values_in : {V F : Type 0} → Values V F → ℕ
+values_in t.no_value = 0
+values_in (t.value e more) = suc (values_in more)
+
 -- the room that is enough for each expression: two words for each of its tokens, of which no more than 256 stand in a row, and one for
 -- an index
 abbrev pub enough : ℕ
@@ -95,7 +100,7 @@ abbrev mutual
       IsArrayName shared x.variable × WellFormedExpression shared index × IsOfType shared x.word_type x.variable × IsOneWord (type_of index)
   WellFormedExpression shared t.sense = Unit {0}
   WellFormedExpression shared t.next_event = Unit {0}
-  WellFormedExpression shared (t.call f values) = IsOneWord f.word_type × WellFormedValues shared values
+  WellFormedExpression shared (t.call f values) = WellFormedValues shared values × IsOneWord f.word_type × (values_in values ≤ enough)
   WellFormedExpression shared (t.unary op e) = WellFormedExpression shared e
   WellFormedExpression shared (t.binary op a b) =
       WellFormedExpression shared a × WellFormedExpression shared b × (is_refused op.operator (joined_type (type_of a) (type_of b)) ≡ false)
@@ -107,11 +112,6 @@ abbrev mutual
   WellFormedValues shared (t.value e more) = WellFormedExpression shared e × WellFormedValues shared more
 
 -- ---- calls
-
--- how many values a call has
-abbrev pub values_in : {V F : Type 0} → Values V F → ℕ
-values_in t.no_value = 0
-values_in (t.value e more) = suc (values_in more)
 
 -- the function of a number has so many parameters
 abbrev pub HasParameters : List CheckedFunction → ℕ → ℕ → Type 0

@@ -51,9 +51,9 @@ module _ (functions : List CheckedFunction) (n : ℕ) (few : n ≤ length functi
   direct = map at_once functions
 
   -- one of them has a path that returns
-  called : (f : FunctionName) → f.function < n
+  pub returns_at_once : (f : FunctionName) → f.function < n
       → (function : CheckedFunction) × (slice_get direct f.function ≡ Some function) × BlockPath (take f.function direct) function.body [] path.returns
-  called f low =
+  returns_at_once f low =
       let g = found functions f.function (omega (arith, low, few)) in
       let front = take f.function direct in
       let gives : StatementPath front (t.give nowhere (t.number 0)) [] path.returns = path.give nowhere (t.number 0) [] (path.number 0) in (
@@ -74,7 +74,7 @@ module _ (functions : List CheckedFunction) (n : ℕ) (few : n ≤ length functi
     expression_path t.next_event calls = ([], path.next_event)
     expression_path (t.call f values) calls =
         let v = values_path values calls.1 in
-        let c = called f calls.0 in
+        let c = returns_at_once f calls.0 in
         (v.0 ++ [], path.call f c.0 values v.0 [] c.1 v.1 c.2)
     expression_path (t.unary op e) calls = let p = expression_path e calls in (p.0, path.unary op e p.0 p.1)
     expression_path (t.binary op a b) calls =
