@@ -10,9 +10,10 @@ use Rattle.path_checks.specs.Ends.{OpenAt}
 use Rattle.task_check.specs.Placed.{block_ends}
 use Rattle.war_analysis.proofs.Interface.{calls_at}
 use Rattle.source_meaning.specs.Acceptance.{Checks}
-use Rattle.checked_trees.specs.WellFormed.{IsWellFormedTask, IsWellFormedFunction}
+use Rattle.cost_bound.specs.Frames.{block_locals}
+use Rattle.checked_trees.specs.WellFormed.{BlockNames, IsWellFormedTask, IsWellFormedFunction}
 use Rattle.checked_trees.specs.Laws.{SourcesAreWellFormed}
-use Rattle.checked_trees.proofs.Bodies.{IsFormed, bodies_are_formed}
+use Rattle.checked_trees.proofs.Bodies.{TaskFormed, FunctionFormed, bodies_are_formed}
 
 -- what holds of each holds of the one with a number
 pub all_at : {A : Type 0} (P : A → Type 0) (xs : List A) (k : ℕ) (x : A) → All P xs → slice_get xs k ≡ Some x → P x
@@ -33,10 +34,11 @@ task_checked text program checks k task e =
     let placed = checks.checks.named.placed in
     let paths = checks.checks.paths in
     let tasks = program.tasks in
-    let body = all_at (λ t. IsFormed program.shared functions t.body) tasks k task (bodies_are_formed text program checks).tasks e in
+    let body = all_at (TaskFormed program.shared functions) tasks k task (bodies_are_formed text program checks).tasks e in
     record {
       statements = body.formed;
       counts = body.counts;
+      locals = subst (λ n. BlockNames n task.body) (let e : block_locals task.body ≡ 0 + block_locals task.body = omega arith in e) body.names;
       calls = all_at (λ t. BlockCallsBelow (length functions) t.body) tasks k task placed.calls.tasks e;
       assigned = λ s bad. paths.assigned s (inr (some_at (λ t. ReadsUnassigned functions 0 t.body s) tasks k task e bad));
       leaves = all_at (λ t. block_ends true t.body ≡ true) tasks k task placed.tasks e;
@@ -50,11 +52,12 @@ function_checked text program checks k f e =
     let functions = program.functions in
     let placed = checks.checks.named.placed in
     let paths = checks.checks.paths in
-    let body = all_at (λ g. IsFormed program.shared functions g.body) functions k f (bodies_are_formed text program checks).functions e in
+    let body = all_at (FunctionFormed program.shared functions) functions k f (bodies_are_formed text program checks).functions e in
     let in_front : 0 + k ≡ k = omega arith in
     record {
       statements = body.formed;
       counts = body.counts;
+      locals = body.names;
       calls = subst (λ m. BlockCallsBelow m f.body) in_front (calls_at 0 k functions f placed.calls.functions e);
       assigned = λ s bad. paths.assigned s (inl (some_at (λ g. ReadsUnassigned functions (length g.parameters) g.body s) functions k f e bad));
       leaves = all_at (λ g. block_ends false g.body ≡ true) functions k f placed.functions e;

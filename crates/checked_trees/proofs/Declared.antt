@@ -1,28 +1,25 @@
 -- Which variables and functions the names of a source declare.
-use Rattle.std.proofs.Common.{◌≡◌, ℕ, ◌+◌, suc, List, [], ◌∷◌, ◌++◌, length, Bool, Option, Some, None, slice_get, refl, sym, ap, ◌∙◌, subst, arith}
+use Rattle.std.proofs.Common.{◌≡◌, ℕ, ◌+◌, List, [], ◌∷◌, ◌++◌, length, Bool, true, Some, slice_get, refl, sym, ap, ◌∙◌, subst, arith}
 use Rattle.std.proofs.Common.{append_assoc}
-use Rattle.std.specs.Prelude.{All, IsSomeAnd, nat_le}
+use Rattle.std.specs.Prelude.{All, IsSomeAnd}
 use Rattle.std.proofs.lemmas.List.{append-nil, length_push}
 use Rattle.std.proofs.lemmas.List.Elements.{All-head, All-tail}
 use Rattle.alp_text.specs.declared.lines.Span.{Span}
 use Rattle.task_ast.specs.declared.Extent.{Extent}
 use Rattle.task_ast.specs.declared.SharedDeclaration.{SharedDeclaration}
-use Rattle.task_ast.specs.Tree as t
-use Rattle.task_ast.specs.Tree.{Expression, Values, Statement, Choice, Block, Function, Task, Program}
-use Rattle.task_ast.specs.declared.Parameter.{Parameter}
+use Rattle.task_ast.specs.Tree.{Block, Function, Task, Program}
 use Rattle.task_ast.specs.declared.WordType.{WordType}
 use Rattle.task_ast.specs.Types.{IsOneWord}
 use Rattle.task_check.specs.SharedTypes.{shared_type}
-use Rattle.task_check.specs.Occurrences.{element_front}
 use Rattle.task_check.specs.declared.occurrence.Role.{Role}
 use Rattle.task_check.specs.declared.occurrence.Role.TheVariants as role
 use Rattle.task_check.specs.declared.occurrence.Occurrence.{Occurrence}
-use Rattle.task_check.specs.Occurrences.{and_front, expression_names, values_names, value_names, statement_names, choice_names, names_up_to, task_names}
-use Rattle.task_check.specs.Occurrences.{parameter_names, inner_names, function_names, shared_names, program_names}
+use Rattle.task_check.specs.Occurrences.{and_front, names_up_to, task_names, inner_names, function_names, shared_names, program_names}
 use Rattle.task_check.specs.Scope.{one_shared, one_function, shared_in, functions_in}
 use Rattle.checked_trees.specs.WellFormed.{IsExtentOf, HasItsExtent}
-use Rattle.checked_trees.proofs.Fits.{StatementFits, ChoiceFits, BlockFits, FunctionFits}
+use Rattle.checked_trees.proofs.Fits.{BlockFits, FunctionFits}
 use Rattle.checked_trees.proofs.Grammar.{ProgramFits}
+use Rattle.checked_trees.proofs.Names.{Quiet, block_kept, inner_kept}
 
 -- a name with a type and an extent is that of the declaration of its number
 pub record IsDeclaration (shared : List SharedDeclaration) (n : ℕ) (name : Span) (of : WordType) (e : Extent) : Type 0 where
@@ -136,69 +133,28 @@ module _ (shared : List SharedDeclaration) (functions : Functions) where
         one_front n k n k behind s r h (none_declares shared functions n k s r none)
         (let e = counts.0 in omega (arith, e)) (let e = counts.1 in omega (arith, e))
 
-    element_none : (types : Span → WordType) (s : Span) (index : Expression Span Span) (behind : List Occurrence) → Silent behind
-        → Silent (element_front types s index behind)
-    element_none types s index behind h = in_front _ s role.Element (in_front behind s _ h tt) tt
+    quiet : (r : Role) → Quiet 0 r → DeclaresNone r
+    quiet (role.Shared of e) h = h
+    quiet (role.Function of count) h = h
+    quiet role.Task h = tt
+    quiet (role.Local of begin end extra) h = h.0
+    quiet role.Scalar h = tt
+    quiet role.Element h = tt
+    quiet role.Counter h = tt
+    quiet (role.Call count) h = tt
+    quiet role.Target h = tt
+    quiet (role.Operand refused kept) h = tt
 
-    mutual
-      expression_none : (types : Span → WordType) (e : Expression Span Span) (behind : List Occurrence) → Silent behind
-          → Silent (expression_names types e behind)
-      expression_none types (t.number n) behind h = h
-      expression_none types (t.long_number n) behind h = h
-      expression_none types (t.name s) behind h = in_front behind s role.Scalar h tt
-      expression_none types (t.element s index) behind h =
-          element_none types s index (expression_names types index behind) (expression_none types index behind h)
-      expression_none types t.sense behind h = h
-      expression_none types t.next_event behind h = h
-      expression_none types (t.call s values) behind h = in_front (values_names types values behind) s _ (values_none types values behind h) tt
-      expression_none types (t.unary op a) behind h = expression_none types a behind h
-      expression_none types (t.binary op a b) behind h =
-          expression_none types a _ (in_front (expression_names types b behind) op.span _ (expression_none types b behind h) tt)
-      expression_none types (t.shift op a count) behind h = expression_none types a _ (in_front behind count.span _ h tt)
-      expression_none types (t.short_circuit op a b) behind h = expression_none types a (expression_names types b behind) (expression_none types b behind h)
+    -- the names of a body, and those in a function
+    body_none : (types : Span → WordType) (in_task : Bool) (end : ℕ) (b : Block Span Span Span) (behind : List Occurrence) → BlockFits b → Silent behind
+        → Silent (names_up_to types in_task end b behind)
+    body_none types in_task end b behind fits h =
+        block_kept 0 Silent (λ behind h. omega arith) (λ behind s r h q. in_front behind s r h (quiet r q)) types in_task end b behind fits (omega arith) h
 
-      values_none : (types : Span → WordType) (values : Values Span Span) (behind : List Occurrence) → Silent behind
-          → Silent (values_names types values behind)
-      values_none types t.no_value behind h = h
-      values_none types (t.value e more) behind h = expression_none types e (values_names types more behind) (values_none types more behind h)
-
-    value_none : (types : Span → WordType) (e : Option (Expression Span Span)) (behind : List Occurrence) → Silent behind
-        → Silent (value_names types e behind)
-    value_none types None behind h = h
-    value_none types (Some e) behind h = expression_none types e behind h
-
-    mutual
-      statement_none : (types : Span → WordType) (in_task : Bool) (end : ℕ) (x : Statement Span Span Span) (behind : List Occurrence) → StatementFits x
-          → Silent behind → Silent (statement_names types in_task end x behind)
-      statement_none types in_task end (t.declare of s value) behind f h =
-          in_front (value_names types value behind) s (role.Local of (length behind) end false) (value_none types value behind h) f.0
-      statement_none types in_task end (t.assign s e) behind f h = in_front (expression_names types e behind) s role.Scalar (expression_none types e behind h) tt
-      statement_none types in_task end (t.store s index e) behind f h =
-          element_none types s index (expression_names types index (expression_names types e behind))
-          (expression_none types index (expression_names types e behind) (expression_none types e behind h))
-      statement_none types in_task end (t.choose c) behind f h = choice_none types in_task c behind f h
-      statement_none types in_task end (t.loop v from w below u body) behind f h =
-          in_front _ v role.Counter
-          (in_front _ w role.Counter (in_front _ u role.Counter (block_none types in_task (length behind) body behind f.0 h) tt) tt) tt
-      statement_none types in_task end (t.emit e) behind f h = expression_none types e behind h
-      statement_none types in_task end (t.give at e) behind f h = in_front (expression_names types e behind) at _ (expression_none types e behind h) tt
-      statement_none types in_task end (t.transition at s) behind f h =
-          in_front (and_front behind s role.Target) at _ (in_front behind s role.Target h tt) tt
-
-      choice_none : (types : Span → WordType) (in_task : Bool) (c : Choice Span Span Span) (behind : List Occurrence) → ChoiceFits c → Silent behind
-          → Silent (choice_names types in_task c behind)
-      choice_none types in_task t.nothing behind f h = h
-      choice_none types in_task (t.otherwise b) behind f h = block_none types in_task (length behind) b behind f h
-      choice_none types in_task (t.test e b more) behind f h =
-          let rest = choice_names types in_task more behind in
-          expression_none types e (names_up_to types in_task (length rest) b rest)
-          (block_none types in_task (length rest) b rest f.1 (choice_none types in_task more behind f.2 h))
-
-      block_none : (types : Span → WordType) (in_task : Bool) (end : ℕ) (b : Block Span Span Span) (behind : List Occurrence) → BlockFits b → Silent behind
-          → Silent (names_up_to types in_task end b behind)
-      block_none types in_task end t.end behind f h = h
-      block_none types in_task end (t.step s more) behind f h =
-          statement_none types in_task end s (names_up_to types in_task end more behind) f.0 (block_none types in_task end more behind f.1 h)
+    inner_none : (types : Span → WordType) (f : Function Span Span Span) (behind : List Occurrence) → FunctionFits f → Silent behind
+        → Silent (inner_names types f behind)
+    inner_none types f behind fits h =
+        inner_kept 0 Silent (λ behind h. omega arith) (λ behind s r h q. in_front behind s r h (quiet r q)) types f behind fits h
 
     tasks_none : (types : Span → WordType) (ts : List (Task Span Span Span)) (behind : List Occurrence) → All (λ task. BlockFits task.body) ts
         → Silent behind → Silent (task_names types ts behind)
@@ -207,22 +163,7 @@ module _ (shared : List SharedDeclaration) (functions : Functions) where
         let rest = task_names types more behind in
         let here = All-head (λ task. BlockFits task.body) k more f in
         let others = tasks_none types more behind (All-tail (λ task. BlockFits task.body) k more f) h in
-        in_front (names_up_to types true (length rest) k.body rest) k.name role.Task (block_none types true (length rest) k.body rest here others) tt
-
-    parameters_none : (end at : ℕ) (ps : List (Parameter Span)) (behind : List Occurrence) → All (λ p. IsOneWord p.word_type) ps → Silent behind
-        → Silent (parameter_names end at ps behind)
-    parameters_none end at [] behind one h = h
-    parameters_none end at (p ∷ more) behind one h =
-        let rest = parameter_names end (suc at) more behind in
-        in_front rest p.name (role.Local p.word_type (length rest) end (nat_le 8 at))
-        (parameters_none end (suc at) more behind (All-tail (λ p. IsOneWord p.word_type) p more one) h) (All-head (λ p. IsOneWord p.word_type) p more one)
-
-    -- the names in a function
-    inner_none : (types : Span → WordType) (f : Function Span Span Span) (behind : List Occurrence) → FunctionFits f → Silent behind
-        → Silent (inner_names types f behind)
-    inner_none types f behind fits h =
-        parameters_none (length behind) 0 f.parameters (names_up_to types false (length behind) f.body behind) fits.takes
-        (block_none types false (length behind) f.body behind fits.body h)
+        in_front (names_up_to types true (length rest) k.body rest) k.name role.Task (body_none types true (length rest) k.body rest here others) tt
 
   -- the functions, in front of which so many stand
   functions_continue : (types : Span → WordType) (n : ℕ) (before fs : Functions) (behind : List Occurrence) → functions ≡ before ++ fs → All FunctionFits fs

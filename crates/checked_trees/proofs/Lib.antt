@@ -1,7 +1,9 @@
 mod Tokens
 mod Fits
 mod Grammar
+mod Names
 mod Declared
+mod Scopes
 mod Symbols
 mod NameTypes
 mod Widths

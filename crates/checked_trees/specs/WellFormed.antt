@@ -18,6 +18,7 @@ use Rattle.task_ast.specs.Types.{IsOneWord, is_long, joined_type, type_of}
 use Rattle.task_check.specs.Occurrences.{is_refused}
 use Rattle.task_check.specs.Placed.{block_ends}
 use Rattle.cost_bound.specs.path_sums.Reaches.{ReachesEnd}
+use Rattle.cost_bound.specs.Frames.{block_locals}
 use Rattle.path_checks.specs.Loops.{block_assigns}
 use Rattle.path_checks.specs.Unassigned.{ReadsUnassigned}
 use Rattle.source_values.specs.Runs.{is_long_extent}
@@ -194,13 +195,65 @@ abbrev mutual
   WellFormedBlock shared t.end = Unit {0}
   WellFormedBlock shared (t.step s more) = WellFormedStatement shared s × WellFormedBlock shared more
 
+-- ---- locals
+
+-- a shared variable, or a local below a number
+abbrev pub IsBelow : ℕ → Variable → Type 0
+IsBelow n (Shared v) = Unit {0}
+IsBelow n (Local k) = k < n
+
+abbrev mutual
+  -- each local that is named is below a number
+  pub ExpressionNames : ℕ → CheckedExpression → Type 0
+  ExpressionNames n (t.number w) = Unit {0}
+  ExpressionNames n (t.long_number w) = Unit {0}
+  ExpressionNames n (t.name x) = IsBelow n x.variable
+  ExpressionNames n (t.element x index) = ExpressionNames n index
+  ExpressionNames n t.sense = Unit {0}
+  ExpressionNames n t.next_event = Unit {0}
+  ExpressionNames n (t.call f values) = ValuesName n values
+  ExpressionNames n (t.unary op e) = ExpressionNames n e
+  ExpressionNames n (t.binary op a b) = ExpressionNames n a × ExpressionNames n b
+  ExpressionNames n (t.shift op e count) = ExpressionNames n e
+  ExpressionNames n (t.short_circuit op a b) = ExpressionNames n a × ExpressionNames n b
+
+  pub ValuesName : ℕ → CheckedValues → Type 0
+  ValuesName n t.no_value = Unit {0}
+  ValuesName n (t.value e more) = ExpressionNames n e × ValuesName n more
+
+-- the same of an initial value, if one is written
+abbrev pub InitialNames : ℕ → Option CheckedExpression → Type 0
+InitialNames n None = Unit {0}
+InitialNames n (Some e) = ExpressionNames n e
+
+abbrev mutual
+  pub StatementNames : ℕ → CheckedStatement → Type 0
+  StatementNames n (t.declare of x value) = IsBelow n x.variable × InitialNames n value
+  StatementNames n (t.assign x e) = IsBelow n x.variable × ExpressionNames n e
+  StatementNames n (t.store x index e) = ExpressionNames n index × ExpressionNames n e
+  StatementNames n (t.choose choice) = ChoiceNames n choice
+  StatementNames n (t.loop x from tested below stepped body) = IsBelow n x.variable × BlockNames n body
+  StatementNames n (t.emit e) = ExpressionNames n e
+  StatementNames n (t.give at e) = ExpressionNames n e
+  StatementNames n (t.transition at task) = Unit {0}
+
+  pub ChoiceNames : ℕ → CheckedChoice → Type 0
+  ChoiceNames n t.nothing = Unit {0}
+  ChoiceNames n (t.otherwise block) = BlockNames n block
+  ChoiceNames n (t.test e block more) = ExpressionNames n e × BlockNames n block × ChoiceNames n more
+
+  pub BlockNames : ℕ → CheckedBlock → Type 0
+  BlockNames n t.end = Unit {0}
+  BlockNames n (t.step s more) = StatementNames n s × BlockNames n more
+
 -- The body of a task or a function, of whose locals so many are given values and which may call so many functions, is well-formed: so are its
--- statements and calls; no path of it reads an unassigned local; and each of its paths ends, by a transition in a task and by a `return` in a
--- function.
+-- statements and calls; its locals are those that are given and those that it declares; no path of it reads an unassigned local; and each of its
+-- paths ends, by a transition in a task and by a `return` in a function.
 pub record IsWellFormed (program : CheckedProgram) (given callable : ℕ) (in_task : Bool) (body : CheckedBlock) : Type 0 where
   pub statements : WellFormedBlock program.shared body
   pub counts : BlockCounts program.functions body
   pub calls : BlockCallsBelow callable body
+  pub locals : BlockNames (given + block_locals body) body
   pub assigned : (at : Span) → ReadsUnassigned program.functions given body at → ⊥
   pub leaves : block_ends in_task body ≡ true
   pub ends : ReachesEnd program.functions body → ⊥
