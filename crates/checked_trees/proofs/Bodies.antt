@@ -187,7 +187,7 @@ module _ (shared : List SharedDeclaration) (fs : List CheckedFunction) (types : 
           let counts =
           subst (λ m. IsSomeAnd (slice_get functions f.function) (λ g. length g.parameters ≡ m)) (same_count values) a.0.counts in
           record {
-            formed = (v.formed, a.0.word, subst (λ m. m ≤ enough) (back_count values) is.1);
+            formed = (a.0.word, v.formed, subst (λ m. m ≤ 256) (back_count values) is.1);
             counts = (has_parameters fs f.function (values_in values) counts, v.counts);
             names = v.names;
             typed = word_is_as_wide f.word_type (width_type types (t.call f.span given)) a.0.word;

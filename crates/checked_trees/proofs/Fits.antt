@@ -16,7 +16,7 @@ abbrev mutual
   IsOfWords (t.element x index) = IsOfWords index
   IsOfWords t.sense = Unit {0}
   IsOfWords t.next_event = Unit {0}
-  IsOfWords (t.call f values) = AreOfWords values × (values_in values ≤ enough)
+  IsOfWords (t.call f values) = AreOfWords values × (values_in values ≤ 256)
   IsOfWords (t.unary op e) = IsOfWords e
   IsOfWords (t.binary op a b) = IsOfWords a × IsOfWords b
   IsOfWords (t.shift op e count) = IsOfWords e × IsWord count.value

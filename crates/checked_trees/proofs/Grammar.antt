@@ -22,7 +22,7 @@ use Rattle.task_grammar.specs.Grammar.{IsArm, IsBlock, IsStatements, Row, IsExte
 use Rattle.task_grammar.specs.Grammar.{IsParameters, IsFunction, IsTask, IsProgram}
 use Rattle.task_grammar.specs.Grammar as grammar
 use Rattle.source_values.specs.Runs.{is_long_extent}
-use Rattle.checked_trees.specs.WellFormed.{stack_words, value_words, values_in, enough, HasItsExtent}
+use Rattle.checked_trees.specs.WellFormed.{stack_words, values_in, enough, HasItsExtent}
 use Rattle.checked_trees.proofs.Fits.{ExpressionFits, ValuesFit, StatementFits, ChoiceFits, BlockFits, FunctionFits}
 use Rattle.checked_trees.proofs.Tokens.{AreSound}
 
@@ -116,11 +116,6 @@ two_needed (t.binary op a b) = let few = two_needed a in omega (arith, few)
 two_needed (t.shift op e count) = two_needed e
 two_needed (t.short_circuit op a b) = let few = two_needed a in omega (arith, few)
 
--- each value of a call waits as a word
-count_needed : (values : Values) → values_in values ≤ value_words values
-count_needed t.no_value = omega arith
-count_needed (t.value e more) = let few = count_needed more in omega (arith, few)
-
 mutual
   expression_fits : (j : ℕ) (ts : List Token) (e : Expression) → IsExpression j ts e → (w beneath : ℕ) (rest : List Token) → IsRoomy w beneath
       → AreSound w (ts ++ rest)
@@ -162,8 +157,12 @@ mutual
       let own = token_room w beneath l (in_row w n (o ∷ ((xs ++ c ∷ []) ++ rest)) plain h) in
       let v = values_fit xs values inner (w + 1 + 1) beneath (c ∷ rest) (omega (arith, l)) (omega (arith, own)) b in
       let room = v.0.1 in
-      let few = count_needed values in
-      (((v.0.0, omega (arith, few, room)), omega (arith, own, room)), left_past (w + 1) (w + 1 + 1) c rest (ap is_end is_c) (omega arith) v.1)
+      let later = v.1.later in
+      let last = in_row v.1.width c rest (ap is_end is_c) v.1.sound in
+      let closing = left_since (w + 1 + 1) (w + 1 + 1 + values_in values) (c ∷ rest) (omega arith) v.1 in (
+        ((v.0.0, omega (arith, later, last)), omega (arith, own, room)),
+        left_past (w + 1) (w + 1 + 1) c rest (ap is_end is_c) (omega arith) closing,
+      )
   expression_fits j ts e (grammar.brackets o c xs inner is_o is_inner is_c) w beneath rest l h =
       let b = apart (w + 1) xs (c ∷ []) rest (past w o ((xs ++ c ∷ []) ++ rest) (ap is_end is_o) h) in
       let i = expression_fits weakest xs inner is_inner (w + 1) beneath (c ∷ rest) (omega (arith, l)) b in
@@ -195,23 +194,28 @@ mutual
       let s : Left (w + 1 + 1) (n ∷ rest) = left_past (w + 1 + 1) (w + 1) t (n ∷ rest) (infix_in_row t.kind _ is) (omega arith) x.1 in
       (((x.0.0, s.sound.1.0), x.0.1), left_past (w + 1) (w + 1 + 1) n rest (ap is_end is_n) (omega arith) s)
 
+  -- each value has a token of its own
   values_fit : (ts : List Token) (values : Values) → IsValues ts values → (w beneath : ℕ) (rest : List Token) → IsRoomy w beneath → beneath ≤ enough
       → AreSound w (ts ++ rest)
-      → ValuesFit beneath values × Left w rest
-  values_fit ts values grammar.no_values w beneath rest l few h = ((tt, omega (arith, few)), left w rest h)
+      → ValuesFit beneath values × Left (w + values_in values) rest
+  values_fit ts values grammar.no_values w beneath rest l few h =
+      ((tt, omega (arith, few)), left_since (w + 0) w rest (omega arith) (left w rest h))
   values_fit ts values (grammar.values xs ys first more is is_more) w beneath rest l few h =
       let e = expression_fits weakest xs first is w beneath (ys ++ rest) l (apart w xs ys rest h) in
       let later = e.1.later in
       let room = e.0.1 in
       let two = two_needed first in
       let m = more_fit ys more is_more e.1.width (suc beneath) rest (omega (arith, l, later)) (omega (arith, room, two)) e.1.sound in
-      let others = m.0.1 in
-      (((e.0.0, m.0.0), omega (arith, room, others)), left_since w e.1.width rest (omega (arith, later)) m.1)
+      let others = m.0.1 in (
+        ((e.0.0, m.0.0), omega (arith, room, others)),
+        left_since (w + suc (values_in more)) (e.1.width + values_in more) rest (omega (arith, later)) m.1,
+      )
 
   more_fit : (ts : List Token) (values : Values) → IsMoreValues ts values → (w beneath : ℕ) (rest : List Token) → IsRoomy w beneath → beneath ≤ enough
       → AreSound w (ts ++ rest)
-      → ValuesFit beneath values × Left w rest
-  more_fit ts values grammar.no_more w beneath rest l few h = ((tt, omega (arith, few)), left w rest h)
+      → ValuesFit beneath values × Left (w + values_in values) rest
+  more_fit ts values grammar.no_more w beneath rest l few h =
+      ((tt, omega (arith, few)), left_since (w + 0) w rest (omega arith) (left w rest h))
   more_fit ts values (grammar.another_value c xs ys next more is_c is is_more) w beneath rest l few h =
       let a = apart (w + 1) xs ys rest (past w c ((xs ++ ys) ++ rest) (ap is_end is_c) h) in
       let e = expression_fits weakest xs next is (w + 1) beneath (ys ++ rest) (omega (arith, l)) a in
@@ -219,8 +223,10 @@ mutual
       let room = e.0.1 in
       let two = two_needed next in
       let m = more_fit ys more is_more e.1.width (suc beneath) rest (omega (arith, l, later)) (omega (arith, room, two)) e.1.sound in
-      let others = m.0.1 in
-      (((e.0.0, m.0.0), omega (arith, room, others)), left_since w e.1.width rest (omega (arith, later)) m.1)
+      let others = m.0.1 in (
+        ((e.0.0, m.0.0), omega (arith, room, others)),
+        left_since (w + suc (values_in more)) (e.1.width + values_in more) rest (omega (arith, later)) m.1,
+      )
 
 -- ---- statements
 

@@ -92,7 +92,7 @@ HasRoom beneath e = stack_words e + beneath ≤ enough
 
 abbrev mutual
   -- each name is used as it was declared: an array's where there is an index, a scalar's elsewhere; an index isn't long, nor is what a function
-  -- gives, no operator is refused to its operands, and numbers are of words
+  -- gives, no operator is refused to its operands, numbers are of words, and a call has no more values than a function locals
   pub WellFormedExpression : List SharedDeclaration → CheckedExpression → Type 0
   WellFormedExpression shared (t.number w) = IsWord w
   WellFormedExpression shared (t.long_number w) = w < 2 ^ 32
@@ -101,7 +101,7 @@ abbrev mutual
       IsArrayName shared x.variable × WellFormedExpression shared index × IsOfType shared x.word_type x.variable × IsOneWord (type_of index)
   WellFormedExpression shared t.sense = Unit {0}
   WellFormedExpression shared t.next_event = Unit {0}
-  WellFormedExpression shared (t.call f values) = WellFormedValues shared values × IsOneWord f.word_type × (values_in values ≤ enough)
+  WellFormedExpression shared (t.call f values) = IsOneWord f.word_type × WellFormedValues shared values × (values_in values ≤ 256)
   WellFormedExpression shared (t.unary op e) = WellFormedExpression shared e
   WellFormedExpression shared (t.binary op a b) =
       WellFormedExpression shared a × WellFormedExpression shared b × (is_refused op.operator (joined_type (type_of a) (type_of b)) ≡ false)
