@@ -865,15 +865,3 @@ module _ (z : Scene) (known : KnownAgree z) where
         } in
         subst Q there.stack_kept
         (block_does more behind fits.1 admits.1 (λ v k. writes v (others_write v (z.fs.sums v) (known.go_on v) s more (runs_go_on_along_paths z.fs.meanings s (answered_by answers m) n is) k)))))
-
--- the program of a task, by its number
-pub program_at : (fs : List CheckedFunction) (l : MemoryMap) (tasks : List CheckedTask) (layouts : List TaskPlace) (k : ℕ) (task : CheckedTask)
-    (t : TaskPlace) → slice_get tasks k ≡ Some task → slice_get layouts k ≡ Some t
-    → get_or (lowered_tasks fs l tasks layouts) k nothing ≡ lowered_task fs l t task.body
-program_at fs l [] layouts k task t e h = cc e
-program_at fs l (u ∷ tasks) [] k task t e h = cc h
-program_at fs l (u ∷ tasks) (v ∷ layouts) zero task t e h =
-    let a : u ≡ task = cc in
-    let b : v ≡ t = cc in
-    ap (λ z. lowered_task fs l v z.body) a ∙ ap (λ z. lowered_task fs l z task.body) b
-program_at fs l (u ∷ tasks) (v ∷ layouts) (suc k) task t e h = program_at fs l tasks layouts k task t e h

@@ -1,20 +1,12 @@
 -- Programs and statements one behind another: the ends of both agree where each step's do.
-<<<<<<< HEAD
 use Rattle.lower.proofs.Names.{◌≡◌, ℕ, ◌<◌, ◌≤◌, List, [], ◌∷◌, ◌++◌, length, Bool, refl, sym, ap, ◌∙◌, subst, arith, append_assoc, append-nil, word_place}
 use Rattle.lower.proofs.Names.{ListLength, EmitCount, Version, Effect, Store, Take, Outside, put, fram_after, fram_after-append, put_other, Outcome, to_task}
-use Rattle.lower.proofs.Names.{short, returns, and_then, Program, nothing, WordState, End, GoesOn, Jumps, Gives, Returned, seen_from, Short, Strays, Broken, Behaviour, behind_effects, on_end}
+use Rattle.lower.proofs.Names.{short, returns, and_then, Program, nothing, WordState, End, GoesOn, Jumps, Gives, Returned, seen_from, Short, Strays, Broken}
+use Rattle.lower.proofs.Names.{Behaviour, behind_effects, on_end}
 use Rattle.lower.proofs.Names.{then_on, behaviour, EndsByEffects, behaves_by_effects, Places, Element, scalar, element, copy, version, Room, AreApart}
 use Rattle.lower.proofs.Names.{listed_of, TakesAndStores, IsTaskStore, at_variable, at_copy, at_element, at_version, in_list, at_list_length, at_emit_count}
 use Rattle.lower.proofs.Names.{in_buffer, at_answer, StandsFor, Scene, bounds, Left, EndsAs, Agrees, ⊎_elim, Looked, Offered, answered_by, answers_told}
 use Rattle.lower.proofs.Names.{going_on, Did, AreMadeByActs}
-=======
-use Rattle.lower.proofs.Names.{◌≡◌, ℕ, ◌<◌, ◌≤◌, List, [], ◌∷◌, ◌++◌, length, Option, Some, None, Bool, refl, sym, ap, ◌∙◌, subst, arith, append_assoc}
-use Rattle.lower.proofs.Names.{append-nil, word_place, ListLength, EmitCount, Version, Effect, Store, Take, Outside, put, fram_after, fram_after-append}
-use Rattle.lower.proofs.Names.{put_other, Evaluated, Outcome, to_task, short, and_then, if_value, Program, nothing, WordState, End, GoesOn, Jumps, Gives, Short}
-use Rattle.lower.proofs.Names.{Broken, Behaviour, behind_effects, on_end, then_on, behaviour, EndsByEffects, behaves_by_effects, Places, Element}
-use Rattle.lower.proofs.Names.{scalar, copy, version, Room, AreApart, listed_of, TakesAndStores, OnlyTakes, IsTaskStore, at_variable, at_copy, at_version}
-use Rattle.lower.proofs.Names.{in_list, at_list_length, at_emit_count, in_buffer, StandsFor, EndsAt, AgreesAt, Scene, bounds, Left, EndsAs, Agrees}
->>>>>>> e92cfd8280aa296db99ca248c5830cfaf123515a
 use Rattle.source_values.specs.Values.{Attempt}
 use Rattle.source_values.specs.Statements.{goes_on}
 use Rattle.lower.proofs.Addresses.{has_element}
@@ -247,7 +239,6 @@ does_then z few most stack n o first next more less k =
         (lacks es others (o (answers_told es ++ others)) (h others))
     go es Broken by h others = tt
     go es Strays by h others = absurd (h others)
-    go es (Gives v s) by h others = absurd (h others)
 
 -- nothing behind
 pub does_alone : (z : Scene) (start most : ℕ → ℕ) (stack : List ℕ) (b : Behaviour) (o : List ℕ → Outcome) → Does z start most stack b o

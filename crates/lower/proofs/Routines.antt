@@ -76,7 +76,7 @@ one_named first vs words w h = record { count = count; each = each }
     by : (same : Bool) (j u : ℕ) → (first + j == first + length vs) ≡ same → (if same then Some w else parameter_words first vs (first + j)) ≡ Some u
         → (j < length (words ++ w ∷ [])) × (get_or (words ++ w ∷ []) j 0 ≡ u)
     by true j u is e =
-        let at : first + j ≡ first + length vs = eqb_equal (first + j) (first + length vs) is in
+        let at : first + j ≡ first + length vs = eqb-true (first + j) (first + length vs) is in
         let c = h.count in
         let j_is : j ≡ length words = omega (arith, at, c) in
         let word : w ≡ u = cc in
@@ -92,7 +92,7 @@ one_named first vs words w h = record { count = count; each = each }
 all_named : (first : ℕ) (words vs before : List ℕ) → Named first vs before → Named first (turned words vs) (before ++ words)
 all_named first [] vs before h = subst (Named first vs) (sym (append-nil before)) h
 all_named first (w ∷ words) vs before h =
-    subst (Named first (turned words (w ∷ vs))) (append_one before w words) (all_named first words (w ∷ vs) (before ++ w ∷ []) (one_named first vs before w h))
+    subst (Named first (turned words (w ∷ vs))) (append_assoc before (w ∷ []) words) (all_named first words (w ∷ vs) (before ++ w ∷ []) (one_named first vs before w h))
 
 -- the words that a function is called with are the first of its locals
 entered_locals : (first : ℕ) (words : List ℕ) (j u : ℕ) → length words ≤ 256 → parameter_words first (turned words []) (first + j) ≡ Some u
@@ -322,6 +322,18 @@ routine_low (q ∷ more) i r h is = by (q.function == i) is
     by : (b : Bool) → (if b then Some q else routine_among more i) ≡ Some r → r.first + 256 ≤ 65536
     by true e = let same : q ≡ r = cc in subst (λ (x : RoutinePlace). x.first + 256 ≤ 65536) same (All-head (λ r. r.first + 256 ≤ 65536) q more h)
     by false e = routine_low more i r (All-tail (λ r. r.first + 256 ≤ 65536) q more h) e
+
+-- what a function gives emits no more than its block counts
+given_up_to : (n : ℕ) (locals : List ℕ) (o : Outcome) → EmitsUpTo n o → ValueUpTo n (left_with locals o)
+given_up_to n locals (goes_on s) h = tt
+given_up_to n locals (to_task task s) h = tt
+given_up_to n locals (returns w s) h = h
+given_up_to n locals short h = tt
+
+function_up_to : (known : List Meaning) (counts : List ℕ) → KnownUpTo known counts → (f : CheckedFunction)
+    → FunctionUpTo (meaning_of known f) (function_emits counts f)
+function_up_to known counts h f words s n l =
+    given_up_to n s.variables.locals (run_block known f.body (entered words s)) (block_up_to known counts h f.body (entered words s) n l)
 
 stores_are : (known : List Summary) (v : ℕ) (b : CheckedBlock) → stores_of known v b ≡ block_count (called_stores known v) (is_store_to v) b
 unfolding stores_of

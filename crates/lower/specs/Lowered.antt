@@ -1,5 +1,5 @@
 -- The word programs of expressions, statements and tasks.
-use Rattle.std.specs.Prelude.{ℕ, ◌+◌, ◌/◌, ◌%◌, ◌==◌, ◌&&◌, ◌||◌, not, Bool, true, false, if◌then◌else◌, List, [], ◌∷◌, length, Option, Some, None}
+use Rattle.std.specs.Prelude.{ℕ, ◌+◌, ◌/◌, ◌%◌, ◌==◌, ◌&&◌, ◌||◌, not, Bool, true, false, if◌then◌else◌, List, [], ◌∷◌, length, map, Option, Some, None}
 use Rattle.std.specs.Prelude.{slice_get, slice_index_or}
 use Rattle.task_ast.specs.Tree as t
 use Rattle.task_ast.specs.Answers.{answers}
@@ -31,6 +31,7 @@ use Rattle.array_versions.specs.Program.{versioned_update, logged_write, logged_
 use Rattle.array_versions.specs.declared.program.ArrayPlace.{ArrayPlace}
 use Rattle.array_versions.specs.declared.program.ListPlace.{ListPlace}
 use Rattle.array_versions.specs.declared.program.LoggedPlace.{LoggedPlace}
+use Rattle.array_versions.specs.TaskPrograms.{TaskPrograms}
 use Rattle.array_versions.specs.Program.{call, give, move_word, jump, holds, compares, both, either, fails, nothing, step, joined, behind}
 use Rattle.memory_map.specs.declared.words.RuntimeWord.TheVariants.{NextTask, Gate, ListLength, EmitCount, Base, SentBase}
 use Rattle.memory_map.specs.declared.place.VariablePlace.{VariablePlace}
@@ -429,15 +430,41 @@ routine_bodies p fs = answers (routine_body p) fs
 abbrev pub task_places : List CheckedFunction → MemoryMap → TaskPlace → CheckedBlock → Places
 task_places fs l task body = places_of (map_seen fs body l) (task_seen l.runtime.logging task)
 
--- a task's program
-abbrev pub lowered_task : List CheckedFunction → MemoryMap → TaskPlace → CheckedBlock → Program
-lowered_task fs l task body = let p = task_places fs l task body in lowered_block p (routine_bodies p fs) body
+-- the programs of a task: its own, and those of the functions that it reaches, all by the bodies of the functions
+abbrev pub lowered_task : List CheckedFunction → MemoryMap → TaskPlace → CheckedBlock → TaskPrograms
+lowered_task fs l task body =
+    let p = task_places fs l task body in
+    let rs = routine_bodies p fs in
+    record { own = lowered_block p rs body; routines = map (λ r. slice_index_or rs r.function nothing) p.routines }
 
 -- the programs of tasks, each with its layout
-abbrev pub lowered_tasks : List CheckedFunction → MemoryMap → List CheckedTask → List TaskPlace → List Program
+abbrev pub lowered_tasks : List CheckedFunction → MemoryMap → List CheckedTask → List TaskPlace → List TaskPrograms
 lowered_tasks fs l (task ∷ tasks) (layout ∷ layouts) = lowered_task fs l layout task.body ∷ lowered_tasks fs l tasks layouts
 lowered_tasks fs l _ _ = []
 
 -- the programs of a source
-abbrev pub lowered : MemoryMap → CheckedProgram → List Program
+abbrev pub lowered : MemoryMap → CheckedProgram → List TaskPrograms
 lowered l p = lowered_tasks p.functions l p.tasks l.tasks
+
+-- ---- as they are made: a call has no body
+
+-- the body of a function by its place, if there is one of its number
+abbrev pub bare_body : Places → RoutinePlace → Option CheckedFunction → Program
+bare_body p r (Some f) = lowered_block (routine_places p r) [] f.body
+bare_body p r None = nothing
+
+abbrev pub bare_routine : Places → List CheckedFunction → RoutinePlace → Program
+bare_routine p fs r = bare_body p r (slice_get fs r.function)
+
+-- the programs of a task
+abbrev pub bare_task : List CheckedFunction → MemoryMap → TaskPlace → CheckedBlock → TaskPrograms
+bare_task fs l task body =
+    let p = task_places fs l task body in record { own = lowered_block p [] body; routines = map (bare_routine p fs) p.routines }
+
+abbrev pub bare_tasks : List CheckedFunction → MemoryMap → List CheckedTask → List TaskPlace → List TaskPrograms
+bare_tasks fs l (task ∷ tasks) (layout ∷ layouts) = bare_task fs l layout task.body ∷ bare_tasks fs l tasks layouts
+bare_tasks fs l _ _ = []
+
+-- the programs of a source
+abbrev pub bare_programs : MemoryMap → CheckedProgram → List TaskPrograms
+bare_programs l p = bare_tasks p.functions l p.tasks l.tasks
