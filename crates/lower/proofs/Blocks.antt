@@ -16,7 +16,8 @@ use Rattle.lower.proofs.Names.{assignment_writes, store_writes, loop_writes, tak
 use Rattle.lower.proofs.Names.{choice_sum, block_sum, summary, IsWrittenArray, StandsFor, Scene, converted_to}
 use Rattle.lower.proofs.Names.{truth_of, BlocksAgree, MemoryMap, TaskPlace, word_place, ListLength, EmitCount, Version, VariablePlace, word_even}
 use Rattle.lower.proofs.Names.{first_word, privates_few, address_of, scalar_address, IsScalarWord, scalar, Inputs}
-use Rattle.std.specs.Prelude.{slice_get, get_or}
+use Rattle.lower.proofs.Names.{AdmitsExpression, ExpressionWritesWithin, HoldVariables, called_stores, code_places, give, local_number, locals_from, returns}
+use Rattle.lower.proofs.Names.{seen_from}
 use Rattle.source_values.specs.Values.{Attempt}
 use Rattle.source_values.specs.Statements.{goes_on}
 use Rattle.task_ast.specs.Types.{type_of, joined_type}
@@ -30,9 +31,11 @@ use Rattle.lower.proofs.Names.{by_answers, event_index, runs_of, Base}
 use Rattle.lower.proofs.Sequence.{Spare, none_spare, Covers, before, Keeping, Keeps, spared, stands_still, LeavesWords, as_outcome, value_then}
 use Rattle.lower.proofs.Values.{holds_bit, truth_pushed, single}
 use Rattle.lower.proofs.EachExpression.{high_is, KeepsBefore, expression_leaves, long_leaves, test_leaves}
+use Rattle.lower.proofs.Writes.{declared_writes, assigned_writes, place_writes, stored_writes, given_writes, condition_writes, right_writes}
+use Rattle.lower.proofs.Calls.{KnownAgree}
 use Rattle.lower.proofs.Emitted.{EmitsAtMost, statement_emitted, block_emitted}
 use Rattle.lower.proofs.Stored.{same_variables, same_list, spot_list, scalar_set, local_holds, after_emit, emit_spots, first_held, emit_list, emitted_emits}
-use Rattle.lower.proofs.Stored.{small_modulo, few_words}
+use Rattle.lower.proofs.Stored.{own_number, few_words}
 use Rattle.lower.proofs.Neighbours.{runs_are_few}
 use Rattle.lower.proofs.Transitions.{transition_behaves, transition_untold, untold_store}
 use Rattle.lower.proofs.Ends.{Does, does_then, does_alone, does_behind, settles}

@@ -7,6 +7,8 @@ mod Declared
 mod Effects
 mod Sequence
 mod Values
+mod Writes
+mod Calls
 mod Longs
 mod EachExpression
 mod Updates
@@ -22,7 +24,10 @@ mod Seen
 mod Elements
 mod Logged
 mod Blocks
+mod Routines
+mod Agreed
 mod Chains
+mod Pushed
 mod Sizes
 mod Costs
 pub mod Interface

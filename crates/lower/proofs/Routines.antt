@@ -1,7 +1,7 @@
 -- The functions of a source do as their meanings say, where they stand in a task: each by those in front of it.
 use Rattle.lower.proofs.Names.{◌≡◌, ℕ, zero, suc, ◌+◌, ◌<◌, ◌≤◌, ◌==◌, List, [], ◌∷◌, ◌++◌, length, Option, Some, None, Bool, refl, sym, ap, ◌∙◌, subst, arith}
 use Rattle.lower.proofs.Names.{if◌then◌else◌, ⊎_elim, inl, inr, ◌⊎◌, cases_eq, cases_lt, eq-eqb, ne_eqb, map, map-append, length-append, length-map, append-nil}
-use Rattle.lower.proofs.Names.{get_or_append_left, get_or_past, get_or-append_seam, fram_after, Effect, Shared, summary, CheckedFunction, CheckedBlock, Evaluated}
+use Rattle.lower.proofs.Names.{All-head, All-tail, append_assoc, eqb-true, no_functions, get_or_append_left, get_or_past, get_or-append_seam, fram_after, Effect, Shared, summary, CheckedFunction, CheckedBlock, Evaluated}
 use Rattle.lower.proofs.Names.{Outcome, returns, short, run_block, block_emits, EmitsUpTo, block_up_to, Variables, Functions, functions_of, Scene, Places}
 use Rattle.lower.proofs.Names.{code_places, locals_from, seen_from, StandsFor, HoldVariables, Returned, AreFunctions, WellFormedBlock, AdmitsBlock}
 use Rattle.lower.proofs.Names.{lowered_block, routine_of, routine_among, routine_places, routine_body, body_at, RoutinePlace, Program, nothing, WordState, End, GoesOn}
@@ -27,32 +27,7 @@ use Rattle.lower.proofs.Writes.{CallsGoOn}
 use Rattle.lower.proofs.Calls.{turned, turned_length, before_call, RoutineLeaves, KnownAgree, call_emits, call_lists, CallWritesWithin}
 use Rattle.lower.proofs.Elements.{Start}
 use Rattle.lower.proofs.Blocks.{block_does}
-
--- ---- lists with one more
-
-pushed_at : {A : Type 0} (xs : List A) (x : A) (i : ℕ) (y : A) → slice_get (xs ++ x ∷ []) i ≡ Some y
-    → (slice_get xs i ≡ Some y) ⊎ ((i ≡ length xs) × (x ≡ y))
-pushed_at [] x zero y h = let same : x ≡ y = cc in inr (refl, same)
-pushed_at [] x (suc i) y h = let never : None ≡ Some y = h in absurd (cc)
-pushed_at (z ∷ xs) x zero y h = inl h
-pushed_at (z ∷ xs) x (suc i) y h =
-    ⊎_elim {C = (slice_get xs i ≡ Some y) ⊎ ((suc i ≡ suc (length xs)) × (x ≡ y))} (λ old. inl old) (λ new. inr (ap suc new.0, new.1)) (pushed_at xs x i y h)
-
--- what stands at a number, in front and at the end
-in_front : {A : Type 0} (xs : List A) (x d : A) (i : ℕ) → i < length xs → get_or (xs ++ x ∷ []) i d ≡ get_or xs i d
-in_front xs x d i l = get_or_append_left xs (x ∷ []) d i l
-
-at_end : {A : Type 0} (xs : List A) (x d : A) (i : ℕ) → i ≡ length xs → get_or (xs ++ x ∷ []) i d ≡ x
-at_end xs x d i e = ap (λ j. get_or (xs ++ x ∷ []) j d) e ∙ get_or-append_seam xs x [] d
-
-one_longer : {A : Type 0} (xs : List A) (x : A) (n : ℕ) → length xs ≡ n → length (xs ++ x ∷ []) ≡ n + 1
-one_longer xs x n e = length-append xs (x ∷ []) ∙ ap (λ j. j + 1) e
-
--- where nothing stands, it is past the end
-none_past : {A : Type 0} (xs : List A) (i : ℕ) → slice_get xs i ≡ None → length xs ≤ i
-none_past [] i h = omega arith
-none_past (x ∷ xs) zero h = absurd (let never : Some x ≡ None = h in cc)
-none_past (x ∷ xs) (suc i) h = let more = none_past xs i h in omega (arith, more)
+use Rattle.lower.proofs.Pushed.{pushed_at, in_front, at_end, none_past, one_longer}
 
 -- ---- parameters
 
@@ -324,6 +299,10 @@ routine_low (q ∷ more) i r h is = by (q.function == i) is
     by false e = routine_low more i r (All-tail (λ r. r.first + 256 ≤ 65536) q more h) e
 
 -- what a function gives emits no more than its block counts
+abbrev ValueUpTo : ℕ → Option Evaluated → Type 0
+ValueUpTo n None = Unit {0}
+ValueUpTo n (Some x) = length x.behind.emitted ≤ n
+
 given_up_to : (n : ℕ) (locals : List ℕ) (o : Outcome) → EmitsUpTo n o → ValueUpTo n (left_with locals o)
 given_up_to n locals (goes_on s) h = tt
 given_up_to n locals (to_task task s) h = tt

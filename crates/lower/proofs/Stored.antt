@@ -6,7 +6,7 @@ use Rattle.lower.proofs.Names.{put_at, put_other, Shared, Local, Variables, word
 use Rattle.lower.proofs.Names.{element_pair, HoldList, word_place, ListLength, EmitCount, Version, ArrayCopies, VariablePlace, Scalar, Array, first_word}
 use Rattle.lower.proofs.Names.{Places, address_of, scalar_address, IsScalarAt, words_at, IsScalarWord, IsArrayAt, Element, IsElement, IsCopied, Spot, scalar}
 use Rattle.lower.proofs.Names.{element, copy, version, IsSpot, element_address, copy_address, version_address, spot_address}
-use Rattle.lower.proofs.Names.{program_end, Logging, Redo, Undo, IsRedo, own_by}
+use Rattle.lower.proofs.Names.{program_end, Logging, Redo, Undo, IsRedo, own_by, Scene, code_places, local_number}
 use Rattle.std.proofs.Common.{get_or, slice_get, All, eq-eqb}
 use Rattle.array_versions.specs.Behaviour.{assigned}
 use Rattle.lower.proofs.Addresses.{element_is, copy_is, version_is, no_scalar, word_scalar, first_address}

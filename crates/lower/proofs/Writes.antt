@@ -1,5 +1,5 @@
 -- What the paths of a text write, its parts write: each expression's calls of what a statement's sum has.
-use Rattle.lower.proofs.Names.{◌≡◌, ℕ, ◌&&◌, ◌||◌, List, Bool, true, false, if◌then◌else◌, CheckedExpression, CheckedValues, CheckedChoice, CheckedBlock}
+use Rattle.lower.proofs.Names.{◌≡◌, ℕ, ◌&&◌, ◌||◌, List, Bool, true, false, refl, Some, if◌then◌else◌, CheckedExpression, CheckedValues, CheckedChoice, CheckedBlock}
 use Rattle.lower.proofs.Names.{PlacedOperator, ShortCircuitOperator, Shared, VariableName, FunctionName, WordType, summary, AccessSummary, is_same}
 use Rattle.alp_text.specs.declared.lines.Span.{Span}
 use Rattle.path_sums.specs.Access.{summary_read, summary_unit}
