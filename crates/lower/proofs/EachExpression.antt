@@ -1,5 +1,5 @@
 -- The programs of expressions leave their values.
-use Rattle.lower.proofs.Names.{◌≡◌, ℕ, ◌+◌, ◌≤◌, List, Option, Some, None, Bool, true, false, nat_le, nat_lt, if◌then◌else◌, refl, sym, ap, ◌∙◌, subst, arith}
+use Rattle.lower.proofs.Names.{◌≡◌, ℕ, ◌+◌, ◌%◌, ◌≤◌, List, Option, Some, None, Bool, true, false, nat_le, nat_lt, if◌then◌else◌, refl, sym, ap, ◌∙◌, subst, arith}
 use Rattle.lower.proofs.Names.{[], ◌∷◌, ◌++◌, length, CheckedExpression, CheckedValues, WordType, Unsigned, Int, Long, UnaryOperator, BinaryOperator}
 use Rattle.lower.proofs.Names.{ShiftOperator, Variable, Shared, Local, nat_tests, IsOneWord, binary_type, unary_type, literal_type, is_refused, Evaluated}
 use Rattle.lower.proofs.Names.{gives, made_of, word_at, two_words, converted, value_of, unary_result, binary_value, binary_result, long_binary_value}
@@ -7,7 +7,7 @@ use Rattle.lower.proofs.Names.{shift_value, shift_result, number, shift, sense, 
 use Rattle.lower.proofs.Names.{behaviour, then_on, joined_go_on, then_on_assoc, with_stack, Places, address_of, scalar_address, IsScalarWord, scalar}
 use Rattle.lower.proofs.Names.{binary_meaning, shift_operation, operand_type, long_meaning, one, high_address, read_step, read_long, element_step, Lowering}
 use Rattle.lower.proofs.Names.{word_program, value_test, long_words, long_program, name_lowering, operand_lowering, binary_lowering, sides_lowering}
-use Rattle.lower.proofs.Names.{shift_lowering, sides_test, widened_type, lowering, arguments, call_step, values_in, lowered_long, lowered_test}
+use Rattle.lower.proofs.Names.{shift_lowering, sides_test, widened_type, lowering, arguments, call_count, call_step, values_in, lowered_long, lowered_test}
 use Rattle.lower.proofs.Names.{lowered_expression, Room, AreApart, WellFormedExpression, WellFormedValues, array_word, converted_to, truth_of, ◌>>?◌, ◌<◌}
 use Rattle.lower.proofs.Names.{Answering, answered_by, by_answers, made_by, IsFit, AdmitsExpression, AdmitsValues, next_event, stacked, Scene, code_places}
 use Rattle.lower.proofs.Names.{Functions, ExpressionWritesWithin, summary, called_stores, values_count, values_emits}
@@ -281,7 +281,7 @@ mutual
       by_word k w (one next_event) _ (event_agrees k m w (spared_behind k t.next_event m w kept) admits)
   lowering_agrees k known (t.call f values) m w kept fits admits writes =
       let i = f.function in
-      let last = one (call_step (code_places k.z) k.z.fs.bodies i (values_in values)) in
+      let last = one (call_step (code_places k.z) k.z.fs.bodies i (call_count values)) in
       let first = arguments (code_places k.z) k.z.fs.bodies values in
       let free = before_call (call_emits k.z.fs i) (call_lists k.z.fs i) k.free in
       let all = before k.z.fs (t.call f values) k.free in
@@ -299,8 +299,9 @@ mutual
       (arguments_agree k known values free w.stack m w (behaviour last) given
       (spared (sparing all k) (before_values k.z.fs values free) m w room kept) may
       (λ words u s count kept.
-      let few : length words ≤ 256 = let l = fits.2 in omega (arith, l, count) in
-      call_leaves k known i words w.stack u s within few kept (values_in values) count))))
+      let limit = fits.2 in
+      let few : length words ≤ 256 = omega (arith, limit, count) in
+      call_leaves k known i words w.stack u s within few kept (call_count values) (omega (arith, limit, count))))))
   lowering_agrees k known (t.unary op e) m w kept fits admits writes =
       operand_agrees k op (type_of e) w (lowered_in k e) (by_answers m (value_in k e)) (lowering_agrees k known e m w kept fits admits writes)
       (lowering_agrees k known e m (pushed 0 (pushed 0 w)) kept fits admits writes)

@@ -124,7 +124,7 @@ pub use Rattle.undo_effects.specs.Stages.{element_stored, first_logged, word_log
 -- this room
 pub use Rattle.lower.specs.Agreement.{AreFunctions, DidWithin, ExpressionWritesWithin, Functions, Returned, block_writes, code_places, expression_lists}
 pub use Rattle.lower.specs.Agreement.{functions_of, locals_from, no_functions, own_by, seen_from}
-pub use Rattle.lower.specs.Lowered.{arguments, body_at, call_at, call_step, has_call, logged_place, own_read, routine_body, own_update, own_write, stored_array}
+pub use Rattle.lower.specs.Lowered.{arguments, body_at, call_at, call_count, call_step, has_call, logged_place, own_read, routine_body, own_update, own_write, stored_array}
 pub use Rattle.lower.specs.Stores.{Act, AreActs, AreMadeByActs, Did, IsAct, IsPlainStore, act_effects, acts_effects, alone, at_element, to_answer}
 pub use Rattle.lower.specs.Stores.{to_buffer, to_element, to_emit_count, to_variable}
 pub use Rattle.lower.specs.Spots.{HasRoomBehind, IsRedo, IsUndo}

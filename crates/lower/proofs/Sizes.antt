@@ -19,7 +19,7 @@ use Rattle.lower.proofs.Names.{update_step, setting, long_setting, updating, of_
 use Rattle.lower.proofs.Names.{index_and_value, element_setting, update_element_step, element_updating, element_sides_set, binary_lowering, sides_test}
 use Rattle.lower.proofs.Names.{lowering, assignment, element_assignment, emission, entries, lowered_transition, lowered_expression, lowered_test}
 use Rattle.lower.proofs.Names.{lowered_statement, lowered_choice, lowered_block}
-use Rattle.lower.proofs.Names.{CheckedValues, values_in, values_price, RoutinePlace, routine_of, call, give, call_at, call_step, arguments, BodiesKeep}
+use Rattle.lower.proofs.Names.{CheckedValues, call_count, values_in, values_price, RoutinePlace, routine_of, call, give, call_at, call_step, arguments, BodiesKeep}
 use Rattle.std.proofs.Common.{slice_get}
 use Rattle.std.specs.Prelude.{slice_index_or}
 use Rattle.source_values.specs.Values.{by_width, joined_type, type_of}
@@ -367,9 +367,9 @@ module _ (known : List Summary) (rs : List Program) (cheap : BodiesKeep known rs
     lowering_has p s t.next_event = word_has Unsigned _ _ (omega arith, omega arith)
     lowering_has p s (t.call f values) =
         let i = f.function in
-        let last = call_step p rs i (values_in values) in
+        let last = call_step p rs i (call_count values) in
         let each = arguments_have p s values in
-        let few = call_costs (routine_of p i) (values_in values) (slice_index_or rs i nothing) in
+        let few = call_costs (routine_of p i) (call_count values) (slice_index_or rs i nothing) in
         let body = cheap i in
         let l = added (arguments p rs values) (one last) in
         word_has f.word_type _ (price known s (t.call f values)) (omega (arith, l, each, few), omega (arith, l, each, few, body))

@@ -225,6 +225,10 @@ abbrev pub widened_type : CheckedExpression → WordType
 widened_type (t.number w) = Unsigned
 widened_type e = type_of e
 
+-- with how many words a function is called: no program calls one with 2^16
+abbrev pub call_count : CheckedValues → ℕ
+call_count values = values_in values % 65536
+
 -- calls a function by its place in the task, its body being this, with so many values; one without a place has no body
 abbrev pub call_at : Option RoutinePlace → ℕ → Program → Step
 call_at (Some r) count body = call r.code.address r.frame r.first count body
@@ -244,7 +248,7 @@ abbrev mutual
   lowering p rs (t.element x index) = as_word (behind (word_program (lowering p rs index)) (element_step p x.variable))
   lowering p rs t.sense = as_word (one sense)
   lowering p rs t.next_event = as_word (one next_event)
-  lowering p rs (t.call f values) = as_word (behind (arguments p rs values) (call_step p rs f.function (values_in values)))
+  lowering p rs (t.call f values) = as_word (behind (arguments p rs values) (call_step p rs f.function (call_count values)))
   lowering p rs (t.unary op e) = operand_lowering (type_of e) op (lowering p rs e)
   lowering p rs (t.binary op a b) =
       sides_lowering (operand_type op.operator (joined_type (type_of a) (type_of b))) op.operator (widened_type a) (widened_type b)
