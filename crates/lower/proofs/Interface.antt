@@ -17,6 +17,8 @@ pub use Rattle.lower.proofs.Stored.{few_entries}
 pub use Rattle.lower.proofs.Stored.{word_same, word_other, row_length}
 -- The program of statements does what they do.
 pub use Rattle.lower.proofs.Agreed.{blocks_agree, program_at}
+-- The programs as they are made, with the bodies of functions in their calls, are those that behave.
+pub use Rattle.lower.proofs.Filled.{FillsIn, block_filled}
 -- A memory map as a task sees it.
 pub use Rattle.lower.proofs.Seen.{redo_seen, seen_words, seen_count, seen_all}
 pub use Rattle.lower.proofs.Seen.{places_count, scalar_seen, array_seen, array_read, SeenFrom, scalar, array, read, seen_from, privates_seen, seen_laid_out}

@@ -28,6 +28,7 @@ mod Routines
 mod Agreed
 mod Chains
 mod Pushed
+mod Filled
 mod Sizes
 mod Costs
 pub mod Interface
