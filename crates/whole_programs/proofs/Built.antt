@@ -546,7 +546,8 @@ module _ (p : Places) (in_task : Bool) (G : EachStep p in_task) (words : PlacesO
       then_step (lowered_expression p c) (update_step p o x) (word_has 0 c (right_fits shared room 0 op b c is)) (update_has o x n a)
 
   -- the first clause makes it a proof by cases
-  assignment_has : (x : Variable) (e : CheckedExpression) → IsWordName shared x → IsApart G.spared x → FitsAbove shared room 0 e → G.of_program (assignment p x e)
+  assignment_has : (x : Variable) (e : CheckedExpression) → IsWordName shared x → IsApart G.spared x → FitsAbove shared room 0 e
+      → G.of_program (assignment p x e)
   assignment_has x (t.binary op b c) n a is = sides_set_has x op b c (of_words (joined_type (type_of b) (type_of c)) (updating x op.operator b)) n a is
   assignment_has x e n a is = setting_has x e n a is
 

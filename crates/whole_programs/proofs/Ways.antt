@@ -249,7 +249,8 @@ module _ (functions : List CheckedFunction) (n : ℕ) (few : n ≤ length functi
 
   -- what follows the body, with turns left
   turn_follows : (m : ℕ) (u : ℕ → Bool) (next : Place → Type 0) (rest : Place → Type 0) → Follows (TurnsPath direct_turns x (suc m) body) u next
-      → ((xs : List Access) → BlockPath direct_turns body xs goes_on → (a : ℕ → Bool) → Covers (behind u xs) a → rest (at 0 a)) → Follows (BlockPath direct_turns body) u rest
+      → ((xs : List Access) → BlockPath direct_turns body xs goes_on → (a : ℕ → Bool) → Covers (behind u xs) a → rest (at 0 a))
+      → Follows (BlockPath direct_turns body) u rest
   turn_follows m u next rest h k = record { safe = λ xs end q. by_end xs end q; on = k }
     where
       by_end : (xs : List Access) (end : End) → BlockPath direct_turns body xs end → Safe u xs
@@ -261,7 +262,8 @@ module _ (functions : List CheckedFunction) (n : ℕ) (few : n ≤ length functi
       by_end xs returns q = h.safe xs returns (path.cut x m body xs returns tt q)
 
   -- what follows a turn
-  turns_follow : (m : ℕ) (u : ℕ → Bool) (next : Place → Type 0) (xs : List Access) → Follows (TurnsPath direct_turns x (suc m) body) u next → BlockPath direct_turns body xs goes_on
+  turns_follow : (m : ℕ) (u : ℕ → Bool) (next : Place → Type 0) (xs : List Access) → Follows (TurnsPath direct_turns x (suc m) body) u next
+      → BlockPath direct_turns body xs goes_on
       → Follows (TurnsPath direct_turns x m body) (written (behind u xs) x) next
   turns_follow m u next xs h q = record {
     safe = λ ys end r. (safe_both u xs (write x ∷ ys) (h.safe (xs ++ write x ∷ ys) end (path.turn x m body xs ys end q r))).1;
@@ -450,12 +452,14 @@ module _ (p : Places) (words : PlacesOfWords p) (shared : List SharedDeclaration
   -- what follows a statement, where others stand behind it
   step_follows : (s : CheckedStatement) (more : CheckedBlock) (u : ℕ → Bool) (next rest : Place → Type 0) → BlockCallsBelow n more
       → Follows (BlockPath direct (t.step s more)) u next
-      → ((xs : List Access) → StatementPath direct s xs goes_on → (a : ℕ → Bool) → Covers (behind u xs) a → rest (at 0 a)) → Follows (StatementPath direct s) u rest
+      → ((xs : List Access) → StatementPath direct s xs goes_on → (a : ℕ → Bool) → Covers (behind u xs) a → rest (at 0 a))
+      → Follows (StatementPath direct s) u rest
   step_follows s more u next rest calls h k = record { safe = λ xs end q. by_end xs end q; on = k }
     where
       by_end : (xs : List Access) (end : End) → StatementPath direct s xs end → Safe u xs
       by_end xs goes_on q =
-          let m = some_block functions n few more calls in (safe_both u xs m.accesses (h.safe (xs ++ m.accesses) m.end (path.step s more xs m.accesses m.end q m.is))).0
+          let m = some_block functions n few more calls in
+          (safe_both u xs m.accesses (h.safe (xs ++ m.accesses) m.end (path.step s more xs m.accesses m.end q m.is))).0
       by_end xs (goes_to task) q = h.safe xs (goes_to task) (path.stopped s more xs (goes_to task) tt q)
       by_end xs returns q = h.safe xs returns (path.stopped s more xs returns tt q)
 
@@ -472,7 +476,9 @@ module _ (p : Places) (words : PlacesOfWords p) (shared : List SharedDeclaration
   taken_follows : (e : CheckedExpression) (b : CheckedBlock) (more : CheckedChoice) (u : ℕ → Bool) (next : Place → Type 0)
       → CallsAreBelow n e → Follows (ChoicePath direct (t.test e b more)) u next → Follows (BlockPath direct b) u next
   taken_follows e b more u next calls h = record {
-    safe = λ ys end r. (safe_expression u e ys (h.safe (names_read e ++ ys) end (path.taken e b more (names_read e) ys end (is_path functions n few e calls) r))).1;
+    safe =
+        λ ys end r. (safe_expression u e ys (h.safe (names_read e ++ ys) end
+        (path.taken e b more (names_read e) ys end (is_path functions n few e calls) r))).1;
     on =
         λ ys r a c. h.on (names_read e ++ ys) (path.taken e b more (names_read e) ys goes_on (is_path functions n few e calls) r) a
         (subst (λ v. Covers v a) (sym (behind_expression u e ys)) c);
@@ -481,7 +487,9 @@ module _ (p : Places) (words : PlacesOfWords p) (shared : List SharedDeclaration
   passed_follows : (e : CheckedExpression) (b : CheckedBlock) (more : CheckedChoice) (u : ℕ → Bool) (next : Place → Type 0)
       → CallsAreBelow n e → Follows (ChoicePath direct (t.test e b more)) u next → Follows (ChoicePath direct more) u next
   passed_follows e b more u next calls h = record {
-    safe = λ ys end r. (safe_expression u e ys (h.safe (names_read e ++ ys) end (path.passed e b more (names_read e) ys end (is_path functions n few e calls) r))).1;
+    safe =
+        λ ys end r. (safe_expression u e ys (h.safe (names_read e ++ ys) end
+        (path.passed e b more (names_read e) ys end (is_path functions n few e calls) r))).1;
     on =
         λ ys r a c. h.on (names_read e ++ ys) (path.passed e b more (names_read e) ys goes_on (is_path functions n few e calls) r) a
         (subst (λ v. Covers v a) (sym (behind_expression u e ys)) c);
