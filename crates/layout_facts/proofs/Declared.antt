@@ -1,5 +1,5 @@
 -- A task's places have what its source declares.
-use Rattle.layout_facts.proofs.Names.{◌<◌, subst, sym, arith, Some, None, ⊎_elim, cases_Bool, Shared, IsArray, task_places, PlacesAreAsDeclared}
+use Rattle.layout_facts.proofs.Names.{◌<◌, [], subst, sym, arith, Some, None, ⊎_elim, cases_Bool, Shared, IsArray, task_places, PlacesAreAsDeclared}
 use Rattle.layout_facts.proofs.Names.{WrittenArraysHaveCopies, some_path_writes, scalar_seen, array_seen, array_read, TwoWords, IsScalarPlace}
 use Rattle.checked_trees.proofs.Interface.{block_assigned, no_bodies}
 use Rattle.memory_map.specs.Spots.{words_at}
