@@ -14,8 +14,8 @@ use Rattle.task_ast.specs.declared.names.VariableName.{VariableName}
 use Rattle.task_ast.specs.declared.names.FunctionName.{FunctionName}
 use Rattle.task_ast.specs.declared.names.TaskName.{TaskName}
 use Rattle.task_ast.specs.View.{task_of, program_of}
-use Rattle.task_ast.specs.Calls.{BlockCallsBelow}
 use Rattle.task_check.proofs.Interface.{is_placed}
+use Rattle.war_analysis.proofs.Interface.{each_returns}
 use Rattle.task_check.specs.path_checks.Firsts.{CheckedTask}
 use Rattle.war_analysis.specs.PlanValue.{TaskPlanValue}
 use Rattle.war_analysis.specs.Plans.{IsPlan}
