@@ -342,8 +342,7 @@ pub record FitsEvents (p : Program) (whole : IsWhole p) : Type 0 where
   pub lowest : whole.bounds.low + 2 * whole.room ≤ stack_start
   pub light : whole.bounds.framed ≡ false
 
--- a whole program whose stack has that room, and that calls nothing
-pub record FitsTheStack (p : Program) : Type 0 where
+-- a whole program, whose stack has that room where events are taken
+pub record FitsTheStack (events : Bool) (p : Program) : Type 0 where
   pub whole : IsWhole p
-  pub fits : FitsEvents p whole
-  pub alone : IsFormed no_calls false p
+  pub fits : events ≡ true → FitsEvents p whole

@@ -20,7 +20,7 @@ pub use Rattle.lower.proofs.Agreed.{blocks_agree, program_at}
 -- The programs as they are made, with the bodies of functions in their calls, are those that behave.
 pub use Rattle.lower.proofs.Filled.{FillsIn, block_filled}
 -- A memory map as a task sees it.
-pub use Rattle.lower.proofs.Seen.{redo_seen, seen_words, seen_count, seen_all}
+pub use Rattle.lower.proofs.Seen.{redo_seen, first_seen, routines_seen, seen_words, seen_count, seen_all}
 pub use Rattle.lower.proofs.Seen.{places_count, scalar_seen, array_seen, array_read, SeenFrom, scalar, array, read, seen_from, privates_seen, seen_laid_out}
 -- The words of a task's code, and the cycles of its expressions, are within the allowance of a source.
 pub use Rattle.lower.proofs.Sizes.{blocks_keep_to_words}

@@ -1,6 +1,6 @@
 -- The fold over lowered programs: a fact that holds of steps, and of what is put together of what has it, holds of expressions and statements.
-use Rattle.std.proofs.Common.{◌≡◌, ℕ, suc, ◌+◌, ◌/◌, ◌%◌, ◌<◌, ◌≤◌, ◌||◌, Bool, true, false, List, [], ◌∷◌, Option, Some, None, arith, slice_get}
-use Rattle.std.proofs.Common.{if◌then◌else◌}
+use Rattle.std.proofs.Common.{◌≡◌, ℕ, suc, ◌+◌, ◌/◌, ◌%◌, ◌<◌, ◌≤◌, ◌||◌, Bool, true, false, List, [], ◌∷◌, Option, Some, None, arith}
+use Rattle.std.proofs.Common.{if◌then◌else◌, subst, slice_get}
 use Rattle.std.proofs.lemmas.Bool.{or_parts, and_parts, not-true}
 use Rattle.std.specs.List.{AllByRecursion}
 use Rattle.alp_words.specs.Words.{IsWord}
@@ -20,7 +20,6 @@ use Rattle.task_ast.specs.declared.ShortCircuitOperator.TheVariants.{And as Both
 use Rattle.task_ast.specs.declared.names.Variable.{Variable}
 use Rattle.task_ast.specs.declared.names.Variable.TheVariants.{Shared, Local}
 use Rattle.path_checks.specs.Loops.{is_same_local, statement_assigns, choice_assigns, block_assigns}
-use Rattle.task_check.specs.Placed.{statement_ends, choice_ends, block_ends}
 use Rattle.source_values.specs.Values.{joined_type, type_of}
 use Rattle.array_versions.specs.declared.operations.UnaryOperation.{UnaryOperation}
 use Rattle.array_versions.specs.declared.operations.UnaryOperation.TheVariants.{Negate, Complement}
@@ -63,13 +62,15 @@ use Rattle.array_versions.specs.Program.{versioned_write, versioned_update, logg
 use Rattle.memory_map.specs.declared.runtime.Logging.{Logging}
 use Rattle.memory_map.specs.declared.runtime.Logging.TheVariants.{Redo, Undo}
 use Rattle.lower.specs.Lowered.{index_and_value, element_updating, element_sides_set, element_assignment, loop_local, entries, freezing}
-use Rattle.lower.specs.Lowered.{lowered_transition}
+use Rattle.lower.specs.Lowered.{lowered_transition, local_number, arguments, call_step, call_count}
 use Rattle.lower.specs.Lowered.{lowered_statement, lowered_choice, lowered_block}
 use Rattle.lower.proofs.Interface.{RunOfWords, runs_of_words}
-use Rattle.checked_trees.specs.WellFormed.{IsWordName, IsLocal, stack_words, WellFormedExpression, WellFormedValues, WellFormedStatement}
-use Rattle.checked_trees.specs.WellFormed.{WellFormedChoice, WellFormedBlock}
+use Rattle.checked_trees.specs.WellFormed.{IsWordName, IsLocal, IsBelow, values_in, stack_words, value_words, WellFormedExpression, WellFormedValues}
+use Rattle.checked_trees.specs.WellFormed.{ExpressionNames, ValuesName}
 use Rattle.whole_programs.proofs.Placed.{PlaceOfWords, PlacesOfWords}
-use Rattle.whole_programs.proofs.Rooms.{IsRoomFor, StatementRoom, ChoiceRoom, BlockRoom}
+use Rattle.whole_programs.proofs.Rooms.{IsRoomFor}
+use Rattle.whole_programs.proofs.Fit.{OfCalls, ExpressionEachCall, ValuesEachCall, Setting, IsFitExpression, IsFitStatement, IsFitChoice, IsFitBlock}
+use Rattle.whole_programs.proofs.Fit.{right_fit, first_fit, rest_fit, choice_fit, otherwise_fit, taken_fit, passed_fit}
 
 -- ---- steps of expressions
 
@@ -143,15 +144,18 @@ two_fit room d e few = let two = two_needed e in omega (arith, two, few)
 -- ---- a fact
 
 -- a fact of steps and of programs, with the words on the stack before and behind, and of tests, which leave as many; what it asks of the
--- locals that are read; and that it holds of single steps and of what is put together of what has it
-pub record Fact {ℓ} (room : ℕ) : Type (ℓ + 1) where
+-- locals that are read and of calls; and that it holds of single steps and of what is put together of what has it
+pub record Fact {ℓ} (p : Places) (rs : List Program) (room : ℕ) : Type (ℓ + 1) where
   pub of_step : ℕ → ℕ → Step → Type ℓ
   pub of_program : ℕ → ℕ → Program → Type ℓ
   pub of_test : ℕ → Test → Type ℓ
   pub of_local : ℕ → Type 0
+  pub of_call : OfCalls
   pub leaf : (d e : ℕ) (s : Step) → Leaf d e s → StepOfWords s → e ≤ room → of_step d e s
-  pub reads : (d n : ℕ) → of_local n → suc d ≤ room → of_step d (suc d) (local (n % 65536))
+  pub reads : (d n : ℕ) → of_local n → suc d ≤ room → of_step d (suc d) (local (local_number p n))
+  pub called : (d k count : ℕ) → count ≤ 256 → of_call k count → suc d ≤ room → of_step (count + d) (suc d) (call_step p rs k (count % 65536))
   pub asked : (d : ℕ) (c : Test) → suc d ≤ room → of_test d c → of_step d (suc d) (truth c)
+  pub empty : (d : ℕ) → of_program d d nothing
   pub alone : (d e : ℕ) (s : Step) → of_step d e s → of_program d e (one s)
   pub chain : (d e f : ℕ) (q r : Program) → of_program d e q → of_program e f r → of_program d f (joined q r)
   pub not_zero : (d : ℕ) (q : Program) → suc d ≤ room → of_program d (suc d) q → of_test d (holds q)
@@ -160,7 +164,7 @@ pub record Fact {ℓ} (room : ℕ) : Type (ℓ + 1) where
   pub one_holds : (d : ℕ) (b c : Test) → of_test d b → of_test d c → of_test d (either b c)
   pub turned : (d : ℕ) (c : Test) → of_test d c → of_test d (fails c)
 
-module _ {ℓ} {room : ℕ} (F : Fact {ℓ} room) where
+module _ {ℓ} {p : Places} {rs : List Program} {room : ℕ} (F : Fact {ℓ} p rs room) where
   -- the fact holds of what an expression comes to, as a word, as a test and as a long
   pub record Built (d : ℕ) (l : Lowering) : Type ℓ where
     pub word : F.of_program d (suc d) (word_program l)
@@ -318,10 +322,10 @@ module _ {ℓ} {room : ℕ} (F : Fact {ℓ} room) where
 
   -- ---- expressions
 
-  module _ (p : Places) (words : PlacesOfWords p) (shared : List SharedDeclaration) where
+  module _ (words : PlacesOfWords p) (shared : List SharedDeclaration) where
     read_has : (d : ℕ) (x : Variable) → suc d ≤ room → ReadOf F.of_local x → F.of_program d (suc d) (one (read_step p x))
     read_has d (Shared v) few r = single d (suc d) (load (address_of p v)) (a_load (address_of p v)) (words.addresses v) few
-    read_has d (Local n) few r = F.alone d (suc d) (local (n % 65536)) (F.reads d n r few)
+    read_has d (Local n) few r = F.alone d (suc d) (local (local_number p n)) (F.reads d n r few)
 
     read_long_has : (d : ℕ) (x : Variable) → suc (suc d) ≤ room → ReadOf F.of_local x → F.of_program d (suc (suc d)) (read_long p x)
     read_long_has d (Shared v) two r =
@@ -332,7 +336,7 @@ module _ {ℓ} {room : ℕ} (F : Fact {ℓ} room) where
         (single (suc d) (suc (suc d)) high (a_load (high_address (address_of p v))) (omega arith) two) a_join tt two)
     read_long_has d (Local n) two r =
         let few : suc d ≤ room = omega (arith, two) in
-        F.chain d (suc d) (suc (suc d)) (one (local (n % 65536))) (widening Long) (read_has d (Local n) few r) (long_of_word d two)
+        F.chain d (suc d) (suc (suc d)) (one (local (local_number p n))) (widening Long) (read_has d (Local n) few r) (long_of_word d two)
 
     name_has : (d : ℕ) (of : WordType) (x : Variable) → suc (suc d) ≤ room → ReadOf F.of_local x → Built d (name_lowering p of x)
     name_has d Long x two r = long_built d _ two (read_long_has d x two r)
@@ -354,43 +358,61 @@ module _ {ℓ} {room : ℕ} (F : Fact {ℓ} room) where
             single (suc d) (suc d) (element elements length) (an_element elements length) (h.0, h.1) few
         by_place (Some (Array elements length (Some c))) h = own_read_has p.map.runtime.logging (array_place elements length c) (h.0, h.2.0, h.2.1, h.1)
 
-    -- the fact holds of each well-formed expression that has room, on the locals that it reads
-    pub lowering_has : (d : ℕ) (e : CheckedExpression) → WellFormedExpression shared e → stack_words e + d ≤ room → Reads F.of_local e
-        → Built d (lowering p e)
-    lowering_has d (t.number w) is few r =
-        let two = two_fit room d (t.number w) few in word_built d _ two (single d (suc d) (number w) (a_number w) is (omega (arith, two)))
-    lowering_has d (t.long_number w) is few r =
-        let two = two_fit room d (t.long_number w) few in
-        let high : IsWord (w / 65536) = omega (arith, is) in
-        long_built d _ two
-        (last d (suc d) (suc (suc d)) (one (number (w % 65536))) (number (w / 65536))
-        (single d (suc d) (number (w % 65536)) (a_number (w % 65536)) (omega arith) (omega (arith, two))) (a_number (w / 65536)) high two)
-    lowering_has d (t.name x) is few r = name_has d x.word_type x.variable (two_fit room d (t.name x) few) r
-    lowering_has d (t.element x index) is few r =
-        let two = two_fit room d index few in
-        word_built d _ two
-        (F.chain d (suc d) (suc d) (lowered_expression p index) (one (element_step p x.variable)) (lowering_has d index is.1 few r).word
-        (element_has d x.variable (omega (arith, two))))
-    lowering_has d t.next_event is few r =
-        let two = two_fit room d t.next_event few in word_built d _ two (single d (suc d) next_event an_event tt (omega (arith, two)))
-    lowering_has d t.sense is few r = let two = two_fit room d t.sense few in word_built d _ two (single d (suc d) sense a_reading tt (omega (arith, two)))
-    lowering_has d (t.call f values) is few r = absurd is
-    lowering_has d (t.unary op e) is few r =
-        let own : stack_words e + d ≤ room = omega (arith, few) in
-        operand_has d (type_of e) op (lowering p e) (two_fit room d e own) (lowering_has d e is own r)
-        (lowering_has (suc (suc d)) e is (omega (arith, few)) r)
-    lowering_has d (t.binary op a b) is few r =
-        let right : stack_words b + suc (suc d) ≤ room = omega (arith, few) in
-        sides_have d (operand_type op.operator (joined_type (type_of a) (type_of b))) op.operator (widened_type a) (widened_type b)
-        (lowering p a) (lowering p b) (two_fit room (suc (suc d)) b right)
-        (lowering_has d a is.0 (omega (arith, few)) r.0) (lowering_has (suc d) b is.1 (omega (arith, right)) r.1)
-        (lowering_has (suc (suc d)) b is.1 right r.1)
-    lowering_has d (t.shift op e count) is few r =
-        shift_has d (type_of e) op (lowering p e) count.value is.1 (two_fit room d e few) (lowering_has d e is.0 few r)
-    lowering_has d (t.short_circuit op a b) is few r =
-        let left : stack_words a + d ≤ room = omega (arith, few) in
-        test_built d _ (two_fit room d a left)
-        (both_have d op (lowered_test p a) (lowered_test p b) (lowering_has d a is.0 left r.0).test (lowering_has d b is.1 (omega (arith, few)) r.1).test)
+    mutual
+      -- the fact holds of each well-formed expression that has room, on the locals that it reads and on its calls
+      pub lowering_has : (d : ℕ) (e : CheckedExpression) → WellFormedExpression shared e → stack_words e + d ≤ room → Reads F.of_local e
+          → ExpressionEachCall F.of_call e → Built d (lowering p rs e)
+      lowering_has d (t.number w) is few r c =
+          let two = two_fit room d (t.number w) few in word_built d _ two (single d (suc d) (number w) (a_number w) is (omega (arith, two)))
+      lowering_has d (t.long_number w) is few r c =
+          let two = two_fit room d (t.long_number w) few in
+          let high : IsWord (w / 65536) = omega (arith, is) in
+          long_built d _ two
+          (last d (suc d) (suc (suc d)) (one (number (w % 65536))) (number (w / 65536))
+          (single d (suc d) (number (w % 65536)) (a_number (w % 65536)) (omega arith) (omega (arith, two))) (a_number (w / 65536)) high two)
+      lowering_has d (t.name x) is few r c = name_has d x.word_type x.variable (two_fit room d (t.name x) few) r
+      lowering_has d (t.element x index) is few r c =
+          let two = two_fit room d index few in
+          word_built d _ two
+          (F.chain d (suc d) (suc d) (lowered_expression p rs index) (one (element_step p x.variable)) (lowering_has d index is.1 few r c).word
+          (element_has d x.variable (omega (arith, two))))
+      lowering_has d t.next_event is few r c =
+          let two = two_fit room d t.next_event few in word_built d _ two (single d (suc d) next_event an_event tt (omega (arith, two)))
+      lowering_has d t.sense is few r c =
+          let two = two_fit room d t.sense few in word_built d _ two (single d (suc d) sense a_reading tt (omega (arith, two)))
+      lowering_has d (t.call f values) is few r c =
+          let two = two_fit room d (t.call f values) few in
+          let calls = call_step p rs f.function (call_count values) in
+          word_built d _ two
+          (F.chain d (values_in values + d) (suc d) (arguments p rs values) (one calls) (arguments_have d values is.1 (omega (arith, few)) r c.1)
+          (F.alone (values_in values + d) (suc d) calls (F.called d f.function (values_in values) is.2 c.0 (omega (arith, two)))))
+      lowering_has d (t.unary op e) is few r c =
+          let own : stack_words e + d ≤ room = omega (arith, few) in
+          operand_has d (type_of e) op (lowering p rs e) (two_fit room d e own) (lowering_has d e is own r c)
+          (lowering_has (suc (suc d)) e is (omega (arith, few)) r c)
+      lowering_has d (t.binary op a b) is few r c =
+          let right : stack_words b + suc (suc d) ≤ room = omega (arith, few) in
+          sides_have d (operand_type op.operator (joined_type (type_of a) (type_of b))) op.operator (widened_type a) (widened_type b)
+          (lowering p rs a) (lowering p rs b) (two_fit room (suc (suc d)) b right)
+          (lowering_has d a is.0 (omega (arith, few)) r.0 c.0) (lowering_has (suc d) b is.1 (omega (arith, right)) r.1 c.1)
+          (lowering_has (suc (suc d)) b is.1 right r.1 c.1)
+      lowering_has d (t.shift op e count) is few r c =
+          shift_has d (type_of e) op (lowering p rs e) count.value is.1 (two_fit room d e few) (lowering_has d e is.0 few r c)
+      lowering_has d (t.short_circuit op a b) is few r c =
+          let left : stack_words a + d ≤ room = omega (arith, few) in
+          test_built d _ (two_fit room d a left)
+          (both_have d op (lowered_test p rs a) (lowered_test p rs b) (lowering_has d a is.0 left r.0 c.0).test
+          (lowering_has d b is.1 (omega (arith, few)) r.1 c.1).test)
+
+      -- a call's values wait one above the other
+      arguments_have : (d : ℕ) (values : CheckedValues) → WellFormedValues shared values → value_words values + d ≤ room
+          → ValuesRead F.of_local values → ValuesEachCall F.of_call values → F.of_program d (values_in values + d) (arguments p rs values)
+      arguments_have d t.no_value is few r c = F.empty d
+      arguments_have d (t.value e more) is few r c =
+          let same : values_in more + suc d ≡ suc (values_in more) + d = omega arith in
+          subst (λ n. F.of_program d n (arguments p rs (t.value e more))) same
+          (F.chain d (suc d) (values_in more + suc d) (lowered_expression p rs e) (arguments p rs more)
+          (lowering_has d e is.0 (omega (arith, few)) r.0 c.0).word (arguments_have (suc d) more is.1 (omega (arith, few)) r.1 c.1))
 
 -- ---- a fact of each step alone
 
@@ -416,7 +438,7 @@ IsApart F x = (y : ℕ) → F y → is_same_local x (Local y) ≡ false
 
 -- a fact of each step whatever the stack: the locals of which it wants that no step assigns them, what it asks of a loop's body beside
 -- itself, by the loop's local, and that it holds of single steps and of what is put together of what has it
-pub record EachStep (p : Places) (in_task : Bool) : Type 1 where
+pub record EachStep (p : Places) (rs : List Program) (g : Setting) : Type 1 where
   pub of_step : Step → Type 0
   pub of_program : Program → Type 0
   pub of_test : Test → Type 0
@@ -424,15 +446,16 @@ pub record EachStep (p : Places) (in_task : Bool) : Type 1 where
   pub of_body : ℕ → Program → Type 0
   pub leaf : (d e : ℕ) (s : Step) → Leaf d e s → StepOfWords s → of_step s
   pub stores : (s : Step) → Stores p s → StepOfWords s → of_step s
-  pub jumps : in_task ≡ true → IsWord p.map.commit.address → of_step (jump p.map.commit.address)
-  pub gives : in_task ≡ false → of_step give
-  pub reads : (n : ℕ) → n < 256 → of_step (local (n % 65536))
-  pub writes : (n : ℕ) → n < 256 → IsApart spared (Local n) → of_step (set_local (n % 65536))
-  pub updates : (op : PlainOperation) (n : ℕ) → n < 256 → IsApart spared (Local n) → of_step (update_local op (n % 65536))
+  pub jumps : g.in_task ≡ true → IsWord p.map.commit.address → of_step (jump p.map.commit.address)
+  pub gives : g.in_task ≡ false → of_step give
+  pub called : (k count : ℕ) → count ≤ 256 → g.calls k count → of_step (call_step p rs k (count % 65536))
+  pub reads : (n : ℕ) → n < 256 → n < g.own → of_step (local (local_number p n))
+  pub writes : (n : ℕ) → n < 256 → n < g.own → IsApart spared (Local n) → of_step (set_local (local_number p n))
+  pub updates : (op : PlainOperation) (n : ℕ) → n < 256 → n < g.own → IsApart spared (Local n) → of_step (update_local op (local_number p n))
   pub asked : (c : Test) → of_test c → of_step (truth c)
   pub chosen : (c : Test) (a b : Program) → of_test c → of_program a → of_program b → of_step (choose c a b)
-  pub counted : (n from below : ℕ) (body : Program) → n < 256 → IsApart spared (Local n) → IsWord from → IsWord below → of_body (n % 65536) body
-      → of_program body → of_step (repeat (n % 65536) from below body)
+  pub counted : (n from below : ℕ) (body : Program) → n < 256 → n < g.own → IsApart spared (Local n) → IsWord from → IsWord below
+      → of_body (local_number p n) body → of_program body → of_step (repeat (local_number p n) from below body)
   pub empty : of_program nothing
   pub alone : (s : Step) → of_step s → of_program (one s)
   pub chain : (q r : Program) → of_program q → of_program r → of_program (joined q r)
@@ -442,16 +465,23 @@ pub record EachStep (p : Places) (in_task : Bool) : Type 1 where
   pub one_holds : (b c : Test) → of_test b → of_test c → of_test (either b c)
   pub turned : (c : Test) → of_test c → of_test (fails c)
 
+-- a local of a body: at most 256, and one of its own
+abbrev pub IsOf : Setting → ℕ → Type 0
+IsOf g n = n < 256 × n < g.own
+
 -- such a fact of expressions
-abbrev whatever_the_stack : (p : Places) (in_task : Bool) → EachStep p in_task → (room : ℕ) → Fact {0} room
-whatever_the_stack p in_task G room = record {
+abbrev whatever_the_stack : {p : Places} {rs : List Program} (g : Setting) → EachStep p rs g → Fact {0} p rs g.room
+whatever_the_stack g G = record {
   of_step = λ d e s. G.of_step s;
   of_program = λ d e q. G.of_program q;
   of_test = λ d c. G.of_test c;
-  of_local = λ n. n < 256;
+  of_local = IsOf g;
+  of_call = g.calls;
   leaf = λ d e s k numbers few. G.leaf d e s k numbers;
-  reads = λ d n low few. G.reads n low;
+  reads = λ d n own few. G.reads n own.0 own.1;
+  called = λ d k count few h room. G.called k count few h;
   asked = λ d c few h. G.asked c h;
+  empty = λ d. G.empty;
   alone = λ d e s h. G.alone s h;
   chain = λ d e f q r h k. G.chain q r h k;
   not_zero = λ d q few h. G.not_zero q h;
@@ -461,28 +491,30 @@ whatever_the_stack p in_task G room = record {
   turned = λ d c h. G.turned c h;
 }
 
-mutual
-  -- the locals of an expression are below 256
-  reads_low : (shared : List SharedDeclaration) (e : CheckedExpression) → WellFormedExpression shared e → Reads (λ n. n < 256) e
-  reads_low shared (t.number w) is = tt
-  reads_low shared (t.long_number w) is = tt
-  reads_low shared (t.name x) is = by_variable x.variable is.0
-    where
-      by_variable : (v : Variable) → IsWordName shared v → ReadOf (λ n. n < 256) v
-      by_variable (Shared v) h = tt
-      by_variable (Local n) h = h
-  reads_low shared (t.element x index) is = reads_low shared index is.1
-  reads_low shared t.sense is = tt
-  reads_low shared t.next_event is = tt
-  reads_low shared (t.call f values) is = values_read_low shared values is.1
-  reads_low shared (t.unary op e) is = reads_low shared e is
-  reads_low shared (t.binary op a b) is = (reads_low shared a is.0, reads_low shared b is.1)
-  reads_low shared (t.shift op e count) is = reads_low shared e is.0
-  reads_low shared (t.short_circuit op a b) is = (reads_low shared a is.0, reads_low shared b is.1)
+module _ (g : Setting) where
+  -- a local that stands for a word
+  read_own : (v : Variable) → IsWordName g.shared v → IsBelow g.own v → ReadOf (IsOf g) v
+  read_own (Shared v) h k = tt
+  read_own (Local n) h k = (h, k)
 
-  values_read_low : (shared : List SharedDeclaration) (values : CheckedValues) → WellFormedValues shared values → ValuesRead (λ n. n < 256) values
-  values_read_low shared t.no_value is = tt
-  values_read_low shared (t.value e more) is = (reads_low shared e is.0, values_read_low shared more is.1)
+  mutual
+    -- the locals of an expression are of the body
+    reads_own : (e : CheckedExpression) → WellFormedExpression g.shared e → ExpressionNames g.own e → Reads (IsOf g) e
+    reads_own (t.number w) is names = tt
+    reads_own (t.long_number w) is names = tt
+    reads_own (t.name x) is names = read_own x.variable is.0 names
+    reads_own (t.element x index) is names = reads_own index is.1 names
+    reads_own t.sense is names = tt
+    reads_own t.next_event is names = tt
+    reads_own (t.call f values) is names = values_own values is.1 names
+    reads_own (t.unary op e) is names = reads_own e is names
+    reads_own (t.binary op a b) is names = (reads_own a is.0 names.0, reads_own b is.1 names.1)
+    reads_own (t.shift op e count) is names = reads_own e is.0 names
+    reads_own (t.short_circuit op a b) is names = (reads_own a is.0 names.0, reads_own b is.1 names.1)
+
+    values_own : (values : CheckedValues) → WellFormedValues g.shared values → ValuesName g.own values → ValuesRead (IsOf g) values
+    values_own t.no_value is names = tt
+    values_own (t.value e more) is names = (reads_own e is.0 names.0, values_own more is.1 names.1)
 
 -- a local may stand for a word
 local_word : (shared : List SharedDeclaration) (x : Variable) → IsLocal x → IsWordName shared x
@@ -498,15 +530,16 @@ pub right_fits : (shared : List SharedDeclaration) (room d : ℕ) (op : PlacedOp
     → FitsAbove shared room d (t.binary op b c) → FitsAbove shared room d c
 right_fits shared room d op b c fits = let few = fits.1 in (fits.0.1, omega (arith, few))
 
-module _ (p : Places) (in_task : Bool) (G : EachStep p in_task) (words : PlacesOfWords p) (shared : List SharedDeclaration) (room : ℕ) where
+module _ (p : Places) (rs : List Program) (g : Setting) (G : EachStep p rs g) (words : PlacesOfWords p) where
   -- a step behind a program
   then_step : (q : Program) (s : Step) → G.of_program q → G.of_step s → G.of_program (joined q (one s))
   then_step q s h k = G.chain q (one s) h (G.alone s k)
 
-  expression_built : (d : ℕ) (e : CheckedExpression) → FitsAbove shared room d e → Built (whatever_the_stack p in_task G room) d (lowering p e)
-  expression_built d e is = lowering_has (whatever_the_stack p in_task G room) p words shared d e is.0 is.1 (reads_low shared e is.0)
+  expression_built : (d : ℕ) (e : CheckedExpression) → IsFitExpression g d e → Built (whatever_the_stack g G) d (lowering p rs e)
+  expression_built d e is =
+      lowering_has (whatever_the_stack g G) words g.shared d e is.formed is.fits (reads_own g e is.formed is.names) is.calls
 
-  word_has : (d : ℕ) (e : CheckedExpression) → FitsAbove shared room d e → G.of_program (lowered_expression p e)
+  word_has : (d : ℕ) (e : CheckedExpression) → IsFitExpression g d e → G.of_program (lowered_expression p rs e)
   word_has d e is = (expression_built d e is).word
 
   stored_of_words : (x : Variable) → ArrayOfWords (stored_array p x)
@@ -521,49 +554,55 @@ module _ (p : Places) (in_task : Bool) (G : EachStep p in_task) (words : PlacesO
 
   -- ---- assignments
 
-  write_has : (x : Variable) → IsWordName shared x → IsApart G.spared x → G.of_step (write_step p x)
-  write_has (Shared v) n a = G.stores (keep (address_of p v)) (a_store v) (words.addresses v)
-  write_has (Local n) l a = G.writes n l a
+  -- a variable that is assigned: a shared scalar, or a local of the body that is none of those to spare
+  record IsTarget (x : Variable) : Type 0 where
+    word : IsWordName g.shared x
+    own : IsBelow g.own x
+    apart : IsApart G.spared x
 
-  update_has : (o : PlainOperation) (x : Variable) → IsWordName shared x → IsApart G.spared x → G.of_step (update_step p o x)
-  update_has o (Shared v) n a = G.stores (update o (address_of p v)) (an_update o v) (words.addresses v)
-  update_has o (Local n) l a = G.updates o n l a
+  write_has : (x : Variable) → IsTarget x → G.of_step (write_step p x)
+  write_has (Shared v) h = G.stores (keep (address_of p v)) (a_store v) (words.addresses v)
+  write_has (Local n) h = G.writes n h.word h.own h.apart
 
-  write_long_has : (x : Variable) → IsWordName shared x → IsApart G.spared x → G.of_program (write_long p x)
-  write_long_has (Shared v) n a =
+  update_has : (o : PlainOperation) (x : Variable) → IsTarget x → G.of_step (update_step p o x)
+  update_has o (Shared v) h = G.stores (update o (address_of p v)) (an_update o v) (words.addresses v)
+  update_has o (Local n) h = G.updates o n h.word h.own h.apart
+
+  write_long_has : (x : Variable) → IsTarget x → G.of_program (write_long p x)
+  write_long_has (Shared v) h =
       let high = keep (high_address (address_of p v)) in
-      then_step (one high) (keep (address_of p v)) (G.alone high (G.stores high (a_high_store v) (omega arith))) (write_has (Shared v) n a)
-  write_long_has (Local n) l a =
-      let low = long with_longs.LowWord in then_step (one low) (set_local (n % 65536)) (G.alone low (G.leaf 2 1 low a_low_word tt)) (G.writes n l a)
+      then_step (one high) (keep (address_of p v)) (G.alone high (G.stores high (a_high_store v) (omega arith))) (write_has (Shared v) h)
+  write_long_has (Local n) h =
+      let low = long with_longs.LowWord in
+      then_step (one low) (set_local (local_number p n)) (G.alone low (G.leaf 2 1 low a_low_word tt)) (G.writes n h.word h.own h.apart)
 
-  setting_has : (x : Variable) (e : CheckedExpression) → IsWordName shared x → IsApart G.spared x → FitsAbove shared room 0 e → G.of_program (setting p x e)
-  setting_has x e n a is = then_step (lowered_expression p e) (write_step p x) (word_has 0 e is) (write_has x n a)
+  setting_has : (x : Variable) (e : CheckedExpression) → IsTarget x → IsFitExpression g 0 e → G.of_program (setting p rs x e)
+  setting_has x e h is = then_step (lowered_expression p rs e) (write_step p x) (word_has 0 e is) (write_has x h)
 
-  sides_set_has : (x : Variable) (op : PlacedOperator) (b c : CheckedExpression) (o : Option PlainOperation) → IsWordName shared x → IsApart G.spared x
-      → FitsAbove shared room 0 (t.binary op b c) → G.of_program (sides_set p x op b c o)
-  sides_set_has x op b c None n a is = setting_has x (t.binary op b c) n a is
-  sides_set_has x op b c (Some o) n a is =
-      then_step (lowered_expression p c) (update_step p o x) (word_has 0 c (right_fits shared room 0 op b c is)) (update_has o x n a)
+  sides_set_has : (x : Variable) (op : PlacedOperator) (b c : CheckedExpression) (o : Option PlainOperation) → IsTarget x
+      → IsFitExpression g 0 (t.binary op b c) → G.of_program (sides_set p rs x op b c o)
+  sides_set_has x op b c None h is = setting_has x (t.binary op b c) h is
+  sides_set_has x op b c (Some o) h is =
+      then_step (lowered_expression p rs c) (update_step p o x) (word_has 0 c (right_fit g 0 op b c is)) (update_has o x h)
 
   -- the first clause makes it a proof by cases
-  assignment_has : (x : Variable) (e : CheckedExpression) → IsWordName shared x → IsApart G.spared x → FitsAbove shared room 0 e
-      → G.of_program (assignment p x e)
-  assignment_has x (t.binary op b c) n a is = sides_set_has x op b c (of_words (joined_type (type_of b) (type_of c)) (updating x op.operator b)) n a is
-  assignment_has x e n a is = setting_has x e n a is
+  assignment_has : (x : Variable) (e : CheckedExpression) → IsTarget x → IsFitExpression g 0 e → G.of_program (assignment p rs x e)
+  assignment_has x (t.binary op b c) h is = sides_set_has x op b c (of_words (joined_type (type_of b) (type_of c)) (updating x op.operator b c)) h is
+  assignment_has x e h is = setting_has x e h is
 
-  typed_assignment_has : (of : WordType) (x : Variable) (e : CheckedExpression) → IsWordName shared x → IsApart G.spared x → FitsAbove shared room 0 e
-      → G.of_program (scalar_assignment p of x e)
-  typed_assignment_has Int x e n a is = assignment_has x e n a is
-  typed_assignment_has Unsigned x e n a is = assignment_has x e n a is
-  typed_assignment_has Long x e n a is =
-      let long = long_has (whatever_the_stack p in_task G room) 0 (widened_type e) (lowering p e) (two_fit room 0 e is.1) (expression_built 0 e is) in
-      G.chain (lowered_long p e) (write_long p x) long (write_long_has x n a)
+  typed_assignment_has : (of : WordType) (x : Variable) (e : CheckedExpression) → IsTarget x → IsFitExpression g 0 e
+      → G.of_program (scalar_assignment p rs of x e)
+  typed_assignment_has Int x e h is = assignment_has x e h is
+  typed_assignment_has Unsigned x e h is = assignment_has x e h is
+  typed_assignment_has Long x e h is =
+      let long = long_has (whatever_the_stack g G) 0 (widened_type e) (lowering p rs e) (two_fit g.room 0 e is.fits) (expression_built 0 e is) in
+      G.chain (lowered_long p rs e) (write_long p x) long (write_long_has x h)
 
   -- a step behind an index and a value
-  index_and_value_have : (index e : CheckedExpression) (s : Step) → G.of_program (lowered_expression p index) → G.of_program (lowered_expression p e)
-      → G.of_step s → G.of_program (joined (index_and_value p index e) (one s))
+  index_and_value_have : (index e : CheckedExpression) (s : Step) → G.of_program (lowered_expression p rs index)
+      → G.of_program (lowered_expression p rs e) → G.of_step s → G.of_program (joined (index_and_value p rs index e) (one s))
   index_and_value_have index e s h k l =
-      then_step (index_and_value p index e) s (G.chain (lowered_expression p index) (lowered_expression p e) h k) l
+      then_step (index_and_value p rs index e) s (G.chain (lowered_expression p rs index) (lowered_expression p rs e) h k) l
 
   -- stores to an element, by the runtime
   own_write_has : (logging : Logging) (x : Variable) → G.of_step (own_write logging (stored_array p x) (list_place p))
@@ -580,24 +619,24 @@ module _ (p : Places) (in_task : Bool) (G : EachStep p in_task) (words : PlacesO
       let h = stored_of_words x in
       G.stores (logged_update o (logged_place (stored_array p x)) (list_place p)) (a_logged_update o x) ((h.0, h.2, h.3), list_of_words p words)
 
-  store_has : (x : Variable) (index e : CheckedExpression) → G.of_program (lowered_expression p index) → G.of_program (lowered_expression p e)
-      → G.of_program (joined (index_and_value p index e) (one (store_step p x)))
+  store_has : (x : Variable) (index e : CheckedExpression) → IsFitExpression g 0 index → IsFitExpression g 1 e
+      → G.of_program (joined (index_and_value p rs index e) (one (store_step p x)))
   store_has x index e h k =
-      index_and_value_have index e (store_step p x) h k (own_write_has p.map.runtime.logging x)
+      index_and_value_have index e (store_step p x) (word_has 0 index h) (word_has 1 e k) (own_write_has p.map.runtime.logging x)
 
   element_sides_have : (x : Variable) (index : CheckedExpression) (op : PlacedOperator) (b c : CheckedExpression) (o : Option PlainOperation)
-      → G.of_program (lowered_expression p index) → FitsAbove shared room 1 (t.binary op b c) → G.of_program (element_sides_set p x index op b c o)
-  element_sides_have x index op b c None h is = store_has x index (t.binary op b c) h (word_has 1 (t.binary op b c) is)
+      → IsFitExpression g 0 index → IsFitExpression g 1 (t.binary op b c) → G.of_program (element_sides_set p rs x index op b c o)
+  element_sides_have x index op b c None h is = store_has x index (t.binary op b c) h is
   element_sides_have x index op b c (Some o) h is =
-      index_and_value_have index c (update_element_step p o x) h (word_has 1 c (right_fits shared room 1 op b c is))
+      index_and_value_have index c (update_element_step p o x) (word_has 0 index h) (word_has 1 c (right_fit g 1 op b c is))
       (own_update_has p.map.runtime.logging o x)
 
   -- the first clause makes it a proof by cases
-  element_assignment_has : (x : Variable) (index e : CheckedExpression) → G.of_program (lowered_expression p index) → FitsAbove shared room 1 e
-      → G.of_program (element_assignment p x index e)
+  element_assignment_has : (x : Variable) (index e : CheckedExpression) → IsFitExpression g 0 index → IsFitExpression g 1 e
+      → G.of_program (element_assignment p rs x index e)
   element_assignment_has x index (t.binary op b c) h is =
-      element_sides_have x index op b c (of_words (joined_type (type_of b) (type_of c)) (element_updating x index op.operator b)) h is
-  element_assignment_has x index e h is = store_has x index e h (word_has 1 e is)
+      element_sides_have x index op b c (of_words (joined_type (type_of b) (type_of c)) (element_updating x index op.operator b c)) h is
+  element_assignment_has x index e h is = store_has x index e h is
 
   -- ---- statements
 
@@ -612,7 +651,7 @@ module _ (p : Places) (in_task : Bool) (G : EachStep p in_task) (words : PlacesO
   frozen_has true = G.alone freeze_events (G.stores freeze_events the_sent_tail tt)
   frozen_has false = G.empty
 
-  transition_has : (task : ℕ) → in_task ≡ true → G.of_program (lowered_transition p task)
+  transition_has : (task : ℕ) → g.in_task ≡ true → G.of_program (lowered_transition p task)
   transition_has task ends =
       let next = store_number (word_place p.map NextTask) (task % 65536) in
       let sent = move_word (word_place p.map Base) (word_place p.map SentBase) in
@@ -638,55 +677,61 @@ module _ (p : Places) (in_task : Bool) (G : EachStep p in_task) (words : PlacesO
   second_leaves f g h y s = (or_parts (f (Local y)) (g (Local y)) (h y s)).1
 
   -- what the fact asks of the bodies of loops beside itself holds of each that doesn't assign the loop's local
-  module _ (body_has : (n : ℕ) (b : CheckedBlock) → n < 256 → block_assigns (Local n) b ≡ false → WellFormedBlock shared b → BlockRoom room b
-      → block_ends in_task b ≡ true → G.of_body (n % 65536) (lowered_block p b)) where
+  module _ (body_has : (n : ℕ) (b : CheckedBlock) → n < 256 → block_assigns (Local n) b ≡ false → IsFitBlock g b
+      → G.of_body (local_number p n) (lowered_block p rs b)) where
     -- a loop by its local
-    loop_has : (v : Variable) (from below : ℕ) (b : CheckedBlock) → IsLocal v → IsApart G.spared v → IsWord from → IsWord below
-        → block_assigns v b ≡ false → WellFormedBlock shared b → BlockRoom room b → block_ends in_task b ≡ true → G.of_program (lowered_block p b)
-        → G.of_step (repeat (loop_local v) from below (lowered_block p b))
-    loop_has (Shared v) from below b low a i j s is r ends h = absurd low
-    loop_has (Local n) from below b low a i j s is r ends h =
-        G.counted n from below (lowered_block p b) low a i j (body_has n b low s is r ends) h
+    loop_has : (v : Variable) (from below : ℕ) (b : CheckedBlock) → IsLocal v → IsBelow g.own v → IsApart G.spared v → IsWord from → IsWord below
+        → block_assigns v b ≡ false → IsFitBlock g b → G.of_program (lowered_block p rs b)
+        → G.of_step (repeat (loop_local p v) from below (lowered_block p rs b))
+    loop_has (Shared v) from below b low own a i j s is h = absurd low
+    loop_has (Local n) from below b low own a i j s is h = G.counted n from below (lowered_block p rs b) low own a i j (body_has n b low s is) h
 
     mutual
-      statement_has : (s : CheckedStatement) → LeavesAlone (λ v. statement_assigns v s) → WellFormedStatement shared s → StatementRoom room s
-          → statement_ends in_task s ≡ true → G.of_program (lowered_statement p s)
-      statement_has (t.declare of x None) a is r ends = G.empty
-      statement_has (t.declare of x (Some e)) a is r ends = assignment_has x.variable e (local_word shared x.variable is.0) a (is.1, r)
-      statement_has (t.assign x e) a is r ends = typed_assignment_has x.word_type x.variable e is.0 a (is.1, r)
-      statement_has (t.store x index e) a is r ends = element_assignment_has x.variable index e (word_has 0 index (is.1, r.0)) (is.2, r.1)
-      statement_has (t.choose choice) a is r ends = choice_has choice a is r ends
-      statement_has (t.loop x from y below z body) a is r ends =
+      statement_has : (s : CheckedStatement) → LeavesAlone (λ v. statement_assigns v s) → IsFitStatement g s → G.of_program (lowered_statement p rs s)
+      statement_has (t.declare of x None) a is = G.empty
+      statement_has (t.declare of x (Some e)) a is =
+          assignment_has x.variable e (record { word = local_word g.shared x.variable is.formed.0; own = is.names.0; apart = a })
+          (record { formed = is.formed.1; fits = is.fits; names = is.names.1; calls = is.calls })
+      statement_has (t.assign x e) a is =
+          typed_assignment_has x.word_type x.variable e (record { word = is.formed.0; own = is.names.0; apart = a })
+          (record { formed = is.formed.1; fits = is.fits; names = is.names.1; calls = is.calls })
+      statement_has (t.store x index e) a is =
+          element_assignment_has x.variable index e (record { formed = is.formed.1; fits = is.fits.0; names = is.names.0; calls = is.calls.0 })
+          (record { formed = is.formed.2; fits = is.fits.1; names = is.names.1; calls = is.calls.1 })
+      statement_has (t.choose choice) a is = choice_has choice a (choice_fit g choice is)
+      statement_has (t.loop x from y below z body) a is =
           let others : Variable → Bool = λ v. is_same_local y.variable v || is_same_local z.variable v in
           let names : Variable → Bool = λ v. is_same_local x.variable v || others v in
           let own = first_leaves (λ v. is_same_local x.variable v) others (first_leaves names (λ v. block_assigns v body) a) in
-          let h = block_has body (second_leaves names (λ v. block_assigns v body) a) is.1 r ends in
-          G.alone (repeat (loop_local x.variable) from below (lowered_block p body))
-          (loop_has x.variable from below body is.0 own is.2 is.3 is.4 is.1 r ends h)
-      statement_has (t.emit e) a is r ends =
+          let inner : IsFitBlock g body =
+          record { formed = is.formed.1; fits = is.fits; below = is.below; names = is.names.1; calls = is.calls; ends = is.ends } in
+          let h = block_has body (second_leaves names (λ v. block_assigns v body) a) inner in
+          G.alone (repeat (loop_local p x.variable) from below (lowered_block p rs body))
+          (loop_has x.variable from below body is.formed.0 is.names.0 own is.formed.2 is.formed.3 is.formed.4 inner h)
+      statement_has (t.emit e) a is =
           let emits = emit_word (word_place p.map EmitCount) p.map.emits.address in
-          then_step (lowered_expression p e) emits (word_has 0 e (is.0, r)) (G.stores emits an_emission (words.words EmitCount, words.emits))
-      statement_has (t.give at e) a is r ends =
-          then_step (lowered_expression p e) give (word_has 0 e (is.0, r)) (G.gives (not-true in_task ends))
-      statement_has (t.transition at task) a is r ends = transition_has task.task ends
+          then_step (lowered_expression p rs e) emits (word_has 0 e (record { formed = is.formed.0; fits = is.fits; names = is.names; calls = is.calls }))
+          (G.stores emits an_emission (words.words EmitCount, words.emits))
+      statement_has (t.give at e) a is =
+          then_step (lowered_expression p rs e) give (word_has 0 e (record { formed = is.formed.0; fits = is.fits; names = is.names; calls = is.calls }))
+          (G.gives (not-true g.in_task is.ends))
+      statement_has (t.transition at task) a is = transition_has task.task is.ends
 
-      choice_has : (c : CheckedChoice) → LeavesAlone (λ v. choice_assigns v c) → WellFormedChoice shared c → ChoiceRoom room c
-          → choice_ends in_task c ≡ true → G.of_program (lowered_choice p c)
-      choice_has t.nothing a is r ends = G.empty
-      choice_has (t.otherwise b) a is r ends = block_has b a is r ends
-      choice_has (t.test e b more) a is r ends =
-          let both = and_parts (block_ends in_task b) (choice_ends in_task more) ends in
-          let taken = block_has b (first_leaves (λ v. block_assigns v b) (λ v. choice_assigns v more) a) is.1 r.1 both.0 in
-          let passed = choice_has more (second_leaves (λ v. block_assigns v b) (λ v. choice_assigns v more) a) is.2 r.2 both.1 in
-          G.alone (choose (lowered_test p e) (lowered_block p b) (lowered_choice p more))
-          (G.chosen (lowered_test p e) (lowered_block p b) (lowered_choice p more) (expression_built 0 e (is.0, r.0)).test taken passed)
+      choice_has : (c : CheckedChoice) → LeavesAlone (λ v. choice_assigns v c) → IsFitChoice g c → G.of_program (lowered_choice p rs c)
+      choice_has t.nothing a is = G.empty
+      choice_has (t.otherwise b) a is = block_has b a (otherwise_fit g b is)
+      choice_has (t.test e b more) a is =
+          let condition : IsFitExpression g 0 e =
+          record { formed = is.formed.0; fits = is.fits.0; names = is.names.0; calls = is.calls.0 } in
+          let taken = block_has b (first_leaves (λ v. block_assigns v b) (λ v. choice_assigns v more) a) (taken_fit g e b more is) in
+          let passed = choice_has more (second_leaves (λ v. block_assigns v b) (λ v. choice_assigns v more) a) (passed_fit g e b more is) in
+          G.alone (choose (lowered_test p rs e) (lowered_block p rs b) (lowered_choice p rs more))
+          (G.chosen (lowered_test p rs e) (lowered_block p rs b) (lowered_choice p rs more) (expression_built 0 e condition).test taken passed)
 
       -- the fact holds of the program of each well-formed block
-      pub block_has : (b : CheckedBlock) → LeavesAlone (λ v. block_assigns v b) → WellFormedBlock shared b → BlockRoom room b
-          → block_ends in_task b ≡ true → G.of_program (lowered_block p b)
-      block_has t.end a is r ends = G.empty
-      block_has (t.step s more) a is r ends =
-          let both = and_parts (statement_ends in_task s) (block_ends in_task more) ends in
-          G.chain (lowered_statement p s) (lowered_block p more)
-          (statement_has s (first_leaves (λ v. statement_assigns v s) (λ v. block_assigns v more) a) is.0 r.0 both.0)
-          (block_has more (second_leaves (λ v. statement_assigns v s) (λ v. block_assigns v more) a) is.1 r.1 both.1)
+      pub block_has : (b : CheckedBlock) → LeavesAlone (λ v. block_assigns v b) → IsFitBlock g b → G.of_program (lowered_block p rs b)
+      block_has t.end a is = G.empty
+      block_has (t.step s more) a is =
+          G.chain (lowered_statement p rs s) (lowered_block p rs more)
+          (statement_has s (first_leaves (λ v. statement_assigns v s) (λ v. block_assigns v more) a) (first_fit g s more is))
+          (block_has more (second_leaves (λ v. statement_assigns v s) (λ v. block_assigns v more) a) (rest_fit g s more is))

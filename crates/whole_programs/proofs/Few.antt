@@ -3,15 +3,12 @@ use Rattle.std.proofs.Common.{◌≡◌, ℕ, ◌≤◌, List, [], ◌∷◌, ma
 use Rattle.std.specs.Prelude.{All, Bool, Option, IsSomeAnd, slice_get}
 use Rattle.std.proofs.lemmas.List.Elements.{All-weaker, All-head, All-tail}
 use Rattle.std.proofs.lemmas.Option.{slice_get_within}
-use Rattle.path_sums.specs.Access.{IsPrivate}
-use Rattle.path_sums.proofs.Interface.{no_calls, writes_some}
-use Rattle.task_ast.specs.Calls.{BlockCallsBelow}
 use Rattle.task_ast.specs.declared.Extent.{Extent}
 use Rattle.task_ast.specs.declared.Extent.TheVariants as extent
 use Rattle.task_ast.specs.declared.SharedDeclaration.{SharedDeclaration}
 use Rattle.task_ast.specs.declared.names.Variable.TheVariants.{Shared}
-use Rattle.cost_bound.specs.Counts.{block_assigns}
-use Rattle.cost_bound.specs.Summaries.{summaries, function_summaries}
+use Rattle.cost_bound.specs.Counts.{assigns_of}
+use Rattle.cost_bound.specs.Summaries.{summaries}
 use Rattle.cost_bound.specs.Allowance.{scalar_part, scalars_of}
 use Rattle.memory_map.specs.declared.place.VariablePlace.{VariablePlace}
 use Rattle.memory_map.specs.declared.place.VariablePlace.TheVariants.{Scalar, Array}
@@ -20,9 +17,11 @@ use Rattle.memory_map.specs.Places.{scalar_words, HasItsPlace}
 use Rattle.memory_map.specs.Spots.{private_words, words_at}
 use Rattle.privatise.specs.Layouts.{IsPlaceOf}
 use Rattle.war_analysis.specs.Plans.{is_scalar, IsScalarAt, IsPrivateIn}
-use Rattle.war_analysis.proofs.Interface.{element, words_of_all, HasWords, marked_are_counted}
+use Rattle.war_analysis.proofs.Interface.{element, words_of_all, HasWords, marked_are_counted, each_returns}
+use Rattle.lower.proofs.Interface.{AreCallable, writes_some}
+use Rattle.checked_trees.specs.WellFormed.{WellFormedBlock}
 use Rattle.whole_programs.specs.Laws.{PrivatesAreFew}
-use Rattle.checked_trees.proofs.Interface.{all_at, task_checked, block_assigned}
+use Rattle.checked_trees.proofs.Interface.{all_at, all_of, task_checked, function_checked, block_assigned}
 
 -- a scalar has the words of its declaration, which it counts where it is assigned
 place_counts : (written : Bool) (e : Extent) (place : VariablePlace) → IsPlaceOf written e place → words_at (Some place) ≤ scalar_part true e
@@ -45,25 +44,28 @@ words_by_number variables (s ∷ more) h =
 
 pub privates_are_few : PrivatesAreFew
 privates_are_few text program allow plans l laid k task t e f =
-    let plain = laid.layout.plain in
-    let formed = (task_checked text program laid.accepted.checks plain k task e).statements in
-    let calls = all_at (λ task. BlockCallsBelow 0 task.body) program.tasks k task laid.layout.calls e in
+    let checks = laid.accepted.checks in
+    let placed = checks.checks.named.placed in
+    let formed = task_checked text program checks k task e in
+    let bodies = all_of (λ g. WellFormedBlock program.shared g.body) program.functions
+    (λ n g at. (function_checked text program checks n g at).statements) in
+    let callable : AreCallable program.functions =
+    record { calls = placed.calls.functions; returning = each_returns program placed checks.checks.paths.returns } in
     let inside = slice_get_within program.tasks k task e in
     let count = laid.plan.count in
     let plan = element plans k (omega (arith, inside, count)) in
     let is = (laid.plan.each k task plan.0 e plan.1).private_scalars in
-    let assigned : (i : ℕ) → IsPrivateIn program.functions program.shared task.body i → block_assigns i task.body ≡ true =
-    λ i h. block_assigned i program.shared task.body formed
-    (writes_some (Shared i) [] [] (no_calls (Shared i)) task.body calls (subst (λ fs. IsPrivate fs task.body (Shared i)) plain h.owed).0) in
-    let few : words_of_all words plan.0.private_scalars ≤ scalars_of [] program.shared task.body =
-    marked_are_counted (λ i. block_assigns i task.body) words program.shared plan.0.private_scalars is.ascending
-    (All-weaker (IsPrivateIn program.functions program.shared task.body) (λ i. HasWords program.shared i (words i) × (block_assigns i task.body ≡ true))
+    let assigned : (i : ℕ) → IsPrivateIn program.functions program.shared task.body i → assigns_of (summaries program) i task.body ≡ true =
+    λ i h. block_assigned i program.shared program.functions bodies task.body formed.statements
+    (writes_some (Shared i) program.functions callable task.body formed.calls h.owed.0) in
+    let few : words_of_all words plan.0.private_scalars ≤ scalars_of (summaries program) program.shared task.body =
+    marked_are_counted (λ i. assigns_of (summaries program) i task.body) words program.shared plan.0.private_scalars is.ascending
+    (All-weaker (IsPrivateIn program.functions program.shared task.body)
+    (λ i. HasWords program.shared i (words i) × (assigns_of (summaries program) i task.body ≡ true))
     (λ i h. (has_words i h.scalar, assigned i h)) plan.0.private_scalars is.only) in
     let numbers = ap (words_of_all words) (laid.layout.tasks.each k task plan.0 t e plan.1 f).privates in
     let their = words_by_number l.variables t.privates (all_at (λ t. All (HasItsPlace l.variables) t.privates) l.tasks k t laid.layout.rules.privates f) in
-    let none : summaries program ≡ [] = ap function_summaries plain in
-    let bound : private_words t.privates ≤ scalars_of [] program.shared task.body = omega (arith, few, numbers, their) in
-    subst (λ known. private_words t.privates ≤ scalars_of known program.shared task.body) (sym none) bound
+    omega (arith, few, numbers, their)
   where
     words : ℕ → ℕ
     words i = words_at (slice_get l.variables i)

@@ -14,10 +14,12 @@ use Rattle.memory_map.specs.declared.place.ArrayCopies.{ArrayCopies}
 use Rattle.memory_map.specs.declared.place.VariablePlace.{VariablePlace}
 use Rattle.memory_map.specs.declared.place.VariablePlace.TheVariants.{Scalar, Array}
 use Rattle.memory_map.specs.declared.place.PrivateScalar.{PrivateScalar}
+use Rattle.memory_map.specs.declared.place.RoutinePlace.{RoutinePlace}
 use Rattle.memory_map.specs.MemoryMap.{MemoryMap, TaskPlace, word_place}
-use Rattle.memory_map.specs.Places.{end_of, scalar_words, AreInOrder, home_region, copy_regions, version_regions, HasItsPlace, IsLaidOut}
+use Rattle.memory_map.specs.Places.{end_of, scalar_words, AreInOrder, home_region, copy_regions, version_regions, code_regions}
+use Rattle.memory_map.specs.Places.{HasItsPlace, IsLaidOut}
 use Rattle.memory_map.proofs.Interface.{parts_in_fram, words_stand, in_order_within, in_order_split, in_order_end}
-use Rattle.memory_map.specs.Spots.{Places, places_of, address_of, copy_among, home_in, home_of, copy_else}
+use Rattle.memory_map.specs.Spots.{Places, places_of, routine_places, address_of, copy_among, home_in, home_of, copy_else}
 
 abbrev pub CopiesOfWords : Option ArrayCopies → Type 0
 CopiesOfWords None = Unit {0}
@@ -32,6 +34,10 @@ PlaceOfWords (Some (Array elements length copies)) = IsWord elements × IsWord l
 abbrev pub PrivateOfWords : PrivateScalar → Type 0
 PrivateOfWords s = IsWord s.home × IsWord s.copy
 
+-- the code of each function begins at an address that is a word
+abbrev pub HasCodeOfWords : List RoutinePlace → Type 0
+HasCodeOfWords rs = (i : ℕ) (r : RoutinePlace) → slice_get rs i ≡ Some r → IsWord r.code.address
+
 -- all addresses that a task's program needs are words
 pub record PlacesOfWords (p : Places) : Type 0 where
   pub words : (w : RuntimeWord) → IsWord (word_place p.map w)
@@ -41,10 +47,23 @@ pub record PlacesOfWords (p : Places) : Type 0 where
   pub addresses : (v : ℕ) → IsWord (address_of p v)
   pub places : (v : ℕ) → PlaceOfWords (slice_get p.map.variables v)
   pub privates : AllByRecursion PrivateOfWords p.privates
+  pub routines : HasCodeOfWords p.routines
 
--- the regions of one variable among those of all end by the end
-regions_end : (f : VariablePlace → List Region) (from : ℕ) (vs : List VariablePlace) (end i : ℕ) (v : VariablePlace) → AreInOrder from (flat_map f vs) end
-    → slice_get vs i ≡ Some v
+-- they are the same where a function's code is at work
+pub routine_words : (p : Places) (r : RoutinePlace) → PlacesOfWords p → PlacesOfWords (routine_places p r)
+routine_words p r h = record {
+  words = h.words;
+  list = h.list;
+  emits = h.emits;
+  commit = h.commit;
+  addresses = h.addresses;
+  places = h.places;
+  privates = h.privates;
+  routines = h.routines;
+}
+
+-- the regions of one of a row among those of all end by the end
+regions_end : {A : Type 0} (f : A → List Region) (from : ℕ) (vs : List A) (end i : ℕ) (v : A) → AreInOrder from (flat_map f vs) end → slice_get vs i ≡ Some v
     → (low : ℕ) × (high : ℕ) × (high ≤ end) × AreInOrder low (f v) high
 regions_end f from [] end i v h e = absurd (cc)
 regions_end f from (x ∷ vs) end zero v h e =
@@ -123,8 +142,19 @@ module _ (l : MemoryMap) (laid : IsLaidOut l) where
       by_test true other = h.0.1
       by_test false other = other
 
-  pub task_places : (t : TaskPlace) → All (HasItsPlace l.variables) t.privates → PlacesOfWords (places_of l t)
-  task_places t h =
+  -- the code of each function that a task reaches is at an address that is a word
+  pub routines_of_words : (k : ℕ) (t : TaskPlace) → slice_get l.tasks k ≡ Some t → HasCodeOfWords t.routines
+  routines_of_words k t e i r at =
+      let task = regions_end code_regions l.code.address l.tasks (end_of l.code) k t laid.code e in
+      let there = slice_get-map (λ r. r.code) t.routines i ∙ ap (option_map (λ r. r.code)) at in
+      let a = (in_order_within task.0 (code_regions t) task.1 (suc i) r.code task.3 there).end in
+      let b = (parts_in_fram l laid).code.end in
+      let c = task.2 in
+      omega arith
+
+  pub places_are_words : (t : TaskPlace) → All (HasItsPlace l.variables) t.privates
+      → HasCodeOfWords t.routines → PlacesOfWords (places_of l t)
+  places_are_words t h codes =
       let privates = privates_of_words t.privates h in
       record {
         words = λ w. (words_stand l w laid).is_fram.high;
@@ -136,4 +166,5 @@ module _ (l : MemoryMap) (laid : IsLaidOut l) where
             (home_is_word (slice_get l.variables v) (places_of_words v (slice_get l.variables v) refl));
         places = λ v. places_of_words v (slice_get l.variables v) refl;
         privates = privates;
+        routines = codes;
       }

@@ -1,73 +1,166 @@
 -- The word programs of an accepted source are whole.
-use Rattle.std.proofs.Common.{◌≡◌, ◌%◌, ◌<◌, ◌≤◌, ℕ, suc, List, [], ◌∷◌, Some, refl, arith, slice_get}
+use Rattle.std.proofs.Common.{◌≡◌, ◌%◌, ◌<◌, ◌≤◌, ℕ, suc, length, ◌&&◌, ◌||◌, not, true, List, [], ◌∷◌, Some, refl, sym, ap, subst, ◌∙◌, arith, slice_get}
 use Rattle.std.specs.Prelude.{All}
 use Rattle.std.proofs.lemmas.List.Elements.{All-nil, All-cons}
-use Rattle.task_ast.specs.Paths.{CheckedTask, CheckedBlock}
-use Rattle.task_ast.specs.declared.SharedDeclaration.{SharedDeclaration}
+use Rattle.std.proofs.lemmas.Option.{slice_get_within}
+use Rattle.task_ast.specs.Calls.{BlockCallsBelow}
+use Rattle.task_ast.specs.Paths.{CheckedProgram, CheckedFunction, CheckedTask, CheckedBlock}
+use Rattle.cost_bound.specs.declared.allowance.Allow.{Allow}
+use Rattle.cost_bound.specs.Allowance.{uses_events}
+use Rattle.cost_bound.specs.Frames.{stack_of}
+use Rattle.cost_bound.specs.Summaries.{summaries}
+use Rattle.function_locals.specs.Events.{all_light, tasks_fit, has_none, fits_events}
+use Rattle.function_locals.specs.Locals.{base_of, all_locals}
+use Rattle.function_locals.proofs.Interface.{locals_stand}
+use Rattle.war_analysis.specs.PlanValue.{TaskPlanValue}
+use Rattle.war_analysis.proofs.Interface.{element}
 use Rattle.memory_map.specs.MemoryMap.{MemoryMap, TaskPlace}
-use Rattle.memory_map.specs.Places.{HasItsPlace}
+use Rattle.memory_map.specs.Places.{end_of, HasItsPlace}
 use Rattle.memory_map.proofs.Interface.{even_of}
-use Rattle.array_versions.specs.Program as word
-use Rattle.array_versions.specs.Form.{no_calls, IsWhole, FitsTheStack, OfWords}
+use Rattle.privatise.specs.Laws.{RoutinesStand}
+use Rattle.privatise.specs.Routines.{known_functions, task_routines}
+use Rattle.privatise.proofs.Interface.{routines_stand}
+use Rattle.array_versions.specs.TaskPrograms.{TaskPrograms}
+use Rattle.array_versions.specs.Form.{IsWhole, FitsTheStack, OfWords}
 use Rattle.array_versions.proofs.Interface.{each_local_as}
-use Rattle.memory_map.specs.Spots.{Places, places_of}
+use Rattle.memory_map.specs.Spots.{Places}
 use Rattle.lower.specs.Seen.{some_path_writes, map_seen, task_seen}
-use Rattle.lower.specs.Lowered.{lowered_block, lowered_task, lowered_tasks}
-use Rattle.lower.proofs.Interface.{privates_seen, seen_all, seen_laid_out}
-use Rattle.checked_trees.specs.WellFormed.{enough, IsWellFormed}
-use Rattle.whole_programs.specs.Laws.{TasksAreWhole, ProgramsAreWhole}
-use Rattle.whole_programs.proofs.Ways.{task_way}
-use Rattle.whole_programs.proofs.Steps.{Sound, block_sound}
-use Rattle.whole_programs.proofs.Placed.{PlacesOfWords, task_places}
-use Rattle.checked_trees.proofs.Interface.{all_at, task_checked, safe_paths}
+use Rattle.lower.specs.Lowered.{task_places, lowered_task, lowered_tasks}
+use Rattle.lower.proofs.Interface.{privates_seen, seen_all, seen_laid_out, first_seen, routines_seen}
+use Rattle.checked_trees.specs.WellFormed.{IsWellFormed}
+use Rattle.whole_programs.specs.Laws.{IsLaidOutText, TasksAreWhole, ProgramsAreWhole}
+use Rattle.whole_programs.proofs.Rooms.{room_of}
+use Rattle.whole_programs.proofs.Called.{Task, task_code, task_program, task_sound, way_of_task}
+use Rattle.whole_programs.proofs.Grounds.{below_greatest, Ground, ground}
+use Rattle.whole_programs.proofs.Steps.{Sound}
+use Rattle.whole_programs.proofs.Placed.{PlacesOfWords, HasCodeOfWords, places_are_words, routines_of_words}
+use Rattle.checked_trees.proofs.Interface.{all_at, task_checked, function_checked}
+
+-- a source without functions fits where it takes events
+text_fits : (program : CheckedProgram) → program.functions ≡ [] → fits_events program ≡ true
+text_fits program is =
+    let none : has_none program.functions ≡ true = ap has_none is in
+    ap (λ b. b || (not (uses_events program) || (all_light (all_locals program.functions)
+    && tasks_fit (summaries program) (all_locals program.functions) program.tasks))) none
+
+-- what a layout says of a task's place: its locals are behind the registers of all that it calls, and the functions that it reaches have their places
+record IsStanding (program : CheckedProgram) (body : CheckedBlock) (t : TaskPlace) : Type 0 where
+  first : t.first ≡ base_of (all_locals program.functions) body
+  routines : t.routines ≡ task_routines (known_functions program) body (end_of t.code)
 
 -- a well-formed task's program, where its places are words and the commit stands at an even address
-block_whole : (p : Places) (shared : List SharedDeclaration) (b : CheckedBlock) → PlacesOfWords p → p.map.commit.address % 2 ≡ 0 → IsWellFormed shared b
-    → FitsTheStack (lowered_block p b) × OfWords (lowered_block p b)
-block_whole p shared b words even formed =
-    let sound : Sound (lowered_block p b) = block_sound p words shared b formed.statements in (
+module _ (program : CheckedProgram) (body : CheckedBlock) (p : Places) (task : Task program body p) (ground : Ground program body)
+    (formed : IsWellFormed program 0 (length program.functions) true body) (first : p.first ≡ base_of (all_locals program.functions) body)
+    (even : p.map.commit.address % 2 ≡ 0) where
+  abbrev base : ℕ
+  base = base_of (all_locals program.functions) body
+
+  sound : Sound (task_code program body p task ground.stack ground.locals) (task_program program body p task ground.stack)
+  sound = task_sound program body p task ground.stack formed first ground.locals ground.below
+
+  whole : IsWhole (task_program program body p task ground.stack)
+  whole = record {
+    locals = ground.locals;
+    room = room_of body;
+    bounds = (task_code program body p task ground.stack ground.locals).bounds;
+    fits = ground.fits;
+    lowest = ground.lowest;
+    registers = (locals_stand program.functions).few_of_task body;
+    low_locals =
+        each_local_as (λ n. base ≤ n × n < ground.locals) (λ n. n < ground.locals) (λ n h. h.1) (task_program program body p task ground.stack) sound.0;
+    own_locals =
+        each_local_as (λ n. base ≤ n × n < ground.locals) (λ n. base ≤ n) (λ n h. h.0) (task_program program body p task ground.stack) sound.0;
+    formed = sound.1;
+    ways = way_of_task program body p task ground.stack formed even;
+  }
+
+  fits_the_stack : FitsTheStack (uses_events program) (task_program program body p task ground.stack)
+  fits_the_stack = record {
+    whole = whole;
+    fits = λ e.
+        let room = ground.events e in
+        record { low = room.high; room = room.room_is; lowest = room.lowest; light = room.light };
+  }
+
+-- a task of a laid out text
+module _ (text : List ℕ) (program : CheckedProgram) (allow : Allow) (plans : List TaskPlanValue) (l : MemoryMap)
+    (laid : IsLaidOutText text program allow plans l) (k : ℕ) (task : CheckedTask) (t : TaskPlace) (e : slice_get program.tasks k ≡ Some task)
+    (f : slice_get l.tasks k ≡ Some t) where
+  abbrev own : TaskPlace
+  own = task_seen l.runtime.logging t
+
+  abbrev p : Places
+  p = task_places program.functions l t task.body
+
+  -- by its plan
+  stands : IsStanding program task.body t
+  stands =
+      let inside = slice_get_within program.tasks k task e in
+      let count = laid.plan.count in
+      let plan = element plans k (omega (arith, inside, count)) in
+      let layout = laid.layout.tasks.each k task plan.0 t e plan.1 f in
+      record { first = layout.first; routines = layout.routines }
+
+  words_are : PlacesOfWords p
+  words_are =
+      let rules = laid.layout.rules in
+      let seen = seen_laid_out (some_path_writes program.functions task.body) l rules in
+      let privates = all_at (λ t. All (HasItsPlace l.variables) t.privates) l.tasks k t rules.privates f in
+      places_are_words (map_seen program.functions task.body l) seen own
+      (privates_seen (some_path_writes program.functions task.body) l.variables own.privates
+      (seen_all (HasItsPlace l.variables) l.runtime.logging t privates))
+      (subst HasCodeOfWords (sym (routines_seen l.runtime.logging t)) (routines_of_words l rules k t f))
+
+  routines_are : RoutinesStand program task.body own.routines
+  routines_are =
+      subst (RoutinesStand program task.body) (sym (routines_seen l.runtime.logging t ∙ stands.routines)) (routines_stand program task.body (end_of t.code))
+
+  is_task : Task program task.body p
+  is_task =
+      let placed = laid.accepted.checks.checks.named.placed in
+      let below = below_greatest (stack_of (summaries program)) program.tasks k task e in
+      let within = laid.accepted.allowed.within_stack in
       record {
-        whole = record {
-          locals = 256;
-          room = enough;
-          bounds = no_calls;
-          fits = record { fits = omega arith };
-          lowest = omega arith;
-          registers = omega arith;
-          low_locals = sound.0;
-          own_locals = each_local_as (λ n. n < 256) (λ n. 0 ≤ n) (λ n l. omega arith) (lowered_block p b) sound.0;
-          formed = sound.1;
-          ways = task_way p words shared even b formed.statements (safe_paths b formed.assigned) formed.ends;
-        };
-        fits = record { low = omega arith; room = record { fits = omega arith }; lowest = omega arith; light = refl };
-        alone = sound.1;
-      },
-      sound.2,
-    )
+        formed = function_checked text program laid.accepted.checks;
+        calls = placed.calls.functions;
+        below = all_at (λ t. BlockCallsBelow (length program.functions) t.body) program.tasks k task placed.calls.tasks e;
+        words = words_are;
+        routines = routines_are;
+        stack = omega (arith, below, within);
+      }
+
+  has_ground : Ground program task.body
+  has_ground = ground program (text_fits program laid.layout.plain) laid.accepted.allowed.within_stack k task e
+
+  pub task_is_whole : FitsTheStack l.runtime.events (lowered_task program.functions l t task.body).own
+      × OfWords (lowered_task program.functions l t task.body).own
+  task_is_whole =
+      let formed = task_checked text program laid.accepted.checks k task e in
+      let first : own.first ≡ base_of (all_locals program.functions) task.body = first_seen l.runtime.logging t ∙ stands.first in
+      let even = (even_of l laid.layout.rules).commit in
+      let events : uses_events program ≡ l.runtime.events = sym (ap (λ r. r.events) laid.layout.runtime) in (
+        subst (λ b. FitsTheStack b (lowered_task program.functions l t task.body).own) events
+        (fits_the_stack program task.body p is_task has_ground formed first even),
+        (sound program task.body p is_task has_ground formed first even).2,
+      )
 
 pub tasks_are_whole : TasksAreWhole
-tasks_are_whole text program allow plans l laid k task t e f =
-    let rules = laid.layout.rules in
-    let seen = seen_laid_out (some_path_writes task.body) l rules in
-    let privates = all_at (λ t. All (HasItsPlace l.variables) t.privates) l.tasks k t rules.privates f in
-    let own = task_seen l.runtime.logging t in
-    block_whole (places_of (map_seen task.body l) own) program.shared task.body
-    (task_places (map_seen task.body l) seen own (privates_seen (some_path_writes task.body) l.variables own.privates
-    (seen_all (HasItsPlace l.variables) l.runtime.logging t privates))) (even_of l rules).commit
-    (task_checked text program laid.accepted.checks laid.layout.plain k task e)
+tasks_are_whole text program allow plans l laid k task t e f = task_is_whole text program allow plans l laid k task t e f
 
 -- what holds of each task's program by number holds of all
-all_lowered : (P : word.Program → Type 0) (l : MemoryMap) (tasks : List CheckedTask) (layouts : List TaskPlace)
+all_lowered : (P : TaskPrograms → Type 0) (fs : List CheckedFunction) (l : MemoryMap) (tasks : List CheckedTask) (layouts : List TaskPlace)
     → ((k : ℕ) (task : CheckedTask) (t : TaskPlace) → slice_get tasks k ≡ Some task → slice_get layouts k ≡ Some t
-    → P (lowered_task l t task.body)) → All P (lowered_tasks l tasks layouts)
-all_lowered P l [] layouts h = All-nil P
-all_lowered P l (task ∷ tasks) [] h = All-nil P
-all_lowered P l (task ∷ tasks) (t ∷ layouts) h =
-    All-cons P (lowered_task l t task.body) (lowered_tasks l tasks layouts) (h 0 task t refl refl)
-    (all_lowered P l tasks layouts (λ k x y e f. h (suc k) x y e f))
+    → P (lowered_task fs l t task.body)) → All P (lowered_tasks fs l tasks layouts)
+all_lowered P fs l [] layouts h = All-nil P
+all_lowered P fs l (task ∷ tasks) [] h = All-nil P
+all_lowered P fs l (task ∷ tasks) (t ∷ layouts) h =
+    All-cons P (lowered_task fs l t task.body) (lowered_tasks fs l tasks layouts) (h 0 task t refl refl)
+    (all_lowered P fs l tasks layouts (λ k x y e f. h (suc k) x y e f))
 
 pub programs_are_whole : ProgramsAreWhole
 programs_are_whole text program allow plans l laid = (
-  all_lowered IsWhole l program.tasks l.tasks (λ k task t e f. (tasks_are_whole text program allow plans l laid k task t e f).0.whole),
-  all_lowered OfWords l program.tasks l.tasks (λ k task t e f. (tasks_are_whole text program allow plans l laid k task t e f).1),
+  all_lowered (λ q. IsWhole q.own) program.functions l program.tasks l.tasks
+  (λ k task t e f. (task_is_whole text program allow plans l laid k task t e f).0.whole),
+  all_lowered (λ q. OfWords q.own) program.functions l program.tasks l.tasks
+  (λ k task t e f. (task_is_whole text program allow plans l laid k task t e f).1),
 )

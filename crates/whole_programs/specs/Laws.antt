@@ -27,19 +27,21 @@ OfTexts F = (text : List ℕ) (program : CheckedProgram) (allow : Allow) (plans 
     → IsLaidOutText text program allow plans l → F program l
 
 -- what holds of each of its tasks, by number
-abbrev OfTasks : (CheckedTask → MemoryMap → TaskPlace → Type 0) → Type 0
+abbrev OfTasks : (CheckedProgram → CheckedTask → MemoryMap → TaskPlace → Type 0) → Type 0
 OfTasks F = OfTexts (λ program l. (k : ℕ) (task : CheckedTask) (t : TaskPlace)
-    → slice_get program.tasks k ≡ Some task → slice_get l.tasks k ≡ Some t → F task l t)
+    → slice_get program.tasks k ≡ Some task → slice_get l.tasks k ≡ Some t → F program task l t)
 
--- the word program of each task is whole, with room for its stack where that of compiled code begins, and of words
+-- the word program of each task is whole, with room for its stack where that of compiled code begins, and of words. So are the programs of all functions
+-- that it calls, which are within its bounds
 abbrev pub TasksAreWhole : Type 0
-TasksAreWhole = OfTasks (λ task l t. FitsTheStack (lowered_task l t task.body) × OfWords (lowered_task l t task.body))
+TasksAreWhole = OfTasks (λ program task l t. FitsTheStack l.runtime.events (lowered_task program.functions l t task.body).own
+    × OfWords (lowered_task program.functions l t task.body).own)
 
 -- the same of all of them
 abbrev pub ProgramsAreWhole : Type 0
-ProgramsAreWhole = OfTexts (λ program l. All IsWhole (lowered l program) × All OfWords (lowered l program))
+ProgramsAreWhole = OfTexts (λ program l. All (λ q. IsWhole q.own) (lowered l program) × All (λ q. OfWords q.own) (lowered l program))
 
--- the private scalars of each task have at most as many words as its allowance counts, which counts those on the left of an assignment
+-- the private scalars of each task have at most as many words as its allowance counts, which counts those on the left of an assignment in it or in what
+-- it calls
 abbrev pub PrivatesAreFew : Type 0
-PrivatesAreFew = OfTexts (λ program l. (k : ℕ) (task : CheckedTask) (t : TaskPlace)
-    → slice_get program.tasks k ≡ Some task → slice_get l.tasks k ≡ Some t → private_words t.privates ≤ scalars_of (summaries program) program.shared task.body)
+PrivatesAreFew = OfTasks (λ program task l t. private_words t.privates ≤ scalars_of (summaries program) program.shared task.body)
