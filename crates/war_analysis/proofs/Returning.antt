@@ -1,6 +1,6 @@
 -- Each path of a function returns, where the checks find no end that is reached: a path that goes on behind a text makes one that does where
 -- the functions are taken as ones that return at once.
-use Rattle.std.proofs.Common.{◌≡◌, ◌∙◌, ◌<◌, ◌≤◌, ℕ, zero, suc, ◌+◌, ◌-◌, Bool, true, false, ◌&&◌, List, [], ◌∷◌, ◌++◌, length, map, take, Some, None}
+use Rattle.std.proofs.Common.{◌≡◌, ◌∙◌, ◌<◌, ◌≤◌, ℕ, zero, suc, ◌+◌, ◌-◌, Bool, true, false, List, [], ◌∷◌, ◌++◌, length, map, take, Some, None}
 use Rattle.std.proofs.Common.{ap, arith, refl, sym, subst, inl, inr, slice_get}
 use Rattle.std.specs.Prelude.{All}
 use Rattle.std.specs.Option.{option_map}
