@@ -1,4 +1,4 @@
-use Rattle.std.proofs.Common.{map, sym, subst, arith}
+use Rattle.std.proofs.Common.{map, sym, subst}
 use Rattle.task_ast.specs.View.{function_of}
 use Rattle.war_analysis.specs.Known.{AreSumsByVariable}
 use Rattle.war_analysis.proofs.Steps.{no_sums, next_sums}
