@@ -819,7 +819,7 @@ module _ (z : Scene) (known : KnownAgree z) where
         (with_fewer (behind_value here free there) (choice_spare more).emits (choice_spare more).lists (omega arith) (λ v. omega arith)) fits.2
         admits.2 (λ v k. writes v (passed_writes v (z.fs.sums v) (known.go_on v) e block more k)))
 
-    block_does : (b : CheckedBlock) (here : Start z (block_emits z.fs.emits b) (λ v. block_count (stores_in v) (is_store_to v) b)) → WellFormedBlock z.shared b
+    pub block_does : (b : CheckedBlock) (here : Start z (block_emits z.fs.emits b) (λ v. block_count (stores_in v) (is_store_to v) b)) → WellFormedBlock z.shared b
         → AdmitsBlock z.p.map.runtime.events b → Writes (λ v. (block_sum (z.fs.sums v) (summary (Shared v)) b).writes)
         → DoesFrom here (behaviour (lowered_block (code_places z) z.fs.bodies b) here.w) (run_block z.fs.meanings b)
     block_does t.end here fits admits writes = nothing_does here

@@ -146,7 +146,7 @@ pub use Rattle.lower.specs.Operations.{binary_meaning, long_meaning, long_shift,
 pub use Rattle.lower.specs.Runs.{is_followed_by, longer, run_at, runs_from, runs_of}
 pub use Rattle.lower.specs.Seen.{place_seen, places_seen, task_seen}
 pub use Rattle.std.proofs.lemmas.List.Elements.{All-cons, All-head, All-nil, All-tail}
-pub use Rattle.std.proofs.Common.{eq-eqb}
+pub use Rattle.std.proofs.Common.{◌||◌, eq-eqb}
 pub use Rattle.lower.specs.Sizes.{BlocksKeepToCycles, BlocksKeepToWords, BodiesKeep, RoutinesKeep, entry_cycles}
 pub use Rattle.lower.specs.Spots.{AreApart, AreDifferent, AreEven, AreListed, Room, listed_of}
 pub use Rattle.lower.specs.declared.operations.BinaryMeaning.{BinaryMeaning}

@@ -7,7 +7,7 @@ use Rattle.lower.proofs.Names.{code_places, locals_from, seen_from, StandsFor, H
 use Rattle.lower.proofs.Names.{lowered_block, routine_of, routine_among, routine_places, routine_body, body_at, RoutinePlace, Program, nothing, WordState, End, GoesOn}
 use Rattle.lower.proofs.Names.{Jumps, Gives, Short, Strays, Broken, Behaviour, behaviour, called, called_behind, behind_call, parameter_words, with_stack}
 use Rattle.lower.proofs.Names.{behaves_by_effects, EndsByEffects, answered_by, answers_told, by_answers, word_place, Version, listed_of, Element, is_store_to}
-use Rattle.lower.proofs.Names.{block_writes, called_stores, block_count, AccessSummary}
+use Rattle.lower.proofs.Names.{true, false, block_sum, block_writes, called_stores, block_count, AccessSummary}
 use Rattle.std.proofs.Common.{get_or, slice_get, All, replicate, take}
 use Rattle.std.proofs.lemmas.List.{get_or-take, length-take-le, length-replicate}
 use Rattle.std.proofs.lemmas.Option.{slice_get-get_or, slice_get_within}
