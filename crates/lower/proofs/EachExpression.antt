@@ -1,5 +1,6 @@
 -- The programs of expressions leave their values.
-use Rattle.lower.proofs.Names.{◌≡◌, ℕ, ◌+◌, ◌%◌, ◌≤◌, List, Option, Some, None, Bool, true, false, nat_le, nat_lt, if◌then◌else◌, refl, sym, ap, ◌∙◌, subst, arith}
+use Rattle.lower.proofs.Names.{◌≡◌, ℕ, ◌+◌, ◌%◌, ◌≤◌, List, Option, Some, None, Bool, true, false, nat_le, nat_lt, if◌then◌else◌, refl, sym, ap, ◌∙◌, subst}
+use Rattle.lower.proofs.Names.{arith}
 use Rattle.lower.proofs.Names.{[], ◌∷◌, ◌++◌, length, CheckedExpression, CheckedValues, WordType, Unsigned, Int, Long, UnaryOperator, BinaryOperator}
 use Rattle.lower.proofs.Names.{ShiftOperator, Variable, Shared, Local, nat_tests, IsOneWord, binary_type, unary_type, literal_type, is_refused, Evaluated}
 use Rattle.lower.proofs.Names.{gives, made_of, word_at, two_words, converted, value_of, unary_result, binary_value, binary_result, long_binary_value}
@@ -150,7 +151,8 @@ module _ (k : Keeping) where
     o : Answering
     second : Attempt → Option Evaluated
     left : AgreesAs (sparing middle k) left_type w l o
-    right : (x : Evaluated) (s : WordState) → Keeps (sparing middle k) x.behind s → AgreesAs k right_type (with_stack (x.value ∷ w.stack) s) r (by_answers x.behind second)
+    right : (x : Evaluated) (s : WordState) → Keeps (sparing middle k) x.behind s
+        → AgreesAs k right_type (with_stack (x.value ∷ w.stack) s) r (by_answers x.behind second)
     longs : SidesAgree k middle stacked w (long_program left_wide l) (long_program right_wide r) (converted_by left_type Long o)
         (λ m. converted_to right_type Long (second m))
 
@@ -249,7 +251,8 @@ by_words : (e : CheckedExpression) (o : Option Evaluated) (rest : Attempt → Op
 by_words e None rest more = refl
 by_words e (Some x) rest more = by (rest x.behind)
   where
-    by : (r : Option EvaluatedWords) → (r >>? λ ws. more (word_before (word_of e x.value) ws)) ≡ ((r >>? λ ws. Some (word_before (word_of e x.value) ws)) >>? more)
+    by : (r : Option EvaluatedWords) → (r >>? λ ws. more (word_before (word_of e x.value) ws))
+        ≡ ((r >>? λ ws. Some (word_before (word_of e x.value) ws)) >>? more)
     by None = refl
     by (Some ws) = refl
 
@@ -408,7 +411,8 @@ mutual
 
 pub expression_leaves : (k : Keeping) → KnownAgree k.z → (e : CheckedExpression) (m : Attempt) (w : WordState) → KeepsBefore k e m w → IsFit k.z.shared k.z.p e
     → ExpressionWritesWithin k.z e
-    → LeavesWord k w (behaviour (lowered_expression (code_places k.z) k.z.fs.bodies e) w) (by_answers m (λ s. converted_to (type_of e) Unsigned (value_in k e s)))
+    → LeavesWord k w (behaviour (lowered_expression (code_places k.z) k.z.fs.bodies e) w)
+      (by_answers m (λ s. converted_to (type_of e) Unsigned (value_in k e s)))
 expression_leaves k known e m w kept fits writes =
     word_agrees k (type_of e) w (lowered_in k e) (by_answers m (value_in k e)) (lowering_agrees k known e m w kept fits.0 fits.1 writes)
 

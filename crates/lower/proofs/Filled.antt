@@ -1,8 +1,10 @@
 -- The programs as they are made, with the bodies of functions in their calls, are those that behave.
-use Rattle.lower.proofs.Names.{◌≡◌, ℕ, ◌%◌, Bool, true, false, List, [], ◌∷◌, Option, Some, None, refl, sym, ap, ◌∙◌, if◌then◌else◌, CheckedExpression, CheckedValues}
+use Rattle.lower.proofs.Names.{◌≡◌, ℕ, ◌%◌, Bool, true, false, List, [], ◌∷◌, Option, Some, None, refl, sym, ap, ◌∙◌, if◌then◌else◌, CheckedExpression}
+use Rattle.lower.proofs.Names.{CheckedValues}
 use Rattle.lower.proofs.Names.{CheckedStatement, CheckedChoice, CheckedBlock, PlacedOperator, UnaryOperator, BinaryOperator, ShiftOperator}
 use Rattle.lower.proofs.Names.{ShortCircuitOperator, BothHold, OneHolds, WordType, Int, Unsigned, Long, Variable, Shared, Local, Places, RoutinePlace}
-use Rattle.lower.proofs.Names.{routine_of, VariablePlace, Scalar, Array, ArrayPlace, ListPlace, Logging, Redo, Undo, PlainOperation, Step, Test, Program, nothing}
+use Rattle.lower.proofs.Names.{routine_of, VariablePlace, Scalar, Array, ArrayPlace, ListPlace, Logging, Redo, Undo, PlainOperation, Step, Test, Program}
+use Rattle.lower.proofs.Names.{nothing}
 use Rattle.lower.proofs.Names.{joined, one, truth, binary, unary, shift, long, call, give, emit_word, freeze_events, choose, repeat, word_place, Gate, Base}
 use Rattle.lower.proofs.Names.{SentBase, NextTask, ListLength, EmitCount, Run, runs_of, Plain, And, Or, Xor, Negate, Complement, Subtract, BinaryMeaning}
 use Rattle.lower.proofs.Names.{Calculates, CommonBits, Holds, Fails, LongQuestion, LongMeaning, binary_meaning, long_meaning, shift_operation, long_shift}
@@ -133,7 +135,8 @@ module _ (bodies : ℕ → Program) where
   shift_filled Long shift_operator.Left l k =
       ap as_long (behind_filled (long_words l) (long (with_longs.ShiftLeft k)) ∙ ap (λ r. joined r (one (long (with_longs.ShiftLeft k)))) (long_words_filled l))
   shift_filled Long shift_operator.Right l k =
-      ap as_long (behind_filled (long_words l) (long (with_longs.ShiftRight k)) ∙ ap (λ r. joined r (one (long (with_longs.ShiftRight k)))) (long_words_filled l))
+      ap as_long (behind_filled (long_words l) (long (with_longs.ShiftRight k)) ∙ ap (λ r. joined r (one (long (with_longs.ShiftRight k))))
+        (long_words_filled l))
   shift_filled of op l k =
       let last = shift (shift_operation op of) k in
       ap as_word (behind_filled (word_program l) last ∙ ap (λ r. joined r (one last)) (word_filled l))

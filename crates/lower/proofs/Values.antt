@@ -24,7 +24,8 @@ use Rattle.lower.proofs.Effects.{takes_weaker}
 use Rattle.lower.proofs.Acts.{plain_did}
 use Rattle.lower.proofs.Stored.{own_number, same_variables, same_list, same_emits, spots_low, list_low, emits_low}
 use Rattle.lower.proofs.Ends.{DidFrom}
-use Rattle.lower.proofs.Sequence.{Spare, Covers, Keeping, sparing, Keeps, spared, LeavesWords, as_value, comes_alone, comes_behind_looks, from_value, value_then}
+use Rattle.lower.proofs.Sequence.{Spare, Covers, Keeping, sparing, Keeps, spared, LeavesWords, as_value, comes_alone, comes_behind_looks, from_value}
+use Rattle.lower.proofs.Sequence.{value_then}
 use Rattle.task_ast.specs.declared.UnaryOperator.TheVariants as unary_operator
 use Rattle.task_ast.specs.declared.BinaryOperator.TheVariants as operator
 use Rattle.task_ast.specs.declared.ShiftOperator.TheVariants as shift_operator
@@ -387,7 +388,8 @@ module _ (k : Keeping) where
         own_reads : (c : ArrayCopies) (at : IsArrayAt k.z.p v elements length (Some c)) (logging : Logging)
             → (i < length → own_by logging (w.fram (word_place k.z.p.map Version) == w.fram (2 * i + c.versions)) (w.fram (2 * i + c.copies))
             (w.fram (2 * i + elements)) ≡ word)
-            → LeavesWord k (with_stack below w) (behaviour (one (own_read logging (array_place elements length c) (list_place k.z.p))) (with_stack (i ∷ below) w))
+            → LeavesWord k (with_stack below w) (behaviour (one (own_read logging (array_place elements length c) (list_place k.z.p)))
+              (with_stack (i ∷ below) w))
             (by_answers m (gives word))
         own_reads c at Redo own =
             let e = 2 * i + elements in
@@ -433,7 +435,8 @@ module _ (k : Keeping) where
         (by_answers m (gives (word_at m.variables x i)))
     element_agrees (Shared v) i is =
         subst
-        (λ o. LeavesWord k (with_stack below w) (behaviour (one (element_read k.z.p o)) (with_stack (i ∷ below) w)) (by_answers m (gives (word_at m.variables (Shared v) i))))
+        (λ o. LeavesWord k (with_stack below w) (behaviour (one (element_read k.z.p o)) (with_stack (i ∷ below) w))
+          (by_answers m (gives (word_at m.variables (Shared v) i))))
         (sym is.3.place) (array_read v is.0 is.1 i is.2 is.3)
     element_agrees (Local n) i is = absurd is
 
@@ -543,7 +546,8 @@ module _ (k : Keeping) where
       pair_leaves middle single single (binary op) f w a b o second h (λ x y s. ap (λ v. goes_on [] (with_stack (v ∷ w.stack) s)) (e x y))
 
   -- an operator of two sides
-  pub binary_agrees : (middle : Spare) (meaning : BinaryMeaning) (w : WordState) (a b : Program) (o : Answering) (second : Attempt → Option Evaluated) (f : ℕ → ℕ → ℕ)
+  pub binary_agrees : (middle : Spare) (meaning : BinaryMeaning) (w : WordState) (a b : Program) (o : Answering) (second : Attempt → Option Evaluated)
+      (f : ℕ → ℕ → ℕ)
       → SidesAgree k middle single w a b o second → ((x y : ℕ) → meaning_word meaning x y ≡ f x y)
       → LoweringAgrees k w (binary_lowering meaning (joined a b)) (pair_value f o second)
   binary_agrees middle (Calculates op) w a b o second f h e =
