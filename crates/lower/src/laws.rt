@@ -19,9 +19,10 @@ pub fn tests_agree()
     ensures { TestsAgree }
 {}
 
-/// The program of statements does what they do, with the bodies of the functions that they call: it goes on with the same words of the variables, with the words that they
-/// emit in the buffer, with the elements that they stored to in the commit list, and with the same readings left; it leaves by
-/// the stores of a transition exactly where they come to one, and is short exactly where they are.
+/// The program of statements, with the bodies of the functions that it calls, does what they do: it goes on with the same words of the
+/// variables, with the words that they emit in the buffer, with the elements that they stored to in the commit list, and with the
+/// same readings left; it leaves by the stores of a transition exactly where they come to one, gives the word of a `return` where
+/// they come to that, and is short exactly where they are.
 pub fn statements_agree()
     ensures { BlocksAgree }
 {}
