@@ -412,7 +412,7 @@ mutual
 pub expression_leaves : (k : Keeping) → KnownAgree k.z → (e : CheckedExpression) (m : Attempt) (w : WordState) → KeepsBefore k e m w → IsFit k.z.shared k.z.p e
     → ExpressionWritesWithin k.z e
     → LeavesWord k w (behaviour (lowered_expression (code_places k.z) k.z.fs.bodies e) w)
-      (by_answers m (λ s. converted_to (type_of e) Unsigned (value_in k e s)))
+    (by_answers m (λ s. converted_to (type_of e) Unsigned (value_in k e s)))
 expression_leaves k known e m w kept fits writes =
     word_agrees k (type_of e) w (lowered_in k e) (by_answers m (value_in k e)) (lowering_agrees k known e m w kept fits.0 fits.1 writes)
 

@@ -136,7 +136,7 @@ module _ (bodies : ℕ → Program) where
       ap as_long (behind_filled (long_words l) (long (with_longs.ShiftLeft k)) ∙ ap (λ r. joined r (one (long (with_longs.ShiftLeft k)))) (long_words_filled l))
   shift_filled Long shift_operator.Right l k =
       ap as_long (behind_filled (long_words l) (long (with_longs.ShiftRight k)) ∙ ap (λ r. joined r (one (long (with_longs.ShiftRight k))))
-        (long_words_filled l))
+      (long_words_filled l))
   shift_filled of op l k =
       let last = shift (shift_operation op of) k in
       ap as_word (behind_filled (word_program l) last ∙ ap (λ r. joined r (one last)) (word_filled l))

@@ -70,7 +70,7 @@ all_named : (first : ℕ) (words vs before : List ℕ) → Named first vs before
 all_named first [] vs before h = subst (Named first vs) (sym (append-nil before)) h
 all_named first (w ∷ words) vs before h =
     subst (Named first (turned words (w ∷ vs))) (append_assoc before (w ∷ []) words)
-      (all_named first words (w ∷ vs) (before ++ w ∷ []) (one_named first vs before w h))
+    (all_named first words (w ∷ vs) (before ++ w ∷ []) (one_named first vs before w h))
 
 -- the words that a function is called with are the first of its locals
 entered_locals : (first : ℕ) (words : List ℕ) (j u : ℕ) → length words ≤ 256 → parameter_words first (turned words []) (first + j) ≡ Some u
@@ -265,12 +265,12 @@ all_more p fs [] = fs
 all_more p fs (f ∷ rest) = all_more p (one_more p fs f) rest
 
 all_are : (p : Places) (fs : Functions) (rest : List CheckedFunction) → all_more p fs rest ≡ record {
-      meanings = answers_from meaning_of fs.meanings rest;
-      bodies = answers_from (routine_body p) fs.bodies rest;
-      emits = answers_from function_emits fs.emits rest;
-      summaries = answers_from function_summary fs.summaries rest;
-      sums = λ v. answers_from (function_sum (summary (Shared v))) (fs.sums v) rest;
-    }
+  meanings = answers_from meaning_of fs.meanings rest;
+  bodies = answers_from (routine_body p) fs.bodies rest;
+  emits = answers_from function_emits fs.emits rest;
+  summaries = answers_from function_summary fs.summaries rest;
+  sums = λ v. answers_from (function_sum (summary (Shared v))) (fs.sums v) rest;
+}
 all_are p fs [] = refl
 all_are p fs (f ∷ rest) = all_are p (one_more p fs f) rest
 

@@ -378,7 +378,7 @@ module _ (known : List Summary) (rs : List Program) (cheap : BodiesKeep known rs
     lowering_has p s (t.unary op e) = operand_has (type_of e) op (lowering p rs e) (price known s e) (lowering_has p s e)
     lowering_has p s (t.binary op a b) =
         let both : BothHave (type_of a) (type_of b) (widened_type a) (widened_type b) (lowering p rs a) (lowering p rs b) (price known s a)
-          (price known s b) = record {
+        (price known s b) = record {
           left = widened_type_has p rs a (price known s a) (lowering_has p s a);
           right = widened_type_has p rs b (price known s b) (lowering_has p s b);
           left_wider = same_wider a;

@@ -389,7 +389,7 @@ module _ (k : Keeping) where
             → (i < length → own_by logging (w.fram (word_place k.z.p.map Version) == w.fram (2 * i + c.versions)) (w.fram (2 * i + c.copies))
             (w.fram (2 * i + elements)) ≡ word)
             → LeavesWord k (with_stack below w) (behaviour (one (own_read logging (array_place elements length c) (list_place k.z.p)))
-              (with_stack (i ∷ below) w))
+            (with_stack (i ∷ below) w))
             (by_answers m (gives word))
         own_reads c at Redo own =
             let e = 2 * i + elements in
@@ -436,7 +436,7 @@ module _ (k : Keeping) where
     element_agrees (Shared v) i is =
         subst
         (λ o. LeavesWord k (with_stack below w) (behaviour (one (element_read k.z.p o)) (with_stack (i ∷ below) w))
-          (by_answers m (gives (word_at m.variables (Shared v) i))))
+        (by_answers m (gives (word_at m.variables (Shared v) i))))
         (sym is.3.place) (array_read v is.0 is.1 i is.2 is.3)
     element_agrees (Local n) i is = absurd is
 
