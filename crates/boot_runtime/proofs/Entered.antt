@@ -5,7 +5,7 @@ use Rattle.std.proofs.lemmas.List.Elements.{All-nil, All-cons, All-head, All-tai
 use Rattle.memory_map.specs.declared.place.PrivateScalar.{PrivateScalar}
 use Rattle.memory_map.specs.MemoryMap.{MemoryMap, TaskPlace}
 use Rattle.memory_map.specs.Places.{end_of, AreInOrder, HasItsPlace, IsLaidOut}
-use Rattle.memory_map.proofs.Interface.{parts_in_fram, private_home, private_copy}
+use Rattle.memory_map.proofs.Interface.{codes_in_order, parts_in_fram, private_home, private_copy}
 use Rattle.runtime_code.specs.runtime_effects.Needs.{ArePairWords}
 use Rattle.runtime_code.specs.LayoutPlaces.{pairs_of}
 use Rattle.runtime_code.proofs.Interface.{privates_are_words}
@@ -20,7 +20,8 @@ entered from (t ∷ ts) end o p =
     (entered (end_of t.code) ts end o.1 (All-tail (λ x. All ArePairWords (pairs_of x)) t ts p))
 
 pub tasks_are_entered : TasksAreEntered
-tasks_are_entered l h = entered l.code.address l.tasks (end_of l.code) h.code (privates_are_words l h)
+tasks_are_entered l h =
+    entered l.code.address l.tasks (end_of l.code) (codes_in_order l.code.address l.tasks (end_of l.code) h.code) (privates_are_words l h)
 
 -- the words of private scalars, and their copies, end within the memory
 ends : (l : MemoryMap) → IsLaidOut l → (s : PrivateScalar) → HasItsPlace l.variables s → EndsInMemory s

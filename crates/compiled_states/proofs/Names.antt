@@ -45,6 +45,7 @@ pub use Rattle.cost_bound.specs.Allowance.{total, version_part, versions_of}
 pub use Rattle.cost_bound.specs.declared.allowance.Allow.{Allow}
 pub use Rattle.war_analysis.specs.PlanValue.{TaskPlanValue}
 pub use Rattle.privatise.specs.Layouts.{IsLayout, IsTaskLayout}
+pub use Rattle.privatise.specs.Routines.{KnownFunctions, known_functions}
 pub use Rattle.source_values.specs.Runs.{first_state, initial_words}
 pub use Rattle.source_runs.specs.Naming.{length_of}
 pub use Rattle.source_maps.specs.Maps.{map_buffer, map_list, map_of, map_ring, map_words, shared_name, task_value_of, tasks_of, value_type_of, variable_of}

@@ -1,12 +1,10 @@
 -- The image of an accepted source suits it.
 use Rattle.compiled_states.proofs.Names.{Bool, true, false, if◌then◌else◌, None}
-use Rattle.cost_bound.specs.Summary.{Summary}
-use Rattle.cost_bound.specs.Summaries.{summaries}
 use Rattle.std.specs.Prelude.{is_some}
 use Rattle.source_maps.specs.Maps.{event_ring}
 use Rattle.compiled_states.proofs.Names.{◌≡◌, ℕ, suc, List, [], ◌∷◌, length, map, Some, refl, ap, ap₂, ◌∙◌, arith, slice_get}
 use Rattle.compiled_states.proofs.Names.{SharedDeclaration, CheckedTask, TaskPlanValue, VariablePlace, TaskPlace}
-use Rattle.compiled_states.proofs.Names.{IsTaskLayout, TaskValue, variables_of, shared_name, task_value_of, tasks_of}
+use Rattle.compiled_states.proofs.Names.{IsTaskLayout, KnownFunctions, known_functions, TaskValue, variables_of, shared_name, task_value_of, tasks_of}
 use Rattle.compiled_states.proofs.Names.{map_of, ArePlacesOf, ImagesSuitTheirSources}
 use Rattle.fram_state.specs.Suits.{line_of, declared_line, planned_task, planned_tasks}
 use Rattle.memory_map.specs.declared.place.PrivateScalar.{PrivateScalar}
@@ -25,14 +23,14 @@ by_numbers : (name : ℕ → List ℕ) (ss : List PrivateScalar) → map (λ s. 
 by_numbers name [] = refl
 by_numbers name (s ∷ ss) = ap (λ ns. name s.number ∷ ns) (by_numbers name ss)
 
-task_is : (known : List Summary) (text : List ℕ) (shared : List SharedDeclaration) (task : CheckedTask) (plan : TaskPlanValue) (place : TaskPlace)
+task_is : (known : KnownFunctions) (text : List ℕ) (shared : List SharedDeclaration) (task : CheckedTask) (plan : TaskPlanValue) (place : TaskPlace)
     → IsTaskLayout known shared task.body plan place → task_value_of text shared task place ≡ planned_task text shared task plan
 task_is known text shared task plan place h =
     let Named : List (List ℕ) → TaskValue = λ ns. record (task_value_of text shared task place) { privates = ns } in
     ap Named (by_numbers (shared_name text shared) place.privates ∙ ap (map (shared_name text shared)) h.privates)
 
 -- each task has the private scalars of its plan
-tasks_are : (known : List Summary) (text : List ℕ) (shared : List SharedDeclaration) (ts : List CheckedTask) (plans : List TaskPlanValue)
+tasks_are : (known : KnownFunctions) (text : List ℕ) (shared : List SharedDeclaration) (ts : List CheckedTask) (plans : List TaskPlanValue)
     (places : List TaskPlace)
     → length plans ≡ length ts → length places ≡ length ts
     → ((k : ℕ) (task : CheckedTask) (plan : TaskPlanValue) (t : TaskPlace) → slice_get ts k ≡ Some task → slice_get plans k ≡ Some plan
@@ -60,7 +58,7 @@ images_suit_their_sources text p allow image ok c = record {
   mapped = c.map;
   lines = record {
     variables = lines_are text p.shared c.layout.variables (source_map text image (image_of text p allow image ok c)).places;
-    tasks = tasks_are (summaries p) text p.shared p.tasks c.plans c.layout.tasks c.is_plan.count c.is_layout.tasks.count c.is_layout.tasks.each;
+    tasks = tasks_are (known_functions p) text p.shared p.tasks c.plans c.layout.tasks c.is_plan.count c.is_layout.tasks.count c.is_layout.tasks.each;
     ring = ring_is c.layout.runtime.events ∙ ap (λ r. r.events) c.is_layout.runtime;
   };
 }

@@ -114,7 +114,7 @@ most_same calls marks of k (s ∷ known) few same =
     ap (λ c. max (if c then of s else 0) (most_called_from calls of (k + 1) known)) (same k (omega arith))
     ∙ ap (λ n. max (if marks k then of s else 0) n) (most_same calls marks of (k + 1) known (omega arith) same)
 
-all_same : (calls marks : ℕ → Bool) (of : Summary → ℕ) (k : ℕ) (known : List Summary) → k + length known ≤ 256
+pub all_same : (calls marks : ℕ → Bool) (of : Summary → ℕ) (k : ℕ) (known : List Summary) → k + length known ≤ 256
     → ((j : ℕ) → j < 256 → calls j ≡ marks j) → all_called_from calls of k known ≡ all_called_from marks of k known
 all_same calls marks of k [] few same = refl
 all_same calls marks of k (s ∷ known) few same =

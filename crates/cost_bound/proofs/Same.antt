@@ -27,10 +27,10 @@ use Rattle.cost_bound.proofs.Caps.{capped_times}
 use Rattle.cost_bound.proofs.Sums.{same_from, capped_from, capped_list_part}
 
 -- the same in front, and behind
-first_same : (a b : Summary) (as' bs : List Summary) → AreSame (a ∷ as') (b ∷ bs) → IsSame a b
+pub first_same : (a b : Summary) (as' bs : List Summary) → AreSame (a ∷ as') (b ∷ bs) → IsSame a b
 first_same a b as' bs h = h.each zero a b refl refl
 
-rest_same : (a b : Summary) (as' bs : List Summary) → AreSame (a ∷ as') (b ∷ bs) → AreSame as' bs
+pub rest_same : (a b : Summary) (as' bs : List Summary) → AreSame (a ∷ as') (b ∷ bs) → AreSame as' bs
 rest_same a b as' bs h = record { count = let c = h.count in omega (arith, c); each = λ k s t x y. h.each (suc k) s t x y }
 
 -- the number of a function of a number
@@ -222,7 +222,7 @@ module _ (as' bs : List Summary) (few : length as' ≤ 64) (same : AreSame as' b
   deepest_same : (b : CheckedBlock) → capped (deepest as' b) ≡ capped (deepest bs b)
   deepest_same b = most_is_same (λ k. block_calls k b) (λ s. s.depth) (λ s t h. h.depth) 0 as' bs same
 
-  routines_same : (b : CheckedBlock) → capped (routine_words as' b) ≡ capped (routine_words bs b)
+  pub routines_same : (b : CheckedBlock) → capped (routine_words as' b) ≡ capped (routine_words bs b)
   routines_same b = all_is_same (λ k. reaches_of as' k b) (λ k. reaches_of bs k b) (λ s. 40 + s.words) words_plus 0 as' bs (omega (arith, few))
       (λ j l. reaches_same j l b) same
 
@@ -245,7 +245,7 @@ module _ (as' bs : List Summary) (few : length as' ≤ 64) (same : AreSame as' b
   written_same (t ∷ ts) i l = ap (λ x. x || is_written as' ts i) (assigns_same i l t.body) ∙ ap (λ x. assigns_of bs i t.body || x) (written_same ts i l)
 
   module _ (shared : List SharedDeclaration) (low : length shared ≤ 256) where
-    scalars_same : (b : CheckedBlock) → scalars_of as' shared b ≡ scalars_of bs shared b
+    pub scalars_same : (b : CheckedBlock) → scalars_of as' shared b ≡ scalars_of bs shared b
     scalars_same b = same_from (λ i e. scalar_part (assigns_of as' i b) e) (λ i e. scalar_part (assigns_of bs i b) e) 0 shared (omega (arith, low))
         (λ k e l. ap (λ x. scalar_part x e) (assigns_same k l b))
 
@@ -260,7 +260,7 @@ module _ (as' bs : List Summary) (few : length as' ≤ 64) (same : AreSame as' b
     bound_same events versions b =
         let s = scalars_same b in let c = price_same as' bs same cycles_column b in let l = list_same b in let e = emits_same b in omega (arith, s, c, l, e)
 
-    own_same : (b : CheckedBlock) → capped (own_words as' shared b) ≡ capped (own_words bs shared b)
+    pub own_same : (b : CheckedBlock) → capped (own_words as' shared b) ≡ capped (own_words bs shared b)
     own_same b = ap (λ n. capped (block_price as' (words_column n) b)) (scalars_same b) ∙ price_same as' bs same (words_column (scalars_of bs shared b)) b
 
     pub words_same : (b : CheckedBlock) → capped (task_words as' shared b) ≡ capped (task_words bs shared b)

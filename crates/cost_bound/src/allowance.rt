@@ -171,6 +171,19 @@ fn routine_words(
     marked_words(functions, &reached_functions(functions, body))
 }
 
+/// The words of the task's own code, where it assigns so many shared scalars, without that of the functions that it reaches; 2^64 - 1
+/// where they are more.
+pub fn own_code_words(
+    functions: &[FunctionSummary],
+    scalars: u64,
+    body: &[Stmt<VariableName, TaskName, FunctionName>],
+) -> u64
+    requires few { scalars ≤ 512 }
+    ensures { result ≡ capped (block_price (known_of functions.now) (words_column scalars) (block_view body.now)) }
+{
+    block_price(functions, &words_column(scalars), body)
+}
+
 /// The words of the task's code, where it assigns so many shared scalars: its own, and that of the functions that it reaches, of which
 /// each task has a copy; 2^64 - 1 where they are more.
 pub fn code_words(
@@ -183,7 +196,7 @@ pub fn code_words(
     ensures { result ≡ capped (block_price (known_of functions.now) (words_column scalars) (block_view body.now)
         + routine_words (known_of functions.now) (block_view body.now)) }
 {
-    let own = block_price(functions, &words_column(scalars), body);
+    let own = own_code_words(functions, scalars, body);
     plus(own, routine_words(functions, body))
 }
 

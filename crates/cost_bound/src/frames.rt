@@ -103,9 +103,9 @@ fn choice_locals(arms: &[Arm<VariableName, TaskName, FunctionName>], last: u64) 
     n
 }
 
-// The locals that are declared.
+/// The locals that are declared; 2^64 - 1 where they are more.
 #[cycle(locals)]
-fn block_locals(body: &[Stmt<VariableName, TaskName, FunctionName>]) -> u64
+pub fn block_locals(body: &[Stmt<VariableName, TaskName, FunctionName>]) -> u64
     ensures { result ≡ capped (block_locals (block_view body.now)) }
 {
     let mut n = 0;

@@ -18,10 +18,13 @@ mod shared;
 mod stores;
 
 pub use allowance::{
-    Allow, Needs, assigned_scalars, code_words, task_needs, uses_events, written_variables,
+    Allow, Needs, assigned_scalars, code_words, own_code_words, task_needs, uses_events,
+    written_variables,
 };
 pub use assigned::assigned_variables;
+pub use calls::{called_functions, reached_functions};
 pub use fault::Over;
+pub use frames::{block_locals, stack};
 pub use function_summaries::{FunctionSummary, Summaries, summaries};
 pub use laws::{allowance_rows, allowed_is_small, long_price_rows, one_answer, price_rows};
 use task_check::Checked;

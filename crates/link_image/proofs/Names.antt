@@ -8,7 +8,7 @@ pub use Rattle.std.proofs.lemmas.List.Elements.{All-cons, All-head, All-nil, All
 pub use Rattle.std.specs.Prelude.{All}
 -- the machine
 pub use Rattle.address_space.specs.Limits.{fram_first, reset_vector}
-pub use Rattle.memory_map.proofs.Interface.{apart_of, even_of, in_order_end, parts_in_fram}
+pub use Rattle.memory_map.proofs.Interface.{apart_of, codes_in_order, even_of, in_order_end, parts_in_fram}
 pub use Rattle.memory_map.specs.MemoryMap.{MemoryMap, TaskPlace, word_place}
 pub use Rattle.memory_map.specs.Places.{AreInOrder, IsLaidOut, end_of, home_region}
 pub use Rattle.memory_map.specs.declared.place.ScalarWidth.TheVariants.{OneWord, TwoWords}

@@ -21,7 +21,7 @@ use Rattle.boot_runtime.specs.memory_map.declared.runtime.Logging.{Logging}
 use Rattle.boot_runtime.specs.memory_map.declared.runtime.Logging.TheVariants.{Redo, Undo}
 use Rattle.boot_runtime.specs.memory_map.MemoryMap.{MemoryMap, TaskPlace}
 use Rattle.boot_runtime.specs.memory_map.Places.{end_of, AreInOrder}
-use Rattle.boot_runtime.proofs.memory_map.Interface.{apart_of, even_of}
+use Rattle.boot_runtime.proofs.memory_map.Interface.{apart_of, codes_in_order, even_of}
 
 tasks_in_order : (events : Bool) (from : ℕ) (ts : List TaskPlace) (ps : List Program) (end : ℕ) → AreInOrder from (map (λ t. t.code) ts) end
     → ProgramsFit ts ps → PartsInOrder from (task_parts events ts ps) end
@@ -73,7 +73,8 @@ in_order l programs f = (
   (
     record { from = boot_length l programs f; even = (even_of l f.rules).commit },
     from_before l.code.address (part_end (commit_part l)) (task_parts l.runtime.events l.tasks programs) (end_of l.code) (commit_length l programs f)
-        (tasks_in_order l.runtime.events l.code.address l.tasks programs (end_of l.code) f.rules.code f.tasks),
+        (tasks_in_order l.runtime.events l.code.address l.tasks programs (end_of l.code)
+        (codes_in_order l.code.address l.tasks (end_of l.code) f.rules.code) f.tasks),
   ),
 )
 

@@ -5,7 +5,7 @@ use Rattle.std.proofs.lemmas.List.Elements.{All-nil, All-cons, All-head, All-tai
 use Rattle.boot_runtime.specs.memory_map.declared.place.PrivateScalar.{PrivateScalar}
 use Rattle.boot_runtime.specs.memory_map.MemoryMap.{MemoryMap, TaskPlace}
 use Rattle.boot_runtime.specs.memory_map.Places.{end_of, scalar_words, AreInOrder, HasItsPlace, IsLaidOut}
-use Rattle.boot_runtime.proofs.memory_map.Interface.{apart_of, parts_in_fram, private_home}
+use Rattle.boot_runtime.proofs.memory_map.Interface.{apart_of, codes_in_order, parts_in_fram, private_home}
 use Rattle.undo_runtime.specs.Entries.{words_from, home_words, homes_in, task_of, logged_tasks, FitsList}
 use Rattle.undo_runtime.specs.Needs.{ListStands, IsLoggable}
 use Rattle.undo_runtime.specs.Laws.{IsReached}
@@ -64,4 +64,5 @@ module _ (l : MemoryMap) (rules : IsLaidOut l) where
       (all_reached (end_of t.code) ts end order.1 (All-tail Placed t ts places) (All-tail (FitsList l) t ts fit))
 
   pub tasks_are_reached : All (FitsList l) l.tasks → All (IsReached l) (logged_tasks l)
-  tasks_are_reached fit = all_reached l.code.address l.tasks (end_of l.code) rules.code rules.privates fit
+  tasks_are_reached fit =
+      all_reached l.code.address l.tasks (end_of l.code) (codes_in_order l.code.address l.tasks (end_of l.code) rules.code) rules.privates fit

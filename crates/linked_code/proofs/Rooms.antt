@@ -6,13 +6,13 @@ use Rattle.std.proofs.lemmas.Option.{slice_get_within, slice_get-get_or}
 use Rattle.boot_runtime.specs.task_ast.declared.SharedDeclaration.{SharedDeclaration}
 use Rattle.boot_runtime.specs.cost_bound.Summary.{Summary}
 use Rattle.boot_runtime.specs.cost_bound.Summaries.{summaries}
-use Rattle.boot_runtime.specs.cost_bound.Allowance.{CheckedTask, scalars_of, list_of, greatest, total}
+use Rattle.boot_runtime.specs.cost_bound.Allowance.{CheckedTask, own_words, scalars_of, list_of, greatest, total}
 use Rattle.boot_runtime.specs.war_analysis.PlanValue.{TaskPlanValue}
 use Rattle.word_code.specs.array_versions.Program.{Program}
 use Rattle.boot_runtime.specs.memory_map.declared.runtime.Logging.{Logging}
 use Rattle.boot_runtime.specs.memory_map.declared.runtime.Logging.TheVariants.{Redo, Undo}
 use Rattle.boot_runtime.specs.memory_map.MemoryMap.{MemoryMap, TaskPlace}
-use Rattle.boot_runtime.specs.privatise.Sizes.{body_words, boot_words, commit_words, entry_words}
+use Rattle.boot_runtime.specs.privatise.Sizes.{boot_words, commit_words, entry_words}
 use Rattle.boot_runtime.specs.memory_map.Spots.{private_words}
 use Rattle.boot_runtime.proofs.runtime_effects.Interface.{scalar_pairs_count}
 use Rattle.boot_runtime.specs.Entries.{entry_of, task_entries}
@@ -25,10 +25,10 @@ use Rattle.undo_runtime.proofs.Interface.{homes_count, undo_boot_fits}
 use Rattle.linked_code.specs.Linked.{bytes_of_boot, bytes_of_commit, StartsFit, ProgramsFit}
 use Rattle.linked_code.specs.Rooms.{ProgramsKeep, LayoutsHaveRoom}
 
--- a task has the words, and at most the words of private scalars, that the allowance counts
+-- a task has the words of its own code, and at most the words of private scalars, that the allowance counts
 record IsCounted (known : List Summary) (shared : List SharedDeclaration) (task : CheckedTask) (t : TaskPlace) : Type 0 where
   pub privates : private_words t.privates ≤ scalars_of known shared task.body
-  pub words : t.code.words ≡ body_words known shared task.body
+  pub words : t.code.words ≡ own_words known shared task.body
 
 -- each task has
 abbrev AreCounted : List Summary → List SharedDeclaration → List CheckedTask → List TaskPlace → Type 0

@@ -36,7 +36,7 @@ use Rattle.boot_runtime.proofs.memory_map.Interface.{apart_of, even_of}
 
 -- a task's layout where there is none
 abbrev no_task : TaskPlace
-no_task = record { privates = []; code = record { address = 0; words = 0 } }
+no_task = record { privates = []; code = record { address = 0; words = 0 }; first = 0; routines = [] }
 
 entry_is : (ts : List TaskPlace) (k : ℕ) → entry_at (map entry_of ts) k ≡ entry_of (get_or ts k no_task)
 entry_is [] k = refl

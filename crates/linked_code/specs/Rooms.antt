@@ -4,7 +4,7 @@ use Rattle.boot_runtime.specs.task_ast.declared.SharedDeclaration.{SharedDeclara
 use Rattle.boot_runtime.specs.cost_bound.declared.allowance.Allow.{Allow}
 use Rattle.boot_runtime.specs.cost_bound.Summary.{Summary}
 use Rattle.boot_runtime.specs.cost_bound.Summaries.{summaries}
-use Rattle.boot_runtime.specs.cost_bound.Allowance.{CheckedProgram, CheckedTask, IsAllowed, scalars_of}
+use Rattle.boot_runtime.specs.cost_bound.Allowance.{CheckedProgram, CheckedTask, IsAllowed, own_words, scalars_of}
 use Rattle.boot_runtime.specs.war_analysis.PlanValue.{TaskPlanValue}
 use Rattle.word_code.specs.array_versions.Program.{Program}
 use Rattle.word_code.specs.array_versions.Cost.{words_of}
@@ -12,15 +12,14 @@ use Rattle.boot_runtime.specs.memory_map.declared.runtime.Logging.{Logging}
 use Rattle.boot_runtime.specs.memory_map.MemoryMap.{MemoryMap, TaskPlace}
 use Rattle.boot_runtime.specs.memory_map.Spots.{private_words}
 use Rattle.boot_runtime.specs.privatise.Layouts.{IsLayoutFor}
-use Rattle.boot_runtime.specs.privatise.Sizes.{body_words}
 use Rattle.linked_code.specs.Linked.{CodeFits}
 
--- each program keeps to the words that the allowance has for its task, where these functions are known
+-- each program keeps to the words that the allowance has for its task's own code, where these functions are known
 abbrev pub ProgramsKeep : List Summary → List SharedDeclaration → List CheckedTask → List Program → Type 0
 ProgramsKeep known shared [] [] = Unit {0}
 ProgramsKeep known shared [] (q ∷ qs) = ⊥
 ProgramsKeep known shared (t ∷ ts) [] = ⊥
-ProgramsKeep known shared (t ∷ ts) (q ∷ qs) = (words_of q ≤ body_words known shared t.body) × ProgramsKeep known shared ts qs
+ProgramsKeep known shared (t ∷ ts) (q ∷ qs) = (words_of q ≤ own_words known shared t.body) × ProgramsKeep known shared ts qs
 
 -- each task's private scalars have at most as many words as the allowance counts
 abbrev pub PrivatesAreCounted : CheckedProgram → MemoryMap → Type 0

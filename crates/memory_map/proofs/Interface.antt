@@ -1,7 +1,7 @@
 -- What the proofs of other crates cite.
 
 -- Regions one behind another.
-pub use Rattle.memory_map.proofs.InOrder.{in_order_higher, in_order_append, in_order_push, in_order_end, in_order_within, in_order_split}
+pub use Rattle.memory_map.proofs.InOrder.{in_order_lower, in_order_higher, in_order_append, in_order_push, in_order_end, in_order_within, in_order_split}
 -- The regions of a memory map, and the words of the runtime in front of them.
 pub use Rattle.memory_map.proofs.Parts.{apart_of, even_of, parts_in_fram, words_stand, word_even}
 -- What the order of regions says of variables.
@@ -19,3 +19,5 @@ pub use Rattle.memory_map.proofs.Spots.{copies_row, version_between, spots_are_a
 -- The words of private scalars, and their copies.
 pub use Rattle.memory_map.proofs.InOrder.{Within}
 pub use Rattle.memory_map.proofs.Privates.{private_home_region, private_copy_region, private_home, private_copy}
+-- The functions that a task reaches.
+pub use Rattle.memory_map.proofs.Routines.{codes_in_order, same_element, same_copied, same_spot, same_address, same_spots}

@@ -6,4 +6,5 @@ mod Homes
 mod Addresses
 mod Spots
 mod Privates
+mod Routines
 pub mod Interface

@@ -3,16 +3,20 @@ use Rattle.std.specs.Prelude.{ℕ, ◌+◌, ◌*◌, Bool, false, if◌then◌el
 use Rattle.memory_map.specs.declared.place.Region.{Region}
 use Rattle.memory_map.specs.declared.place.VariablePlace.{VariablePlace}
 use Rattle.memory_map.specs.declared.place.PrivateScalar.{PrivateScalar}
+use Rattle.memory_map.specs.declared.place.RoutinePlace.{RoutinePlace}
 use Rattle.memory_map.specs.declared.words.RuntimeWord.{RuntimeWord}
 use Rattle.memory_map.specs.declared.runtime.Runtime.{Runtime}
 use Rattle.memory_map.specs.declared.runtime.Logging.TheVariants.{Redo, Undo}
 use Rattle.memory_map.specs.declared.runtime.Role.TheVariants.{Alone}
 use Rattle.memory_map.specs.Words.{index_of, row_words}
 
--- a task's private scalars in order of declaration, and the room for its code
+-- a task's private scalars in order of declaration, and the room for its own code; the number of its first local, and the functions that it
+-- reaches, in order of declaration
 pub record TaskPlace : Type 0 where
   pub privates : List PrivateScalar
   pub code : Region
+  pub first : ℕ
+  pub routines : List RoutinePlace
 
 -- the runtime's words, the buffers, the words of the shared variables and of their copies, then the code of boot, commit and tasks
 pub record MemoryMap : Type 0 where

@@ -9,7 +9,7 @@ use Rattle.memory_map.specs.declared.place.ScalarWidth.TheVariants.{OneWord, Two
 use Rattle.memory_map.specs.declared.place.VariablePlace.{VariablePlace}
 use Rattle.memory_map.specs.declared.place.VariablePlace.TheVariants.{Scalar, Array}
 use Rattle.memory_map.specs.declared.place.PrivateScalar.{PrivateScalar}
-use Rattle.memory_map.specs.MemoryMap.{MemoryMap, parts}
+use Rattle.memory_map.specs.MemoryMap.{MemoryMap, TaskPlace, parts}
 
 -- the address behind a region
 abbrev pub end_of : Region → ℕ
@@ -68,6 +68,10 @@ list_entry_room = 3
 pub record HasItsPlace (variables : List VariablePlace) (s : PrivateScalar) : Type 0 where
   pub place : slice_get variables s.number ≡ Some (Scalar s.home s.copy s.width)
 
+-- the room for a task's own code, and behind it that for the code of each function that it reaches
+abbrev pub code_regions : TaskPlace → List Region
+code_regions t = t.code ∷ map (λ r. r.code) t.routines
+
 -- the rules of a memory map
 pub record IsLaidOut (m : MemoryMap) : Type 0 where
   -- one chain: the words of the runtime, the buffers, the variables, their copies, and all code above them, up to the end of a program
@@ -78,5 +82,5 @@ pub record IsLaidOut (m : MemoryMap) : Type 0 where
   pub copies : AreInOrder m.copies.address (flat_map copy_regions m.variables) (end_of m.copies)
   pub versions : AreInOrder m.versions.address (flat_map version_regions m.variables) (end_of m.versions)
   -- the tasks' code in order
-  pub code : AreInOrder m.code.address (map (λ t. t.code) m.tasks) (end_of m.code)
+  pub code : AreInOrder m.code.address (flat_map code_regions m.tasks) (end_of m.code)
   pub privates : All (λ t. All (HasItsPlace m.variables) t.privates) m.tasks

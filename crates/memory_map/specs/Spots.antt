@@ -5,19 +5,36 @@ use Rattle.memory_map.specs.declared.place.ArrayCopies.{ArrayCopies}
 use Rattle.memory_map.specs.declared.place.VariablePlace.{VariablePlace}
 use Rattle.memory_map.specs.declared.place.VariablePlace.TheVariants.{Scalar, Array}
 use Rattle.memory_map.specs.declared.place.PrivateScalar.{PrivateScalar}
+use Rattle.memory_map.specs.declared.place.RoutinePlace.{RoutinePlace}
 use Rattle.memory_map.specs.MemoryMap.{MemoryMap, TaskPlace}
 use Rattle.memory_map.specs.Places.{scalar_words, home_region, HasItsPlace, IsLaidOut}
 
 -- ---- what a task has of a memory map
 
--- the memory map, and the scalars that are private in the task
+-- the memory map, the scalars that are private in the task, the number of the first local of the code that is at work, and the functions that the
+-- task reaches
 pub record Places : Type 0 where
   pub map : MemoryMap
   pub privates : List PrivateScalar
+  pub first : ℕ
+  pub routines : List RoutinePlace
 
 -- those of a task in a memory map
 abbrev pub places_of : MemoryMap → TaskPlace → Places
-places_of m t = record { map = m; privates = t.privates }
+places_of m t = record { map = m; privates = t.privates; first = t.first; routines = t.routines }
+
+-- the same where a function's code is at work, whose locals are its own
+abbrev pub routine_places : Places → RoutinePlace → Places
+routine_places p r = record p { first = r.first }
+
+-- the function of a number, where it is among these
+abbrev pub routine_among : List RoutinePlace → ℕ → Option RoutinePlace
+routine_among [] number = None
+routine_among (r ∷ more) number = if r.function == number then Some r else routine_among more number
+
+-- where it is one that the task reaches
+abbrev pub routine_of : Places → ℕ → Option RoutinePlace
+routine_of p number = routine_among p.routines number
 
 -- how many words private scalars have
 abbrev pub private_words : List PrivateScalar → ℕ

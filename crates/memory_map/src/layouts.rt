@@ -1,6 +1,6 @@
 //! Layouts: memory maps of compiled sources, as they are kept in memory.
 
-use crate::place::{PrivateScalar, Region, VariablePlace};
+use crate::place::{PrivateScalar, Region, RoutinePlace, VariablePlace};
 use crate::runtime::{Logging, Runtime};
 use crate::words::RuntimeWord;
 use std::marker::Model;
@@ -30,11 +30,13 @@ pub struct Regions {
     pub code: Region,
 }
 
-/// A task's private scalars, and the room for its code.
+/// A task's private scalars, the room for its own code, the number of its first local, and the functions that it reaches.
 #[derive(Drop)]
 pub struct TaskLayout {
     privates: Vec<PrivateScalar>,
     code: Region,
+    first: u16,
+    routines: Vec<RoutinePlace>,
 }
 
 impl Model for TaskLayout {
@@ -42,17 +44,28 @@ impl Model for TaskLayout {
 
     ghost Value = { TaskPlace };
 
-    ghost view = { λ t. record { privates = t.privates.items; code = t.code } };
+    ghost view = { λ t. record { privates = t.privates.items; code = t.code; first = t.first; routines = t.routines.items } };
 }
 
 impl TaskLayout {
     ghost use Rattle.std.specs.Prelude.{◌≡◌};
 
-    /// A task with these private scalars, in order of declaration, and this room for its code.
-    pub fn new(privates: Vec<PrivateScalar>, code: Region) -> TaskLayout
-        ensures { result ≡ record { privates = privates.items; code = code } }
+    /// A task with these private scalars, in order of declaration, this room for its own code, this number of its first local, and
+    /// the functions that it reaches, in order of declaration.
+    pub fn new(
+        privates: Vec<PrivateScalar>,
+        code: Region,
+        first: u16,
+        routines: Vec<RoutinePlace>,
+    ) -> TaskLayout
+        ensures { result ≡ record { privates = privates.items; code = code; first = first; routines = routines.items } }
     {
-        TaskLayout { privates, code }
+        TaskLayout {
+            privates,
+            code,
+            first,
+            routines,
+        }
     }
 
     /// The private scalars, in order of declaration.
@@ -62,11 +75,25 @@ impl TaskLayout {
         self.privates.as_slice()
     }
 
-    /// Where the task's code stands, and the words that are kept for it.
+    /// Where the task's own code stands, and the words that are kept for it.
     pub fn code(&self) -> Region
         ensures { result ≡ self.now.code }
     {
         self.code
+    }
+
+    /// The number of its first local; the others have the numbers behind it.
+    pub fn first(&self) -> u16
+        ensures { result ≡ self.now.first }
+    {
+        self.first
+    }
+
+    /// The functions that the task reaches, in order of declaration.
+    pub fn routines(&self) -> &[RoutinePlace]
+        ensures { result.now ≡ self.now.routines }
+    {
+        self.routines.as_slice()
     }
 }
 
@@ -74,7 +101,8 @@ impl TaskLayout {
 ///
 /// From 0x4400 up, each at an even address and apart from the others: the words of the runtime; the commit list, with three words kept
 /// for an entry; the emit buffer; the version words of all written arrays; the words of all shared variables; the copies of scalars
-/// and of written arrays; and then code: the boot, the commit, each task. All of it ends below 0xFF18.
+/// and of written arrays; and then code: the boot, the commit, each task with the functions that it reaches. All of it ends below
+/// 0xFF18.
 #[derive(Drop)]
 pub struct Layout {
     runtime: Runtime,

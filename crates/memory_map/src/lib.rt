@@ -15,6 +15,6 @@ pub use laws::{
     words_are_fram_words, words_differ,
 };
 pub use layouts::{Layout, Regions, TaskLayout};
-pub use place::{ArrayCopies, PrivateScalar, Region, ScalarWidth, VariablePlace};
+pub use place::{ArrayCopies, PrivateScalar, Region, RoutinePlace, ScalarWidth, VariablePlace};
 pub use runtime::{Logging, Role, Runtime};
 pub use words::{ROW_WORDS, RuntimeWord};

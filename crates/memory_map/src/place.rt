@@ -63,3 +63,14 @@ pub struct PrivateScalar {
     pub copy: u16,
     pub width: ScalarWidth,
 }
+
+/// A function in a task that reaches it: its number in the source, and the room for its code, which begins at its first instruction.
+/// Its locals have the numbers from `first` on, its parameters the first of them: all below 8, in registers, or all from 8 on, in RAM.
+/// There its stack begins at `frame`, right below them.
+#[derive(Clone, Copy, PartialEq, Eq)]
+pub struct RoutinePlace {
+    pub function: u32,
+    pub code: Region,
+    pub frame: Option<u16>,
+    pub first: u16,
+}

@@ -1,5 +1,6 @@
 -- A source has one layout.
-use Rattle.std.proofs.Common.{◌≡◌, ℕ, zero, suc, ◌+◌, ◌-◌, ◌*◌, ◌≤◌, List, [], ◌∷◌, length, map, get_or, refl, sym, ◌∙◌, ap, subst, arith, Some}
+use Rattle.std.proofs.Common.{◌≡◌, ℕ, zero, suc, ◌+◌, ◌-◌, ◌*◌, ◌≤◌, Bool, true, false, if◌then◌else◌, List, [], ◌∷◌, ◌++◌, length, map, get_or, refl, sym}
+use Rattle.std.proofs.Common.{◌∙◌, ap, subst, arith, Some}
 use Rattle.std.specs.Prelude.{slice_get, All}
 use Rattle.std.proofs.lemmas.List.Elements.{All-head, All-tail}
 use Rattle.memory_map.specs.address_space.Limits.{fram_first}
@@ -7,7 +8,9 @@ use Rattle.memory_map.specs.Words.{row_words}
 use Rattle.task_ast.specs.declared.SharedDeclaration.{SharedDeclaration}
 use Rattle.cost_bound.specs.declared.allowance.Allow.{Allow}
 use Rattle.cost_bound.specs.Summary.{Summary}
-use Rattle.cost_bound.specs.Summaries.{summaries}
+use Rattle.cost_bound.specs.Summaries.{function_summary, summaries}
+use Rattle.cost_bound.specs.Counts.{CheckedBlock, routine_words, reaches_of, all_called_from}
+use Rattle.cost_bound.specs.Frames.{stack_of}
 use Rattle.cost_bound.specs.Allowance.{CheckedTask, CheckedProgram, is_written, total, plain_words_of, versions_of, IsAllowed}
 use Rattle.war_analysis.specs.PlanValue.{TaskPlanValue}
 use Rattle.memory_map.specs.declared.place.Region.{Region}
@@ -17,12 +20,17 @@ use Rattle.memory_map.specs.declared.place.PrivateScalar.{PrivateScalar}
 use Rattle.memory_map.specs.declared.runtime.Logging.{Logging}
 use Rattle.memory_map.specs.MemoryMap.{MemoryMap, TaskPlace, parts}
 use Rattle.std.specs.List.{flat_map}
-use Rattle.memory_map.specs.Places.{end_of, list_entry_room, AreInOrder, HasItsPlace, home_region, copy_regions, version_regions}
+use Rattle.memory_map.specs.Places.{end_of, list_entry_room, AreInOrder, HasItsPlace, home_region, copy_regions, version_regions, code_regions}
+use Rattle.function_locals.specs.declared.locals.FunctionLocals.{FunctionLocals}
+use Rattle.function_locals.specs.Locals.{function_locals}
+use Rattle.task_ast.proofs.Interface.{answers_length}
+use Rattle.privatise.specs.Routines.{KnownFunctions, known_functions, routine_room, routines_from, task_routines}
 use Rattle.privatise.specs.Sizes.{home_words, copy_words, body_words, boot_words, commit_words}
 use Rattle.privatise.specs.Layouts.{IsPlaceOf, IsTaskLayout, IsLayoutFor}
 use Rattle.privatise.specs.Laws.{OneLayoutFor}
 use Rattle.memory_map.proofs.Interface.{apart_of}
 use Rattle.privatise.proofs.Whole.{Amounts, needed, adds_up}
+use Rattle.privatise.proofs.Routines.{if_marked}
 use Rattle.privatise.proofs.Tight.{IsChain, bytes, same_chain, kinds_from, same_variables}
 
 -- ---- tasks
@@ -44,13 +52,30 @@ same_privates places (x ∷ xs) (y ∷ ys) e a b =
     let behind : map (λ s. s.number) xs ≡ map (λ s. s.number) ys = cc in
     ap (λ s. s ∷ xs) same ∙ ap (λ s. y ∷ s) (same_privates places xs ys behind (All-tail (HasItsPlace places) x xs a) (All-tail (HasItsPlace places) y ys b))
 
+-- what stands behind the functions of a task stands behind the room that they take
+routines_behind : (stack : ℕ) (marks : ℕ → Bool) (k at : ℕ) (ss : List Summary) (ls : List FunctionLocals) (more : List Region) (end : ℕ)
+    → length ls ≡ length ss → AreInOrder at (map (λ r. r.code) (routines_from stack marks k at ss ls) ++ more) end
+    → AreInOrder (at + 2 * all_called_from marks routine_room k ss) more end
+routines_behind stack marks k at [] ls more end e h = subst (λ n. AreInOrder n more end) (let same : at ≡ at + 2 * 0 = omega arith in same) h
+routines_behind stack marks k at (s ∷ ss) [] more end e h = absurd (omega (arith, e))
+routines_behind stack marks k at (s ∷ ss) (l ∷ ls) more end e h = by (marks k) h
+  where
+    by : (b : Bool) → AreInOrder at (map (λ r. r.code) (if_marked b stack marks k at s l ss ls) ++ more) end
+        → AreInOrder (at + 2 * ((if b then routine_room s else 0) + all_called_from marks routine_room (k + 1) ss)) more end
+    by true (here, rest) =
+        let later = at + 2 * routine_room s in
+        let all : later + 2 * all_called_from marks routine_room (k + 1) ss ≡ at + 2 * (routine_room s + all_called_from marks routine_room (k + 1) ss) =
+        omega arith in
+        subst (λ n. AreInOrder n more end) all (routines_behind stack marks (k + 1) later ss ls more end (omega (arith, e)) rest)
+    by false rest = routines_behind stack marks (k + 1) at ss ls more end (omega (arith, e)) rest
+
 -- layouts of tasks by their plans
-abbrev AreOfTasks : List Summary → List SharedDeclaration → List CheckedTask → List TaskPlanValue → List TaskPlace → Type 0
+abbrev AreOfTasks : KnownFunctions → List SharedDeclaration → List CheckedTask → List TaskPlanValue → List TaskPlace → Type 0
 AreOfTasks known shared [] [] [] = Unit {0}
 AreOfTasks known shared (t ∷ ts) (p ∷ ps) (l ∷ ls) = IsTaskLayout known shared t.body p l × AreOfTasks known shared ts ps ls
 AreOfTasks known shared _ _ _ = ⊥
 
-of_tasks : (known : List Summary) (shared : List SharedDeclaration) (ts : List CheckedTask) (ps : List TaskPlanValue) (ls : List TaskPlace)
+of_tasks : (known : KnownFunctions) (shared : List SharedDeclaration) (ts : List CheckedTask) (ps : List TaskPlanValue) (ls : List TaskPlace)
     → length ps ≡ length ts → length ls
     ≡ length ts
     → ((k : ℕ) (t : CheckedTask) (p : TaskPlanValue) (l : TaskPlace) → slice_get ts k ≡ Some t → slice_get ps k ≡ Some p → slice_get ls k ≡ Some l
@@ -65,66 +90,106 @@ of_tasks known shared (t ∷ ts) (p ∷ ps) (l ∷ ls) e f h = (
   of_tasks known shared ts ps ls (omega (arith, e)) (omega (arith, f)) (λ k t p l a b c. h (suc k) t p l a b c),
 )
 
-task_room : (known : List Summary) (shared : List SharedDeclaration) (ts : List CheckedTask) (ps : List TaskPlanValue) (ls : List TaskPlace) (from end : ℕ)
-    → AreOfTasks known shared ts ps ls → AreInOrder from (map (λ t. t.code) ls) end
-    → from + 2 * total (body_words known shared) ts ≤ end
-task_room known shared [] [] [] from end k h = omega (arith, h)
-task_room known shared [] (p ∷ ps) ls from end k h = absurd k
-task_room known shared [] [] (l ∷ ls) from end k h = absurd k
-task_room known shared (t ∷ ts) [] ls from end k h = absurd k
-task_room known shared (t ∷ ts) (p ∷ ps) [] from end k h = absurd k
-task_room known shared (t ∷ ts) (p ∷ ps) (l ∷ ls) from end (here, others) (b, rest) =
-    let r = task_room known shared ts ps ls (end_of l.code) end others rest in
-    added from l.code.address l.code.words (body_words known shared t.body) (total (body_words known shared) ts) end b.from here.words r
-  where
-    added : (from a w n rest end : ℕ) → from ≤ a → w ≡ n → a + 2 * w + 2 * rest ≤ end → from + 2 * (n + rest) ≤ end
-    added from a w n rest end x y z = omega (arith, x, y, z)
-
-begins : (from a w n rest end : ℕ) → from ≤ a → w ≡ n → a + 2 * w + 2 * rest ≤ end → end ≤ from + 2 * (n + rest) → a ≡ from
-begins from a w n rest end x y z t = omega (arith, x, y, z, t)
-
 -- layouts of the tasks, with the code of each between two addresses
-abbrev AreLaidOut : List Summary → List SharedDeclaration → List VariablePlace → List CheckedTask → List TaskPlanValue → (from end : ℕ) → List TaskPlace
+abbrev AreLaidOut : KnownFunctions → List SharedDeclaration → List VariablePlace → List CheckedTask → List TaskPlanValue → (from end : ℕ) → List TaskPlace
     → Type 0
 AreLaidOut known shared places ts ps from end xs =
-    AreOfTasks known shared ts ps xs × All (λ t. All (HasItsPlace places) t.privates) xs × AreInOrder from (map (λ t. t.code) xs) end
+    AreOfTasks known shared ts ps xs × All (λ t. All (HasItsPlace places) t.privates) xs × AreInOrder from (flat_map code_regions xs) end
 
-same_tasks : (known : List Summary) (shared : List SharedDeclaration) (places : List VariablePlace) (ts : List CheckedTask) (ps : List TaskPlanValue)
-    (xs ys : List TaskPlace)
-    (from end : ℕ) → end ≤ from + 2 * total (body_words known shared) ts → AreLaidOut known shared places ts ps from end xs
-    → AreLaidOut known shared places ts ps from end ys
-    → xs ≡ ys
-same_tasks known shared places [] [] [] [] from end t x y = refl
-same_tasks known shared places [] [] [] (_ ∷ _) from end t x y = absurd y.0
-same_tasks known shared places [] [] (_ ∷ _) ys from end t x y = absurd x.0
-same_tasks known shared places [] (_ ∷ _) xs ys from end t x y = absurd x.0
-same_tasks known shared places (_ ∷ _) [] xs ys from end t x y = absurd x.0
-same_tasks known shared places (_ ∷ _) (_ ∷ _) [] ys from end t x y = absurd x.0
-same_tasks known shared places (_ ∷ _) (_ ∷ _) (_ ∷ _) [] from end t x y = absurd y.0
-same_tasks known shared places (task ∷ ts) (p ∷ ps) (l ∷ ls) (m ∷ ms) from end t ((here, others), a, (x, xs)) ((here', others'), b, (y, ys)) =
-    let P = λ (t : TaskPlace). All (HasItsPlace places) t.privates in
-    let n = body_words known shared task.body in
-    let rest = total (body_words known shared) ts in
-    let lat : l.code.address ≡ from = begins from l.code.address l.code.words n rest end x.from here.words
-    (task_room known shared ts ps ls (end_of l.code) end others xs) t in
-    let mat : m.code.address ≡ from = begins from m.code.address m.code.words n rest end y.from here'.words
-    (task_room known shared ts ps ms (end_of m.code) end others' ys) t in
-    let address : l.code.address ≡ m.code.address = lat ∙ sym mat in
-    let words : l.code.words ≡ m.code.words = here.words ∙ sym here'.words in
-    let privates = same_privates places l.privates m.privates (here.privates ∙ sym here'.privates) (All-head P l ls a) (All-head P m ms b) in
-    let same : l ≡ m = λ j. record { privates = privates j; code = record { address = address j; words = words j } } in
-    let l_end : end_of l.code ≡ from + 2 * n = ended l.code.address l.code.words from n lat here.words in
-    let m_end : end_of m.code ≡ from + 2 * n = ended m.code.address m.code.words from n mat here'.words in
-    let behind = same_tasks known shared places ts ps ls ms (from + 2 * n) end (less from n rest end t)
-    (others, All-tail P l ls a, subst (λ f. AreInOrder f (map (λ t. t.code) ls) end) l_end xs)
-    (others', All-tail P m ms b, subst (λ f. AreInOrder f (map (λ t. t.code) ms) end) m_end ys) in
-    ap (λ t. t ∷ ls) same ∙ ap (λ ts. m ∷ ts) behind
-  where
-    ended : (a w from n : ℕ) → a ≡ from → w ≡ n → a + 2 * w ≡ from + 2 * n
-    ended a w from n e f = omega (arith, e, f)
+begins : (from a n rest end : ℕ) → from ≤ a → a + 2 * n + 2 * rest ≤ end → end ≤ from + 2 * (n + rest) → a ≡ from
+begins from a n rest end x z t = omega (arith, x, z, t)
 
-    less : (from n rest end : ℕ) → end ≤ from + 2 * (n + rest) → end ≤ (from + 2 * n) + 2 * rest
-    less from n rest end h = omega (arith, h)
+module _ (known : KnownFunctions) (shared : List SharedDeclaration) (count : length known.locals ≡ length known.summaries) where
+  abbrev body : CheckedBlock → ℕ
+  body = body_words known.summaries shared
+
+  -- what stands behind a task stands behind its code and that of its functions
+  task_behind : (code : CheckedBlock) (plan : TaskPlanValue) (l : TaskPlace) (more : List Region) (from end : ℕ) → IsTaskLayout known shared code plan l
+      → AreInOrder from (code_regions l ++ more) end → AreInOrder (l.code.address + 2 * body code) more end
+  task_behind code plan l more from end h (first, rest) =
+      let moved = subst (λ rs. AreInOrder (end_of l.code) (map (λ r. r.code) rs ++ more) end) h.routines rest in
+      let words = h.words in
+      let all : end_of l.code + 2 * routine_words known.summaries code ≡ l.code.address + 2 * body code = omega (arith, words) in
+      subst (λ n. AreInOrder n more end) all
+      (routines_behind (stack_of known.summaries code) (λ k. reaches_of known.summaries k code) 0 (end_of l.code) known.summaries known.locals more end count
+      moved)
+
+  task_room : (ts : List CheckedTask) (ps : List TaskPlanValue) (ls : List TaskPlace) (from end : ℕ) → AreOfTasks known shared ts ps ls
+      → AreInOrder from (flat_map code_regions ls) end → from + 2 * total body ts ≤ end
+  task_room [] [] [] from end k h = omega (arith, h)
+  task_room [] (p ∷ ps) ls from end k h = absurd k
+  task_room [] [] (l ∷ ls) from end k h = absurd k
+  task_room (t ∷ ts) [] ls from end k h = absurd k
+  task_room (t ∷ ts) (p ∷ ps) [] from end k h = absurd k
+  task_room (t ∷ ts) (p ∷ ps) (l ∷ ls) from end (here, others) (b, rest) =
+      let r = task_room ts ps ls (l.code.address + 2 * body t.body) end others
+      (task_behind t.body p l (flat_map code_regions ls) from end here (b, rest)) in
+      added from l.code.address (body t.body) (total body ts) end b.from r
+    where
+      added : (from a n rest end : ℕ) → from ≤ a → a + 2 * n + 2 * rest ≤ end → from + 2 * (n + rest) ≤ end
+      added from a n rest end x z = omega (arith, x, z)
+
+  -- a task's layout begins where it may at the earliest, where no room is left
+  task_at : (task : CheckedTask) (ts : List CheckedTask) (p : TaskPlanValue) (ps : List TaskPlanValue) (l : TaskPlace) (ls : List TaskPlace) (from end : ℕ)
+      → end ≤ from + 2 * (body task.body + total body ts) → AreOfTasks known shared (task ∷ ts) (p ∷ ps) (l ∷ ls)
+      → AreInOrder from (flat_map code_regions (l ∷ ls)) end → l.code.address ≡ from
+  task_at task ts p ps l ls from end t (here, others) (x, xs) =
+      begins from l.code.address (body task.body) (total body ts) end x.from
+      (task_room ts ps ls (l.code.address + 2 * body task.body) end others
+      (task_behind task.body p l (flat_map code_regions ls) from end here (x, xs))) t
+
+  same_layout : (places : List VariablePlace) (code : CheckedBlock) (p : TaskPlanValue) (l m : TaskPlace) → l.code.address ≡ m.code.address
+      → IsTaskLayout known shared code p l → IsTaskLayout known shared code p m → All (HasItsPlace places) l.privates → All (HasItsPlace places) m.privates
+      → l ≡ m
+  same_layout places code p l m address h k a b = λ j. record {
+    privates = privates j;
+    code = record { address = address j; words = words j };
+    first = first j;
+    routines = routines j;
+  }
+    where
+      words : l.code.words ≡ m.code.words
+      words = h.words ∙ sym k.words
+
+      privates : l.privates ≡ m.privates
+      privates = same_privates places l.privates m.privates (h.privates ∙ sym k.privates) a b
+
+      first : l.first ≡ m.first
+      first = h.first ∙ sym k.first
+
+      routines : l.routines ≡ m.routines
+      routines = h.routines ∙ ap (task_routines known code) (let e : end_of l.code ≡ end_of m.code = omega (arith, address, words) in e) ∙ sym k.routines
+
+  same_tasks : (places : List VariablePlace) (ts : List CheckedTask) (ps : List TaskPlanValue) (xs ys : List TaskPlace) (from end : ℕ)
+      → end ≤ from + 2 * total body ts → AreLaidOut known shared places ts ps from end xs → AreLaidOut known shared places ts ps from end ys → xs ≡ ys
+  same_tasks places [] [] [] [] from end t x y = refl
+  same_tasks places [] [] [] (_ ∷ _) from end t x y = absurd y.0
+  same_tasks places [] [] (_ ∷ _) ys from end t x y = absurd x.0
+  same_tasks places [] (_ ∷ _) xs ys from end t x y = absurd x.0
+  same_tasks places (_ ∷ _) [] xs ys from end t x y = absurd x.0
+  same_tasks places (_ ∷ _) (_ ∷ _) [] ys from end t x y = absurd x.0
+  same_tasks places (_ ∷ _) (_ ∷ _) (_ ∷ _) [] from end t x y = absurd y.0
+  same_tasks places (task ∷ ts) (p ∷ ps) (l ∷ ls) (m ∷ ms) from end t ((here, others), a, (x, xs)) ((here', others'), b, (y, ys)) =
+      let P = λ (t : TaskPlace). All (HasItsPlace places) t.privates in
+      let n = body task.body in
+      let lat : l.code.address ≡ from = task_at task ts p ps l ls from end t (here, others) (x, xs) in
+      let mat : m.code.address ≡ from = task_at task ts p ps m ms from end t (here', others') (y, ys) in
+      let same : l ≡ m = same_layout places task.body p l m (lat ∙ sym mat) here here' (All-head P l ls a) (All-head P m ms b) in
+      let l_rest = subst (λ f. AreInOrder (f + 2 * n) (flat_map code_regions ls) end) lat
+      (task_behind task.body p l (flat_map code_regions ls) from end here (x, xs)) in
+      let m_rest = subst (λ f. AreInOrder (f + 2 * n) (flat_map code_regions ms) end) mat
+      (task_behind task.body p m (flat_map code_regions ms) from end here' (y, ys)) in
+      let behind = same_tasks places ts ps ls ms (from + 2 * n) end (less from n (total body ts) end t) (others, All-tail P l ls a, l_rest)
+      (others', All-tail P m ms b, m_rest) in
+      ap (λ t. t ∷ ls) same ∙ ap (λ ts. m ∷ ts) behind
+    where
+      less : (from n rest end : ℕ) → end ≤ from + 2 * (n + rest) → end ≤ (from + 2 * n) + 2 * rest
+      less from n rest end h = omega (arith, h)
+
+-- as many functions have locals as have summaries
+functions_count : (p : CheckedProgram) → length (known_functions p).locals ≡ length (known_functions p).summaries
+functions_count p =
+    let n = answers_length function_locals [] p.functions in let m = answers_length function_summary [] p.functions in omega (arith, n, m)
 
 -- ---- the single places
 
@@ -176,8 +241,8 @@ same_addresses p allow plans a b h x y = same_chain fram_first (addresses a) (ad
 same_region : (r q : Region) → r.address ≡ q.address → r.words ≡ q.words → r ≡ q
 same_region r q e f = λ j. record { address = e j; words = f j }
 
-behind : (a w n : ℕ) → w ≡ n → a + 2 * w ≤ a + 2 * n
-behind a w n e = omega (arith, e)
+within : (a w n : ℕ) → w ≡ n → a + 2 * w ≤ a + 2 * n
+within a w n e = omega (arith, e)
 
 pub one_layout : (logging : Logging) (p : CheckedProgram) (allow : Allow) → IsAllowed p allow → OneLayoutFor logging p allow
 one_layout logging p allow h plans a b planned x y = λ j. record {
@@ -234,9 +299,9 @@ one_layout logging p allow h plans a b planned x y = λ j. record {
         (record { home = a.homes.address; copy = a.copies.address; version = a.versions.address })
         (record { home = end_of a.homes; copy = end_of a.copies; version = end_of a.versions })
         (record {
-          home = behind a.homes.address a.homes.words (home_words p.shared) x.homes;
-          copy = behind a.copies.address a.copies.words (copy_words p) x.copies;
-          version = behind a.versions.address a.versions.words (versions_of p) (x.versions ∙ h.versions);
+          home = within a.homes.address a.homes.words (home_words p.shared) x.homes;
+          copy = within a.copies.address a.copies.words (copy_words p) x.copies;
+          version = within a.versions.address a.versions.words (versions_of p) (x.versions ∙ h.versions);
         })
         (kinds_from (is_written (summaries p) p.tasks) 0 p.shared a.variables x.variables.count (λ k d v e f. kind a x k d v e f))
         (kinds_from (is_written (summaries p) p.tasks) 0 p.shared b.variables y.variables.count (λ k d v e f. kind b y k d v e f))
@@ -253,10 +318,10 @@ one_layout logging p allow h plans a b planned x y = λ j. record {
             subst (λ n. IsPlaceOf (is_written (summaries p) p.tasks n) d.extent v) same (z.variables.each k d v e f)
 
     tasks : a.tasks ≡ b.tasks
-    tasks = same_tasks (summaries p) p.shared a.variables p.tasks plans a.tasks b.tasks a.code.address (end_of a.code)
-        (behind a.code.address a.code.words (total (body_words (summaries p) p.shared) p.tasks) x.code)
-        (of_tasks (summaries p) p.shared p.tasks plans a.tasks planned.count x.tasks.count x.tasks.each, x.rules.privates, x.rules.code) (
-          of_tasks (summaries p) p.shared p.tasks plans b.tasks planned.count y.tasks.count y.tasks.each,
+    tasks = same_tasks (known_functions p) p.shared (functions_count p) a.variables p.tasks plans a.tasks b.tasks a.code.address (end_of a.code)
+        (within a.code.address a.code.words (total (body_words (summaries p) p.shared) p.tasks) x.code)
+        (of_tasks (known_functions p) p.shared p.tasks plans a.tasks planned.count x.tasks.count x.tasks.each, x.rules.privates, x.rules.code) (
+          of_tasks (known_functions p) p.shared p.tasks plans b.tasks planned.count y.tasks.count y.tasks.each,
           subst (λ vs. All (λ t. All (HasItsPlace vs) t.privates) b.tasks) (sym variables) y.rules.privates,
-          subst (λ r. AreInOrder r.address (map (λ t. t.code) b.tasks) (end_of r)) (sym code) y.rules.code,
+          subst (λ r. AreInOrder r.address (flat_map code_regions b.tasks) (end_of r)) (sym code) y.rules.code,
         )

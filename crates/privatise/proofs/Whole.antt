@@ -16,8 +16,7 @@ use Rattle.task_ast.specs.declared.Extent.TheVariants as extent
 use Rattle.task_ast.specs.declared.SharedDeclaration.{SharedDeclaration}
 use Rattle.cost_bound.specs.declared.allowance.Allow.{Allow}
 use Rattle.cost_bound.specs.Counts.{CheckedBlock, emits_of}
-use Rattle.cost_bound.specs.Summary.{Summary}
-use Rattle.cost_bound.specs.Summaries.{function_summaries, summaries}
+use Rattle.cost_bound.specs.Summaries.{summaries}
 use Rattle.cost_bound.specs.Allowance.{CheckedProgram, version_part, is_written, total, greatest, list_of, plain_words_of, versions_of, IsAllowed}
 use Rattle.cost_bound.proofs.Interface.{written_sum}
 use Rattle.war_analysis.specs.PlanValue.{TaskPlanValue}
@@ -33,7 +32,8 @@ use Rattle.memory_map.specs.Words.{row_words}
 use Rattle.memory_map.specs.declared.runtime.Runtime.{Runtime}
 use Rattle.memory_map.specs.MemoryMap.{TaskPlace, parts, row_region}
 use Rattle.memory_map.specs.View.{map_with}
-use Rattle.memory_map.specs.Places.{end_of, list_entry_room, home_region, copy_regions, version_regions, IsBehind, AreInOrder, IsLaidOut}
+use Rattle.memory_map.specs.Places.{end_of, list_entry_room, home_region, copy_regions, version_regions, code_regions, IsBehind, AreInOrder, IsLaidOut}
+use Rattle.privatise.specs.Routines.{known_functions}
 use Rattle.privatise.specs.Sizes.{home_words, copy_part, copy_words, body_words, boot_words, commit_words}
 use Rattle.memory_map.specs.declared.runtime.Logging.TheVariants.{Redo}
 use Rattle.privatise.specs.Layouts.{IsPlaceOf, AreVariables, IsLayout, runtime_for}
@@ -305,24 +305,6 @@ pub code_room : (p : CheckedProgram) (allow : Allow) (s : Sizes) (r : Regions) �
     → r.code.address + 2 * total (body_words (summaries p) p.shared) p.tasks ≤ program_end
 code_room p allow s r a k g = code_room_by r.code.address _ s.code _ (starts allow s r g).code (sym k.code) (sizes_fit p allow s a k)
 
--- a source without functions has no summaries of any
-pub no_summaries : (p : CheckedProgram) → p.functions ≡ [] → summaries p ≡ []
-no_summaries p plain = ap function_summaries plain
-
--- what the layouts of tasks are made of
-pub record TaskSources : Type 0 where
-  pub known : List Summary
-  pub shared : List SharedDeclaration
-  pub places : List VariablePlace
-  pub tasks : List (TaskDeclaration VariableName TaskName FunctionName)
-  pub plans : List TaskPlanValue
-
--- the same of equal lists
-pub tasks_moved : (a b : TaskSources) (address : ℕ) (layouts : List TaskPlace) → a ≡ b
-    → ArePlacedTasks a.known a.shared a.places (map task_of a.tasks) a.plans address layouts
-    → ArePlacedTasks b.known b.shared b.places (map task_of b.tasks) b.plans address layouts
-tasks_moved a b address layouts e h = subst (λ x. ArePlacedTasks x.known x.shared x.places (map task_of x.tasks) x.plans address layouts) e h
-
 -- ---- the whole
 
 words_end : (a w n m : ℕ) → w ≡ n → n ≡ m → a + 2 * m ≡ a + 2 * w
@@ -339,7 +321,7 @@ pub record IsPlaced (p : CheckedProgram) (allow : Allow) (plans : List TaskPlanV
   pub sizes : AreSizes p s
   pub regions : AreRegions allow s r
   pub variables : ArePlaced p.shared written (record { home = r.homes.address; copy = r.copies.address; version = r.versions.address }) places
-  pub tasks : ArePlacedTasks (summaries p) p.shared places p.tasks plans r.code.address layouts
+  pub tasks : ArePlacedTasks (known_functions p) p.shared places p.tasks plans r.code.address layouts
 
 pub laid_out : (runtime : Runtime) (p : CheckedProgram) (allow : Allow) (plans : List TaskPlanValue) (s : Sizes) (r : Regions) (written : List Bool)
     (places : List VariablePlace) (layouts : List TaskPlace) → IsPlaced p allow plans s r written places layouts → IsLaidOut (map_with runtime r places layouts)
@@ -354,7 +336,7 @@ laid_out runtime p allow plans s r written places layouts made = record {
   versions = subst (λ end. AreInOrder r.versions.address (flat_map version_regions places) end)
       (words_end r.versions.address r.versions.words allow.versions (version_sum written p.shared) g.versions_words
       (made.allowed.versions ∙ sym (versions_are p written made.few made.written_so))) made.variables.versions;
-  code = subst (λ end. AreInOrder r.code.address (map (λ t. t.code) layouts) end)
+  code = subst (λ end. AreInOrder r.code.address (flat_map code_regions layouts) end)
       (words_end r.code.address r.code.words s.code (total (body_words (summaries p) p.shared) p.tasks) g.code_words k.code) made.tasks.code;
   privates = made.tasks.privates;
 }

@@ -5,10 +5,9 @@ use Rattle.task_ast.specs.declared.Extent.{Extent}
 use Rattle.task_ast.specs.declared.Extent.TheVariants as extent
 use Rattle.task_ast.specs.declared.SharedDeclaration.{SharedDeclaration}
 use Rattle.cost_bound.specs.declared.allowance.Allow.{Allow}
-use Rattle.cost_bound.specs.Summary.{Summary}
 use Rattle.cost_bound.specs.Counts.{CheckedBlock}
 use Rattle.cost_bound.specs.Summaries.{summaries}
-use Rattle.cost_bound.specs.Allowance.{CheckedProgram, CheckedTask, is_written, total, plain_words_of, uses_events}
+use Rattle.cost_bound.specs.Allowance.{CheckedProgram, CheckedTask, is_written, own_words, total, plain_words_of, uses_events}
 use Rattle.war_analysis.specs.PlanValue.{TaskPlanValue}
 use Rattle.memory_map.specs.address_space.Limits.{fram_first}
 use Rattle.memory_map.specs.declared.place.ScalarWidth.TheVariants.{OneWord, TwoWords}
@@ -20,6 +19,8 @@ use Rattle.memory_map.specs.declared.runtime.Runtime.{Runtime}
 use Rattle.memory_map.specs.MemoryMap.{MemoryMap, TaskPlace, lone_redo}
 use Rattle.memory_map.specs.Places.{end_of, IsLaidOut}
 use Rattle.privatise.specs.Sizes.{home_words, copy_words, body_words, boot_words, commit_words}
+use Rattle.function_locals.specs.Locals.{base_of}
+use Rattle.privatise.specs.Routines.{KnownFunctions, known_functions, task_routines}
 
 -- a scalar has the place of a scalar, of one word, or of two where it is a long; an array one of its length, with copies and versions exactly where
 -- some task writes it
@@ -37,16 +38,19 @@ pub record AreVariables (p : CheckedProgram) (places : List VariablePlace) : Typ
   pub each : (i : ℕ) (d : SharedDeclaration) (place : VariablePlace) → slice_get p.shared i ≡ Some d → slice_get places i ≡ Some place
       → IsPlaceOf (is_written (summaries p) p.tasks i) d.extent place
 
--- the private scalars of the plan, and the words of the task's code
-pub record IsTaskLayout (known : List Summary) (shared : List SharedDeclaration) (code : CheckedBlock) (plan : TaskPlanValue) (t : TaskPlace) : Type 0 where
+-- the private scalars of the plan, the words of the task's own code, its locals behind the registers of all that it calls, and the functions that
+-- it reaches, right behind its code
+pub record IsTaskLayout (known : KnownFunctions) (shared : List SharedDeclaration) (code : CheckedBlock) (plan : TaskPlanValue) (t : TaskPlace) : Type 0 where
   pub privates : map (λ s. s.number) t.privates ≡ plan.private_scalars
-  pub words : t.code.words ≡ body_words known shared code
+  pub words : t.code.words ≡ own_words known.summaries shared code
+  pub first : t.first ≡ base_of known.locals code
+  pub routines : t.routines ≡ task_routines known code (end_of t.code)
 
 -- each task has a layout, by its number
 pub record AreTasks (p : CheckedProgram) (plans : List TaskPlanValue) (tasks : List TaskPlace) : Type 0 where
   pub count : length tasks ≡ length p.tasks
   pub each : (k : ℕ) (task : CheckedTask) (plan : TaskPlanValue) (t : TaskPlace) → slice_get p.tasks k ≡ Some task → slice_get plans k ≡ Some plan
-      → slice_get tasks k ≡ Some t → IsTaskLayout (summaries p) p.shared task.body plan t
+      → slice_get tasks k ≡ Some t → IsTaskLayout (known_functions p) p.shared task.body plan t
 
 -- the runtime of a source that logs so: that of a board that is alone, which takes events where the source uses some
 abbrev pub runtime_for : Logging → CheckedProgram → Runtime

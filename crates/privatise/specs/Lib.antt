@@ -1,4 +1,6 @@
 pub mod Sizes
+pub mod Routines
+pub mod View
 pub mod Layouts
 pub mod Placing
 pub mod Laws

@@ -6,7 +6,6 @@ use Rattle.task_ast.specs.declared.Extent.{Extent}
 use Rattle.task_ast.specs.declared.Extent.TheVariants as extent
 use Rattle.task_ast.specs.declared.SharedDeclaration.{SharedDeclaration}
 use Rattle.cost_bound.specs.declared.allowance.Allow.{Allow}
-use Rattle.cost_bound.specs.Summary.{Summary}
 use Rattle.cost_bound.specs.Summaries.{summaries}
 use Rattle.cost_bound.specs.Allowance.{CheckedTask, CheckedProgram, shared_sum, version_part, total}
 use Rattle.war_analysis.specs.PlanValue.{TaskPlanValue}
@@ -22,8 +21,9 @@ use Rattle.privatise.specs.declared.variables.Free.{Free}
 use Rattle.privatise.specs.declared.sizes.Sizes.{Sizes}
 use Rattle.memory_map.specs.declared.layouts.Regions.{Regions}
 use Rattle.memory_map.specs.MemoryMap.{TaskPlace}
-use Rattle.memory_map.specs.Places.{home_region, copy_regions, version_regions, AreInOrder, HasItsPlace, end_of, list_entry_room}
+use Rattle.memory_map.specs.Places.{home_region, copy_regions, version_regions, code_regions, AreInOrder, HasItsPlace, end_of, list_entry_room}
 use Rattle.privatise.specs.Sizes.{home_words, copy_part, copy_words, body_words, boot_words, commit_words}
+use Rattle.privatise.specs.Routines.{KnownFunctions}
 use Rattle.privatise.specs.Layouts.{IsTaskLayout}
 
 -- copies and versions of an array at the free addresses, where it is written
@@ -81,20 +81,20 @@ pub record ArePrivates (variables : List VariablePlace) (plan : List ℕ) (priva
   pub places : All (HasItsPlace variables) privates
 
 -- a task's layout, its code from an address on
-pub record IsPlacedTask (known : List Summary) (shared : List SharedDeclaration) (places : List VariablePlace) (task : CheckedTask) (plan : TaskPlanValue)
+pub record IsPlacedTask (known : KnownFunctions) (shared : List SharedDeclaration) (places : List VariablePlace) (task : CheckedTask) (plan : TaskPlanValue)
     (at : ℕ) (t : TaskPlace) : Type 0 where
   pub layout : IsTaskLayout known shared task.body plan t
   pub privates : All (HasItsPlace places) t.privates
   pub address : t.code.address ≡ at
 
 -- the layouts of all tasks, their code in order from an address on
-pub record ArePlacedTasks (known : List Summary) (shared : List SharedDeclaration) (places : List VariablePlace) (tasks : List CheckedTask)
+pub record ArePlacedTasks (known : KnownFunctions) (shared : List SharedDeclaration) (places : List VariablePlace) (tasks : List CheckedTask)
     (plans : List TaskPlanValue) (address : ℕ) (layouts : List TaskPlace) : Type 0 where
   pub count : length layouts ≡ length tasks
   pub each : (k : ℕ) (task : CheckedTask) (plan : TaskPlanValue) (t : TaskPlace) → slice_get tasks k ≡ Some task → slice_get plans k ≡ Some plan
       → slice_get layouts k ≡ Some t → IsTaskLayout known shared task.body plan t
   pub privates : All (λ t. All (HasItsPlace places) t.privates) layouts
-  pub code : AreInOrder address (map (λ t. t.code) layouts) (address + 2 * total (body_words known shared) tasks)
+  pub code : AreInOrder address (flat_map code_regions layouts) (address + 2 * total (body_words known.summaries shared) tasks)
 
 -- the words of a source's variables, of their copies, of the boot and of the tasks' code
 pub record AreSizes (p : CheckedProgram) (sizes : Sizes) : Type 0 where

@@ -2,7 +2,7 @@
 ghost use Rattle.cost_bound.specs.declared.allowance.Allow.{Allow};
 ghost use Rattle.cost_bound.specs.Allowance.{CheckedProgram, IsAllowed};
 ghost use Rattle.memory_map.specs.declared.runtime.Logging.TheVariants.{Undo};
-ghost use Rattle.privatise.specs.Laws.{LayoutsAreLogged, OneLayout, OneLayoutFor};
+ghost use Rattle.privatise.specs.Laws.{LayoutsAreLogged, OneLayout, OneLayoutFor, AllRoutinesStand, AllFramesStand};
 
 /// A source has one layout: the sizes and the order of its places leave no other.
 pub fn one_layout()
@@ -17,4 +17,14 @@ pub fn layouts_are_logged()
 /// And it has no other for that.
 pub fn one_logged_layout()
     ensures { (p : CheckedProgram) (allow : Allow) → IsAllowed p allow → OneLayoutFor Undo p allow }
+{}
+
+/// A task has a place for each function that it reaches.
+pub fn routines_stand()
+    ensures { AllRoutinesStand }
+{}
+
+/// In a task the frame of a function that is called is below that of what calls it, and all are within its stack.
+pub fn frames_stand()
+    ensures { AllFramesStand }
 {}

@@ -4,11 +4,12 @@
 
 mod laws;
 mod placing;
+mod routines;
 mod sizes;
 mod tasks;
 mod variables;
 
-pub use laws::{layouts_are_logged, one_layout, one_logged_layout};
+pub use laws::{frames_stand, layouts_are_logged, one_layout, one_logged_layout, routines_stand};
 pub use memory_map::{
     ArrayCopies, Layout, PrivateScalar, Region, ScalarWidth, TaskLayout, VariablePlace,
 };

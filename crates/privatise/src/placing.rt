@@ -3,6 +3,9 @@ ghost use Rattle.std.specs.Prelude.{◌≡◌, ◌+◌, ◌*◌, ◌≤◌, [], 
 ghost use Rattle.task_ast.specs.View.{program_of};
 ghost use Rattle.task_ast.specs.Calls.{BlockCallsBelow};
 ghost use Rattle.cost_bound.specs.Allowance.{IsAllowed};
+ghost use Rattle.cost_bound.specs.Machine.{known_of, AreSame};
+ghost use Rattle.cost_bound.specs.Summaries.{summaries};
+ghost use Rattle.function_locals.specs.Locals.{all_locals};
 ghost use Rattle.war_analysis.specs.Plans.{IsPlan};
 ghost use Rattle.memory_map.specs.address_space.Limits.{fram_first, program_end};
 ghost use Rattle.memory_map.specs.Words.{row_words};
@@ -11,10 +14,12 @@ ghost use Rattle.privatise.specs.Sizes.{commit_words};
 ghost use Rattle.privatise.specs.Layouts.{IsLayout};
 ghost use Rattle.privatise.specs.Placing.{AreRegions};
 
+use crate::routines::Functions;
 use crate::sizes::{COMMIT, Sizes, sizes_of};
 use crate::tasks::place_tasks;
 use crate::variables::{Free, address_behind, place_variables};
-use cost_bound::{Allow, uses_events, written_variables};
+use cost_bound::{Allow, summaries, uses_events, written_variables};
+use function_locals::all_locals;
 use memory_map::{FRAM_FIRST, Layout, Logging, ROW_WORDS, Region, Regions, Role, Runtime};
 use std::alloc::{AllocError, Global};
 use task_ast::CheckedSource;
@@ -67,24 +72,29 @@ fn regions_of(allow: &Allow, sizes: Sizes) -> Regions
     }
 }
 
-fn layout_of(
+// The layout of a source whose functions are known.
+fn layout_with(
     alloc: Global,
+    functions: Functions<'_>,
     source: &CheckedSource,
     allow: &Allow,
     plan: &Plan,
 ) -> Result<Layout, AllocError>
     requires few { length source.now.shared.items ≤ 256 }
+    requires few_functions { length functions.summaries.now ≤ 64 }
     requires few_tasks { length source.now.tasks.items ≤ 64 }
     requires plain { (program_of source.now).functions ≡ [] }
     requires calls { All (λ task. BlockCallsBelow 0 task.body) (program_of source.now).tasks }
+    requires same { AreSame (known_of functions.summaries.now) (summaries (program_of source.now)) }
+    requires locals { functions.locals.now ≡ all_locals (program_of source.now).functions }
     requires allowed { IsAllowed (program_of source.now) allow.now }
     requires planned { IsPlan (program_of source.now) plan.now }
     ensures { IfOk result (IsLayout (program_of source.now) allow.now plan.now) }
 {
     let shared = source.shared.as_slice();
     let tasks = source.tasks.as_slice();
-    let written = written_variables(&[], tasks);
-    let regions = regions_of(allow, sizes_of(source, &written));
+    let written = written_variables(functions.summaries, tasks);
+    let regions = regions_of(allow, sizes_of(functions.summaries, source, &written));
     let free = Free {
         home: regions.homes.address,
         copy: regions.copies.address,
@@ -93,6 +103,7 @@ fn layout_of(
     let variables = place_variables(alloc, shared, &written, free)?;
     let layouts = place_tasks(
         alloc,
+        functions,
         shared,
         variables.as_slice(),
         tasks,
@@ -105,6 +116,30 @@ fn layout_of(
         events: uses_events(source),
     };
     Ok(Layout::new(runtime, regions, variables, layouts))
+}
+
+fn layout_of(
+    alloc: Global,
+    source: &CheckedSource,
+    allow: &Allow,
+    plan: &Plan,
+) -> Result<Layout, AllocError>
+    requires few { length source.now.shared.items ≤ 256 }
+    requires few_functions { length source.now.functions.items ≤ 64 }
+    requires few_tasks { length source.now.tasks.items ≤ 64 }
+    requires plain { (program_of source.now).functions ≡ [] }
+    requires calls { All (λ task. BlockCallsBelow 0 task.body) (program_of source.now).tasks }
+    requires allowed { IsAllowed (program_of source.now) allow.now }
+    requires planned { IsPlan (program_of source.now) plan.now }
+    ensures { IfOk result (IsLayout (program_of source.now) allow.now plan.now) }
+{
+    let known = summaries(&source.functions);
+    let locals = all_locals(&source.functions);
+    let functions = Functions {
+        summaries: &known,
+        locals: &locals,
+    };
+    layout_with(alloc, functions, source, allow, plan)
 }
 
 /// Where the data and the code of a source without functions stand; or no memory is left. The allowance and the plan are those of the source.

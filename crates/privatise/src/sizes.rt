@@ -1,12 +1,13 @@
 //! The words that data and code are given.
-ghost use Rattle.std.specs.Prelude.{◌≡◌, ◌+◌, ◌≤◌, ◌<◌, ℕ, [], length, map, false, slice_index_or};
+ghost use Rattle.std.specs.Prelude.{◌≡◌, ◌+◌, ◌≤◌, ◌<◌, ℕ, length, map, false, slice_index_or};
 ghost use Rattle.task_ast.specs.View.{task_of, program_of};
 ghost use Rattle.cost_bound.specs.Summaries.{summaries};
-ghost use Rattle.cost_bound.specs.Allowance.{shared_sum, is_written, version_part, total, plain_words_of};
+ghost use Rattle.cost_bound.specs.Allowance.{own_words, shared_sum, is_written, version_part, total, plain_words_of};
+ghost use Rattle.cost_bound.specs.Machine.{known_of, AreSame};
 ghost use Rattle.privatise.specs.Sizes.{home_part, home_words, copy_part, body_words, boot_words};
 ghost use Rattle.privatise.specs.Placing.{AreSizes};
 
-use cost_bound::{SHARED, assigned_scalars, code_words};
+use cost_bound::{FunctionSummary, SHARED, assigned_scalars, code_words, own_code_words};
 use memory_map::ROW_WORDS;
 use task_ast::{
     CheckedSource, Extent, FunctionName, SharedDeclaration, TaskDeclaration, TaskName, VariableName,
@@ -77,47 +78,68 @@ pub const COMMIT: u32 = 200;
 // The words of the boot, beside what each task takes there. It shares 599 with the words of the runtime and the commit.
 const BOOT: u32 = 599 - ROW_WORDS - COMMIT;
 
-// The words of the boot of a source without functions.
+// The words of the boot.
 fn boot_words(
+    functions: &[FunctionSummary],
     shared: &[SharedDeclaration],
     tasks: &[TaskDeclaration<VariableName, TaskName, FunctionName>],
 ) -> u32
     requires few { length shared.now ≤ 256 }
+    requires few_functions { length functions.now ≤ 64 }
     requires few_tasks { length tasks.now ≤ 64 }
-    ensures { result ≡ boot_words [] shared.now (map task_of tasks.now) }
+    ensures { result ≡ boot_words (known_of functions.now) shared.now (map task_of tasks.now) }
 {
     let mut n = BOOT;
     for i in (0..tasks.len()).rev() {
-        n += 200 + 16 * assigned_scalars(&[], shared, &tasks[i].body) as u32;
+        n += 200 + 16 * assigned_scalars(functions, shared, &tasks[i].body) as u32;
     }
     n
 }
 
-/// The words of the code of a task that calls no function.
-pub fn task_words(
+/// The words of the own code of a task, without that of the functions that it reaches.
+pub fn own_words(
+    functions: &[FunctionSummary],
     shared: &[SharedDeclaration],
     task: &TaskDeclaration<VariableName, TaskName, FunctionName>,
 ) -> u32
     requires few { length shared.now ≤ 256 }
-    requires small { body_words [] shared.now (task_of task.now).body ≤ 22000 }
-    ensures { result ≡ body_words [] shared.now (task_of task.now).body }
+    requires few_functions { length functions.now ≤ 64 }
+    requires small { own_words (known_of functions.now) shared.now (task_of task.now).body ≤ 22000 }
+    ensures { result ≡ own_words (known_of functions.now) shared.now (task_of task.now).body }
 {
-    let scalars = assigned_scalars(&[], shared, &task.body);
-    code_words(&[], scalars, &task.body) as u32
+    let scalars = assigned_scalars(functions, shared, &task.body);
+    own_code_words(functions, scalars, &task.body) as u32
 }
 
-// The words of all tasks' code, where they call no functions.
+/// The words of a task's code with that of the functions that it reaches.
+pub fn task_words(
+    functions: &[FunctionSummary],
+    shared: &[SharedDeclaration],
+    task: &TaskDeclaration<VariableName, TaskName, FunctionName>,
+) -> u32
+    requires few { length shared.now ≤ 256 }
+    requires few_functions { length functions.now ≤ 64 }
+    requires small { body_words (known_of functions.now) shared.now (task_of task.now).body ≤ 22000 }
+    ensures { result ≡ body_words (known_of functions.now) shared.now (task_of task.now).body }
+{
+    let scalars = assigned_scalars(functions, shared, &task.body);
+    code_words(functions, scalars, &task.body) as u32
+}
+
+// The words of all tasks' code.
 fn all_task_words(
+    functions: &[FunctionSummary],
     shared: &[SharedDeclaration],
     tasks: &[TaskDeclaration<VariableName, TaskName, FunctionName>],
 ) -> u32
     requires few { length shared.now ≤ 256 }
-    requires small { total (body_words [] shared.now) (map task_of tasks.now) ≤ 22000 }
-    ensures { result ≡ total (body_words [] shared.now) (map task_of tasks.now) }
+    requires few_functions { length functions.now ≤ 64 }
+    requires small { total (body_words (known_of functions.now) shared.now) (map task_of tasks.now) ≤ 22000 }
+    ensures { result ≡ total (body_words (known_of functions.now) shared.now) (map task_of tasks.now) }
 {
     let mut n = 0u32;
     for i in (0..tasks.len()).rev() {
-        n += task_words(shared, &tasks[i]);
+        n += task_words(functions, shared, &tasks[i]);
     }
     n
 }
@@ -131,11 +153,16 @@ pub struct Sizes {
     pub code: u32,
 }
 
-/// The sizes for a source without functions, in which the variables that some task writes are marked.
-pub fn sizes_of(source: &CheckedSource, written: &[bool; SHARED]) -> Sizes
+/// The sizes for a source with these functions, in which the variables that some task writes are marked.
+pub fn sizes_of(
+    functions: &[FunctionSummary],
+    source: &CheckedSource,
+    written: &[bool; SHARED],
+) -> Sizes
     requires few { length source.now.shared.items ≤ 256 }
+    requires few_functions { length functions.now ≤ 64 }
     requires few_tasks { length source.now.tasks.items ≤ 64 }
-    requires plain { (program_of source.now).functions ≡ [] }
+    requires same { AreSame (known_of functions.now) (summaries (program_of source.now)) }
     requires written { (i : ℕ) → i < 256
         → slice_index_or written.now i false ≡ is_written (summaries (program_of source.now)) (map task_of source.now.tasks.items) i }
     requires small { plain_words_of (program_of source.now) ≤ 22000 }
@@ -144,7 +171,7 @@ pub fn sizes_of(source: &CheckedSource, written: &[bool; SHARED]) -> Sizes
     Sizes {
         homes: home_words(&source.shared),
         copies: copy_words(&source.shared, written),
-        boot: boot_words(&source.shared, &source.tasks),
-        code: all_task_words(&source.shared, &source.tasks),
+        boot: boot_words(functions, &source.shared, &source.tasks),
+        code: all_task_words(functions, &source.shared, &source.tasks),
     }
 }

@@ -22,6 +22,7 @@ use Rattle.memory_map.specs.MemoryMap.{MemoryMap, TaskPlace, word_place}
 use Rattle.memory_map.specs.Places.{end_of, list_entry_room, HasItsPlace, IsLaidOut}
 use Rattle.memory_map.proofs.Interface.{parts_in_fram, words_stand}
 use Rattle.privatise.specs.Layouts.{IsTaskLayout}
+use Rattle.privatise.specs.Routines.{known_functions}
 use Rattle.memory_map.specs.event_places.Places.{head_place, tail_place, count_place, sent_place, answer_place, ring_place}
 use Rattle.source_maps.specs.Maps.{map_words, map_list, map_buffer, copied_words, map_copies, event_ring, variables_of, private_names, shared_name, tasks_of}
 use Rattle.source_maps.specs.Maps.{map_of}
@@ -115,7 +116,7 @@ record HasScalars (shared : List SharedDeclaration) (t : TaskPlace) : Type 0 whe
   pub scalars : All (IsScalarAt shared) (map (λ s. s.number) t.privates)
 
 scalars_of_plan : (p : CheckedProgram) (task : CheckedTask) (plan : TaskPlanValue) (t : TaskPlace) → IsTaskPlan p.functions p.shared task.body plan
-    → IsTaskLayout (summaries p) p.shared task.body plan t → HasScalars p.shared t
+    → IsTaskLayout (known_functions p) p.shared task.body plan t → HasScalars p.shared t
 scalars_of_plan p task plan t is has = record {
   from = subst (AreFrom 0) (sym has.privates) (from_pairs 0 plan.private_scalars is.private_scalars.ascending (starts_anywhere plan.private_scalars));
   scalars = subst (All (IsScalarAt p.shared)) (sym has.privates)

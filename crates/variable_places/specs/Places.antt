@@ -15,6 +15,10 @@ use Rattle.memory_map.specs.Spots.{Places}
 abbrev pub high_address : ℕ → ℕ
 high_address address = (address + 2) % 65536
 
+-- the number of a local: those of the code that is at work have their numbers from its first on
+abbrev pub local_number : Places → ℕ → ℕ
+local_number p n = (p.first + n) % 65536
+
 -- the elements of an array, their copies and their version words
 abbrev pub array_place : ℕ → ℕ → ArrayCopies → ArrayPlace
 array_place elements length c = record { elements = elements; copies = c.copies; versions = c.versions; length = length }

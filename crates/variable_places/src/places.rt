@@ -1,14 +1,14 @@
 //! Where what a task works on stands.
 ghost use Rattle.std.specs.Prelude.{◌≡◌, ◌%◌, slice_get};
-ghost use Rattle.memory_map.specs.Spots.{copy_among, home_of};
+ghost use Rattle.memory_map.specs.Spots.{copy_among, home_of, routine_among};
 ghost use Rattle.variable_places.specs.Places.{high_address, array_place, no_array, written_array};
 
 use array_versions::{ArrayPlace, ListPlace};
-use memory_map::{ArrayCopies, Layout, PrivateScalar, RuntimeWord, VariablePlace};
+use memory_map::{ArrayCopies, Layout, PrivateScalar, RoutinePlace, RuntimeWord, VariablePlace};
 use task_ast::Variable;
 
-/// The places that a task's program works on: those of the layout, the variables as the task sees them, and the scalars that
-/// are private in the task.
+/// The places that a task's program works on, or that of a function in it: those of the layout, the variables as the task sees them, the
+/// scalars that are private in the task, its own locals and the functions that the task reaches.
 #[derive(Clone, Copy)]
 pub struct TaskPlaces<'l> {
     pub layout: &'l Layout,
@@ -16,6 +16,10 @@ pub struct TaskPlaces<'l> {
     pub variables: &'l [VariablePlace],
     /// In order of declaration.
     pub privates: &'l [PrivateScalar],
+    /// The number of the first local of the task, or of the function whose program this is.
+    pub first: u16,
+    /// The functions that the task reaches.
+    pub routines: &'l [RoutinePlace],
 }
 
 // The copy of the variable of a number, where it is among these private scalars.
@@ -25,6 +29,18 @@ fn copy_among(privates: &[PrivateScalar], number: u32) -> Option<u16>
     for scalar in privates {
         if scalar.number == number {
             return Some(scalar.copy);
+        }
+    }
+    None
+}
+
+// The function of a number, where it is among these.
+fn routine_among(routines: &[RoutinePlace], number: u32) -> Option<RoutinePlace>
+    ensures { result ≡ routine_among routines.now number }
+{
+    for routine in routines {
+        if routine.function == number {
+            return Some(*routine);
         }
     }
     None
@@ -83,9 +99,33 @@ fn written_array(variables: &[VariablePlace], number: u32) -> ArrayPlace
 }
 
 impl<'l> TaskPlaces<'l> {
-    ghost use Rattle.memory_map.specs.Spots.{address_of};
-    ghost use Rattle.variable_places.specs.Places.{list_place, stored_array};
+    ghost use Rattle.memory_map.specs.Spots.{address_of, routine_of, routine_places};
+    ghost use Rattle.variable_places.specs.Places.{list_place, local_number, stored_array};
     ghost use Rattle.variable_places.specs.View.{places_in};
+
+    /// The number of a local. No program has 2^16 of them.
+    pub fn local_number(&self, number: u32) -> u16
+        ensures { result ≡ local_number (places_in self.now) number }
+    {
+        ((self.first as u64 + number as u64) % 65536) as u16
+    }
+
+    /// The function of a number, where it is one that the task reaches.
+    pub fn routine_of(&self, function: u32) -> Option<RoutinePlace>
+        ensures { result ≡ routine_of (places_in self.now) function }
+    {
+        routine_among(self.routines, function)
+    }
+
+    /// The places that the program of a function in this task works on.
+    pub fn of_routine(&self, routine: RoutinePlace) -> TaskPlaces<'l>
+        ensures { places_in result ≡ routine_places (places_in self.now) routine }
+    {
+        TaskPlaces {
+            first: routine.first,
+            ..*self
+        }
+    }
 
     /// The address of a shared variable in the task: that of its copy where it is private there, else that of its first word.
     pub fn address_of(&self, number: u32) -> u16

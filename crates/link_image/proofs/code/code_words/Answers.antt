@@ -1,6 +1,6 @@
 use Rattle.link_image.proofs.Names.{◌≡◌, ◌∙◌, ◌+◌, ◌*◌, ◌++◌, ◌<◌, ◌≤◌, ap, sym, subst, length, map, arith, length-map, reset_vector, end_of, instructions}
 use Rattle.link_image.proofs.Names.{program_of}
-use Rattle.link_image.proofs.Names.{apart_of, chained, PartsInOrder, task_parts, Bool, List, ℕ, TaskPlace}
+use Rattle.link_image.proofs.Names.{apart_of, codes_in_order, chained, PartsInOrder, task_parts, Bool, List, ℕ, TaskPlace}
 use Rattle.link_image.proofs.code.code_words.Goals as goal
 use Rattle.linked_code.specs.Linked.{boot_code, commit_code, bytes_of_boot, bytes_of_commit, StartsFit}
 use Rattle.memory_map.specs.declared.runtime.Logging.{Logging}
@@ -82,7 +82,8 @@ push_tasks-requires-clause-short c =
     let l = c.args.layout.now in
     let fits = c.requires.fits in
     let high = fits.high in
-    each_short l.code.address l.tasks (map program_of c.args.programs.now) (end_of l.code) fits.rules.code (omega (arith, high)) fits.tasks
+    each_short l.code.address l.tasks (map program_of c.args.programs.now) (end_of l.code)
+    (codes_in_order l.code.address l.tasks (end_of l.code) fits.rules.code) (omega (arith, high)) fits.tasks
 
 pub returns : goal.returns
 returns c =

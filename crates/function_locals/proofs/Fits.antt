@@ -1,0 +1,23 @@
+-- Whether tasks fit doesn't look at what 64 bits don't keep of functions.
+use Rattle.std.proofs.Common.{◌≡◌, ℕ, ◌+◌, ◌≤◌, Bool, ◌&&◌, nat_le, List, [], ◌∷◌, length, refl, ap, ◌∙◌, arith}
+use Rattle.task_ast.specs.Paths.{CheckedTask}
+use Rattle.cost_bound.specs.Summary.{Summary}
+use Rattle.cost_bound.specs.Counts.{CheckedBlock}
+use Rattle.cost_bound.specs.Frames.{block_locals, stack_of}
+use Rattle.cost_bound.specs.Machine.{AreSame}
+use Rattle.cost_bound.proofs.Interface.{stack_same}
+use Rattle.function_locals.specs.declared.locals.FunctionLocals.{FunctionLocals}
+use Rattle.function_locals.specs.Locals.{base_of}
+use Rattle.function_locals.specs.Events.{task_fits, tasks_fit}
+
+module _ (as' bs : List Summary) (few : length as' ≤ 64) (same : AreSame as' bs) (locals : List FunctionLocals) where
+  task_fits_same : (b : CheckedBlock) → task_fits as' locals b ≡ task_fits bs locals b
+  task_fits_same b =
+      let e = stack_same as' bs few same b in
+      let low : nat_le (stack_of as' b) 776 ≡ nat_le (stack_of bs b) 776 = grind (arith, nat_tests, e) in
+      ap (λ c. nat_le (base_of locals b + block_locals b) 256 && c) low
+
+  pub tasks_fit_same : (ts : List CheckedTask) → tasks_fit as' locals ts ≡ tasks_fit bs locals ts
+  tasks_fit_same [] = refl
+  tasks_fit_same (t ∷ ts) =
+      ap (λ c. c && tasks_fit as' locals ts) (task_fits_same t.body) ∙ ap (λ c. task_fits bs locals t.body && c) (tasks_fit_same ts)

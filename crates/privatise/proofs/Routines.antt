@@ -1,0 +1,209 @@
+-- The functions of a task, one behind another.
+use Rattle.std.proofs.Common.{◌≡◌, ℕ, suc, ◌+◌, ◌*◌, ◌%◌, ◌<◌, ◌≤◌, Bool, true, false, List, [], ◌∷◌, ◌++◌, length, drop, map}
+use Rattle.std.proofs.Common.{get_or, refl, sym, ap, ◌∙◌, subst, arith, Some, None}
+use Rattle.std.proofs.Common.{if◌then◌else◌, slice_index_or, drop-cons, add-one, append_assoc}
+use Rattle.std.proofs.lemmas.List.{append-nil}
+use Rattle.cost_bound.specs.Table.{capped}
+use Rattle.cost_bound.specs.Summary.{Summary}
+use Rattle.cost_bound.specs.Counts.{CheckedBlock, all_called_from, reaches_of, routine_words}
+use Rattle.cost_bound.specs.Frames.{stack_of}
+use Rattle.cost_bound.specs.Machine.{summary_of, known_of, IsSame, AreSame}
+use Rattle.cost_bound.specs.declared.function_summaries.FunctionSummary.{FunctionSummary}
+use Rattle.cost_bound.proofs.Interface.{all_same, first_same, known_length, reaches_same, rest_same, routines_same, stack_same}
+use Rattle.function_locals.specs.declared.locals.FunctionLocals.{FunctionLocals}
+use Rattle.function_locals.specs.Locals.{is_light}
+use Rattle.memory_map.specs.declared.place.RoutinePlace.{RoutinePlace}
+use Rattle.memory_map.specs.Places.{AreInOrder}
+use Rattle.memory_map.specs.address_space.Limits.{program_end}
+use Rattle.privatise.specs.Routines.{words_above, first_local, frame_address, frame_of_locals, routine_room, routine_at, routines_from, task_routines}
+
+-- ---- as they are placed, one after another
+
+-- the functions that are left, the first of them marked or not
+abbrev pub if_marked : (marked : Bool) → ℕ → (ℕ → Bool) → ℕ → ℕ → Summary → FunctionLocals → List Summary → List FunctionLocals → List RoutinePlace
+if_marked marked stack marks k at s l ss ls =
+    if marked then routine_at stack k at s l ∷ routines_from stack marks (k + 1) (at + 2 * routine_room s) ss ls
+    else routines_from stack marks (k + 1) at ss ls
+
+module _ (stack : ℕ) (marks : ℕ → Bool) (address : ℕ) (fs : List FunctionSummary) (ls : List FunctionLocals) where
+  abbrev words_from : ℕ → ℕ
+  words_from k = all_called_from marks routine_room k (known_of (drop k fs))
+
+  -- those of the first functions, and the address for the next
+  pub record Placed (k at : ℕ) (routines : List RoutinePlace) : Type 0 where
+    pub are : routines ++ routines_from stack marks k at (known_of (drop k fs)) (drop k ls) ≡ routines_from stack marks 0 address (known_of fs) ls
+    pub room : at + 2 * words_from k ≡ address + 2 * all_called_from marks routine_room 0 (known_of fs)
+    pub low : address ≤ at
+
+  pub none_placed : Placed 0 address []
+  none_placed = record { are = refl; room = refl; low = omega arith }
+
+  module _ (k at : ℕ) (f : FunctionSummary) (l : FunctionLocals) (lf : k < length fs) (ll : k < length ls) (is_f : f ≡ get_or fs k f) (is_l : l ≡ get_or ls k l)
+      (routines : List RoutinePlace) (h : Placed k at routines) where
+    functions_left : drop k fs ≡ f ∷ drop (k + 1) fs
+    functions_left = drop-cons fs k f lf ∙ ap (λ x. x ∷ drop (suc k) fs) (sym is_f) ∙ ap (λ n. f ∷ drop n fs) (sym (add-one k))
+
+    locals_left : drop k ls ≡ l ∷ drop (k + 1) ls
+    locals_left = drop-cons ls k l ll ∙ ap (λ x. x ∷ drop (suc k) ls) (sym is_l) ∙ ap (λ n. l ∷ drop n ls) (sym (add-one k))
+
+    left : routines_from stack marks k at (known_of (drop k fs)) (drop k ls)
+        ≡ if_marked (marks k) stack marks k at (summary_of f) l (known_of (drop (k + 1) fs)) (drop (k + 1) ls)
+    left = ap (λ xs. routines_from stack marks k at (known_of xs) (drop k ls)) functions_left
+        ∙ ap (λ ys. routines_from stack marks k at (known_of (f ∷ drop (k + 1) fs)) ys) locals_left
+
+    words_left : words_from k ≡ (if marks k then routine_room (summary_of f) else 0) + words_from (k + 1)
+    words_left = ap (λ xs. all_called_from marks routine_room k (known_of xs)) functions_left
+
+    -- one that isn't marked
+    pub passed_over : marks k ≡ false → Placed (k + 1) at routines
+    passed_over e = record {
+      are = ap (λ rs. routines ++ rs) (sym (left ∙ ap (λ b. if_marked b stack marks k at (summary_of f) l (known_of (drop (k + 1) fs)) (drop (k + 1) ls)) e))
+          ∙ h.are;
+      room = (let w : words_from k ≡ 0 + words_from (k + 1) = words_left ∙ ap (λ b. (if b then routine_room (summary_of f) else 0) + words_from (k + 1)) e in
+          let r = h.room in omega (arith, w, r));
+      low = h.low;
+    }
+
+    words_marked : marks k ≡ true → words_from k ≡ routine_room (summary_of f) + words_from (k + 1)
+    words_marked e = words_left ∙ ap (λ b. (if b then routine_room (summary_of f) else 0) + words_from (k + 1)) e
+
+    -- there is room for one that is marked
+    pub marked_small : marks k ≡ true → all_called_from marks routine_room 0 (known_of fs) ≤ 22000
+        → routine_room (summary_of f) ≤ 22000
+    marked_small e small = let w = words_marked e in let r = h.room in let low = h.low in omega (arith, w, r, small, low)
+
+    pub marked_fits : marks k ≡ true → address + 2 * all_called_from marks routine_room 0 (known_of fs) ≤ program_end
+        → at + 2 * routine_room (summary_of f) < 65536
+    marked_fits e room = let w = words_marked e in let r = h.room in omega (arith, w, r, room)
+
+    -- and it is placed
+    pub one_placed : (more : List RoutinePlace) (later : ℕ) → marks k ≡ true → later ≡ at + 2 * routine_room (summary_of f)
+        → more ≡ routines ++ routine_at stack k at (summary_of f) l ∷ [] → Placed (k + 1) later more
+    one_placed more later e at_end is = record {
+      are = ap (λ rs. rs ++ routines_from stack marks (k + 1) later (known_of (drop (k + 1) fs)) (drop (k + 1) ls)) is
+          ∙ append_assoc routines (routine_at stack k at (summary_of f) l ∷ [])
+          (routines_from stack marks (k + 1) later (known_of (drop (k + 1) fs)) (drop (k + 1) ls))
+          ∙ ap (λ n. routines ++ routine_at stack k at (summary_of f) l ∷ routines_from stack marks (k + 1) n (known_of (drop (k + 1) fs)) (drop (k + 1) ls))
+          at_end
+          ∙ ap (λ rs. routines ++ rs) (sym (left ∙ ap (λ b. if_marked b stack marks k at (summary_of f) l (known_of (drop (k + 1) fs)) (drop (k + 1) ls)) e))
+          ∙ h.are;
+      room = (let w = words_marked e in let r = h.room in omega (arith, w, r, at_end));
+      low = (let l = h.low in omega (arith, l, at_end));
+    }
+
+    -- whichever it is
+    pub next_placed : (b : Bool) → marks k ≡ b → (more : List RoutinePlace) (later : ℕ)
+        → later ≡ (if b then at + 2 * routine_room (summary_of f) else at)
+        → more ≡ (if b then routines ++ routine_at stack k at (summary_of f) l ∷ [] else routines) → Placed (k + 1) later more
+    next_placed true e more later at_end is = one_placed more later e at_end is
+    next_placed false e more later at_end is =
+        subst (λ n. Placed (k + 1) n more) (sym at_end) (subst (λ rs. Placed (k + 1) at rs) (sym is) (passed_over e))
+
+  pub all_placed : (k at : ℕ) (routines : List RoutinePlace) → drop k fs ≡ [] → Placed k at routines
+      → routines ≡ routines_from stack marks 0 address (known_of fs) ls
+  all_placed k at routines past h =
+      sym (append-nil routines) ∙ ap (λ xs. routines ++ routines_from stack marks k at (known_of xs) (drop k ls)) (sym past) ∙ h.are
+
+-- by the same marks
+marks_same : (stack : ℕ) (marks more : ℕ → Bool) (k at : ℕ) (ss : List Summary) (ls : List FunctionLocals) → k + length ss ≤ 256
+    → ((j : ℕ) → j < 256 → marks j ≡ more j) → routines_from stack marks k at ss ls ≡ routines_from stack more k at ss ls
+marks_same stack marks more k at [] ls few are = refl
+marks_same stack marks more k at (s ∷ ss) [] few are = refl
+marks_same stack marks more k at (s ∷ ss) (l ∷ ls) few are =
+    ap (λ b. if b then routine_at stack k at s l ∷ routines_from stack marks (k + 1) (at + 2 * routine_room s) ss ls
+    else routines_from stack marks (k + 1) at ss ls) (are k (omega arith))
+    ∙ ap (λ rs. if more k then routine_at stack k at s l ∷ rs else routines_from stack marks (k + 1) at ss ls)
+    (marks_same stack marks more (k + 1) (at + 2 * routine_room s) ss ls (omega arith) are)
+    ∙ ap (λ rs. if more k then routine_at stack k at s l ∷ routines_from stack more (k + 1) (at + 2 * routine_room s) ss ls else rs)
+    (marks_same stack marks more (k + 1) at ss ls (omega arith) are)
+
+module _ (kept : List FunctionSummary) (ls : List FunctionLocals) (body : CheckedBlock) (marks : List Bool) (few : length kept ≤ 64)
+    (are : (k : ℕ) → k < 256 → slice_index_or marks k false ≡ reaches_of (known_of kept) k body) where
+  room : 0 + length (known_of kept) ≤ 256
+  room = let n = known_length kept in omega (arith, n, few)
+
+  -- the words of the marked functions are those of the functions that are reached
+  pub marked_words : all_called_from (λ k. slice_index_or marks k false) routine_room 0 (known_of kept) ≡ routine_words (known_of kept) body
+  marked_words = all_same (λ k. slice_index_or marks k false) (λ k. reaches_of (known_of kept) k body) routine_room 0 (known_of kept) room are
+
+  pub routines_are : (stack at : ℕ) (routines : List RoutinePlace) → stack ≡ capped (stack_of (known_of kept) body)
+      → stack_of (known_of kept) body ≤ 1000
+      → routines ≡ routines_from stack (λ k. slice_index_or marks k false) 0 at (known_of kept) ls
+      → routines ≡ task_routines (record { summaries = known_of kept; locals = ls }) body at
+  routines_are stack at routines is low e =
+      let same : stack ≡ stack_of (known_of kept) body = omega (arith, is, low) in
+      e ∙ marks_same stack (λ k. slice_index_or marks k false) (λ k. reaches_of (known_of kept) k body) 0 at (known_of kept) ls room are
+      ∙ ap (λ n. routines_from n (λ k. reaches_of (known_of kept) k body) 0 at (known_of kept) ls) same
+
+-- ---- in order
+
+routines_in_order : (stack : ℕ) (marks : ℕ → Bool) (k at : ℕ) (ss : List Summary) (ls : List FunctionLocals) → length ls ≡ length ss → at % 2 ≡ 0
+    → AreInOrder at (map (λ r. r.code) (routines_from stack marks k at ss ls)) (at + 2 * all_called_from marks routine_room k ss)
+routines_in_order stack marks k at [] ls e even = omega arith
+routines_in_order stack marks k at (s ∷ ss) [] e even = absurd (omega (arith, e))
+routines_in_order stack marks k at (s ∷ ss) (l ∷ ls) e even = by (marks k)
+  where
+    by : (b : Bool) → AreInOrder at (map (λ r. r.code) (if_marked b stack marks k at s l ss ls))
+        (at + 2 * ((if b then routine_room s else 0) + all_called_from marks routine_room (k + 1) ss))
+    by true =
+        let later = at + 2 * routine_room s in
+        let rest = routines_in_order stack marks (k + 1) later ss ls (omega (arith, e)) (omega (arith, even)) in
+        let end : later + 2 * all_called_from marks routine_room (k + 1) ss ≡ at + 2 * (routine_room s + all_called_from marks routine_room (k + 1) ss) =
+        omega arith in (
+          record { from = omega arith; even = even },
+          subst (λ n. AreInOrder later (map (λ r. r.code) (routines_from stack marks (k + 1) later ss ls)) n) end rest,
+        )
+    by false = routines_in_order stack marks (k + 1) at ss ls (omega (arith, e)) even
+
+-- ---- as 64 bits keep the functions
+
+module _ (stack : ℕ) (low : stack ≤ 1000) (marks more : ℕ → Bool) where
+  room_same : (s t : Summary) → IsSame s t → routine_room s ≤ 22000 → routine_room s ≡ routine_room t
+  room_same s t h small = let e = h.words in omega (arith, e, small)
+
+  above_same : (s t : Summary) → IsSame s t → words_above stack s.depth ≡ words_above stack t.depth
+  above_same s t h = let e = h.depth in omega (arith, e, low)
+
+  place_same : (k at : ℕ) (s t : Summary) (l : FunctionLocals) → IsSame s t → routine_room s ≤ 22000 → routine_at stack k at s l ≡ routine_at stack k at t l
+  place_same k at s t l h small = λ j. record {
+    function = k;
+    code = record { address = at; words = room_same s t h small j };
+    frame = ap (λ n. if is_light l then None else Some (frame_address (8 + n) l.own)) (above_same s t h) j;
+    first = ap (λ n. if is_light l then l.base else 8 + n) (above_same s t h) j;
+  }
+
+  from_same : (k at : ℕ) (ss ts : List Summary) (ls : List FunctionLocals) → k + length ss ≤ 256 → ((j : ℕ) → j < 256 → marks j ≡ more j)
+      → all_called_from marks routine_room k ss ≤ 22000 → AreSame ss ts → routines_from stack marks k at ss ls ≡ routines_from stack more k at ts ls
+  from_same k at [] [] ls few are small h = refl
+  from_same k at [] (t ∷ ts) ls few are small h = absurd (let c = h.count in omega (arith, c))
+  from_same k at (s ∷ ss) [] ls few are small h = absurd (let c = h.count in omega (arith, c))
+  from_same k at (s ∷ ss) (t ∷ ts) [] few are small h = refl
+  from_same k at (s ∷ ss) (t ∷ ts) (l ∷ ls) few are small h =
+      by (marks k) small ∙ ap (λ b. if_marked b stack more k at t l ts ls) (are k (omega (arith, few)))
+    where
+      by : (b : Bool) → (if b then routine_room s else 0) + all_called_from marks routine_room (k + 1) ss ≤ 22000
+          → if_marked b stack marks k at s l ss ls ≡ if_marked b stack more k at t l ts ls
+      by true low_words =
+          let here = first_same s t ss ts h in
+          let words = room_same s t here (omega (arith, low_words)) in
+          let rest = from_same (k + 1) (at + 2 * routine_room s) ss ts ls (omega (arith, few)) are (omega (arith, low_words)) (rest_same s t ss ts h) in
+          ap (λ r. r ∷ routines_from stack marks (k + 1) (at + 2 * routine_room s) ss ls) (place_same k at s t l here (omega (arith, low_words)))
+          ∙ ap (λ rs. routine_at stack k at t l ∷ rs) rest
+          ∙ ap (λ n. routine_at stack k at t l ∷ routines_from stack more (k + 1) (at + 2 * n) ts ls) words
+      by false low_words = from_same (k + 1) at ss ts ls (omega (arith, few)) are low_words (rest_same s t ss ts h)
+
+pub task_same : (as' bs : List Summary) (ls : List FunctionLocals) (b : CheckedBlock) (at : ℕ) → length as' ≤ 64 → AreSame as' bs
+    → stack_of as' b ≤ 1000 → routine_words as' b ≤ 22000
+    → task_routines (record { summaries = as'; locals = ls }) b at ≡ task_routines (record { summaries = bs; locals = ls }) b at
+task_same as' bs ls b at few same low small =
+    from_same (stack_of as' b) low (λ k. reaches_of as' k b) (λ k. reaches_of bs k b) 0 at as' bs ls (omega (arith, few))
+    (λ j l. reaches_same as' bs few same j l b) small same
+    ∙ ap (λ n. routines_from n (λ k. reaches_of bs k b) 0 at bs ls) stacks
+  where
+    stacks : stack_of as' b ≡ stack_of bs b
+    stacks = let e = stack_same as' bs few same b in omega (arith, e, low)
+
+-- the code of a task's functions, in order behind its own
+pub task_in_order : (known : List Summary) (ls : List FunctionLocals) (b : CheckedBlock) (at : ℕ) → length ls ≡ length known → at % 2 ≡ 0
+    → AreInOrder at (map (λ r. r.code) (task_routines (record { summaries = known; locals = ls }) b at)) (at + 2 * routine_words known b)
+task_in_order known ls b at e even = routines_in_order (stack_of known b) (λ k. reaches_of known k b) 0 at known ls e even
