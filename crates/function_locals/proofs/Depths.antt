@@ -222,8 +222,8 @@ module _ (fs : List CheckedFunction) (below : FunctionsCallBelow 0 fs) where
           let g = element fs x.number (let m = slice_get_within fs k f is in omega (arith, m, lt)) in
           let deep = within fuel x.number g.0 x.summary j (omega (arith, l, lt)) g.1 at_x x.holds in
           let c = callees x.number k f s x.summary is at at_x x.called in
-          let d = deep.1.1 in
-          (deep.0, deep.1.0, omega (arith, c, d))
+          let d = deep.2 in
+          (deep.0, deep.1, omega (arith, c, d))
 
   reached : (b : CheckedBlock) (j : ℕ) (z : Summary) → BlockCallsBelow (length fs) b → slice_get known j ≡ Some z → reaches_of known j b ≡ true
       → z.depth ≤ deepest known b
@@ -238,9 +238,9 @@ module _ (fs : List CheckedFunction) (below : FunctionsCallBelow 0 fs) where
           let inside = slice_get_within known x.number x.summary x.at in
           let g = element fs x.number (omega (arith, count, inside)) in
           let deep = within (suc x.number) x.number g.0 x.summary j (omega arith) g.1 x.at x.holds in
-          let same : deep.0 ≡ z = same_Some deep.0 z (sym deep.1.0 ∙ at) in
+          let same : deep.0 ≡ z = same_Some deep.0 z (sym deep.1 ∙ at) in
           let low = deepest_among (λ n. block_calls n b) 0 known x.number x.summary x.at x.called in
-          let d = deep.1.1 in
+          let d = deep.2 in
           let e = ap (λ y. y.depth) same in
           omega (arith, low, d, e)
 
