@@ -206,7 +206,7 @@ routines_short from (r ∷ rs) (p ∷ ps) others end o l f =
     let high = in_order_end (end_of r.code) (map (λ r. r.code) rs ++ others) end o.1 in
     let w = f.0 in
     let count = rest.0 in
-    (omega (arith, count), All-cons IsShort p ps (omega (arith, high, w, l)) rest.1.0, rest.1.1)
+    (omega (arith, count), All-cons IsShort p ps (omega (arith, high, w, l)) rest.1, rest.2)
 
 pub each_emitted : (from : ℕ) (ts : List TaskPlace) (ps : List TaskPrograms) (end : ℕ) → AreInOrder from (flat_map code_regions ts) end → end < 0x10000
     → ProgramsFit ts ps → All TaskHasFewLocals ps → TasksAreEmitted ts ps
@@ -219,10 +219,10 @@ each_emitted from (t ∷ ts) (p ∷ ps) end o l f few =
       record {
         count = there.0;
         short = omega (arith, high, w, l);
-        shorts = there.1.0;
+        shorts = there.1;
         locals = All-head TaskHasFewLocals p ps few;
       },
-      each_emitted there.1.1.0 ts ps end there.1.1.1 l f.1 (All-tail TaskHasFewLocals p ps few),
+      each_emitted there.2.0 ts ps end there.2.1 l f.1 (All-tail TaskHasFewLocals p ps few),
     )
 
 -- ---- the whole code

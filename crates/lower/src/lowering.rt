@@ -77,6 +77,8 @@ fn lower_task(
         layout,
         variables: variables.as_slice(),
         privates: privates_seen(layout.runtime().logging, task),
+        first: task.first(),
+        routines: task.routines(),
     };
     let mut program = WordProgram::new(alloc);
     lower_block(alloc, body, &places, &mut program)?;

@@ -128,26 +128,29 @@ module _ (p : CheckedProgram) (body : CheckedBlock) (at : ℕ) where
   of_each j r e =
       let h = among stack marks 0 at (summaries p) (all_locals p.functions) j r e in
       let f = functions_at p.functions h.index h.locals h.locals_is in
-      let number : h.index ≡ r.function = ap (λ x. x.function) (sym h.is) in
+      let counted : r.function ≡ 0 + h.index = ap (λ x. x.function) h.is in
+      let number : r.function ≡ h.index = omega (arith, counted) in
       record {
         known = record { function = f.0; summary = h.summary; locals = h.locals };
         is = record {
-          function = ap (slice_get p.functions) (sym number) ∙ f.1;
-          summary = ap (slice_get (summaries p)) (sym number) ∙ h.summary_is;
-          locals = ap (slice_get (all_locals p.functions)) (sym number) ∙ h.locals_is;
+          function = ap (slice_get p.functions) number ∙ f.1;
+          summary = ap (slice_get (summaries p)) number ∙ h.summary_is;
+          locals = ap (slice_get (all_locals p.functions)) number ∙ h.locals_is;
         };
-        reached = ap marks (sym number) ∙ h.marked;
+        reached = ap marks counted ∙ h.marked;
         words = ap (λ x. x.code.words) h.is;
         first = ap (λ x. x.first) h.is;
         frame = ap (λ x. x.frame) h.is;
       }
 
+  of_all : (k : ℕ) (f : Known) → IsFunction p k f → marks k ≡ true → IsPlacedIn (task_routines (known_functions p) body at) k
+  of_all k f is reached =
+      let same : 0 + k ≡ k = omega arith in
+      subst (IsPlacedIn (task_routines (known_functions p) body at)) same
+      (placed stack marks 0 at (summaries p) (all_locals p.functions) k f.summary f.locals is.summary is.locals (ap marks same ∙ reached))
+
 pub routines_stand : AllRoutinesStand
-routines_stand p body at = record {
-  each = of_each p body at;
-  all = λ k f is reached. placed (stack_of (summaries p) body) (λ n. reaches_of (summaries p) n body) 0 at (summaries p) (all_locals p.functions) k f.summary
-      f.locals is.summary is.locals reached;
-}
+routines_stand p body at = record { each = of_each p body at; all = of_all p body at }
 
 -- ---- frames
 
