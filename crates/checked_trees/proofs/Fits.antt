@@ -1,10 +1,11 @@
--- What the grammar gives of a tree: each expression has room, numbers are of words, and a local has one word.
+-- What the grammar gives of a tree: each expression has room, numbers are of words, calls have few values, and a local has one word.
 use Rattle.std.proofs.Common.{ℕ, ◌+◌, ◌^◌, ◌<◌, ◌≤◌, Option, Some, None}
+use Rattle.std.specs.Prelude.{All}
 use Rattle.alp_words.specs.Words.{IsWord}
-use Rattle.task_ast.specs.Tree.{Expression, Values, Statement, Choice, Block}
+use Rattle.task_ast.specs.Tree.{Expression, Values, Statement, Choice, Block, Function}
 use Rattle.task_ast.specs.Tree as t
 use Rattle.task_ast.specs.Types.{IsOneWord}
-use Rattle.checked_trees.specs.WellFormed.{stack_words, value_words, enough}
+use Rattle.checked_trees.specs.WellFormed.{stack_words, value_words, values_in, enough}
 
 abbrev mutual
   -- the numbers of an expression are of words
@@ -15,7 +16,7 @@ abbrev mutual
   IsOfWords (t.element x index) = IsOfWords index
   IsOfWords t.sense = Unit {0}
   IsOfWords t.next_event = Unit {0}
-  IsOfWords (t.call f values) = AreOfWords values
+  IsOfWords (t.call f values) = AreOfWords values × (values_in values ≤ 256)
   IsOfWords (t.unary op e) = IsOfWords e
   IsOfWords (t.binary op a b) = IsOfWords a × IsOfWords b
   IsOfWords (t.shift op e count) = IsOfWords e × IsWord count.value
@@ -59,3 +60,9 @@ abbrev mutual
   pub BlockFits : {V T F : Type 0} → Block V T F → Type 0
   BlockFits t.end = Unit {0}
   BlockFits (t.step s more) = StatementFits s × BlockFits more
+
+-- the same of a function, which gives one word and takes words
+pub record FunctionFits {V T F : Type 0} (f : Function V T F) : Type 0 where
+  pub gives : IsOneWord f.word_type
+  pub takes : All (λ p. IsOneWord p.word_type) f.parameters
+  pub body : BlockFits f.body

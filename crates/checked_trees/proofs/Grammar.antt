@@ -22,8 +22,8 @@ use Rattle.task_grammar.specs.Grammar.{IsArm, IsBlock, IsStatements, Row, IsExte
 use Rattle.task_grammar.specs.Grammar.{IsParameters, IsFunction, IsTask, IsProgram}
 use Rattle.task_grammar.specs.Grammar as grammar
 use Rattle.source_values.specs.Runs.{is_long_extent}
-use Rattle.checked_trees.specs.WellFormed.{stack_words, enough, HasItsExtent}
-use Rattle.checked_trees.proofs.Fits.{ExpressionFits, ValuesFit, StatementFits, ChoiceFits, BlockFits}
+use Rattle.checked_trees.specs.WellFormed.{stack_words, values_in, enough, HasItsExtent}
+use Rattle.checked_trees.proofs.Fits.{ExpressionFits, ValuesFit, StatementFits, ChoiceFits, BlockFits, FunctionFits}
 use Rattle.checked_trees.proofs.Tokens.{AreSound}
 
 -- ---- tokens that end no row
@@ -157,7 +157,12 @@ mutual
       let own = token_room w beneath l (in_row w n (o ∷ ((xs ++ c ∷ []) ++ rest)) plain h) in
       let v = values_fit xs values inner (w + 1 + 1) beneath (c ∷ rest) (omega (arith, l)) (omega (arith, own)) b in
       let room = v.0.1 in
-      ((v.0.0, omega (arith, own, room)), left_past (w + 1) (w + 1 + 1) c rest (ap is_end is_c) (omega arith) v.1)
+      let later = v.1.later in
+      let last = in_row v.1.width c rest (ap is_end is_c) v.1.sound in
+      let closing = left_since (w + 1 + 1) (w + 1 + 1 + values_in values) (c ∷ rest) (omega arith) v.1 in (
+        ((v.0.0, omega (arith, later, last)), omega (arith, own, room)),
+        left_past (w + 1) (w + 1 + 1) c rest (ap is_end is_c) (omega arith) closing,
+      )
   expression_fits j ts e (grammar.brackets o c xs inner is_o is_inner is_c) w beneath rest l h =
       let b = apart (w + 1) xs (c ∷ []) rest (past w o ((xs ++ c ∷ []) ++ rest) (ap is_end is_o) h) in
       let i = expression_fits weakest xs inner is_inner (w + 1) beneath (c ∷ rest) (omega (arith, l)) b in
@@ -189,23 +194,28 @@ mutual
       let s : Left (w + 1 + 1) (n ∷ rest) = left_past (w + 1 + 1) (w + 1) t (n ∷ rest) (infix_in_row t.kind _ is) (omega arith) x.1 in
       (((x.0.0, s.sound.1.0), x.0.1), left_past (w + 1) (w + 1 + 1) n rest (ap is_end is_n) (omega arith) s)
 
+  -- each value has a token of its own
   values_fit : (ts : List Token) (values : Values) → IsValues ts values → (w beneath : ℕ) (rest : List Token) → IsRoomy w beneath → beneath ≤ enough
       → AreSound w (ts ++ rest)
-      → ValuesFit beneath values × Left w rest
-  values_fit ts values grammar.no_values w beneath rest l few h = ((tt, omega (arith, few)), left w rest h)
+      → ValuesFit beneath values × Left (w + values_in values) rest
+  values_fit ts values grammar.no_values w beneath rest l few h =
+      ((tt, omega (arith, few)), left_since (w + 0) w rest (omega arith) (left w rest h))
   values_fit ts values (grammar.values xs ys first more is is_more) w beneath rest l few h =
       let e = expression_fits weakest xs first is w beneath (ys ++ rest) l (apart w xs ys rest h) in
       let later = e.1.later in
       let room = e.0.1 in
       let two = two_needed first in
       let m = more_fit ys more is_more e.1.width (suc beneath) rest (omega (arith, l, later)) (omega (arith, room, two)) e.1.sound in
-      let others = m.0.1 in
-      (((e.0.0, m.0.0), omega (arith, room, others)), left_since w e.1.width rest (omega (arith, later)) m.1)
+      let others = m.0.1 in (
+        ((e.0.0, m.0.0), omega (arith, room, others)),
+        left_since (w + suc (values_in more)) (e.1.width + values_in more) rest (omega (arith, later)) m.1,
+      )
 
   more_fit : (ts : List Token) (values : Values) → IsMoreValues ts values → (w beneath : ℕ) (rest : List Token) → IsRoomy w beneath → beneath ≤ enough
       → AreSound w (ts ++ rest)
-      → ValuesFit beneath values × Left w rest
-  more_fit ts values grammar.no_more w beneath rest l few h = ((tt, omega (arith, few)), left w rest h)
+      → ValuesFit beneath values × Left (w + values_in values) rest
+  more_fit ts values grammar.no_more w beneath rest l few h =
+      ((tt, omega (arith, few)), left_since (w + 0) w rest (omega arith) (left w rest h))
   more_fit ts values (grammar.another_value c xs ys next more is_c is is_more) w beneath rest l few h =
       let a = apart (w + 1) xs ys rest (past w c ((xs ++ ys) ++ rest) (ap is_end is_c) h) in
       let e = expression_fits weakest xs next is (w + 1) beneath (ys ++ rest) (omega (arith, l)) a in
@@ -213,8 +223,10 @@ mutual
       let room = e.0.1 in
       let two = two_needed next in
       let m = more_fit ys more is_more e.1.width (suc beneath) rest (omega (arith, l, later)) (omega (arith, room, two)) e.1.sound in
-      let others = m.0.1 in
-      (((e.0.0, m.0.0), omega (arith, room, others)), left_since w e.1.width rest (omega (arith, later)) m.1)
+      let others = m.0.1 in (
+        ((e.0.0, m.0.0), omega (arith, room, others)),
+        left_since (w + suc (values_in more)) (e.1.width + values_in more) rest (omega (arith, later)) m.1,
+      )
 
 -- ---- statements
 
@@ -386,38 +398,50 @@ shareds_pass ts (s ∷ all) (xs, ys, cut, is, row) w more h =
     let a = shared_passes xs s is w (ys ++ more) (apart w xs ys more (subst (λ ts. AreSound w (ts ++ more)) cut h)) in
     shareds_pass ys all row a.width more a.sound
 
-parameter_passes : (ts : List Token) (p : Parameter) → IsParameter ts p → (w : ℕ) (more : List Token) → AreSound w (ts ++ more) → Rest more
-parameter_passes ts p (grammar.parameter t n of is_t is_n) w more h =
-    rest (w + 1 + 1) more (past (w + 1) n more (ap is_end is_n) (past w t (n ∷ more) (type_in_row t.kind of is_t) h))
+-- a parameter has one word
+abbrev ParameterFits : Parameter → Type 0
+ParameterFits p = IsOneWord p.word_type
 
-further_passes : (ts : List Token) (p : Parameter) → IsFurther ts p → (w : ℕ) (more : List Token) → AreSound w (ts ++ more) → Rest more
-further_passes ts p (grammar.further c xs found is_c is) w more h = parameter_passes xs found is (w + 1) more (past w c (xs ++ more) (ap is_end is_c) h)
+parameter_fits : (ts : List Token) (p : Parameter) → IsParameter ts p → (w : ℕ) (more : List Token) → AreSound w (ts ++ more)
+    → ParameterFits p × Rest more
+parameter_fits ts p (grammar.parameter t n of is_t is_n) w more h =
+    (type_of_word t.kind of is_t, rest (w + 1 + 1) more (past (w + 1) n more (ap is_end is_n) (past w t (n ∷ more) (type_in_row t.kind of is_t) h)))
 
-furthers_pass : (ts : List Token) (all : List Parameter) → Row IsFurther ts all → (w : ℕ) (more : List Token) → AreSound w (ts ++ more) → Rest more
-furthers_pass ts [] row w more h = rest w more (subst (λ ts. AreSound w (ts ++ more)) row h)
-furthers_pass ts (p ∷ all) (xs, ys, cut, is, row) w more h =
-    let a = further_passes xs p is w (ys ++ more) (apart w xs ys more (subst (λ ts. AreSound w (ts ++ more)) cut h)) in
-    furthers_pass ys all row a.width more a.sound
+further_fits : (ts : List Token) (p : Parameter) → IsFurther ts p → (w : ℕ) (more : List Token) → AreSound w (ts ++ more) → ParameterFits p × Rest more
+further_fits ts p (grammar.further c xs found is_c is) w more h = parameter_fits xs found is (w + 1) more (past w c (xs ++ more) (ap is_end is_c) h)
 
-parameters_pass : (ts : List Token) (all : List Parameter) → IsParameters ts all → (w : ℕ) (more : List Token) → AreSound w (ts ++ more) → Rest more
-parameters_pass ts all grammar.no_parameter w more h = rest w more h
-parameters_pass ts all (grammar.parameters xs ys first others is is_more) w more h =
-    let a = parameter_passes xs first is w (ys ++ more) (apart w xs ys more h) in
-    furthers_pass ys others is_more a.width more a.sound
+furthers_fit : (ts : List Token) (all : List Parameter) → Row IsFurther ts all → (w : ℕ) (more : List Token) → AreSound w (ts ++ more)
+    → All ParameterFits all × Rest more
+furthers_fit ts [] row w more h = (All-nil ParameterFits, rest w more (subst (λ ts. AreSound w (ts ++ more)) row h))
+furthers_fit ts (p ∷ all) (xs, ys, cut, is, row) w more h =
+    let a = further_fits xs p is w (ys ++ more) (apart w xs ys more (subst (λ ts. AreSound w (ts ++ more)) cut h)) in
+    let b = furthers_fit ys all row a.1.width more a.1.sound in
+    (All-cons ParameterFits p all a.0 b.0, b.1)
 
-function_passes : (ts : List Token) (f : Function) → IsFunction ts f → (w : ℕ) (more : List Token) → AreSound w (ts ++ more) → Rest more
-function_passes ts f (grammar.function t n o c of ps bs parameters body is_t is_n is_o is_ps is_c is) w more sound =
+parameters_fit : (ts : List Token) (all : List Parameter) → IsParameters ts all → (w : ℕ) (more : List Token) → AreSound w (ts ++ more)
+    → All ParameterFits all × Rest more
+parameters_fit ts all grammar.no_parameter w more h = (All-nil ParameterFits, rest w more h)
+parameters_fit ts all (grammar.parameters xs ys first others is is_more) w more h =
+    let a = parameter_fits xs first is w (ys ++ more) (apart w xs ys more h) in
+    let b = furthers_fit ys others is_more a.1.width more a.1.sound in
+    (All-cons ParameterFits first others a.0 b.0, b.1)
+
+function_fits : (ts : List Token) (f : Function) → IsFunction ts f → (w : ℕ) (more : List Token) → AreSound w (ts ++ more) → FunctionFits f × Rest more
+function_fits ts f (grammar.function t n o c of ps bs parameters body is_t is_n is_o is_ps is_c is) w more sound =
     let tail = (ps ++ (c ∷ bs)) ++ more in
     let a = past (w + 1) n (o ∷ tail) (ap is_end is_n) (past w t (n ∷ o ∷ tail) (type_in_row t.kind of is_t) sound) in
     let b = apart (w + 1 + 1 + 1) ps (c ∷ bs) more (past (w + 1 + 1) o tail (ap is_end is_o) a) in
-    let p = parameters_pass ps parameters is_ps (w + 1 + 1 + 1) (c ∷ (bs ++ more)) b in
-    (block_fits bs body is (p.width + 1) more (past p.width c (bs ++ more) (ap is_end is_c) p.sound)).1
+    let p = parameters_fit ps parameters is_ps (w + 1 + 1 + 1) (c ∷ (bs ++ more)) b in
+    let d = block_fits bs body is (p.1.width + 1) more (past p.1.width c (bs ++ more) (ap is_end is_c) p.1.sound) in
+    (record { gives = type_of_word t.kind of is_t; takes = p.0; body = d.0 }, d.1)
 
-functions_pass : (ts : List Token) (all : List Function) → Row IsFunction ts all → (w : ℕ) (more : List Token) → AreSound w (ts ++ more) → Rest more
-functions_pass ts [] row w more h = rest w more (subst (λ ts. AreSound w (ts ++ more)) row h)
-functions_pass ts (f ∷ all) (xs, ys, cut, is, row) w more h =
-    let a = function_passes xs f is w (ys ++ more) (apart w xs ys more (subst (λ ts. AreSound w (ts ++ more)) cut h)) in
-    functions_pass ys all row a.width more a.sound
+functions_fit : (ts : List Token) (all : List Function) → Row IsFunction ts all → (w : ℕ) (more : List Token) → AreSound w (ts ++ more)
+    → All FunctionFits all × Rest more
+functions_fit ts [] row w more h = (All-nil FunctionFits, rest w more (subst (λ ts. AreSound w (ts ++ more)) row h))
+functions_fit ts (f ∷ all) (xs, ys, cut, is, row) w more h =
+    let a = function_fits xs f is w (ys ++ more) (apart w xs ys more (subst (λ ts. AreSound w (ts ++ more)) cut h)) in
+    let b = functions_fit ys all row a.1.width more a.1.sound in
+    (All-cons FunctionFits f all a.0 b.0, b.1)
 
 task_fits : (ts : List Token) (task : Task) → IsTask ts task → (w : ℕ) (more : List Token) → AreSound w (ts ++ more)
     → BlockFits task.body × Rest more
@@ -431,14 +455,21 @@ tasks_fit ts (task ∷ all) (xs, ys, cut, is, row) w more h =
     let a = task_fits xs task is w (ys ++ more) (apart w xs ys more (subst (λ ts. AreSound w (ts ++ more)) cut h)) in
     All-cons (λ task. BlockFits task.body) task all a.0 (tasks_fit ys all row a.1.width more a.1.sound)
 
--- the tasks of a program fit
-pub program_fits : (ts : List Token) (p : Program) → IsProgram ts p → AreSound 0 ts → All (λ task. BlockFits task.body) p.tasks
+-- the functions and the tasks of a program fit
+pub record ProgramFits (p : Program) : Type 0 where
+  pub functions : All FunctionFits p.functions
+  pub tasks : All (λ task. BlockFits task.body) p.tasks
+
+pub program_fits : (ts : List Token) (p : Program) → IsProgram ts p → AreSound 0 ts → ProgramFits p
 program_fits ts p (grammar.program xs fs ys zs h n z shareds functions first others is_shareds is_functions is_first is_others is_h is_n is_z) sound =
     let end = h ∷ n ∷ z ∷ [] in
     let a = shareds_pass xs shareds is_shareds 0 (fs ++ (ys ++ (zs ++ end))) sound in
-    let f = functions_pass fs functions is_functions a.width (ys ++ (zs ++ end)) a.sound in
-    let b = task_fits ys first is_first f.width (zs ++ end) f.sound in
-    All-cons (λ task. BlockFits task.body) first others b.0 (tasks_fit zs others is_others b.1.width end b.1.sound)
+    let f = functions_fit fs functions is_functions a.width (ys ++ (zs ++ end)) a.sound in
+    let b = task_fits ys first is_first f.1.width (zs ++ end) f.1.sound in
+    record {
+      functions = f.0;
+      tasks = All-cons (λ task. BlockFits task.body) first others b.0 (tasks_fit zs others is_others b.1.width end b.1.sound);
+    }
 
 -- ---- declarations
 

@@ -1,12 +1,14 @@
 mod Tokens
 mod Fits
 mod Grammar
+mod Names
 mod Declared
+mod Scopes
 mod Symbols
 mod NameTypes
 mod Widths
 mod Walk
-mod Tasks
+mod Bodies
 mod Paths
 mod Written
 mod Checked

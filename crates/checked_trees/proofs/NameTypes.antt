@@ -24,7 +24,7 @@ use Rattle.task_check.specs.Scope.{text_of, one_shared, shared_in, functions_in,
 use Rattle.task_check.specs.Scope.{known_functions, known_symbol, or_global, meaning}
 use Rattle.task_check.specs.LookedUp.{symbol_by, behind, symbol_at}
 use Rattle.task_check.specs.SharedTypes.{type_in, shared_type}
-use Rattle.checked_trees.proofs.Declared.{IsDeclaration, DeclaresOf, Declared}
+use Rattle.checked_trees.proofs.Declared.{Functions, IsDeclaration, DeclaresOf, Declared}
 use Rattle.checked_trees.proofs.Widths.{IsAsWide}
 
 -- a symbol of a shared variable has this type
@@ -112,7 +112,7 @@ none_behind o None true h = h
 none_behind o None false h = h
 none_behind o (Some g) b h = h
 
-module _ (source name : List ℕ) (shared : List SharedDeclaration) where
+module _ (source name : List ℕ) (shared : List SharedDeclaration) (all_functions : Functions) where
   -- the type of the first of so many declarations
   abbrev first : ℕ → Option WordType
   first n = type_in source name (take n shared)
@@ -120,7 +120,8 @@ module _ (source name : List ℕ) (shared : List SharedDeclaration) where
   same_count : (n : ℕ) (g : Option Global) → GlobalTyped (first n) g → GlobalTyped (first (n + 0)) g
   same_count n g h = let e : n ≡ n + 0 = omega arith in subst (λ m. GlobalTyped (first m) g) e h
 
-  one_more : (s : Span) (r : Role) (front n functions tasks : ℕ) (b : Bool) (g : Option Global) → b ≡ bytes_eq (text_of source s) name → DeclaresOf shared n s r
+  one_more : (s : Span) (r : Role) (front n functions tasks : ℕ) (b : Bool) (g : Option Global) → b ≡ bytes_eq (text_of source s) name
+      → DeclaresOf shared all_functions n functions s r
       → GlobalTyped (first n) g → GlobalTyped (first (n + one_shared r)) (option_or g (if_named b (global_with r front n functions tasks)))
   one_more s (role.Shared of e) front n functions tasks b g is d h =
       subst (λ o. GlobalTyped o (option_or g (if_named b (Some (record { front = front; symbol = shared_symbol n of e })))))
@@ -136,7 +137,7 @@ module _ (source name : List ℕ) (shared : List SharedDeclaration) where
   one_more s role.Target front n functions tasks b g is d h = same_count n _ (none_behind (first n) g b h)
   one_more s (role.Operand refused kept) front n functions tasks b g is d h = same_count n _ (none_behind (first n) g b h)
 
-  first_typed : (all : List Occurrence) → Declared shared all → GlobalTyped (first (shared_in all)) (global_in source name all)
+  first_typed : (all : List Occurrence) → Declared shared all_functions all → GlobalTyped (first (shared_in all)) (global_in source name all)
   first_typed [] d = refl
   first_typed (o ∷ front) d =
       one_more o.span o.role (length front) (shared_in front) (functions_in front) (tasks_in front) (bytes_eq (text_of source o.span) name)
@@ -187,15 +188,16 @@ typed_by_role o role.Target n found h = h
 typed_by_role o (role.Operand refused kept) n found h = tt
 
 -- a name that stands for a shared variable has the type of the first of that name
-pub symbol_typed : (source : List ℕ) (shared : List SharedDeclaration) (all : List Occurrence) (o : Occurrence) (front : List Occurrence)
-    → Declared shared all → Typed (type_in source (text_of source o.span) shared) (symbol_at source all o front)
+pub symbol_typed : (source : List ℕ) (shared : List SharedDeclaration) (functions : Functions) (all : List Occurrence) (o : Occurrence)
+    (front : List Occurrence)
+    → Declared shared functions all → Typed (type_in source (text_of source o.span) shared) (symbol_at source all o front)
 unfolding symbol_at
-symbol_typed source shared all o front d =
+symbol_typed source shared functions all o front d =
     let name = text_of source o.span in
     let known = known_functions (functions_in front) (tasks_in front) in
     typed_by_role (type_in source name shared) o.role _ _
-    (meaning_typed source name shared known (behind all front) (local_in source name front) (global_in source name all)
-    (global_typed source name shared known (global_in source name all) (shared_in all) (first_typed source name shared all d)))
+    (meaning_typed source name shared functions known (behind all front) (local_in source name front) (global_in source name all)
+    (global_typed source name shared functions known (global_in source name all) (shared_in all) (first_typed source name shared functions all d)))
 
 -- so its type is as wide as the checks take it to be
 pub as_wide : (source : List ℕ) (shared : List SharedDeclaration) (s : Span) (of : WordType) → type_in source (text_of source s) shared ≡ Some of

@@ -1,35 +1,43 @@
--- Paths: each part of a task has one, and what a path leaves unassigned.
-use Rattle.std.proofs.Common.{◌≡◌, ◌<◌, ℕ, zero, suc, ◌-◌, Bool, true, false, not, nat_lt, ltb-true, List, [], ◌∷◌, ◌++◌, Some, None, refl, sym, ap, subst}
-use Rattle.std.proofs.Common.{◌∙◌, arith, if◌then◌else◌}
+-- Paths: each part of a task or a function has one, where the functions that it calls are taken as ones that return at once; and what a path leaves
+-- unassigned.
+use Rattle.std.proofs.Common.{◌≡◌, ◌<◌, ◌≤◌, ℕ, zero, suc, ◌-◌, Bool, true, false, not, nat_lt, List, [], ◌∷◌, ◌++◌, length, map, Some, None, refl, sym, ap}
+use Rattle.std.proofs.Common.{subst, ◌∙◌, if◌then◌else◌}
+use Rattle.std.proofs.lemmas.List.{append-nil}
 use Rattle.alp_text.specs.declared.lines.Span.{Span}
 use Rattle.task_ast.specs.Tree as t
-use Rattle.task_ast.specs.Paths.{CheckedFunction, CheckedExpression, CheckedStatement, CheckedChoice, CheckedBlock, Access, read, write, unset}
+use Rattle.task_ast.specs.Paths.{CheckedFunction, CheckedExpression, CheckedValues, CheckedStatement, CheckedChoice, CheckedBlock, Access, read, write, unset}
 use Rattle.task_ast.specs.Paths.{End, goes_on, goes_to, returns}
-use Rattle.task_ast.specs.Paths.{ExpressionPath, StatementPath, ChoicePath, TurnsPath, BlockPath}
+use Rattle.task_ast.specs.Paths.{ExpressionPath, ValuesPath, StatementPath, ChoicePath, TurnsPath, BlockPath}
 use Rattle.task_ast.specs.Paths as path
-use Rattle.task_ast.specs.declared.SharedDeclaration.{SharedDeclaration}
+use Rattle.task_ast.specs.Calls.{CallsAreBelow, ValuesCallBelow, StatementCallsBelow, ChoiceCallsBelow, BlockCallsBelow}
 use Rattle.task_ast.specs.declared.names.Variable.{Variable}
 use Rattle.task_ast.specs.declared.names.Variable.TheVariants.{Shared, Local}
 use Rattle.task_ast.specs.declared.names.VariableName.{VariableName}
+use Rattle.cost_bound.specs.path_sums.Reaches.{at_once}
 use Rattle.path_checks.specs.Loops.{is_local}
 use Rattle.path_checks.specs.Unassigned.{is_unassigned, ReadsUnassigned}
-use Rattle.checked_trees.specs.WellFormed.{WellFormedExpression, WellFormedStatement, WellFormedChoice, WellFormedBlock}
+use Rattle.war_analysis.proofs.Interface.{returns_at_once}
 
 -- ---- each part has a path
 
--- the names of an expression, on the path that evaluates both sides of each `&&` and `||`; none of what has a call, which isn't well-formed
-abbrev pub names_read : CheckedExpression → List Access
-names_read (t.number w) = []
-names_read (t.long_number w) = []
-names_read (t.name x) = read x ∷ []
-names_read (t.element x index) = names_read index ++ read x ∷ []
-names_read t.sense = []
-names_read t.next_event = []
-names_read (t.call f values) = []
-names_read (t.unary op e) = names_read e
-names_read (t.binary op a b) = names_read a ++ names_read b
-names_read (t.shift op e count) = names_read e
-names_read (t.short_circuit op a b) = names_read a ++ names_read b
+abbrev mutual
+  -- the names of an expression, on the path that evaluates both sides of each `&&` and `||`; what a call reads are its values
+  pub names_read : CheckedExpression → List Access
+  names_read (t.number w) = []
+  names_read (t.long_number w) = []
+  names_read (t.name x) = read x ∷ []
+  names_read (t.element x index) = names_read index ++ read x ∷ []
+  names_read t.sense = []
+  names_read t.next_event = []
+  names_read (t.call f values) = values_read values
+  names_read (t.unary op e) = names_read e
+  names_read (t.binary op a b) = names_read a ++ names_read b
+  names_read (t.shift op e count) = names_read e
+  names_read (t.short_circuit op a b) = names_read a ++ names_read b
+
+  pub values_read : CheckedValues → List Access
+  values_read t.no_value = []
+  values_read (t.value e more) = names_read e ++ values_read more
 
 -- some path, with its end
 pub record HasPath (Path : List Access → End → Type 0) : Type 0 where
@@ -40,71 +48,83 @@ pub record HasPath (Path : List Access → End → Type 0) : Type 0 where
 some : (Path : List Access → End → Type 0) (xs : List Access) (end : End) → Path xs end → HasPath Path
 some Path xs end p = record { accesses = xs; end = end; is = p }
 
-module _ (fs : List CheckedFunction) where
-  a_turn : (x : VariableName) (n : ℕ) (body : CheckedBlock) (xs : List Access) (end : End) → BlockPath fs body xs end → HasPath (TurnsPath fs x n body)
-      → HasPath (TurnsPath fs x (suc n) body)
-  a_turn x n body xs goes_on p more =
-      some (TurnsPath fs x (suc n) body) (xs ++ write x ∷ more.accesses) more.end (path.turn x n body xs more.accesses more.end p more.is)
-  a_turn x n body xs (goes_to k) p more = some (TurnsPath fs x (suc n) body) xs (goes_to k) (path.cut x n body xs (goes_to k) tt p)
-  a_turn x n body xs returns p more = some (TurnsPath fs x (suc n) body) xs returns (path.cut x n body xs returns tt p)
+-- of functions, and calls of the first n of them alone
+module _ (functions : List CheckedFunction) (n : ℕ) (few : n ≤ length functions) where
+  -- the functions as ones that return at once
+  abbrev direct : List CheckedFunction
+  direct = map at_once functions
 
-  pub some_turns : (x : VariableName) (n : ℕ) (body : CheckedBlock) → HasPath (BlockPath fs body) → HasPath (TurnsPath fs x n body)
-  some_turns x zero body b = some (TurnsPath fs x zero body) [] goes_on (path.over x body)
-  some_turns x (suc n) body b = a_turn x n body b.accesses b.end b.is (some_turns x n body b)
+  mutual
+    pub is_path : (e : CheckedExpression) → CallsAreBelow n e → ExpressionPath direct e (names_read e)
+    is_path (t.number w) calls = path.number w
+    is_path (t.long_number w) calls = path.long_number w
+    is_path (t.name x) calls = path.name x
+    is_path (t.element x index) calls = path.element x index (names_read index) (is_path index calls)
+    is_path t.sense calls = path.sense
+    is_path t.next_event calls = path.next_event
+    is_path (t.call f values) calls =
+        let c = returns_at_once functions n few f calls.0 in
+        subst (ExpressionPath direct (t.call f values)) (append-nil (values_read values))
+        (path.call f c.0 values (values_read values) [] c.1 (are_paths values calls.1) c.2)
+    is_path (t.unary op e) calls = path.unary op e (names_read e) (is_path e calls)
+    is_path (t.binary op a b) calls = path.binary op a b (names_read a) (names_read b) (is_path a calls.0) (is_path b calls.1)
+    is_path (t.shift op e count) calls = path.shift op e count (names_read e) (is_path e calls)
+    is_path (t.short_circuit op a b) calls = path.both_sides op a b (names_read a) (names_read b) (is_path a calls.0) (is_path b calls.1)
 
-  a_step : (s : CheckedStatement) (more : CheckedBlock) (xs : List Access) (end : End) → StatementPath fs s xs end → HasPath (BlockPath fs more)
-      → HasPath (BlockPath fs (t.step s more))
-  a_step s more xs goes_on p q = some (BlockPath fs (t.step s more)) (xs ++ q.accesses) q.end (path.step s more xs q.accesses q.end p q.is)
-  a_step s more xs (goes_to k) p q = some (BlockPath fs (t.step s more)) xs (goes_to k) (path.stopped s more xs (goes_to k) tt p)
-  a_step s more xs returns p q = some (BlockPath fs (t.step s more)) xs returns (path.stopped s more xs returns tt p)
+    are_paths : (values : CheckedValues) → ValuesCallBelow n values → ValuesPath direct values (values_read values)
+    are_paths t.no_value calls = path.no_value
+    are_paths (t.value e more) calls = path.value e more (names_read e) (values_read more) (is_path e calls.0) (are_paths more calls.1)
 
-  module _ (shared : List SharedDeclaration) where
-    pub is_path : (e : CheckedExpression) → WellFormedExpression shared e → ExpressionPath fs e (names_read e)
-    is_path (t.number w) is = path.number w
-    is_path (t.long_number w) is = path.long_number w
-    is_path (t.name x) is = path.name x
-    is_path (t.element x index) is = path.element x index (names_read index) (is_path index is.1)
-    is_path t.sense is = path.sense
-    is_path t.next_event is = path.next_event
-    is_path (t.call f values) is = absurd is
-    is_path (t.unary op e) is = path.unary op e (names_read e) (is_path e is)
-    is_path (t.binary op a b) is = path.binary op a b (names_read a) (names_read b) (is_path a is.0) (is_path b is.1)
-    is_path (t.shift op e count) is = path.shift op e count (names_read e) (is_path e is.0)
-    is_path (t.short_circuit op a b) is = path.both_sides op a b (names_read a) (names_read b) (is_path a is.0) (is_path b is.1)
+  a_turn : (x : VariableName) (m : ℕ) (body : CheckedBlock) (xs : List Access) (end : End) → BlockPath direct body xs end
+      → HasPath (TurnsPath direct x m body) → HasPath (TurnsPath direct x (suc m) body)
+  a_turn x m body xs goes_on p more =
+      some (TurnsPath direct x (suc m) body) (xs ++ write x ∷ more.accesses) more.end (path.turn x m body xs more.accesses more.end p more.is)
+  a_turn x m body xs (goes_to k) p more = some (TurnsPath direct x (suc m) body) xs (goes_to k) (path.cut x m body xs (goes_to k) tt p)
+  a_turn x m body xs returns p more = some (TurnsPath direct x (suc m) body) xs returns (path.cut x m body xs returns tt p)
 
-    mutual
-      some_statement : (s : CheckedStatement) → WellFormedStatement shared s → HasPath (StatementPath fs s)
-      some_statement (t.declare of x None) is = some (StatementPath fs (t.declare of x None)) (unset x ∷ []) goes_on (path.declare_unset of x)
-      some_statement (t.declare of x (Some e)) is =
-          some (StatementPath fs (t.declare of x (Some e))) (names_read e ++ write x ∷ []) goes_on
-          (path.declare_set of x e (names_read e) (is_path e is.1))
-      some_statement (t.assign x e) is =
-          some (StatementPath fs (t.assign x e)) (names_read e ++ write x ∷ []) goes_on (path.assign x e (names_read e) (is_path e is.1))
-      some_statement (t.store x index e) is =
-          some (StatementPath fs (t.store x index e)) (names_read index ++ (names_read e ++ write x ∷ [])) goes_on
-          (path.store x index e (names_read index) (names_read e) (is_path index is.1) (is_path e is.2))
-      some_statement (t.choose c) is =
-          let p = some_choice c is in some (StatementPath fs (t.choose c)) p.accesses p.end (path.choose c p.accesses p.end p.is)
-      some_statement (t.loop x from tested below stepped body) is =
-          let p = some_turns x (below - from) body (some_block body is.1) in
-          some (StatementPath fs (t.loop x from tested below stepped body)) (write x ∷ p.accesses) p.end
-          (path.loop x from tested below stepped body p.accesses p.end p.is)
-      some_statement (t.emit e) is = some (StatementPath fs (t.emit e)) (names_read e) goes_on (path.emit e (names_read e) (is_path e is.0))
-      some_statement (t.give at e) is = absurd is
-      some_statement (t.transition at k) is = some (StatementPath fs (t.transition at k)) [] (goes_to k) (path.transition at k)
+  pub some_turns : (x : VariableName) (m : ℕ) (body : CheckedBlock) → HasPath (BlockPath direct body) → HasPath (TurnsPath direct x m body)
+  some_turns x zero body b = some (TurnsPath direct x zero body) [] goes_on (path.over x body)
+  some_turns x (suc m) body b = a_turn x m body b.accesses b.end b.is (some_turns x m body b)
 
-      some_choice : (c : CheckedChoice) → WellFormedChoice shared c → HasPath (ChoicePath fs c)
-      some_choice t.nothing is = some (ChoicePath fs t.nothing) [] goes_on path.nothing
-      some_choice (t.otherwise b) is =
-          let p = some_block b is in some (ChoicePath fs (t.otherwise b)) p.accesses p.end (path.otherwise b p.accesses p.end p.is)
-      some_choice (t.test e b more) is =
-          let p = some_block b is.1 in
-          some (ChoicePath fs (t.test e b more)) (names_read e ++ p.accesses) p.end
-          (path.taken e b more (names_read e) p.accesses p.end (is_path e is.0) p.is)
+  a_step : (s : CheckedStatement) (more : CheckedBlock) (xs : List Access) (end : End) → StatementPath direct s xs end → HasPath (BlockPath direct more)
+      → HasPath (BlockPath direct (t.step s more))
+  a_step s more xs goes_on p q = some (BlockPath direct (t.step s more)) (xs ++ q.accesses) q.end (path.step s more xs q.accesses q.end p q.is)
+  a_step s more xs (goes_to k) p q = some (BlockPath direct (t.step s more)) xs (goes_to k) (path.stopped s more xs (goes_to k) tt p)
+  a_step s more xs returns p q = some (BlockPath direct (t.step s more)) xs returns (path.stopped s more xs returns tt p)
 
-      pub some_block : (b : CheckedBlock) → WellFormedBlock shared b → HasPath (BlockPath fs b)
-      some_block t.end is = some (BlockPath fs t.end) [] goes_on path.finished
-      some_block (t.step s more) is = let p = some_statement s is.0 in a_step s more p.accesses p.end p.is (some_block more is.1)
+  mutual
+    some_statement : (s : CheckedStatement) → StatementCallsBelow n s → HasPath (StatementPath direct s)
+    some_statement (t.declare of x None) calls = some (StatementPath direct (t.declare of x None)) (unset x ∷ []) goes_on (path.declare_unset of x)
+    some_statement (t.declare of x (Some e)) calls =
+        some (StatementPath direct (t.declare of x (Some e))) (names_read e ++ write x ∷ []) goes_on
+        (path.declare_set of x e (names_read e) (is_path e calls))
+    some_statement (t.assign x e) calls =
+        some (StatementPath direct (t.assign x e)) (names_read e ++ write x ∷ []) goes_on (path.assign x e (names_read e) (is_path e calls))
+    some_statement (t.store x index e) calls =
+        some (StatementPath direct (t.store x index e)) (names_read index ++ (names_read e ++ write x ∷ [])) goes_on
+        (path.store x index e (names_read index) (names_read e) (is_path index calls.0) (is_path e calls.1))
+    some_statement (t.choose c) calls =
+        let p = some_choice c calls in some (StatementPath direct (t.choose c)) p.accesses p.end (path.choose c p.accesses p.end p.is)
+    some_statement (t.loop x from tested below stepped body) calls =
+        let p = some_turns x (below - from) body (some_block body calls) in
+        some (StatementPath direct (t.loop x from tested below stepped body)) (write x ∷ p.accesses) p.end
+        (path.loop x from tested below stepped body p.accesses p.end p.is)
+    some_statement (t.emit e) calls = some (StatementPath direct (t.emit e)) (names_read e) goes_on (path.emit e (names_read e) (is_path e calls))
+    some_statement (t.give at e) calls = some (StatementPath direct (t.give at e)) (names_read e) returns (path.give at e (names_read e) (is_path e calls))
+    some_statement (t.transition at k) calls = some (StatementPath direct (t.transition at k)) [] (goes_to k) (path.transition at k)
+
+    some_choice : (c : CheckedChoice) → ChoiceCallsBelow n c → HasPath (ChoicePath direct c)
+    some_choice t.nothing calls = some (ChoicePath direct t.nothing) [] goes_on path.nothing
+    some_choice (t.otherwise b) calls =
+        let p = some_block b calls in some (ChoicePath direct (t.otherwise b)) p.accesses p.end (path.otherwise b p.accesses p.end p.is)
+    some_choice (t.test e b more) calls =
+        let p = some_block b calls.1.0 in
+        some (ChoicePath direct (t.test e b more)) (names_read e ++ p.accesses) p.end
+        (path.taken e b more (names_read e) p.accesses p.end (is_path e calls.0) p.is)
+
+    pub some_block : (b : CheckedBlock) → BlockCallsBelow n b → HasPath (BlockPath direct b)
+    some_block t.end calls = some (BlockPath direct t.end) [] goes_on path.finished
+    some_block (t.step s more) calls = let p = some_statement s calls.0 in a_step s more p.accesses p.end p.is (some_block more calls.1)
 
 -- ---- which locals are unassigned
 
@@ -128,20 +148,27 @@ behind_both u (read n ∷ xs) ys = behind_both u xs ys
 behind_both u (write n ∷ xs) ys = behind_both (written u n) xs ys
 behind_both u (unset n ∷ xs) ys = behind_both (forgotten u n) xs ys
 
--- an expression leaves them
-pub behind_names : (u : ℕ → Bool) (e : CheckedExpression) → behind u (names_read e) ≡ u
-behind_names u (t.number w) = refl
-behind_names u (t.long_number w) = refl
-behind_names u (t.name x) = refl
-behind_names u (t.element x index) = behind_both u (names_read index) (read x ∷ []) ∙ behind_names u index
-behind_names u t.sense = refl
-behind_names u t.next_event = refl
-behind_names u (t.call f values) = refl
-behind_names u (t.unary op e) = behind_names u e
-behind_names u (t.binary op a b) = behind_both u (names_read a) (names_read b) ∙ (ap (λ v. behind v (names_read b)) (behind_names u a) ∙ behind_names u b)
-behind_names u (t.shift op e count) = behind_names u e
-behind_names u (t.short_circuit op a b) =
-    behind_both u (names_read a) (names_read b) ∙ (ap (λ v. behind v (names_read b)) (behind_names u a) ∙ behind_names u b)
+mutual
+  -- an expression leaves them
+  pub behind_names : (u : ℕ → Bool) (e : CheckedExpression) → behind u (names_read e) ≡ u
+  behind_names u (t.number w) = refl
+  behind_names u (t.long_number w) = refl
+  behind_names u (t.name x) = refl
+  behind_names u (t.element x index) = behind_both u (names_read index) (read x ∷ []) ∙ behind_names u index
+  behind_names u t.sense = refl
+  behind_names u t.next_event = refl
+  behind_names u (t.call f values) = behind_values u values
+  behind_names u (t.unary op e) = behind_names u e
+  behind_names u (t.binary op a b) =
+      behind_both u (names_read a) (names_read b) ∙ (ap (λ v. behind v (names_read b)) (behind_names u a) ∙ behind_names u b)
+  behind_names u (t.shift op e count) = behind_names u e
+  behind_names u (t.short_circuit op a b) =
+      behind_both u (names_read a) (names_read b) ∙ (ap (λ v. behind v (names_read b)) (behind_names u a) ∙ behind_names u b)
+
+  behind_values : (u : ℕ → Bool) (values : CheckedValues) → behind u (values_read values) ≡ u
+  behind_values u t.no_value = refl
+  behind_values u (t.value e more) =
+      behind_both u (names_read e) (values_read more) ∙ (ap (λ v. behind v (values_read more)) (behind_names u e) ∙ behind_values u more)
 
 -- behind an expression's names
 pub behind_expression : (u : ℕ → Bool) (e : CheckedExpression) (ys : List Access) → behind u (names_read e ++ ys) ≡ behind u ys
@@ -197,25 +224,22 @@ safe_of u (read n ∷ xs) none = (here n.variable refl, safe_of u xs (λ before 
 safe_of u (write n ∷ xs) none = safe_of (written u n) xs (λ before m more x e. none (write n ∷ before) m more x (ap (λ ys. write n ∷ ys) e))
 safe_of u (unset n ∷ xs) none = safe_of (forgotten u n) xs (λ before m more x e. none (unset n ∷ before) m more x (ap (λ ys. unset n ∷ ys) e))
 
--- no local of a task is given
-none_given : (x : ℕ) → not (nat_lt x 0) ≡ true
-none_given x = by (nat_lt x 0) refl
-  where
-    by : (b : Bool) → nat_lt x 0 ≡ b → not b ≡ true
-    by true e = let low : x < 0 = ltb-true x 0 e in let none : ⊥ = omega (arith, low) in absurd none
-    by false e = refl
+-- the locals that are given no value, which are those from a number on
+abbrev pub not_given : ℕ → ℕ → Bool
+not_given given x = not (nat_lt x given)
 
--- no path of a task reads an unassigned local
-pub safe_paths : (b : CheckedBlock) → ((s : Span) → ReadsUnassigned [] 0 b s → ⊥) → (xs : List Access) (end : End) → BlockPath [] b xs end
-    → Safe (λ x. true) xs
-safe_paths b none xs end q = safe_of (λ x. true) xs (λ before n more x cut is unassigned. none n.span (record {
-  x = x;
-  name = n;
-  is_x = is;
-  place = refl;
-  before = before;
-  after = more;
-  end = end;
-  path = subst (λ ys. BlockPath [] b ys end) cut q;
-  unassigned = subst (λ b. is_unassigned b x before ≡ true) (sym (none_given x)) (sym (behind_is (λ x. true) before x) ∙ unassigned);
-}))
+-- no path of a body reads an unassigned local, where the first locals are given values
+pub safe_paths : (functions : List CheckedFunction) (given : ℕ) (b : CheckedBlock) → ((s : Span) → ReadsUnassigned functions given b s → ⊥)
+    → (xs : List Access) (end : End) → BlockPath (map at_once functions) b xs end → Safe (not_given given) xs
+safe_paths functions given b none xs end q =
+    safe_of (not_given given) xs (λ before n more x cut is unassigned. none n.span (record {
+      x = x;
+      name = n;
+      is_x = is;
+      place = refl;
+      before = before;
+      after = more;
+      end = end;
+      path = subst (λ ys. BlockPath (map at_once functions) b ys end) cut q;
+      unassigned = sym (behind_is (not_given given) before x) ∙ unassigned;
+    }))

@@ -1,9 +1,10 @@
 -- What the names of a source stand for, where no check finds a fault.
-use Rattle.std.proofs.Common.{◌≡◌, ℕ, ◌<◌, ◌≤◌, ◌==◌, ◌&&◌, ◌||◌, nat_le, nat_lt, Bool, true, false, cond, List, [], ◌∷◌, length, Option, Some, None}
+use Rattle.std.proofs.Common.{◌≡◌, ℕ, suc, ◌+◌, ◌<◌, ◌≤◌, ◌==◌, ◌&&◌, ◌||◌, nat_le, nat_lt, Bool, true, false, cond, List, [], ◌∷◌, length, Option, Some, None}
 use Rattle.std.proofs.Common.{slice_get, refl}
 use Rattle.std.proofs.Common.{arith}
 use Rattle.std.specs.Option.{option_or}
 use Rattle.std.specs.Str.{bytes_eq}
+use Rattle.std.proofs.lemmas.Bool.{and_parts}
 use Rattle.std.proofs.lemmas.Bool.Decides.{nat_tests}
 use Rattle.alp_text.specs.declared.lines.Span.{Span}
 use Rattle.task_ast.specs.declared.WordType.{WordType}
@@ -28,23 +29,29 @@ use Rattle.task_check.specs.Scope.{local_in, known_functions, known_symbol, or_g
 use Rattle.task_check.specs.LookedUp.{symbol_by, behind, symbol_at}
 use Rattle.task_check.specs.Faults.{line_at, first_fault, limit_fault, is_too_many}
 use Rattle.checked_trees.specs.WellFormed.{IsOfType}
-use Rattle.checked_trees.proofs.Declared.{IsDeclaration, DeclaresOf, Declared}
+use Rattle.checked_trees.proofs.Declared.{Functions, IsDeclaration, IsFunctionAt, DeclaresOf, Declared}
+use Rattle.checked_trees.proofs.Scopes.{ScopesClose, IsNear, near}
 
--- a symbol is of a shared variable as it was declared, or of one of 256 locals, and its type is that of one
-abbrev pub IsSound : List SharedDeclaration → Symbol → Type 0
-IsSound shared (symbol.Scalar n of) = IsScalarAt shared n × IsOfType shared of (Shared n)
-IsSound shared (symbol.Array n of) = IsArrayAt shared n × IsOfType shared of (Shared n)
-IsSound shared (symbol.Local n of) = (n < 256) × IsOfType shared of (AsLocal n)
-IsSound shared (symbol.Function n of count) = Unit {0}
-IsSound shared (symbol.Task n) = Unit {0}
+-- a symbol is of a shared variable as it was declared, of a function as it was, or of one of so many locals, which are no more than 256, and its type
+-- is that of one
+abbrev pub IsSound : List SharedDeclaration → Functions → ℕ → Symbol → Type 0
+IsSound shared functions locals (symbol.Scalar n of) = IsScalarAt shared n × IsOfType shared of (Shared n)
+IsSound shared functions locals (symbol.Array n of) = IsArrayAt shared n × IsOfType shared of (Shared n)
+IsSound shared functions locals (symbol.Local n of) = (n < 256) × IsOfType shared of (AsLocal n) × (n < locals)
+IsSound shared functions locals (symbol.Function n of count) = IsFunctionAt functions n of count
+IsSound shared functions locals (symbol.Task n) = Unit {0}
 
-abbrev pub AreSound : List SharedDeclaration → Option Symbol → Type 0
-AreSound shared None = Unit {0}
-AreSound shared (Some s) = IsSound shared s
+abbrev pub AreSound : List SharedDeclaration → Functions → ℕ → Option Symbol → Type 0
+AreSound shared functions locals None = Unit {0}
+AreSound shared functions locals (Some s) = IsSound shared functions locals s
 
-abbrev GlobalSound : List SharedDeclaration → Option Global → Type 0
-GlobalSound shared None = Unit {0}
-GlobalSound shared (Some g) = IsSound shared g.symbol
+-- no global is a local
+abbrev IsGlobalSound : List SharedDeclaration → Functions → Symbol → Type 0
+IsGlobalSound shared functions s = (locals : ℕ) → IsSound shared functions locals s
+
+abbrev GlobalSound : List SharedDeclaration → Functions → Option Global → Type 0
+GlobalSound shared functions None = Unit {0}
+GlobalSound shared functions (Some g) = IsGlobalSound shared functions g.symbol
 
 -- a local is one of 256, and has one word
 abbrev LocalSound : Option Local → Type 0
@@ -52,17 +59,19 @@ LocalSound None = Unit {0}
 LocalSound (Some l) = (l.number < 256) × IsOneWord l.word_type
 
 -- of two there may be
-global_or : (shared : List SharedDeclaration) (a b : Option Global) → GlobalSound shared a → GlobalSound shared b → GlobalSound shared (option_or a b)
-global_or shared None b h k = k
-global_or shared (Some g) b h k = h
+global_or : (shared : List SharedDeclaration) (functions : Functions) (a b : Option Global) → GlobalSound shared functions a → GlobalSound shared functions b
+    → GlobalSound shared functions (option_or a b)
+global_or shared functions None b h k = k
+global_or shared functions (Some g) b h k = h
 
 local_or : (a b : Option Local) → LocalSound a → LocalSound b → LocalSound (option_or a b)
 local_or None b h k = k
 local_or (Some l) b h k = h
 
-global_if : (shared : List SharedDeclaration) (c : Bool) (g : Option Global) → GlobalSound shared g → GlobalSound shared (if_named c g)
-global_if shared true g h = h
-global_if shared false g h = tt
+global_if : (shared : List SharedDeclaration) (functions : Functions) (c : Bool) (g : Option Global) → GlobalSound shared functions g
+    → GlobalSound shared functions (if_named c g)
+global_if shared functions true g h = h
+global_if shared functions false g h = tt
 
 local_if : (c : Bool) (l : Option Local) → LocalSound l → LocalSound (if_named c l)
 local_if true l h = h
@@ -85,31 +94,31 @@ type_there : (shared : List SharedDeclaration) (n : ℕ) (s : Span) (of : WordTy
     → IsOfType shared of (Shared n)
 type_there shared n s of e x = rw (x.at, x.extent_is) x.typed
 
-global_declared : (shared : List SharedDeclaration) (s : Span) (r : Role) (front n functions tasks : ℕ) → DeclaresOf shared n s r
-    → GlobalSound shared (global_with r front n functions tasks)
-global_declared shared s (role.Shared of (extent.Scalar w)) front n functions tasks h =
+global_declared : (shared : List SharedDeclaration) (functions : Functions) (s : Span) (r : Role) (front n k tasks : ℕ)
+    → DeclaresOf shared functions n k s r → GlobalSound shared functions (global_with r front n k tasks)
+global_declared shared functions s (role.Shared of (extent.Scalar w)) front n k tasks h = λ locals.
     (scalar_there shared n w h.declaration h.at h.extent_is, type_there shared n s of (extent.Scalar w) h)
-global_declared shared s (role.Shared of (extent.Long w)) front n functions tasks h =
+global_declared shared functions s (role.Shared of (extent.Long w)) front n k tasks h = λ locals.
     (long_there shared n w h.declaration h.at h.extent_is, type_there shared n s of (extent.Long w) h)
-global_declared shared s (role.Shared of (extent.Array w)) front n functions tasks h =
+global_declared shared functions s (role.Shared of (extent.Array w)) front n k tasks h = λ locals.
     (array_there shared n w h.declaration h.at h.extent_is, type_there shared n s of (extent.Array w) h)
-global_declared shared s (role.Function of count) front n functions tasks h = tt
-global_declared shared s role.Task front n functions tasks h = tt
-global_declared shared s (role.Local of begin end extra) front n functions tasks h = tt
-global_declared shared s role.Scalar front n functions tasks h = tt
-global_declared shared s role.Element front n functions tasks h = tt
-global_declared shared s role.Counter front n functions tasks h = tt
-global_declared shared s (role.Call count) front n functions tasks h = tt
-global_declared shared s role.Target front n functions tasks h = tt
-global_declared shared s (role.Operand refused kept) front n functions tasks h = tt
+global_declared shared functions s (role.Function of count) front n k tasks h = λ locals. h
+global_declared shared functions s role.Task front n k tasks h = λ locals. tt
+global_declared shared functions s (role.Local of begin end extra) front n k tasks h = tt
+global_declared shared functions s role.Scalar front n k tasks h = tt
+global_declared shared functions s role.Element front n k tasks h = tt
+global_declared shared functions s role.Counter front n k tasks h = tt
+global_declared shared functions s (role.Call count) front n k tasks h = tt
+global_declared shared functions s role.Target front n k tasks h = tt
+global_declared shared functions s (role.Operand refused kept) front n k tasks h = tt
 
-global_sound : (source name : List ℕ) (shared : List SharedDeclaration) (all : List Occurrence) → Declared shared all
-    → GlobalSound shared (global_in source name all)
-global_sound source name shared [] h = tt
-global_sound source name shared (o ∷ front) h =
-    global_or shared (global_in source name front) _ (global_sound source name shared front h.1)
-    (global_if shared (bytes_eq (text_of source o.span) name) _
-    (global_declared shared o.span o.role (length front) (shared_in front) (functions_in front) (tasks_in front) h.0))
+global_sound : (source name : List ℕ) (shared : List SharedDeclaration) (functions : Functions) (all : List Occurrence) → Declared shared functions all
+    → GlobalSound shared functions (global_in source name all)
+global_sound source name shared functions [] h = tt
+global_sound source name shared functions (o ∷ front) h =
+    global_or shared functions (global_in source name front) _ (global_sound source name shared functions front h.1)
+    (global_if shared functions (bytes_eq (text_of source o.span) name) _
+    (global_declared shared functions o.span o.role (length front) (shared_in front) (functions_in front) (tasks_in front) h.0))
 
 -- ---- locals
 
@@ -155,78 +164,95 @@ few_locals source (o ∷ front) e =
     (few_locals source front (front_clean (limit_fault source) o front e))
     (not_too_many source o front e)
 
-local_declared : (all : List SharedDeclaration) (s : Span) (r : Role) (shared functions tasks n : ℕ) → DeclaresOf all shared s r → n ≤ 256
+local_declared : (all : List SharedDeclaration) (known : Functions) (s : Span) (r : Role) (shared functions tasks n : ℕ)
+    → DeclaresOf all known shared functions s r → n ≤ 256
     → is_too_many r shared functions tasks n ≡ false → LocalSound (local_with r functions tasks n)
-local_declared all s (role.Local of begin end extra) shared functions tasks n d h e = (not_all n extra h e, d)
-local_declared all s (role.Shared of x) shared functions tasks n d h e = tt
-local_declared all s (role.Function of count) shared functions tasks n d h e = tt
-local_declared all s role.Task shared functions tasks n d h e = tt
-local_declared all s role.Scalar shared functions tasks n d h e = tt
-local_declared all s role.Element shared functions tasks n d h e = tt
-local_declared all s role.Counter shared functions tasks n d h e = tt
-local_declared all s (role.Call count) shared functions tasks n d h e = tt
-local_declared all s role.Target shared functions tasks n d h e = tt
-local_declared all s (role.Operand refused kept) shared functions tasks n d h e = tt
+local_declared all known s (role.Local of begin end extra) shared functions tasks n d h e = (not_all n extra h e, d)
+local_declared all known s (role.Shared of x) shared functions tasks n d h e = tt
+local_declared all known s (role.Function of count) shared functions tasks n d h e = tt
+local_declared all known s role.Task shared functions tasks n d h e = tt
+local_declared all known s role.Scalar shared functions tasks n d h e = tt
+local_declared all known s role.Element shared functions tasks n d h e = tt
+local_declared all known s role.Counter shared functions tasks n d h e = tt
+local_declared all known s (role.Call count) shared functions tasks n d h e = tt
+local_declared all known s role.Target shared functions tasks n d h e = tt
+local_declared all known s (role.Operand refused kept) shared functions tasks n d h e = tt
 
-local_sound : (source name : List ℕ) (shared : List SharedDeclaration) (front : List Occurrence) → Declared shared front → Few source front
+local_sound : (source name : List ℕ) (shared : List SharedDeclaration) (functions : Functions) (front : List Occurrence) → Declared shared functions front
+    → Few source front
     → LocalSound (local_in source name front)
-local_sound source name shared [] d e = tt
-local_sound source name shared (o ∷ front) d e =
+local_sound source name shared functions [] d e = tt
+local_sound source name shared functions (o ∷ front) d e =
     let few = front_clean (limit_fault source) o front e in
     local_or _ (local_in source name front)
     (local_if (bytes_eq (text_of source o.span) name) _
-    (local_declared shared o.span o.role (shared_in front) (functions_in front) (tasks_in front) (locals_in front) d.0
+    (local_declared shared functions o.span o.role (shared_in front) (functions_in front) (tasks_in front) (locals_in front) d.0
     (few_locals source front few) (not_too_many source o front e)))
-    (local_sound source name shared front d.1 few)
+    (local_sound source name shared functions front d.1 few)
 
 -- ---- what a name means
 
-known_sound : (shared : List SharedDeclaration) (known : ℕ) (s : Symbol) → IsSound shared s → AreSound shared (known_symbol known s)
-known_sound shared known (symbol.Scalar n of) h = h
-known_sound shared known (symbol.Array n of) h = h
-known_sound shared known (symbol.Local n of) h = h
-known_sound shared known (symbol.Function n of count) h = by (nat_lt n known)
+known_sound : (shared : List SharedDeclaration) (functions : Functions) (locals known : ℕ) (s : Symbol) → IsSound shared functions locals s
+    → AreSound shared functions locals (known_symbol known s)
+known_sound shared functions locals known (symbol.Scalar n of) h = h
+known_sound shared functions locals known (symbol.Array n of) h = h
+known_sound shared functions locals known (symbol.Local n of) h = h
+known_sound shared functions locals known (symbol.Function n of count) h = by (nat_lt n known)
   where
-    by : (b : Bool) → AreSound shared (cond b (Some (symbol.Function n of count)) None)
-    by true = tt
+    by : (b : Bool) → AreSound shared functions locals (cond b (Some (symbol.Function n of count)) None)
+    by true = h
     by false = tt
-known_sound shared known (symbol.Task n) h = tt
+known_sound shared functions locals known (symbol.Task n) h = tt
 
-meaning_sound : (shared : List SharedDeclaration) (known n : ℕ) (l : Option Local) (g : Option Global) → LocalSound l → GlobalSound shared g
-    → AreSound shared (meaning known n l g)
-meaning_sound shared known n None None h k = tt
-meaning_sound shared known n None (Some g) h k = known_sound shared known g.symbol k
-meaning_sound shared known n (Some l) g h k = by (nat_le l.end n && nat_lt n l.begin) g k
+is_under : (a n : ℕ) → nat_le a n ≡ true → a < suc n
+is_under a n h = grind (arith, nat_tests)
+
+-- where so many names stand behind, and so many locals are declared in front
+meaning_sound : (shared : List SharedDeclaration) (functions : Functions) (known n locals : ℕ) (l : Option Local) (g : Option Global) → LocalSound l
+    → IsNear (suc n) locals l → GlobalSound shared functions g → AreSound shared functions locals (meaning known n l g)
+meaning_sound shared functions known n locals None None h near k = tt
+meaning_sound shared functions known n locals None (Some g) h near k = known_sound shared functions locals known g.symbol (k locals)
+meaning_sound shared functions known n locals (Some l) g h near k = by (nat_le l.end n && nat_lt n l.begin) refl g k
   where
-    by : (b : Bool) (g : Option Global) → GlobalSound shared g
-        → AreSound shared (or_global known (cond b (Some (symbol.Local l.number l.word_type)) None) g)
-    by true g k = h
-    by false None k = tt
-    by false (Some g) k = known_sound shared known g.symbol k
+    by : (b : Bool) → (nat_le l.end n && nat_lt n l.begin) ≡ b → (g : Option Global) → GlobalSound shared functions g
+        → AreSound shared functions locals (or_global known (cond b (Some (symbol.Local l.number l.word_type)) None) g)
+    by true e g k = (h.0, h.1, near (is_under l.end n (and_parts (nat_le l.end n) (nat_lt n l.begin) e).0))
+    by false e None k = tt
+    by false e (Some g) k = known_sound shared functions locals known g.symbol (k locals)
 
 -- by its role
-by_role : (shared : List SharedDeclaration) (s : Span) (r : Role) (all functions tasks n : ℕ) (found : Option Symbol) → DeclaresOf shared all s r
-    → n ≤ 256 → is_too_many r all functions tasks n ≡ false → AreSound shared found → AreSound shared (symbol_by r n found)
-by_role shared s (role.Local of begin end extra) all functions tasks n found d h e k = (not_all n extra h e, d)
-by_role shared s (role.Shared of x) all functions tasks n found d h e k = tt
-by_role shared s (role.Function of count) all functions tasks n found d h e k = tt
-by_role shared s role.Task all functions tasks n found d h e k = tt
-by_role shared s role.Scalar all functions tasks n found d h e k = k
-by_role shared s role.Element all functions tasks n found d h e k = k
-by_role shared s role.Counter all functions tasks n found d h e k = k
-by_role shared s (role.Call count) all functions tasks n found d h e k = k
-by_role shared s role.Target all functions tasks n found d h e k = k
-by_role shared s (role.Operand refused kept) all functions tasks n found d h e k = tt
+by_role : (shared : List SharedDeclaration) (known : Functions) (s : Span) (r : Role) (all functions tasks n : ℕ) (found : Option Symbol)
+    → DeclaresOf shared known all functions s r → n ≤ 256 → is_too_many r all functions tasks n ≡ false → AreSound shared known n found
+    → AreSound shared known (locals_after n r) (symbol_by r n found)
+by_role shared known s (role.Local of begin end extra) all functions tasks n found d h e k =
+    let one : n < n + 1 = omega arith in (not_all n extra h e, d, one)
+by_role shared known s (role.Shared of x) all functions tasks n found d h e k = tt
+by_role shared known s (role.Function of count) all functions tasks n found d h e k = tt
+by_role shared known s role.Task all functions tasks n found d h e k = tt
+by_role shared known s role.Scalar all functions tasks n found d h e k = k
+by_role shared known s role.Element all functions tasks n found d h e k = k
+by_role shared known s role.Counter all functions tasks n found d h e k = k
+by_role shared known s (role.Call count) all functions tasks n found d h e k = k
+by_role shared known s role.Target all functions tasks n found d h e k = k
+by_role shared known s (role.Operand refused kept) all functions tasks n found d h e k = tt
+
+-- a name, the names in front of it, and that what is known in front is closed between bodies
+pub record IsPlacedName (shared : List SharedDeclaration) (functions : Functions) (source : List ℕ) (all : List Occurrence) (o : Occurrence)
+    (front : List Occurrence) : Type 0 where
+  pub declared : Declared shared functions (o ∷ front)
+  pub few : Few source (o ∷ front)
+  pub closes : ScopesClose (suc (behind all front)) front
 
 -- each name stands for what was declared
-pub symbol_sound : (source : List ℕ) (shared : List SharedDeclaration) (all : List Occurrence) (o : Occurrence) (front : List Occurrence) → Declared shared all
-    → Declared shared (o ∷ front) → Few source (o ∷ front)
-    → AreSound shared (symbol_at source all o front)
+pub symbol_sound : (source : List ℕ) (shared : List SharedDeclaration) (functions : Functions) (all : List Occurrence) (o : Occurrence)
+    (front : List Occurrence) → Declared shared functions all → IsPlacedName shared functions source all o front
+    → AreSound shared functions (locals_after (locals_in front) o.role) (symbol_at source all o front)
 unfolding symbol_at
-symbol_sound source shared all o front d here e =
-    let few = front_clean (limit_fault source) o front e in
-    by_role shared o.span o.role (shared_in front) (functions_in front) (tasks_in front) (locals_in front) _ here.0 (few_locals source front few)
-    (not_too_many source o front e)
-    (meaning_sound shared (known_functions (functions_in front) (tasks_in front)) (behind all front) (local_in source (text_of source o.span) front)
-    (global_in source (text_of source o.span) all)
-    (local_sound source (text_of source o.span) shared front here.1 few) (global_sound source (text_of source o.span) shared all d))
+symbol_sound source shared functions all o front d here =
+    let few = front_clean (limit_fault source) o front here.few in
+    let name = text_of source o.span in
+    by_role shared functions o.span o.role (shared_in front) (functions_in front) (tasks_in front) (locals_in front) _ here.declared.0
+    (few_locals source front few) (not_too_many source o front here.few)
+    (meaning_sound shared functions (known_functions (functions_in front) (tasks_in front)) (behind all front) (locals_in front)
+    (local_in source name front) (global_in source name all) (local_sound source name shared functions front here.declared.1 few)
+    (near source name (suc (behind all front)) front here.closes) (global_sound source name shared functions all d))

@@ -1,11 +1,14 @@
 -- What the checks of a source say of its tree.
-use Rattle.std.specs.Prelude.{ℕ, List, All}
-use Rattle.task_ast.specs.Paths.{CheckedProgram}
+use Rattle.std.specs.Prelude.{◌≡◌, ℕ, List, Some, All, slice_get}
+use Rattle.task_ast.specs.Paths.{CheckedProgram, CheckedFunction}
 use Rattle.source_meaning.specs.Acceptance.{Checks}
-use Rattle.source_meaning.specs.Plain.{IsPlain}
-use Rattle.checked_trees.specs.WellFormed.{IsWellFormed}
+use Rattle.checked_trees.specs.WellFormed.{IsWellFormedTask, IsWellFormedFunction}
 
--- each task of a source without functions that no check refuses is well-formed
+-- each task and each function is well-formed
+pub record AreWellFormed (program : CheckedProgram) : Type 0 where
+  pub tasks : All (IsWellFormedTask program) program.tasks
+  pub functions : (k : ℕ) (f : CheckedFunction) → slice_get program.functions k ≡ Some f → IsWellFormedFunction program k f
+
+-- those of a source that no check refuses are
 abbrev pub SourcesAreWellFormed : Type 0
-SourcesAreWellFormed = (text : List ℕ) (program : CheckedProgram) → Checks text program → IsPlain program
-    → All (λ task. IsWellFormed program.shared task.body) program.tasks
+SourcesAreWellFormed = (text : List ℕ) (program : CheckedProgram) → Checks text program → AreWellFormed program

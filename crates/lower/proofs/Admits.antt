@@ -5,7 +5,10 @@ use Rattle.lower.proofs.Names.{conditions_price, blocks_price, block_price, Admi
 use Rattle.lower.proofs.Names.{cases_lt}
 use Rattle.std.specs.Prelude.{slice_get, ◌||◌}
 use Rattle.cost_bound.specs.Table.{events_column}
-use Rattle.cost_bound.specs.Allowance.{use_events}
+use Rattle.cost_bound.specs.Allowance.{use_events, functions_use_events, uses_events}
+use Rattle.source_values.specs.Runs.{CheckedProgram}
+use Rattle.lower.proofs.Names.{CheckedFunction, CheckedValues, AdmitsValues, values_price, All-nil, All-cons, All-weaker}
+use Rattle.std.proofs.Common.{All}
 use Rattle.task_ast.specs.Tree as t
 
 module _ (events : Bool) where
@@ -17,16 +20,23 @@ module _ (events : Bool) where
   part : (count all : ℕ) → (all ≡ 0 → count ≡ 0) → IsFree all → IsFree count
   part count all f h = ⊎_elim {C = IsFree count} (λ on. inl on) (λ e. inr (f e)) h
 
-  admits_expression : (e : CheckedExpression) → IsFree (expression_price [] events_column e) → AdmitsExpression events e
-  admits_expression t.next_event h = ⊎_elim (λ on. on) (λ e. absurd (omega (arith, e))) h
-  admits_expression (t.element x index) h = admits_expression index (part _ _ (λ e. omega (arith, e)) h)
-  admits_expression (t.unary op e) h = admits_expression e (part _ _ (λ e. omega (arith, e)) h)
-  admits_expression (t.binary op a b) h =
-      (admits_expression a (part _ _ (λ e. omega (arith, e)) h), admits_expression b (part _ _ (λ e. omega (arith, e)) h))
-  admits_expression (t.shift op e count) h = admits_expression e (part _ _ (λ e. omega (arith, e)) h)
-  admits_expression (t.short_circuit op a b) h =
-      (admits_expression a (part _ _ (λ e. omega (arith, e)) h), admits_expression b (part _ _ (λ e. omega (arith, e)) h))
-  admits_expression _ h = tt
+  mutual
+    admits_expression : (e : CheckedExpression) → IsFree (expression_price [] events_column e) → AdmitsExpression events e
+    admits_expression t.next_event h = ⊎_elim (λ on. on) (λ e. absurd (omega (arith, e))) h
+    admits_expression (t.element x index) h = admits_expression index (part _ _ (λ e. omega (arith, e)) h)
+    admits_expression (t.call f values) h = admits_values values (part _ _ (λ e. omega (arith, e)) h)
+    admits_expression (t.unary op e) h = admits_expression e (part _ _ (λ e. omega (arith, e)) h)
+    admits_expression (t.binary op a b) h =
+        (admits_expression a (part _ _ (λ e. omega (arith, e)) h), admits_expression b (part _ _ (λ e. omega (arith, e)) h))
+    admits_expression (t.shift op e count) h = admits_expression e (part _ _ (λ e. omega (arith, e)) h)
+    admits_expression (t.short_circuit op a b) h =
+        (admits_expression a (part _ _ (λ e. omega (arith, e)) h), admits_expression b (part _ _ (λ e. omega (arith, e)) h))
+    admits_expression _ h = tt
+
+    admits_values : (values : CheckedValues) → IsFree (values_price [] events_column values) → AdmitsValues events values
+    admits_values t.no_value h = tt
+    admits_values (t.value e more) h =
+        (admits_expression e (part _ _ (λ e. omega (arith, e)) h), admits_values more (part _ _ (λ e. omega (arith, e)) h))
 
   mutual
     admits_statement : (s : CheckedStatement) → IsFree (statement_price [] events_column s) → AdmitsStatement events s
@@ -76,9 +86,31 @@ used (t ∷ tasks) (suc k) task e =
     ⊎_elim {C = (use_events (t ∷ tasks) ≡ true) ⊎ (block_price [] events_column task.body ≡ 0)}
     (λ on. inl (either_used (nat_lt 0 (block_price [] events_column t.body)) (use_events tasks) on)) (λ none. inr none) (used tasks k task e)
 
--- where a program takes events as its source uses some, each task is admitted
-pub tasks_are_admitted : (events : Bool) (tasks : List CheckedTask) (k : ℕ) (task : CheckedTask) → slice_get tasks k ≡ Some task
-    → events ≡ use_events tasks → AdmitsBlock events task.body
-tasks_are_admitted events tasks k task is same =
-    admits_block events task.body (⊎_elim {C = (events ≡ true) ⊎ (block_price [] events_column task.body ≡ 0)} (λ on. inl (same ∙ on)) (λ none. inr none)
-    (used tasks k task is))
+-- the same of a function
+used_in : (fs : List CheckedFunction) → All (λ f. (functions_use_events fs ≡ true) ⊎ (block_price [] events_column f.body ≡ 0)) fs
+used_in fs = every fs (λ e. e)
+  where
+    every : (rest : List CheckedFunction) → (functions_use_events rest ≡ true → functions_use_events fs ≡ true)
+        → All (λ f. (functions_use_events fs ≡ true) ⊎ (block_price [] events_column f.body ≡ 0)) rest
+    every [] on = All-nil (λ f. (functions_use_events fs ≡ true) ⊎ (block_price [] events_column f.body ≡ 0))
+    every (f ∷ rest) on = All-cons (λ f. (functions_use_events fs ≡ true) ⊎ (block_price [] events_column f.body ≡ 0)) f rest
+        (⊎_elim {C = (functions_use_events fs ≡ true) ⊎ (block_price [] events_column f.body ≡ 0)} (λ used. inl (on used)) (λ none. inr none)
+        (task_used (block_price [] events_column f.body) (functions_use_events rest)))
+        (every rest (λ e. on (either_used (nat_lt 0 (block_price [] events_column f.body)) (functions_use_events rest) e)))
+
+either_of : (a b : Bool) → a ≡ true → (a || b) ≡ true
+either_of a b e = ap (λ c. c || b) e
+
+-- where a program takes events as its source uses some, each function is admitted
+pub functions_are_admitted : (events : Bool) (p : CheckedProgram) → events ≡ uses_events p → All (λ f. AdmitsBlock events f.body) p.functions
+functions_are_admitted events p same =
+    All-weaker (λ f. (functions_use_events p.functions ≡ true) ⊎ (block_price [] events_column f.body ≡ 0)) (λ f. AdmitsBlock events f.body)
+    (λ (f : CheckedFunction) h. admits_block events f.body (⊎_elim {C = (events ≡ true) ⊎ (block_price [] events_column f.body ≡ 0)}
+    (λ on. inl (same ∙ either_of (functions_use_events p.functions) (use_events p.tasks) on)) (λ none. inr none) h)) p.functions (used_in p.functions)
+
+-- and each task
+pub tasks_are_admitted : (events : Bool) (p : CheckedProgram) (k : ℕ) (task : CheckedTask) → slice_get p.tasks k ≡ Some task
+    → events ≡ uses_events p → AdmitsBlock events task.body
+tasks_are_admitted events p k task is same =
+    admits_block events task.body (⊎_elim {C = (events ≡ true) ⊎ (block_price [] events_column task.body ≡ 0)}
+    (λ on. inl (same ∙ either_used (functions_use_events p.functions) (use_events p.tasks) on)) (λ none. inr none) (used p.tasks k task is))

@@ -4,12 +4,12 @@ use Rattle.lower.proofs.Names.{Unsigned, Int, Long, Variable, Shared, IsOneWord,
 use Rattle.lower.proofs.Names.{converted_to}
 use Rattle.std.proofs.Common.{get_or}
 use Rattle.task_ast.specs.Types.{type_of, by_width}
-use Rattle.source_values.specs.Values.{Attempt}
+use Rattle.source_values.specs.Values.{Attempt, Meaning}
 use Rattle.source_values.specs.Statements.{assigned}
 
 -- the value of an expression as one word
-abbrev pub word_value : CheckedExpression → Attempt → Option Evaluated
-word_value e m = converted_to (type_of e) Unsigned (value_of [] e m)
+abbrev pub word_value : List Meaning → CheckedExpression → Attempt → Option Evaluated
+word_value fs e m = converted_to (type_of e) Unsigned (value_of fs e m)
 
 -- as an expression of one word has it
 same_word : (of : WordType) → IsOneWord of → (o : Option Evaluated) → converted_to of Unsigned o ≡ o
@@ -18,8 +18,8 @@ same_word of k None = refl
 same_word Int k (Some x) = refl
 same_word Unsigned k (Some x) = refl
 
-pub word_as_value : (e : CheckedExpression) (m : Attempt) → IsOneWord (type_of e) → word_value e m ≡ value_of [] e m
-word_as_value e m k = same_word (type_of e) k (value_of [] e m)
+pub word_as_value : (fs : List Meaning) (e : CheckedExpression) (m : Attempt) → IsOneWord (type_of e) → word_value fs e m ≡ value_of fs e m
+word_as_value fs e m k = same_word (type_of e) k (value_of fs e m)
 
 -- ---- what goes on with a value
 

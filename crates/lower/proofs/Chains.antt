@@ -1,5 +1,5 @@
 -- Programs one behind another, and those of lists from one item on.
-use Rattle.lower.proofs.Names.{◌≡◌, ℕ, suc, ◌+◌, ◌<◌, ◌≤◌, List, [], ◌∷◌, ◌++◌, length, drop, true, false, refl, sym, ap, ◌∙◌, drop-cons, add-one}
+use Rattle.lower.proofs.Names.{◌≡◌, ℕ, suc, ◌+◌, ◌%◌, ◌<◌, ◌≤◌, List, [], ◌∷◌, ◌++◌, length, drop, true, false, refl, sym, ap, ◌∙◌, drop-cons, add-one}
 use Rattle.lower.proofs.Names.{if◌then◌else◌, drop_all, statement_of, block_view, Stmt, VariableName, TaskName, FunctionName, WordStep, Program, list_entry}
 use Rattle.lower.proofs.Names.{step, nothing}
 use Rattle.lower.proofs.Names.{joined, behind, step_of, steps_of, joined_assoc, joined_nothing, Run, run_at, is_followed_by, longer, runs_from, entries}
@@ -42,17 +42,21 @@ pub entries_end : (count list : ℕ) (r : Run) (privates : List PrivateScalar) (
     → behind p (list_entry count list r.home r.copy r.words) ≡ joined p (entries count list (runs_from r (drop i privates)))
 entries_end count list r privates i p h = sym (ap (λ l. joined p (entries count list (runs_from r l))) (drop_all i privates h))
 
+-- a value more, with no overflow
+pub one_value_more : (n : ℕ) → (n % 65536 + 1) % 65536 ≡ (n + 1) % 65536
+one_value_more n = omega arith
+
 -- the statements from one on, as its own program and that of those behind it
 pub block_step : (p : Places) (body : List (Stmt VariableName TaskName FunctionName)) (i : ℕ) (s : Stmt VariableName TaskName FunctionName) (q : Program)
     → i < length body
     → s ≡ get_or body i s
-    → joined (joined q (lowered_statement p (statement_of s))) (lowered_block p (block_view (drop (i + 1) body)))
-    ≡ joined q (lowered_block p (block_view (drop i body)))
+    → joined (joined q (lowered_statement p [] (statement_of s))) (lowered_block p [] (block_view (drop (i + 1) body)))
+    ≡ joined q (lowered_block p [] (block_view (drop i body)))
 block_step p body i s q h is =
-    joined_assoc q (lowered_statement p (statement_of s)) (lowered_block p (block_view (drop (i + 1) body)))
-    ∙ ap (λ j. joined q (joined (lowered_statement p (statement_of s)) (lowered_block p (block_view (drop j body))))) (add-one i)
-    ∙ sym (ap (λ l. joined q (lowered_block p (block_view l))) (drop-cons body i s h ∙ ap (λ x. x ∷ drop (suc i) body) (sym is)))
+    joined_assoc q (lowered_statement p [] (statement_of s)) (lowered_block p [] (block_view (drop (i + 1) body)))
+    ∙ ap (λ j. joined q (joined (lowered_statement p [] (statement_of s)) (lowered_block p [] (block_view (drop j body))))) (add-one i)
+    ∙ sym (ap (λ l. joined q (lowered_block p [] (block_view l))) (drop-cons body i s h ∙ ap (λ x. x ∷ drop (suc i) body) (sym is)))
 
 pub block_end : (p : Places) (body : List (Stmt VariableName TaskName FunctionName)) (i : ℕ) (q : Program) → length body ≤ i
-    → joined q (lowered_block p (block_view (drop i body))) ≡ q
-block_end p body i q h = ap (λ l. joined q (lowered_block p (block_view l))) (drop_all i body h) ∙ joined_nothing q
+    → joined q (lowered_block p [] (block_view (drop i body))) ≡ q
+block_end p body i q h = ap (λ l. joined q (lowered_block p [] (block_view l))) (drop_all i body h) ∙ joined_nothing q

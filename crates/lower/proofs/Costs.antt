@@ -10,9 +10,18 @@ use Rattle.lower.proofs.Names.{with_local, turns, step_behaviour, tested, behavi
 use Rattle.lower.proofs.Names.{turns_spent, step_spent, test_spent, spent, joined_go_on, joined_cycles, joined_spend, ways_keep_to_cycles, Places, emission}
 use Rattle.lower.proofs.Names.{scalar_assignment, one, assignment, element_assignment, entries, lowered_transition, loop_local, lowered_test}
 use Rattle.lower.proofs.Names.{lowered_statement, lowered_choice, lowered_block, entry_cycles, BlocksKeepToCycles}
+use Rattle.lower.proofs.Names.{ap, ◌∙◌, map, map-append, ◌++◌, length-append, length-map, cases_eq, cases_lt, ⊎_elim, get_or_past, and_parts, All-head, All-tail}
+use Rattle.lower.proofs.Names.{CheckedFunction, Option, RoutinePlace, routine_of, routine_places, routine_body, body_at, BodiesKeep, RoutinesKeep, give}
+use Rattle.lower.proofs.Names.{lowered_expression, called_price}
+use Rattle.std.proofs.Common.{get_or, All}
+use Rattle.cost_bound.specs.Table.{body_price}
+use Rattle.cost_bound.specs.Summaries.{function_summary}
+use Rattle.task_ast.specs.Answers.{answers_from}
+use Rattle.task_check.specs.Placed.{block_ends, choice_ends, statement_ends}
+use Rattle.lower.proofs.Pushed.{in_front, at_end, one_longer}
 use Rattle.lower.proofs.Neighbours.{runs_are_few}
 use Rattle.array_versions.specs.Behaviour.{goes_on}
-use Rattle.lower.proofs.Sizes.{assignment_keeps, scalar_keeps, element_keeps, emission_keeps, freezing_costs, test_cycles_kept}
+use Rattle.lower.proofs.Sizes.{assignment_keeps, scalar_keeps, element_keeps, emission_keeps, give_keeps, freezing_costs, test_cycles_kept}
 use Rattle.lower.proofs.Names.{freeze_events, freezing}
 use Rattle.task_ast.specs.Tree as t
 use Rattle.array_versions.specs.Program as word
@@ -135,6 +144,11 @@ alone p first most s h = by (step_behaviour first s).end h
 
 -- ---- turns
 
+-- the turns of a loop by one of them
+turns_few : (m most few : ℕ) → most ≤ few → m * (15 + most) ≤ m * (40 + few)
+turns_few zero most few h = omega arith
+turns_few (suc m) most few h = let more = turns_few m most few h in omega (arith, more, h)
+
 turns_spend : (p : Places) (most m n k : ℕ) (run : WordState → Behaviour) (cost : WordState → ℕ) (s : WordState)
     → ((v : WordState) → Within p most (run v).end (cost v))
     → Within p (m * (40 + most)) (turns m n k run s).end (turns_spent m n k run cost s)
@@ -192,47 +206,145 @@ test_spends p (word.fails c) ra rb ca cb a b f g s = let k = test_spends p c rb 
 
 -- ---- statements
 
-module _ (known : List Summary) where
+module _ (known : List Summary) (rs : List Program) (cheap : BodiesKeep known rs) where
   mutual
     statement_spends : (p : Places) (x : CheckedStatement) (w : WordState)
-        → Within p (statement_price known cycles_column x) (behaviour (lowered_statement p x) w).end (spent (lowered_statement p x) w)
+        → Within p (statement_price known cycles_column x) (behaviour (lowered_statement p rs x) w).end (spent (lowered_statement p rs x) w)
     statement_spends p (t.declare of x None) w = omega arith
-    statement_spends p (t.declare of x (Some e)) w = plain p (assignment p x.variable e) _ w (assignment_keeps known p 0 x.variable e).1
+    statement_spends p (t.declare of x (Some e)) w = plain p (assignment p rs x.variable e) _ w (assignment_keeps known rs cheap p 0 x.variable e).1
     statement_spends p (t.assign x e) w =
-        plain p (scalar_assignment p x.word_type x.variable e) _ w (scalar_keeps known p 0 x.word_type x.variable e).1
-    statement_spends p (t.store x index e) w = plain p (element_assignment p x.variable index e) _ w (element_keeps known p 0 x.variable index e).1
+        plain p (scalar_assignment p rs x.word_type x.variable e) _ w (scalar_keeps known rs cheap p 0 x.word_type x.variable e).1
+    statement_spends p (t.store x index e) w = plain p (element_assignment p rs x.variable index e) _ w (element_keeps known rs cheap p 0 x.variable index e).1
     statement_spends p (t.choose choice) w = let a = choice_spends p choice w in omega (arith, a)
     statement_spends p (t.loop x from tested below stepped body) w =
-        let n = loop_local x.variable in
-        let turn = lowered_block p body in
+        let n = loop_local p x.variable in
+        let turn = lowered_block p rs body in
         let a = turns_spend p (block_price known cycles_column body) (below - from) n from (behaviour turn) (spent turn) w (λ v. block_spends p body v) in
         alone p (repeat n from below turn) _ w (omega (arith, a))
-    statement_spends p (t.emit e) w = plain p (emission p e) _ w (emission_keeps known p 0 e).1
-    statement_spends p (t.give at e) w = omega arith
+    statement_spends p (t.emit e) w = plain p (emission p rs e) _ w (emission_keeps known rs cheap p 0 e).1
+    statement_spends p (t.give at e) w = plain p (joined (lowered_expression p rs e) (one give)) _ w (give_keeps known rs cheap p 0 e).1
     statement_spends p (t.transition at task) w = transition_spends p task.task w
 
     -- with a branch past what isn't taken
     choice_spends : (p : Places) (c : CheckedChoice) (w : WordState)
-        → Within p (conditions_price known cycles_column c + blocks_price known cycles_column c + 3) (behaviour (lowered_choice p c) w).end
-        (spent (lowered_choice p c) w)
+        → Within p (conditions_price known cycles_column c + blocks_price known cycles_column c + 3) (behaviour (lowered_choice p rs c) w).end
+        (spent (lowered_choice p rs c) w)
     choice_spends p t.nothing w = omega arith
     choice_spends p (t.otherwise block) w = let a = block_spends p block w in omega (arith, a)
     choice_spends p (t.test e block more) w =
-        let taken = lowered_block p block in
-        let otherwise = lowered_choice p more in
+        let taken = lowered_block p rs block in
+        let otherwise = lowered_choice p rs more in
         let a = block_price known cycles_column block + 3 in
         let b = conditions_price known cycles_column more + blocks_price known cycles_column more + 3 in
-        let k = alone p (choose (lowered_test p e) taken otherwise) (test_cycles (lowered_test p e) + max a b) w
-        (test_spends p (lowered_test p e) (behaviour taken) (behaviour otherwise) (λ v. spent taken v + 3) (spent otherwise) a b
+        let k = alone p (choose (lowered_test p rs e) taken otherwise) (test_cycles (lowered_test p rs e) + max a b) w
+        (test_spends p (lowered_test p rs e) (behaviour taken) (behaviour otherwise) (λ v. spent taken v + 3) (spent otherwise) a b
         (λ v. let r = block_spends p block v in omega (arith, r)) (λ v. choice_spends p more v) w) in
-        omega (arith, k, test_cycles_kept known p e)
+        omega (arith, k, test_cycles_kept known rs cheap p e)
 
     block_spends : (p : Places) (b : CheckedBlock) (w : WordState)
-        → Within p (block_price known cycles_column b) (behaviour (lowered_block p b) w).end (spent (lowered_block p b) w)
+        → Within p (block_price known cycles_column b) (behaviour (lowered_block p rs b) w).end (spent (lowered_block p rs b) w)
     block_spends p t.end w = omega arith
     block_spends p (t.step x more) w =
-        joined_spends p (lowered_statement p x) (lowered_block p more) (statement_price known cycles_column x) (block_price known cycles_column more) w
+        joined_spends p (lowered_statement p rs x) (lowered_block p rs more) (statement_price known cycles_column x) (block_price known cycles_column more) w
         (statement_spends p x w) (λ s. block_spends p more s)
 
 pub blocks_keep_to_cycles : BlocksKeepToCycles
-blocks_keep_to_cycles known p block w = block_spends known p block w
+blocks_keep_to_cycles known rs cheap p block w = block_spends known rs cheap p block w
+
+-- ---- bodies of functions: all their cycles, where there is no transition
+
+both_parts : (a b : Bool) → (a && b) ≡ true → (a ≡ true) × (b ≡ true)
+both_parts a b h = and_parts a b h
+
+module _ (known : List Summary) (rs : List Program) (cheap : BodiesKeep known rs) (p : Places) where
+  mutual
+    statement_cycles : (x : CheckedStatement) → statement_ends false x ≡ true
+        → cycles_of (lowered_statement p rs x) ≤ statement_price known cycles_column x
+    statement_cycles (t.declare of x None) h = omega arith
+    statement_cycles (t.declare of x (Some e)) h = (assignment_keeps known rs cheap p 0 x.variable e).1
+    statement_cycles (t.assign x e) h = (scalar_keeps known rs cheap p 0 x.word_type x.variable e).1
+    statement_cycles (t.store x index e) h = (element_keeps known rs cheap p 0 x.variable index e).1
+    statement_cycles (t.choose choice) h = let a = choice_cycles choice h in omega (arith, a)
+    statement_cycles (t.loop x from tested below stepped body) h =
+        let turn = block_cycles body h in
+        let few = turns_few (below - from) (cycles_of (lowered_block p rs body)) (block_price known cycles_column body) turn in
+        omega (arith, few)
+    statement_cycles (t.emit e) h = (emission_keeps known rs cheap p 0 e).1
+    statement_cycles (t.give at e) h = (give_keeps known rs cheap p 0 e).1
+    statement_cycles (t.transition at task) h = absurd (let never : false ≡ true = h in cc)
+
+    -- with a branch past what isn't taken
+    choice_cycles : (c : CheckedChoice) → choice_ends false c ≡ true
+        → cycles_of (lowered_choice p rs c) ≤ conditions_price known cycles_column c + blocks_price known cycles_column c + 3
+    choice_cycles t.nothing h = omega arith
+    choice_cycles (t.otherwise block) h = let a = block_cycles block h in omega (arith, a)
+    choice_cycles (t.test e block more) h =
+        let parts = both_parts (block_ends false block) (choice_ends false more) h in
+        let taken = block_cycles block parts.0 in
+        let otherwise = choice_cycles more parts.1 in
+        let test = test_cycles_kept known rs cheap p e in
+        omega (arith, taken, otherwise, test)
+
+    block_cycles : (b : CheckedBlock) → block_ends false b ≡ true → cycles_of (lowered_block p rs b) ≤ block_price known cycles_column b
+    block_cycles t.end h = omega arith
+    block_cycles (t.step x more) h =
+        let parts = both_parts (statement_ends false x) (block_ends false more) h in
+        let first = statement_cycles x parts.0 in
+        let others = block_cycles more parts.1 in
+        let l = joined_cycles (lowered_statement p rs x) (lowered_block p rs more) in
+        omega (arith, first, others, l)
+
+-- a function where it stands keeps to its own price, and one that stands nowhere has no body
+body_keeps : (p : Places) (known : List Summary) (rs : List Program) (cheap : BodiesKeep known rs) (at : Option RoutinePlace) (f : CheckedFunction)
+    → block_ends false f.body ≡ true → cycles_of (body_at p at rs f.body) ≤ block_price known cycles_column f.body
+body_keeps p known rs cheap None f h = omega arith
+body_keeps p known rs cheap (Some r) f h = block_cycles known rs cheap (routine_places p r) f.body h
+
+-- one more function
+one_more_keeps : (p : Places) (known : List Summary) (rs : List Program) (f : CheckedFunction) → length known ≡ length rs → BodiesKeep known rs
+    → block_ends false f.body ≡ true → BodiesKeep (known ++ function_summary known f ∷ []) (rs ++ routine_body p rs f ∷ [])
+one_more_keeps p known rs f same cheap h i =
+    ⊎_elim
+    (λ below. subst (λ n. cycles_of (get_or (rs ++ body ∷ []) i nothing) ≤ n) (sym (price_front (omega (arith, below, same))))
+    (subst (λ q. cycles_of q ≤ called_price known cycles_column i) (sym (in_front rs body nothing i below)) (cheap i)))
+    (λ past. ⊎_elim
+    (λ at. subst (λ n. cycles_of (get_or (rs ++ body ∷ []) i nothing) ≤ n) (sym (price_end (at ∙ sym same)))
+    (subst (λ q. cycles_of q ≤ block_price known cycles_column f.body) (sym (at_end rs body nothing i at))
+    (body_keeps p known rs cheap (routine_of p (length rs)) f h)))
+    (λ differ. subst (λ q. cycles_of q ≤ called_price more cycles_column i)
+    (sym (get_or_past (rs ++ body ∷ []) i nothing (let long = length-append rs (body ∷ []) in omega (arith, long, past, differ)))) (omega arith))
+    (cases_eq i (length rs)))
+    (cases_lt i (length rs))
+  where
+    body : Program
+    body = routine_body p rs f
+
+    more : List Summary
+    more = known ++ function_summary known f ∷ []
+
+    prices : List ℕ
+    prices = map (body_price cycles_column.body) known
+
+    pushed : map (body_price cycles_column.body) more ≡ prices ++ block_price known cycles_column f.body ∷ []
+    pushed = map-append (body_price cycles_column.body) known (function_summary known f ∷ [])
+
+    count : length prices ≡ length known
+    count = length-map known (body_price cycles_column.body)
+
+    price_front : i < length known → called_price more cycles_column i ≡ called_price known cycles_column i
+    price_front l = ap (λ ns. get_or ns i 0) pushed ∙ in_front prices (block_price known cycles_column f.body) 0 i (omega (arith, l, count))
+
+    price_end : i ≡ length known → called_price more cycles_column i ≡ block_price known cycles_column f.body
+    price_end e = ap (λ ns. get_or ns i 0) pushed ∙ at_end prices (block_price known cycles_column f.body) 0 i (e ∙ sym count)
+
+all_keep : (p : Places) (known : List Summary) (rs : List Program) (rest : List CheckedFunction) → length known ≡ length rs → BodiesKeep known rs
+    → All (λ f. block_ends false f.body ≡ true) rest → BodiesKeep (answers_from function_summary known rest) (answers_from (routine_body p) rs rest)
+all_keep p known rs [] same cheap h = cheap
+all_keep p known rs (f ∷ rest) same cheap h =
+    all_keep p (known ++ function_summary known f ∷ []) (rs ++ routine_body p rs f ∷ []) rest
+    (one_longer known (function_summary known f) (length rs) same ∙ sym (one_longer rs (routine_body p rs f) (length rs) refl))
+    (one_more_keeps p known rs f same cheap (All-head (λ f. block_ends false f.body ≡ true) f rest h))
+    (All-tail (λ f. block_ends false f.body ≡ true) f rest h)
+
+pub routines_keep : RoutinesKeep
+routines_keep p fs h = all_keep p [] [] fs refl (λ i. omega arith) h

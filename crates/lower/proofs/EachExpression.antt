@@ -1,26 +1,28 @@
 -- The programs of expressions leave their values.
-use Rattle.lower.proofs.Names.{◌≡◌, ℕ, List, Option, Some, None, Bool, true, false, nat_le, nat_lt, if◌then◌else◌, refl, sym, ap, ◌∙◌, subst, arith, [], ◌∷◌}
-use Rattle.lower.proofs.Names.{◌++◌, CheckedExpression, SharedDeclaration, WordType, Unsigned, Int, Long, UnaryOperator, BinaryOperator, ShiftOperator}
-use Rattle.lower.proofs.Names.{Variable, Shared, Local, nat_tests, IsOneWord, binary_type, unary_type, literal_type, is_refused, Evaluated, gives, made_of}
-use Rattle.lower.proofs.Names.{word_at, two_words, converted, value_of, unary_result, binary_value, binary_result, long_binary_value, shift_value}
-use Rattle.lower.proofs.Names.{shift_result, number, shift, sense, load, long, step, joined, truth, WordState, pushed, behaviour, Behaviour}
-use Rattle.lower.proofs.Names.{with_stack, Places, address_of, scalar_address, IsScalarWord, scalar, binary_meaning, shift_operation, operand_type}
-use Rattle.lower.proofs.Names.{long_meaning, one, high_address, read_step, read_long, element_step, Lowering, word_program, value_test, long_words}
-use Rattle.lower.proofs.Names.{long_program, name_lowering, operand_lowering, binary_lowering, sides_lowering, shift_lowering, sides_test, widened_type}
-use Rattle.lower.proofs.Names.{lowering, lowered_long, lowered_test, lowered_expression, Room, AreApart, AreEven, WellFormedExpression, array_word}
-use Rattle.lower.proofs.Names.{AsDeclared, HoldVariables, in_state, converted_to, truth_of, ExpressionsAgree, LongsAgree, TestsAgree, AgreesAt, Inputs}
-use Rattle.lower.proofs.Names.{◌>>?◌, ◌<◌, Answering, by_answers, made_by, IsFit, IsLeft, AdmitsExpression, next_event, program_end}
-use Rattle.lower.proofs.Names.{stacked}
-use Rattle.source_values.specs.Values.{Attempt, by_width, type_of, joined_type}
+use Rattle.lower.proofs.Names.{◌≡◌, ℕ, ◌+◌, ◌%◌, ◌≤◌, List, Option, Some, None, Bool, true, false, nat_le, nat_lt, if◌then◌else◌, refl, sym, ap, ◌∙◌, subst, arith}
+use Rattle.lower.proofs.Names.{[], ◌∷◌, ◌++◌, length, CheckedExpression, CheckedValues, WordType, Unsigned, Int, Long, UnaryOperator, BinaryOperator}
+use Rattle.lower.proofs.Names.{ShiftOperator, Variable, Shared, Local, nat_tests, IsOneWord, binary_type, unary_type, literal_type, is_refused, Evaluated}
+use Rattle.lower.proofs.Names.{gives, made_of, word_at, two_words, converted, value_of, unary_result, binary_value, binary_result, long_binary_value}
+use Rattle.lower.proofs.Names.{shift_value, shift_result, number, shift, sense, load, long, step, joined, truth, Program, WordState, Behaviour, pushed}
+use Rattle.lower.proofs.Names.{behaviour, then_on, joined_go_on, then_on_assoc, with_stack, Places, address_of, scalar_address, IsScalarWord, scalar}
+use Rattle.lower.proofs.Names.{binary_meaning, shift_operation, operand_type, long_meaning, one, high_address, read_step, read_long, element_step, Lowering}
+use Rattle.lower.proofs.Names.{word_program, value_test, long_words, long_program, name_lowering, operand_lowering, binary_lowering, sides_lowering}
+use Rattle.lower.proofs.Names.{shift_lowering, sides_test, widened_type, lowering, arguments, call_count, call_step, values_in, lowered_long, lowered_test}
+use Rattle.lower.proofs.Names.{lowered_expression, Room, AreApart, WellFormedExpression, WellFormedValues, array_word, converted_to, truth_of, ◌>>?◌, ◌<◌}
+use Rattle.lower.proofs.Names.{Answering, answered_by, by_answers, made_by, IsFit, AdmitsExpression, AdmitsValues, next_event, stacked, Scene, code_places}
+use Rattle.lower.proofs.Names.{Functions, ExpressionWritesWithin, summary, called_stores, values_count, values_emits}
+use Rattle.path_sums.specs.Sums.{values_sum}
+use Rattle.source_values.specs.Values.{Attempt, EvaluatedWords, by_width, type_of, joined_type, meaning_in, word_before, word_of, words_of}
 use Rattle.array_versions.specs.Behaviour.{goes_on}
 use Rattle.lower.proofs.Addresses.{first_address}
 use Rattle.lower.proofs.Declared.{IsLong, IsKnownAs, known_as, array_known}
+use Rattle.lower.proofs.Writes.{index_writes, values_writes, called_writes, left_writes, right_writes, first_side_writes, second_side_writes}
+use Rattle.lower.proofs.Writes.{first_value_writes, other_values_write}
+use Rattle.lower.proofs.Sequence.{Spare, Covers, before, Keeping, sparing, Keeps, spared, spared_behind, LeavesWords, as_value, comes_alone, value_then}
+use Rattle.lower.proofs.Calls.{turned, before_call, call_emits, call_lists, CallWritesWithin, KnownAgree, call_leaves}
 use Rattle.lower.proofs.Values.{read_agrees, word_read_agrees, element_agrees, sense_agrees, event_agrees, binary_same, shift_same, sides_of_truth}
-use Rattle.lower.proofs.Values.{sides_are_truth}
-use Rattle.lower.proofs.Values.{pair_value, truth_pushed, LoweringAgrees, by_word, by_test, SidesAgree, binary_agrees, not_agrees, unary_agrees, side_agrees}
-use Rattle.lower.proofs.Values.{LeavesWords, converted_by, events_of, is_left, pair_of}
-use Rattle.lower.proofs.Stored.{same_variables, spots_low}
-use Rattle.lower.proofs.Values.{Keeping, Keeps, Leaves, LeavesWord, agrees_alone, agrees_as, single, then_program, worked_agrees}
+use Rattle.lower.proofs.Values.{sides_are_truth, pair_value, truth_pushed, LoweringAgrees, by_word, by_test, SidesAgree, binary_agrees, not_agrees}
+use Rattle.lower.proofs.Values.{unary_agrees, side_agrees, LeavesWord, converted_by, events_of, is_left, pair_of, single, then_program, worked_agrees}
 use Rattle.lower.proofs.Updates.{joined_words}
 use Rattle.lower.proofs.Longs.{AgreesAs, LongAgrees, as_one_word, of_one_word, by_long, pair_same, words_agree, word_agrees, long_agrees, test_agrees}
 use Rattle.lower.proofs.Longs.{negated, complemented, long_shifted, long_meaning_type, long_meaning_value, long_same, long_binary_agrees, LeavesLong}
@@ -81,36 +83,42 @@ number_as_long n = by (nat_le n 32767) refl
 
 -- ---- in a task
 
+-- what an expression comes to, and its value
+abbrev lowered_in : Keeping → CheckedExpression → Lowering
+lowered_in k e = lowering (code_places k.z) k.z.fs.bodies e
+
+abbrev value_in : Keeping → CheckedExpression → Attempt → Option Evaluated
+value_in k e = value_of k.z.fs.meanings e
+
 module _ (k : Keeping) where
   -- a number on the stack
-  pushes : (n : ℕ) (m : Attempt) (w : WordState) → Keeps k m w → LeavesWord k w.stack (behaviour (one (number n)) w) (by_answers m (gives n))
+  pushes : (n : ℕ) (m : Attempt) (w : WordState) → Keeps k m w → LeavesWord k w (behaviour (one (number n)) w) (by_answers m (gives n))
   pushes n m w kept = is_left k single w.stack n m (pushed n w) kept refl
 
   -- two words read one behind the other are a long
-  read_long_agrees : (x : Variable) (m : Attempt) (w : WordState) → Keeps k m w → IsLong k.p x
-      → LeavesLong k w.stack (behaviour (read_long k.p x) w) (by_answers m (gives (two_words (word_at m.variables x 0) (word_at m.variables x 1))))
+  read_long_agrees : (x : Variable) (m : Attempt) (w : WordState) → Keeps k m w → IsLong k.z.p x
+      → LeavesLong k w (behaviour (read_long (code_places k.z) x) w) (by_answers m (gives (two_words (word_at m.variables x 0) (word_at m.variables x 1))))
   read_long_agrees (Shared v) m w kept is =
-      let a = address_of k.p v in
-      let there = Leaves k stacked w.stack in
+      let a = address_of k.z.p v in
       let joins = one (long with_longs.Join) in
-      let first : IsScalarWord k.p v 0 = omega (arith, is) in
-      then_program k single there w (one (load a)) (step (load (high_address a)) joins) (by_answers m (gives (word_at m.variables (Shared v) 0)))
+      let first : IsScalarWord k.z.p v 0 = omega (arith, is) in
+      then_program k single stacked w (one (load a)) (step (load (high_address a)) joins) (by_answers m (gives (word_at m.variables (Shared v) 0)))
       (λ x. gives (two_words x.value (word_at x.behind.variables (Shared v) 1)) x.behind)
-      (word_read_agrees k v 0 a m w kept (sym (first_address k.p v)) first)
+      (word_read_agrees k v 0 a m w kept (sym (first_address k.z.p v)) first)
       (λ x s kept.
       let u = with_stack (x.value ∷ w.stack) s in
-      then_program k single there u (one (load (high_address a))) joins (by_answers x.behind (gives (word_at x.behind.variables (Shared v) 1)))
+      then_program k single stacked u (one (load (high_address a))) joins (by_answers x.behind (gives (word_at x.behind.variables (Shared v) 1)))
       (λ y. gives (two_words x.value y.value) y.behind)
-      (word_read_agrees k v 1 (high_address a) x.behind u kept (high_is k.p k.room v k.apart is) is)
+      (word_read_agrees k v 1 (high_address a) x.behind u kept (high_is k.z.p k.z.room v k.z.apart is) is)
       (λ y t kept.
       let n = two_words x.value y.value in is_left k stacked w.stack n y.behind (with_stack (stacked n ++ w.stack) t) kept refl))
   read_long_agrees (Local n) m w kept is = absurd is
 
-  name_agrees : (of : WordType) (x : Variable) (m : Attempt) (w : WordState) → Keeps k m w → IsKnownAs k.p of x
+  name_agrees : (of : WordType) (x : Variable) (m : Attempt) (w : WordState) → Keeps k m w → IsKnownAs k.z.p of x
       → (let low = word_at m.variables x 0 in
-      AgreesAs k of w (name_lowering k.p of x) (by_answers m (gives (by_width of low (two_words low (word_at m.variables x 1))))))
-  name_agrees Long x m w kept is = by_long k w (read_long k.p x) _ (read_long_agrees x m w kept is)
-  name_agrees of x m w kept is = by_word k w (one (read_step k.p x)) _ (read_agrees k x m w kept is)
+      AgreesAs k of w (name_lowering (code_places k.z) of x) (by_answers m (gives (by_width of low (two_words low (word_at m.variables x 1))))))
+  name_agrees Long x m w kept is = by_long k w (read_long (code_places k.z) x) _ (read_long_agrees x m w kept is)
+  name_agrees of x m w kept is = by_word k w (one (read_step (code_places k.z) x)) _ (read_agrees k x m w kept is)
 
   -- ---- operators
 
@@ -129,8 +137,9 @@ module _ (k : Keeping) where
   operand_agrees op of w l o h g = as_one_word k (unary_type op of) (one_word.unary_word op of tt) w _ _ (unary_agrees k op w l o h)
 
   -- Two operands of these types, and by which types they become long: their programs, the value of the first, and what the second gives of
-  -- the attempt behind it. The second stands behind the first as one word, and both as longs
+  -- the attempt behind it, where this is to spare. The second stands behind the first as one word, and both as longs
   record Operands : Type 0 where
+    middle : Spare
     left_type : WordType
     right_type : WordType
     left_wide : WordType
@@ -140,9 +149,9 @@ module _ (k : Keeping) where
     r : Lowering
     o : Answering
     second : Attempt → Option Evaluated
-    left : AgreesAs k left_type w l o
-    right : (x : Evaluated) (s : WordState) → Keeps k x.behind s → AgreesAs k right_type (with_stack (x.value ∷ w.stack) s) r (by_answers x.behind second)
-    longs : SidesAgree k stacked w (long_program left_wide l) (long_program right_wide r) (converted_by left_type Long o)
+    left : AgreesAs (sparing middle k) left_type w l o
+    right : (x : Evaluated) (s : WordState) → Keeps (sparing middle k) x.behind s → AgreesAs k right_type (with_stack (x.value ∷ w.stack) s) r (by_answers x.behind second)
+    longs : SidesAgree k middle stacked w (long_program left_wide l) (long_program right_wide r) (converted_by left_type Long o)
         (λ m. converted_to right_type Long (second m))
 
   -- what an operator gives of them, and its type
@@ -159,15 +168,15 @@ module _ (k : Keeping) where
       let words = joined_words h.left_type h.right_type (subst IsOneWord (sym e) one) in
       let left = word_program h.l in
       let right = word_program h.r in
-      let sides : SidesAgree k single h.w left right h.o h.second = record {
-        left_side = (of_one_word k h.left_type words.0 h.w h.l h.o h.left).word;
+      let sides : SidesAgree k h.middle single h.w left right h.o h.second = record {
+        left_side = (of_one_word (sparing h.middle k) h.left_type words.0 h.w h.l h.o h.left).word;
         right_side = λ x s kept. (of_one_word k h.right_type words.1 (with_stack (x.value ∷ h.w.stack) s) h.r (by_answers x.behind h.second)
             (h.right x s kept)).word;
       } in
       as_one_word k (result_type op h) (one_word.binary_word op h.left_type h.right_type words.0 words.1) h.w _ _
       (subst (LoweringAgrees k h.w (binary_lowering (binary_meaning op is) (joined left right)))
       (pair_same (binary_value op is) (binary_result op h.left_type h.right_type) h.o h.second (λ x y. sym (same x y)))
-      (binary_agrees k (binary_meaning op is) h.w left right h.o h.second (binary_value op is) sides (binary_same op is)))
+      (binary_agrees k h.middle (binary_meaning op is) h.w left right h.o h.second (binary_value op is) sides (binary_same op is)))
     where
       same : (x y : ℕ) → binary_result op h.left_type h.right_type x y ≡ binary_value op is x y
       same x y =
@@ -184,7 +193,7 @@ module _ (k : Keeping) where
       subst (λ z. AgreesAs k z h.w lowered (applied op h)) (long_type op h.left_type h.right_type e accepted)
       (subst (AgreesAs k (long_meaning_type m) h.w lowered)
       (pair_converted (long_meaning_value m) h.left_type h.right_type h.o h.second ∙ pair_same _ (binary_result op h.left_type h.right_type) h.o h.second same)
-      (long_binary_agrees k m h.w (long_program h.left_wide h.l) (long_program h.right_wide h.r) (converted_by h.left_type Long h.o) others h.longs))
+      (long_binary_agrees k h.middle m h.w (long_program h.left_wide h.l) (long_program h.right_wide h.r) (converted_by h.left_type Long h.o) others h.longs))
     where
       same : (x y : ℕ) → long_meaning_value (long_meaning op) (converted h.left_type Long x) (converted h.right_type Long y)
           ≡ binary_result op h.left_type h.right_type x y
@@ -207,48 +216,112 @@ module _ (k : Keeping) where
 
   -- its value as a long, by the type by which it becomes one
   widened_agrees : (e : CheckedExpression) (m : Attempt) (w : WordState) → Keeps k m w
-      → AgreesAs k (type_of e) w (lowering k.p e) (by_answers m (value_of [] e))
-      → LeavesLong k w.stack (behaviour (lowered_long k.p e) w) (by_answers m (λ s. converted_to (type_of e) Long (value_of [] e s)))
+      → AgreesAs k (type_of e) w (lowered_in k e) (by_answers m (value_in k e))
+      → LeavesLong k w (behaviour (lowered_long (code_places k.z) k.z.fs.bodies e) w) (by_answers m (λ s. converted_to (type_of e) Long (value_in k e s)))
   widened_agrees (t.number n) m w kept h =
-      subst (λ v. LeavesLong k w.stack (behaviour (lowered_long k.p (t.number n)) w) (by_answers m (gives v))) (sym (number_as_long n))
-      (long_agrees k Unsigned w (lowering k.p (t.number n)) (by_answers m (gives n)) (by_word k w (one (number n)) _ (pushes n m w kept)))
-  widened_agrees e m w kept h = long_agrees k (type_of e) w (lowering k.p e) (by_answers m (value_of [] e)) h
+      subst (λ v. LeavesLong k w (behaviour (lowered_long (code_places k.z) k.z.fs.bodies (t.number n)) w) (by_answers m (gives v))) (sym (number_as_long n))
+      (long_agrees k Unsigned w (lowered_in k (t.number n)) (by_answers m (gives n)) (by_word k w (one (number n)) _ (pushes n m w kept)))
+  widened_agrees e m w kept h = long_agrees k (type_of e) w (lowered_in k e) (by_answers m (value_in k e)) h
 
-  -- ---- all expressions
+-- ---- all expressions
 
-  pub lowering_agrees : (e : CheckedExpression) (m : Attempt) (w : WordState) → Keeps k m w → WellFormedExpression k.shared e
-      → AdmitsExpression (events_of k) e → AgreesAs k (type_of e) w (lowering k.p e) (by_answers m (value_of [] e))
-  lowering_agrees (t.number n) m w kept fits admits =
-      as_one_word k (type_of (t.number n)) (one_word.literal_word n) w _ _ (by_word k w (one (number n)) _ (pushes n m w kept))
-  lowering_agrees (t.long_number n) m w kept fits admits =
-      by_long k w _ _ (is_left k stacked w.stack n m (with_stack (stacked n ++ w.stack) w) kept refl)
-  lowering_agrees (t.name x) m w kept fits admits =
-      name_agrees x.word_type x.variable m w kept (known_as k.shared k.p k.declared x.word_type x.variable fits.0 fits.1)
-  lowering_agrees (t.element x index) m w kept fits admits =
-      let l = lowering k.p index in
-      let last = one (element_step k.p x.variable) in
-      let o = by_answers m (value_of [] index) in
-      let agrees = of_one_word k (type_of index) fits.3 w l o (lowering_agrees index m w kept fits.1 admits) in
-      as_one_word k x.word_type (array_word k.shared x.word_type x.variable fits.0 fits.2) w _ _
+-- a state that has to spare what an expression wants keeps an attempt
+abbrev pub KeepsBefore : Keeping → CheckedExpression → Attempt → WordState → Type 0
+KeepsBefore k e m w = Keeps (sparing (before k.z.fs e k.free) k) m w
+
+-- what is asked of a call's values, as of an expression
+pub record ValuesFit (z : Scene) (values : CheckedValues) : Type 0 where
+  fits : WellFormedValues z.shared values
+  admits : AdmitsValues z.p.map.runtime.events values
+  writes : (v : ℕ) → (values_sum (z.fs.sums v) (summary (Shared v)) values).writes ≡ true → z.written v ≡ true
+
+-- what is wanted in front of values, that this is to spare behind them
+abbrev before_values : Functions → CheckedValues → Spare → Spare
+before_values fs values free = record {
+  emits = values_emits fs.emits values + free.emits;
+  lists = λ v. values_count (called_stores fs.summaries v) values + free.lists v;
+}
+
+-- what goes on with a call's words
+by_words : (e : CheckedExpression) (o : Option Evaluated) (rest : Attempt → Option EvaluatedWords) (more : EvaluatedWords → Option Evaluated)
+    → (converted_to (type_of e) Unsigned o >>? λ x. rest x.behind >>? λ ws. more (word_before x.value ws))
+    ≡ ((o >>? λ x. rest x.behind >>? λ ws. Some (word_before (word_of e x.value) ws)) >>? more)
+by_words e None rest more = refl
+by_words e (Some x) rest more = by (rest x.behind)
+  where
+    by : (r : Option EvaluatedWords) → (r >>? λ ws. more (word_before (word_of e x.value) ws)) ≡ ((r >>? λ ws. Some (word_before (word_of e x.value) ws)) >>? more)
+    by None = refl
+    by (Some ws) = refl
+
+mutual
+  pub lowering_agrees : (k : Keeping) → KnownAgree k.z → (e : CheckedExpression) (m : Attempt) (w : WordState) → KeepsBefore k e m w
+      → WellFormedExpression k.z.shared e → AdmitsExpression (events_of k) e → ExpressionWritesWithin k.z e
+      → AgreesAs k (type_of e) w (lowered_in k e) (by_answers m (value_in k e))
+  lowering_agrees k known (t.number n) m w kept fits admits writes =
+      as_one_word k (type_of (t.number n)) (one_word.literal_word n) w _ _
+      (by_word k w (one (number n)) _ (pushes k n m w (spared_behind k (t.number n) m w kept)))
+  lowering_agrees k known (t.long_number n) m w kept fits admits writes =
+      by_long k w _ _ (is_left k stacked w.stack n m (with_stack (stacked n ++ w.stack) w) (spared_behind k (t.long_number n) m w kept) refl)
+  lowering_agrees k known (t.name x) m w kept fits admits writes =
+      name_agrees k x.word_type x.variable m w (spared_behind k (t.name x) m w kept)
+      (known_as k.z.shared k.z.p k.z.declared x.word_type x.variable fits.0 fits.1)
+  lowering_agrees k known (t.element x index) m w kept fits admits writes =
+      let l = lowered_in k index in
+      let last = one (element_step k.z.p x.variable) in
+      let o = by_answers m (value_in k index) in
+      let agrees = of_one_word k (type_of index) fits.3 w l o
+      (lowering_agrees k known index m w kept fits.1 admits (λ v h. writes v (index_writes v (k.z.fs.sums v) (known.go_on v) x index h))) in
+      as_one_word k x.word_type (array_word k.z.shared x.word_type x.variable fits.0 fits.2) w _ _
       (by_word k w (joined (word_program l) last) _
-      (then_program k single (Leaves k single w.stack) w (word_program l) last o
+      (then_program k single single w (word_program l) last o
       (λ i. gives (word_at i.behind.variables x.variable i.value) i.behind) agrees.word
-      (λ i s kept. element_agrees k w.stack i.behind s kept x.variable i.value (array_known k.shared k.p k.declared x.variable fits.0))))
-  lowering_agrees t.sense m w kept fits admits = by_word k w (one sense) _ (sense_agrees k m w kept)
-  lowering_agrees t.next_event m w kept fits admits = by_word k w (one next_event) _ (event_agrees k m w kept admits)
-  lowering_agrees (t.call f values) m w kept fits admits = absurd fits
-  lowering_agrees (t.unary op e) m w kept fits admits =
-      operand_agrees op (type_of e) w (lowering k.p e) (by_answers m (value_of [] e)) (lowering_agrees e m w kept fits admits)
-      (lowering_agrees e m (pushed 0 (pushed 0 w)) kept fits admits)
-  lowering_agrees (t.binary op a b) m w kept fits admits =
+      (λ i s kept. element_agrees k w.stack i.behind s kept x.variable i.value (array_known k.z.shared k.z.p k.z.declared x.variable fits.0))))
+  lowering_agrees k known t.sense m w kept fits admits writes = by_word k w (one sense) _ (sense_agrees k m w (spared_behind k t.sense m w kept))
+  lowering_agrees k known t.next_event m w kept fits admits writes =
+      by_word k w (one next_event) _ (event_agrees k m w (spared_behind k t.next_event m w kept) admits)
+  lowering_agrees k known (t.call f values) m w kept fits admits writes =
+      let i = f.function in
+      let last = one (call_step (code_places k.z) k.z.fs.bodies i (call_count values)) in
+      let first = arguments (code_places k.z) k.z.fs.bodies values in
+      let free = before_call (call_emits k.z.fs i) (call_lists k.z.fs i) k.free in
+      let all = before k.z.fs (t.call f values) k.free in
+      let room : Covers all (before_values k.z.fs values free) = record { emits = omega arith; lists = λ v. omega arith } in
+      let may : ValuesFit k.z values = record {
+        fits = fits.1;
+        admits = admits;
+        writes = λ v h. writes v (values_writes v (k.z.fs.sums v) (known.go_on v) f values h);
+      } in
+      let within : CallWritesWithin k.z i = λ v h. writes v (called_writes v (k.z.fs.sums v) (known.go_on v) f values h) in
+      let given : EvaluatedWords → Option Evaluated = λ ws. meaning_in k.z.fs.meanings i ws.words ws.behind in
+      as_one_word k f.word_type fits.0 w _ _
+      (by_word k w (joined first last) _
+      (subst (λ b. LeavesWord k w b (by_answers m (value_in k (t.call f values)))) (sym (joined_go_on first last w))
+      (arguments_agree k known values free w.stack m w (behaviour last) given
+      (spared (sparing all k) (before_values k.z.fs values free) m w room kept) may
+      (λ words u s count kept.
+      let limit = fits.2 in
+      let few : length words ≤ 256 = omega (arith, limit, count) in
+      call_leaves k known i words w.stack u s within few kept (call_count values) (omega (arith, limit, count))))))
+  lowering_agrees k known (t.unary op e) m w kept fits admits writes =
+      operand_agrees k op (type_of e) w (lowered_in k e) (by_answers m (value_in k e)) (lowering_agrees k known e m w kept fits admits writes)
+      (lowering_agrees k known e m (pushed 0 (pushed 0 w)) kept fits admits writes)
+  lowering_agrees k known (t.binary op a b) m w kept fits admits writes =
       let s = type_of a in
       let of = type_of b in
       let u = widened_type a in
       let v = widened_type b in
-      let l = lowering k.p a in
-      let r = lowering k.p b in
-      let left = lowering_agrees a m w kept fits.0 admits.0 in
-      let operands : Operands = record {
+      let l = lowered_in k a in
+      let r = lowered_in k b in
+      let middle = before k.z.fs b k.free in
+      let first : Keeping = sparing middle k in
+      let all = before k.z.fs (t.binary op a b) k.free in
+      let room : Covers all (before k.z.fs a middle) = record { emits = omega arith; lists = λ v. omega arith } in
+      let kept_left = spared (sparing all k) (before k.z.fs a middle) m w room kept in
+      let left_within : ExpressionWritesWithin k.z a = λ n h. writes n (left_writes n (k.z.fs.sums n) (known.go_on n) op a b h) in
+      let right_within : ExpressionWritesWithin k.z b = λ n h. writes n (right_writes n (k.z.fs.sums n) (known.go_on n) op a b h) in
+      let left = lowering_agrees first known a m w kept_left fits.0 admits.0 left_within in
+      let operands : Operands k = record {
+        middle = middle;
         left_type = s;
         right_type = of;
         left_wide = u;
@@ -256,114 +329,111 @@ module _ (k : Keeping) where
         w = w;
         l = l;
         r = r;
-        o = by_answers m (value_of [] a);
-        second = value_of [] b;
+        o = by_answers m (value_in k a);
+        second = value_in k b;
         left = left;
-        right = λ x s kept. lowering_agrees b x.behind (with_stack (x.value ∷ w.stack) s) kept fits.1 admits.1;
+        right = λ x s kept. lowering_agrees k known b x.behind (with_stack (x.value ∷ w.stack) s) kept fits.1 admits.1 right_within;
         longs = record {
-          left_side = widened_agrees a m w kept left;
+          left_side = widened_agrees first a m w (spared_behind first a m w kept_left) left;
           right_side = λ x s kept. let behind = with_stack (stacked x.value ++ w.stack) s in
-              widened_agrees b x.behind behind kept (lowering_agrees b x.behind behind kept fits.1 admits.1);
+              widened_agrees k b x.behind behind (spared_behind k b x.behind behind kept)
+              (lowering_agrees k known b x.behind behind kept fits.1 admits.1 right_within);
         };
       } in
       let P : WordType → Type 0 = λ z. AgreesAs k (binary_type op.operator s of) w (sides_lowering z op.operator u v l r)
-      (by_answers m (value_of [] (t.binary op a b))) in
+      (by_answers m (value_in k (t.binary op a b))) in
       subst P (sym (operands_as_joined (joined_type s of) op.operator fits.2))
-      (operands_agree (joined_type s of) op.operator operands refl fits.2)
-  lowering_agrees (t.shift op e count) m w kept fits admits =
-      shift_agrees (type_of e) op count.value w (lowering k.p e) (by_answers m (value_of [] e)) (lowering_agrees e m w kept fits.0 admits)
-  lowering_agrees (t.short_circuit op a b) m w kept fits admits =
-      let c = value_test (lowering k.p a) in
-      let d = value_test (lowering k.p b) in
-      let o = by_answers m (value_of [] a) in
-      let right : Attempt → Option Evaluated = value_of [] b in
+      (operands_agree k (joined_type s of) op.operator operands refl fits.2)
+  lowering_agrees k known (t.shift op e count) m w kept fits admits writes =
+      shift_agrees k (type_of e) op count.value w (lowered_in k e) (by_answers m (value_in k e))
+      (lowering_agrees k known e m w kept fits.0 admits writes)
+  lowering_agrees k known (t.short_circuit op a b) m w kept fits admits writes =
+      let c = value_test (lowered_in k a) in
+      let d = value_test (lowered_in k b) in
+      let o = by_answers m (value_in k a) in
+      let right : Attempt → Option Evaluated = value_in k b in
+      let middle = before k.z.fs b k.free in
+      let first : Keeping = sparing middle k in
+      let all = before k.z.fs (t.short_circuit op a b) k.free in
+      let room : Covers all (before k.z.fs a middle) = record { emits = omega arith; lists = λ v. omega arith } in
+      let kept_left = spared (sparing all k) (before k.z.fs a middle) m w room kept in
+      let less : Covers middle k.free = record { emits = omega arith; lists = λ v. omega arith } in
+      let left_within : ExpressionWritesWithin k.z a = λ n h. writes n (first_side_writes n (k.z.fs.sums n) (known.go_on n) op a b h) in
+      let right_within : ExpressionWritesWithin k.z b = λ n h. writes n (second_side_writes n (k.z.fs.sums n) (known.go_on n) op a b h) in
       by_test k w (sides_test op c d) _ (sides_are_truth op o right)
-      (subst (LeavesWord k w.stack (truth_pushed (sides_test op c d) w)) (sides_of_truth o op right)
-      (side_agrees k op w c d o right (test_agrees k (type_of a) w (lowering k.p a) o (lowering_agrees a m w kept fits.0 admits.0))
+      (subst (LeavesWord k w (truth_pushed (sides_test op c d) w)) (sides_of_truth o op right)
+      (side_agrees k middle op w c d o right less
+      (test_agrees first (type_of a) w (lowered_in k a) o (lowering_agrees first known a m w kept_left fits.0 admits.0 left_within))
       (λ m s kept. let u : WordState = with_stack w.stack s in
-      test_agrees k (type_of b) u (lowering k.p b) (by_answers m right) (lowering_agrees b m u kept fits.1 admits.1))))
+      test_agrees k (type_of b) u (lowered_in k b) (by_answers m right) (lowering_agrees k known b m u kept fits.1 admits.1 right_within))))
 
-  -- ---- by its program
+  -- the values of a call, one after another on top of what was there, and what goes on from there
+  arguments_agree : (k : Keeping) → KnownAgree k.z → (values : CheckedValues) (free : Spare) (below : List ℕ) (m : Attempt) (w : WordState)
+      (next : WordState → Behaviour) (more : EvaluatedWords → Option Evaluated) → Keeps (sparing (before_values k.z.fs values free) k) m w
+      → ValuesFit k.z values
+      → ((words : List ℕ) (u : Attempt) (s : WordState) → length words ≡ values_in values → Keeps (sparing free k) u s
+      → LeavesWord k (with_stack below s) (next (with_stack (turned words w.stack) s)) (by_answers u (λ a. more (record { words = words; behind = a }))))
+      → LeavesWord k (with_stack below w) (then_on (behaviour (arguments (code_places k.z) k.z.fs.bodies values) w) next)
+      (by_answers m (λ s. words_of k.z.fs.meanings values s >>? more))
+  arguments_agree k known t.no_value free below m w next more kept may f =
+      f [] m w refl (spared (sparing (before_values k.z.fs t.no_value free) k) free m w (record { emits = omega arith; lists = λ v. omega arith }) kept)
+  arguments_agree k known (t.value e rest) free below m w next more kept may f =
+      let p = code_places k.z in
+      let first = lowered_expression p k.z.fs.bodies e in
+      let others = arguments p k.z.fs.bodies rest in
+      let middle = before_values k.z.fs rest free in
+      let all = before_values k.z.fs (t.value e rest) free in
+      let room : Covers all (before k.z.fs e middle) = record { emits = omega arith; lists = λ v. omega arith } in
+      let kept_first = spared (sparing all k) (before k.z.fs e middle) m w room kept in
+      let within : ExpressionWritesWithin k.z e = λ v h. may.writes v (first_value_writes v (k.z.fs.sums v) (known.go_on v) e rest h) in
+      let may_rest : ValuesFit k.z rest = record {
+        fits = may.fits.1;
+        admits = may.admits.1;
+        writes = λ v h. may.writes v (other_values_write v (k.z.fs.sums v) (known.go_on v) e rest h);
+      } in
+      let word : Attempt → Option Evaluated = λ s. converted_to (type_of e) Unsigned (value_in k e s) in
+      let behind : Evaluated → Option Evaluated = λ x. words_of k.z.fs.meanings rest x.behind >>? λ ws. more (word_before x.value ws) in
+      let leaves = word_agrees (sparing middle k) (type_of e) w (lowered_in k e) (by_answers m (value_in k e))
+      (lowering_agrees (sparing middle k) known e m w kept_first may.fits.0 may.admits.0 within) in
+      let is = ap (λ r. then_on r next) (joined_go_on first others w) ∙ sym (then_on_assoc (behaviour first w) (behaviour others) next) in
+      subst (λ r. LeavesWord k (with_stack below w) r (by_answers m (λ s. words_of k.z.fs.meanings (t.value e rest) s >>? more))) (sym is)
+      (subst (LeavesWord k (with_stack below w) (then_on (behaviour first w) (λ v. then_on (behaviour others v) next)))
+      (λ j. λ answers. by_words e (value_in k e (answered_by answers m)) (words_of k.z.fs.meanings rest) more j)
+      (value_then (sparing middle k) (as_value k single below) single w (behaviour first w) (by_answers m word)
+      (λ v. then_on (behaviour others v) next) behind leaves
+      (λ x s kept. arguments_agree k known rest free below x.behind (with_stack (x.value ∷ w.stack) s) next (λ ws. more (word_before x.value ws)) kept may_rest
+      (λ words u s count kept. f (x.value ∷ words) u s (omega (arith, count)) kept))))
 
-  pub expression_leaves : (e : CheckedExpression) (m : Attempt) (w : WordState) → Keeps k m w → IsFit k.shared k.p e
-      → LeavesWord k w.stack (behaviour (lowered_expression k.p e) w) (by_answers m (λ s. converted_to (type_of e) Unsigned (value_of [] e s)))
-  expression_leaves e m w kept fits =
-      word_agrees k (type_of e) w (lowering k.p e) (by_answers m (value_of [] e)) (lowering_agrees e m w kept fits.0 fits.1)
+-- ---- by its program
 
-  pub long_leaves : (e : CheckedExpression) (m : Attempt) (w : WordState) → Keeps k m w → IsFit k.shared k.p e
-      → LeavesLong k w.stack (behaviour (lowered_long k.p e) w) (by_answers m (λ s. converted_to (type_of e) Long (value_of [] e s)))
-  long_leaves e m w kept fits = widened_agrees e m w kept (lowering_agrees e m w kept fits.0 fits.1)
+pub expression_leaves : (k : Keeping) → KnownAgree k.z → (e : CheckedExpression) (m : Attempt) (w : WordState) → KeepsBefore k e m w → IsFit k.z.shared k.z.p e
+    → ExpressionWritesWithin k.z e
+    → LeavesWord k w (behaviour (lowered_expression (code_places k.z) k.z.fs.bodies e) w) (by_answers m (λ s. converted_to (type_of e) Unsigned (value_in k e s)))
+expression_leaves k known e m w kept fits writes =
+    word_agrees k (type_of e) w (lowered_in k e) (by_answers m (value_in k e)) (lowering_agrees k known e m w kept fits.0 fits.1 writes)
 
-  pub test_leaves : (e : CheckedExpression) (m : Attempt) (w : WordState) → Keeps k m w → IsFit k.shared k.p e
-      → LeavesWord k w.stack (truth_pushed (lowered_test k.p e) w) (by_answers m (λ s. truth_of (value_of [] e s)))
-  test_leaves e m w kept fits =
-      test_agrees k (type_of e) w (lowering k.p e) (by_answers m (value_of [] e)) (lowering_agrees e m w kept fits.0 fits.1)
+pub long_leaves : (k : Keeping) → KnownAgree k.z → (e : CheckedExpression) (m : Attempt) (w : WordState) → KeepsBefore k e m w → IsFit k.z.shared k.z.p e
+    → ExpressionWritesWithin k.z e
+    → LeavesLong k w (behaviour (lowered_long (code_places k.z) k.z.fs.bodies e) w) (by_answers m (λ s. converted_to (type_of e) Long (value_in k e s)))
+long_leaves k known e m w kept fits writes =
+    widened_agrees k e m w (spared_behind k e m w kept) (lowering_agrees k known e m w kept fits.0 fits.1 writes)
 
--- ---- what is as it was
+pub test_leaves : (k : Keeping) → KnownAgree k.z → (e : CheckedExpression) (m : Attempt) (w : WordState) → KeepsBefore k e m w → IsFit k.z.shared k.z.p e
+    → ExpressionWritesWithin k.z e
+    → LeavesWord k w (truth_pushed (lowered_test (code_places k.z) k.z.fs.bodies e) w) (by_answers m (λ s. truth_of (value_in k e s)))
+test_leaves k known e m w kept fits writes =
+    test_agrees k (type_of e) w (lowered_in k e) (by_answers m (value_in k e)) (lowering_agrees k known e m w kept fits.0 fits.1 writes)
 
--- the variables are those of an attempt, and all but the words behind the end of programs, the readings and the looks left is as it was
-record IsAsBefore (m : Attempt) (w : WordState) (u : Attempt) (f : ℕ → ℕ) (l : ℕ → Option ℕ) (i : Inputs) : Type 0 where
-  variables : u.variables ≡ m.variables
-  locals : l ≡ w.locals
-  fram : (a : ℕ) → a < program_end → f a ≡ w.fram a
-  readings : i.readings ≡ u.left
+-- ---- as the laws have it
 
-module _ (shared : List SharedDeclaration) (p : Places) (room : Room) (m : Attempt) (w : WordState) (apart : AreApart p room) (even : AreEven p)
-    (declared : AsDeclared shared p) (held : HoldVariables p m.variables w.fram w.locals) where
-  abbrev all_kept : Keeping
-  all_kept = record {
-    shared = shared;
-    p = p;
-    room = room;
-    apart = apart;
-    even = even;
-    declared = declared;
-    Holds = IsAsBefore m w;
-    variables = λ u f l i h. subst (λ v. HoldVariables p v f l) (sym h.variables)
-        (subst (HoldVariables p m.variables f) (sym h.locals)
-        (same_variables p m.variables w.fram f w.locals (spots_low p room w.fram f apart h.fram) held));
-    readings = λ u f l i h. h.readings;
-    taken = λ u f l i rs h. record { variables = h.variables; locals = h.locals; fram = h.fram; readings = refl };
-    answered = λ u f g l i looks h low. record {
-      variables = h.variables;
-      locals = h.locals;
-      fram = λ a below. low a below ∙ h.fram a below;
-      readings = h.readings;
-    };
-  }
+-- programs that leave values of expressions, wherever these fit
+abbrev pub LeaveValues : (ℕ → List ℕ) → (Places → List Program → CheckedExpression → Program) → (CheckedExpression → Option Evaluated → Option Evaluated)
+    → Type 0
+LeaveValues words program value = (k : Keeping) → KnownAgree k.z → (e : CheckedExpression) (m : Attempt) (w : WordState) → KeepsBefore k e m w
+    → IsFit k.z.shared k.z.p e → ExpressionWritesWithin k.z e
+    → LeavesWords k words w (behaviour (program (code_places k.z) k.z.fs.bodies e) w) (by_answers m (λ s. value e (value_in k e s)))
 
-  at_first : Keeps all_kept (in_state w m) w
-  at_first = record { variables = refl; locals = refl; fram = λ a below. refl; readings = refl }
-
-  -- so a value is left in the state alone
-  one_state : (words : ℕ → List ℕ) (b : Behaviour) (o : Answering) → LeavesWords all_kept words w.stack b o
-      → AgreesAt p.map.runtime.events (IsLeft words w) b o
-  one_state words b o = agrees_as p.map.runtime.events (Leaves all_kept words w.stack) (IsLeft words w) b o (λ x s h. record {
-    stack = h.stack;
-    locals = h.kept.locals;
-    fram = h.kept.fram;
-    readings = h.kept.readings;
-  })
-
-pub expressions_agree : ExpressionsAgree
-expressions_agree shared p room e m w apart even declared fits h =
-    let s = in_state w m in
-    one_state shared p room m w apart even declared h single (behaviour (lowered_expression p e) w)
-    (by_answers s (λ s. converted_to (type_of e) Unsigned (value_of [] e s)))
-    (expression_leaves (all_kept shared p room m w apart even declared h) e s w (at_first shared p room m w apart even declared h) fits)
-
-pub longs_agree : LongsAgree
-longs_agree shared p room e m w apart even declared fits h =
-    let s = in_state w m in
-    one_state shared p room m w apart even declared h stacked (behaviour (lowered_long p e) w)
-    (by_answers s (λ s. converted_to (type_of e) Long (value_of [] e s)))
-    (long_leaves (all_kept shared p room m w apart even declared h) e s w (at_first shared p room m w apart even declared h) fits)
-
-pub tests_agree : TestsAgree
-tests_agree shared p room e m w apart even declared fits h =
-    let s = in_state w m in
-    let k = all_kept shared p room m w apart even declared h in
-    let o = by_answers s (λ s. truth_of (value_of [] e s)) in
-    one_state shared p room m w apart even declared h single (behaviour (one (truth (lowered_test p e))) w) o
-    (agrees_alone p.map.runtime.events (Leaves k single w.stack) (truth_pushed (lowered_test p e) w) o
-    (test_leaves k e s w (at_first shared p room m w apart even declared h) fits))
+pub tests_leave : LeaveValues single (λ p rs e. one (truth (lowered_test p rs e))) (λ e o. truth_of o)
+tests_leave k known e m w kept fits writes =
+    comes_alone (as_value k single w.stack) w.fram (truth_pushed (lowered_test (code_places k.z) k.z.fs.bodies e) w)
+    (by_answers m (λ s. truth_of (value_in k e s))) (test_leaves k known e m w kept fits writes)

@@ -6,6 +6,7 @@ use Rattle.lower.proofs.Names.{then_on, is_place, word_listed, versioned_stored,
 use Rattle.lower.proofs.Names.{word_place, Version, ArrayCopies, VariablePlace, Array, word_even, private_words, IsArrayAt, Element, IsCopied, element, copy}
 use Rattle.lower.proofs.Names.{version, element_address, copy_address, version_address, IsSpot, Spot, spot_address, array_place, list_place, listed_of}
 use Rattle.lower.proofs.Names.{own_word, element_pair, at_copy, at_version, HoldVariables, StandsFor, Scene, CopyPair}
+use Rattle.lower.proofs.Names.{locals_from, seen_from}
 use Rattle.std.proofs.Common.{get_or}
 use Rattle.source_values.specs.Statements.{Attempt, goes_on}
 use Rattle.lower.proofs.Addresses.{fram_place, spot_place, element_is, copy_is, version_is, has_element}
@@ -26,7 +27,7 @@ pub record Start (z : Scene) (emitting : ℕ) (count : ℕ → ℕ) : Type 0 whe
   pub listed : List Element
   pub w : WordState
   pub most : ℕ → ℕ
-  pub stands : StandsFor z.p z.first m listed w
+  pub stands : StandsFor z.p z.first m listed (seen_from z.own w)
   pub number : w.fram (word_place z.p.map Version) ≡ z.ver
   pub emits : length m.emitted + emitting ≤ z.room.emits
   pub lists : (v : ℕ) → listed_of v listed + count v ≤ most v
@@ -48,8 +49,8 @@ few_emitted here = let a = here.emits in omega (arith, a)
 
 -- a store to a word that the task works on, no version word: the rest stays
 pub spot_stands : {z : Scene} {n : ℕ} {count : ℕ → ℕ} (here : Start z n count) (s : Spot) (v : ℕ) (m : Variables) → IsSpot z.p s
-    → ((x : Element) → version x ≡ s → ⊥) → HoldVariables z.p m (put here.w.fram (spot_address z.p s) v) here.w.locals
-    → StandsFor z.p z.first (record here.m { variables = m }) here.listed (stored (spot_address z.p s) v here.w)
+    → ((x : Element) → version x ≡ s → ⊥) → HoldVariables z.p m (put here.w.fram (spot_address z.p s) v) (locals_from z.own here.w.locals)
+    → StandsFor z.p z.first (record here.m { variables = m }) here.listed (seen_from z.own (stored (spot_address z.p s) v here.w))
 spot_stands {z} here s v m is ne variables =
     let f = here.w.fram in
     let g = put f (spot_address z.p s) v in
@@ -115,13 +116,13 @@ module _ (z : Scene) (n i v elements len : ℕ) (c : ArrayCopies) (at : IsArrayA
       ∙ put_other w.fram (copy_address z.p x) v n (λ e. let d = z.apart.distinct (version x) (copy x) is is e in cc)
 
   -- past the end nothing changes
-  past_set : len ≤ i → HoldVariables z.p (with_word m.variables (Shared n) i v) w.fram w.locals
+  past_set : len ≤ i → HoldVariables z.p (with_word m.variables (Shared n) i v) w.fram (locals_from z.own w.locals)
   past_set past =
       let held = h.stands.variables in
       let row = held.rows n (Array elements len (Some c)) at.place in
       let l = held.lengths n (Array elements len (Some c)) at.place in
       let short : length (get_or m.variables.shared n []) ≤ i = omega (arith, l, past) in
-      set_holds z.p n i v m.variables w.fram w.fram w.locals row held (λ u j is. held.words u j is ∙ sym (word_past m.variables n i v u j row short))
+      set_holds z.p n i v m.variables w.fram w.fram (locals_from z.own w.locals) row held (λ u j is. held.words u j is ∙ sym (word_past m.variables n i v u j row short))
       (λ y is. held.elements y is ∙ sym (word_past m.variables n i v y.array y.index row short))
 
   pub past : len ≤ i → Result (going_on [] w)
@@ -172,7 +173,7 @@ module _ (z : Scene) (n i v elements len : ℕ) (c : ArrayCopies) (at : IsArrayA
         stack_kept = refl;
         listed = listed;
         stands = spot_stands h (copy x) v (with_word m.variables (Shared n) i v) is (λ y e. cc)
-            (element_set p z.room x v m.variables f (put f (copy_address p x) v) w.locals is now h.stands.variables);
+            (element_set p z.room x v m.variables f (put f (copy_address p x) v) (locals_from z.own w.locals) is now h.stands.variables);
         few = few_listed h;
       })))
 
@@ -224,7 +225,7 @@ module _ (z : Scene) (n i v elements len : ℕ) (c : ArrayCopies) (at : IsArrayA
         stack_kept = refl;
         listed = listed ++ x ∷ [];
         stands = record {
-          variables = element_set p z.room x v m.variables f g w.locals is now h.stands.variables;
+          variables = element_set p z.room x v m.variables f g (locals_from z.own w.locals) is now h.stands.variables;
           emitted = same_emits p z.room m.emitted f g (few_emitted h)
               (first_emits p z.room x v f g apart is lists.elsewhere redo) h.stands.emitted;
           list = first_list p z.first listed x v f g is unmarked h.stands.list now (record {

@@ -1,8 +1,10 @@
 -- Statements emit no more words than they count.
-use Rattle.lower.proofs.Names.{ℕ, ◌+◌, ◌≤◌, [], length, CheckedStatement, CheckedBlock, Outcome, to_task, returns, short, run_statement, run_block}
+use Rattle.lower.proofs.Names.{ℕ, ◌+◌, ◌≤◌, List, length, CheckedStatement, CheckedBlock, Outcome, to_task, returns, short, run_statement, run_block}
 use Rattle.lower.proofs.Names.{statement_emits}
 use Rattle.lower.proofs.Names.{block_emits, EmitsUpTo, statement_up_to, block_up_to}
 use Rattle.source_values.specs.Statements.{Attempt, goes_on}
+use Rattle.source_values.specs.Values.{Meaning}
+use Rattle.source_values.proofs.Interface.{KnownUpTo}
 
 -- where an outcome goes on, at most so many words are emitted
 abbrev pub EmitsAtMost : ℕ → Outcome → Type 0
@@ -19,9 +21,11 @@ where_it_goes_on n (returns w s) h = tt
 where_it_goes_on n short h = tt
 
 -- a statement that goes on has emitted no more words than it counts
-pub statement_emitted : (s : CheckedStatement) (m : Attempt) (n : ℕ) → length m.emitted + statement_emits [] s ≤ n → EmitsAtMost n (run_statement [] s m)
-statement_emitted s m n h = where_it_goes_on n (run_statement [] s m) (statement_up_to [] [] tt s m n h)
+pub statement_emitted : (known : List Meaning) (counts : List ℕ) → KnownUpTo known counts → (s : CheckedStatement) (m : Attempt) (n : ℕ)
+    → length m.emitted + statement_emits counts s ≤ n → EmitsAtMost n (run_statement known s m)
+statement_emitted known counts up s m n h = where_it_goes_on n (run_statement known s m) (statement_up_to known counts up s m n h)
 
 -- nor has a block
-pub block_emitted : (b : CheckedBlock) (m : Attempt) (n : ℕ) → length m.emitted + block_emits [] b ≤ n → EmitsAtMost n (run_block [] b m)
-block_emitted b m n h = where_it_goes_on n (run_block [] b m) (block_up_to [] [] tt b m n h)
+pub block_emitted : (known : List Meaning) (counts : List ℕ) → KnownUpTo known counts → (b : CheckedBlock) (m : Attempt) (n : ℕ)
+    → length m.emitted + block_emits counts b ≤ n → EmitsAtMost n (run_block known b m)
+block_emitted known counts up b m n h = where_it_goes_on n (run_block known b m) (block_up_to known counts up b m n h)

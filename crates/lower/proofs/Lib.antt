@@ -4,7 +4,11 @@ mod Addresses
 mod Admits
 mod Paths
 mod Declared
+mod Effects
+mod Sequence
 mod Values
+mod Writes
+mod Calls
 mod Longs
 mod EachExpression
 mod Updates
@@ -20,7 +24,11 @@ mod Seen
 mod Elements
 mod Logged
 mod Blocks
+mod Routines
+mod Agreed
 mod Chains
+mod Pushed
+mod Filled
 mod Sizes
 mod Costs
 pub mod Interface

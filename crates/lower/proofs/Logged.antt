@@ -8,6 +8,7 @@ use Rattle.lower.proofs.Names.{logged_updated, word_place, ListLength, EmitCount
 use Rattle.lower.proofs.Names.{IsCopied, element, version, element_address, version_address, IsSpot, spot_address, array_place, list_place, logged_place}
 use Rattle.lower.proofs.Names.{own_by, own_word, IsUndo, at_element, at_version, in_list, at_list_length, to_element, word_logged}
 use Rattle.lower.proofs.Names.{Scene, answered_by, answers_told}
+use Rattle.lower.proofs.Names.{locals_from}
 use Rattle.std.proofs.Common.{eq-eqb}
 use Rattle.source_values.specs.Statements.{Attempt, goes_on}
 use Rattle.lower.proofs.Addresses.{fram_place, placed, spot_place, element_is, version_is, has_element}
@@ -120,7 +121,7 @@ module _ (z : Scene) (n i v elements len : ℕ) (c : ArrayCopies) (at : IsArrayA
             stack_kept = refl;
             listed = listed;
             stands = spot_stands h (element x) v (with_word m.variables (Shared n) i v) of_element (λ y e. cc)
-                (element_set z.p z.room x v m.variables f (put f home v) w.locals is now h.stands.variables);
+                (element_set z.p z.room x v m.variables f (put f home v) (locals_from z.own w.locals) is now h.stands.variables);
             few = few_listed h;
           }))
 
@@ -337,7 +338,7 @@ module _ (z : Scene) (n i v elements len : ℕ) (c : ArrayCopies) (at : IsArrayA
             stack_kept = refl;
             listed = listed ++ x ∷ [];
             stands = record {
-              variables = element_set z.p z.room x v m.variables f g w.locals is first_stored h.stands.variables;
+              variables = element_set z.p z.room x v m.variables f g (locals_from z.own w.locals) is first_stored h.stands.variables;
               emitted = same_emits z.p z.room m.emitted f g (few_emitted h) first_emits h.stands.emitted;
               list = first_list z.p z.first listed x v f g is unmarked h.stands.list first_stored (record {
                 pairs = λ redo. absurd (cc (redo, undo));

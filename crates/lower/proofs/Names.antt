@@ -30,7 +30,9 @@ pub use Rattle.memory_map.specs.Spots.{Element, IsArrayAt, IsCopied, IsElement, 
 pub use Rattle.memory_map.specs.Spots.{copy, copy_address, copy_in, element, element_address, element_in, private_words, scalar, scalar_address, spot_address}
 pub use Rattle.memory_map.specs.Spots.{version, version_address, version_in, words_at}
 pub use Rattle.memory_map.specs.declared.place.ArrayCopies.{ArrayCopies}
+pub use Rattle.memory_map.specs.Spots.{routine_among, routine_of, routine_places}
 pub use Rattle.memory_map.specs.declared.place.PrivateScalar.{PrivateScalar}
+pub use Rattle.memory_map.specs.declared.place.RoutinePlace.{RoutinePlace}
 pub use Rattle.memory_map.specs.declared.place.Region.{Region}
 pub use Rattle.memory_map.specs.declared.place.ScalarWidth.{ScalarWidth}
 pub use Rattle.memory_map.specs.declared.place.VariablePlace.{VariablePlace}
@@ -42,24 +44,25 @@ pub use Rattle.runtime_effects.specs.Places.{CopyPair, entries_from, run_pairs, 
 pub use Rattle.checked_trees.proofs.Interface.{array_word, assignment_writes, first_writes, local_word, loop_writes, others_write, passed_writes}
 pub use Rattle.checked_trees.proofs.Interface.{store_writes, taken_writes}
 pub use Rattle.checked_trees.specs.WellFormed.{IsArrayName, IsLocal, IsOfType, IsWordName, WellFormedBlock, WellFormedChoice, WellFormedExpression}
-pub use Rattle.checked_trees.specs.WellFormed.{WellFormedStatement}
+pub use Rattle.checked_trees.specs.WellFormed.{WellFormedStatement, WellFormedValues, values_in}
 pub use Rattle.cost_bound.specs.Allowance.{CheckedTask}
-pub use Rattle.cost_bound.specs.Counts.{block_count, choice_count, is_shared, is_store_to, statement_count}
+pub use Rattle.cost_bound.specs.Counts.{block_count, called_stores, values_count, choice_count, conditions_count, expression_count, is_shared, is_store_to, statement_count}
 pub use Rattle.cost_bound.specs.Summary.{Summary}
 pub use Rattle.cost_bound.specs.Table.{block_price, blocks_price, conditions_price, cycles_column, expression_price, operator_price, statement_price}
-pub use Rattle.cost_bound.specs.Table.{words_column}
+pub use Rattle.cost_bound.specs.Table.{called_price, values_price, words_column}
 pub use Rattle.path_runs.proofs.Interface.{runs_go_on_along_paths}
 pub use Rattle.path_sums.specs.Access.{is_same, summary}
+pub use Rattle.path_sums.specs.declared.access.AccessSummary.{AccessSummary}
 pub use Rattle.path_sums.specs.Sums.{block_sum, choice_sum, statement_sum}
 pub use Rattle.source_values.proofs.Interface.{EmitsUpTo, block_up_to, more_turns, scalar_word, statement_up_to, value_keeps}
 pub use Rattle.source_values.specs.Statements.{Outcome, and_then, block_emits, choice_emits, if_value, returns, run_block, run_choice, run_statement}
-pub use Rattle.source_values.specs.Statements.{short, statement_emits, to_task, with_value}
+pub use Rattle.source_values.specs.Statements.{conditions_emit, expression_emits, values_emits, short, statement_emits, to_task, with_value}
 pub use Rattle.source_values.specs.Values.{Evaluated, Variables, binary_result, binary_value, converted, gives, holds, is_settled, long_binary_value}
 pub use Rattle.source_values.specs.Values.{long_difference, long_shift_value, made_of, next_answer, next_reading, reading_of, scalar_value, shift_result}
 pub use Rattle.source_values.specs.Values.{shift_value}
 pub use Rattle.source_values.specs.Values.{shifted_value, truth_word, two_words, unary_result, unary_value, value_of, with_word, word_at, ◌>>?◌}
 pub use Rattle.task_ast.proofs.Interface.{by_one_word, joined_word, width_least}
-pub use Rattle.task_ast.specs.Paths.{CheckedBlock, CheckedChoice, CheckedExpression, CheckedStatement}
+pub use Rattle.task_ast.specs.Paths.{CheckedBlock, CheckedChoice, CheckedExpression, CheckedFunction, CheckedStatement, CheckedValues}
 pub use Rattle.task_ast.specs.Types.{IsOneWord, binary_type, is_long, literal_type, unary_type}
 pub use Rattle.task_ast.specs.View.{block_view, statement_of}
 pub use Rattle.task_ast.specs.declared.BinaryOperator.{BinaryOperator}
@@ -81,13 +84,14 @@ pub use Rattle.task_check.specs.Occurrences.{is_refused}
 -- word programs
 pub use Rattle.array_versions.proofs.Interface.{behaves_by_effects, decided_by_truth, joined_assoc, joined_cycles, joined_go_on, joined_nothing, joined_spend}
 pub use Rattle.array_versions.proofs.Interface.{steps_keep_to_words, then_on_assoc, ways_keep_to_cycles}
-pub use Rattle.array_versions.specs.Behaviour.{Behaviour, Broken, End, GoesOn, Gives, Jumps, Short, Strays, WordState, at_place, behaves, behaviour, behind_effects}
+pub use Rattle.array_versions.specs.Behaviour.{Behaviour, Broken, End, GoesOn, Gives, Jumps, Short, Strays, WordState, at_place, behaves, behaviour}
+pub use Rattle.array_versions.specs.Behaviour.{behind_effects}
 pub use Rattle.array_versions.specs.Behaviour.{event_index, event_pushed, events_frozen, none_answered, with_looks, word_answered}
 pub use Rattle.array_versions.specs.Behaviour.{broken, ends_before, entry_stored, first_stored, goes_on as going_on, is_place, jumped, listed_behind}
 pub use Rattle.array_versions.specs.Behaviour.{local_pushed, local_updated, number_pushed, on_end, own_kept, own_place, own_stored, own_updated, pushed}
 pub use Rattle.array_versions.specs.Behaviour.{raised, reading_pushed, step_behaviour, stored, strays, tested, then_on, turns, versioned_stored}
 pub use Rattle.array_versions.specs.Behaviour.{versioned_updated, way_by_top, way_by_two, with_local, with_readings, with_stack, with_top, word_emitted}
-pub use Rattle.array_versions.specs.Behaviour.{word_listed, word_stored}
+pub use Rattle.array_versions.specs.Behaviour.{behind_call, called, called_behind, parameter_words, with_words, word_listed, word_stored}
 pub use Rattle.array_versions.specs.Cost.{binary_cycles, cycles_of, entry_words, spent, spent_by_top, spent_by_two, spent_on, step_cycles, step_spent}
 pub use Rattle.array_versions.specs.Cost.{step_words, test_cycles, test_spent, test_words, top_spent, turns_spent, words_of}
 pub use Rattle.array_versions.specs.Laws.{EndsByEffects}
@@ -95,7 +99,9 @@ pub use Rattle.array_versions.specs.Operations.{all_bits, binary_word, compare_w
 pub use Rattle.array_versions.specs.Operations.{unary_word}
 pub use Rattle.array_versions.specs.Program.{Program, Step, Test, behind, binary, choose, compares, emit_word, fails, holds as holds_test, joined, jump, keep}
 pub use Rattle.array_versions.specs.Program.{freeze_events, list_entry, load, local, long, move_word, next_event, nothing, number, repeat}
-pub use Rattle.array_versions.specs.Program.{sense, shift, step, store_number, truth}
+pub use Rattle.array_versions.specs.Program.{call, give, sense, shift, step, store_number, truth}
+pub use Rattle.array_versions.specs.TaskPrograms.{TaskPrograms, no_programs}
+pub use Rattle.variable_places.specs.Places.{local_number}
 pub use Rattle.array_versions.specs.Program.{unary, versioned_update, versioned_write}
 pub use Rattle.array_versions.specs.View.{step_of, steps_of}
 pub use Rattle.array_versions.specs.declared.operations.BinaryOperation.{BinaryOperation}
@@ -116,17 +122,18 @@ pub use Rattle.memory_map.specs.declared.runtime.Logging.{Logging}
 pub use Rattle.memory_map.specs.declared.runtime.Logging.TheVariants.{Redo, Undo}
 pub use Rattle.undo_effects.specs.Stages.{element_stored, first_logged, word_logged}
 -- this room
-pub use Rattle.lower.specs.Agreement.{DidWithin, own_by}
-pub use Rattle.lower.specs.Lowered.{logged_place, own_read, own_update, own_write, stored_array}
+pub use Rattle.lower.specs.Agreement.{AreFunctions, DidWithin, ExpressionWritesWithin, Functions, Returned, block_writes, code_places, expression_lists}
+pub use Rattle.lower.specs.Agreement.{functions_of, locals_from, no_functions, own_by, seen_from}
+pub use Rattle.lower.specs.Lowered.{arguments, body_at, call_at, call_count, call_step, has_call, logged_place, own_read, routine_body, own_update, own_write, stored_array}
 pub use Rattle.lower.specs.Stores.{Act, AreActs, AreMadeByActs, Did, IsAct, IsPlainStore, act_effects, acts_effects, alone, at_element, to_answer}
 pub use Rattle.lower.specs.Stores.{to_buffer, to_element, to_emit_count, to_variable}
 pub use Rattle.lower.specs.Spots.{HasRoomBehind, IsRedo, IsUndo}
-pub use Rattle.lower.specs.Agreement.{Agrees, AgreesAt, Answering, AsDeclared, BlocksAgree, EndsAs, EndsAt, ExpressionsAgree, HasCopies, HoldEmits, HoldList}
-pub use Rattle.lower.specs.Agreement.{IsAnswerStore, IsFit, IsLeft, answered_by, answers_told, at_answer, by_answers, freeze_effects, made_by}
-pub use Rattle.lower.specs.Agreement.{HoldVariables, IsArray, IsTaskStore, IsWrittenArray, Left, LongsAgree, OnlyTakes, Scene, StandsFor, TakesAndStores}
+pub use Rattle.lower.specs.Agreement.{Agrees, AgreesWith, Answering, AsDeclared, BlocksAgree, EndsAs, EndsWith, ExpressionsAgree, HasCopies, HoldEmits, HoldList}
+pub use Rattle.lower.specs.Agreement.{IsAnswerStore, IsFit, answered_by, answers_told, at_answer, by_answers, freeze_effects, made_by}
+pub use Rattle.lower.specs.Agreement.{HoldVariables, IsArray, IsTaskStore, IsWrittenArray, Left, LongsAgree, Scene, StandsFor, TakesAndStores}
 pub use Rattle.lower.specs.Agreement.{TestsAgree, WentOn, at_copy, at_emit_count, at_list_length, at_variable, at_version, bounds, converted_to, element_pair}
-pub use Rattle.lower.specs.Agreement.{entry_effects, in_buffer, in_list, in_state, own_word, transition_effects, truth_of}
-pub use Rattle.lower.specs.Events.{AdmitsBlock, AdmitsChoice, AdmitsExpression, AdmitsStatement}
+pub use Rattle.lower.specs.Agreement.{entry_effects, in_buffer, in_list, own_word, ValuesAgree, transition_effects, truth_of}
+pub use Rattle.lower.specs.Events.{AdmitsBlock, AdmitsChoice, AdmitsExpression, AdmitsStatement, AdmitsValues}
 pub use Rattle.lower.specs.Lowered.{freezing, Lowering, answer, are_alike, array_place, as_bits, as_long, as_test, as_word, assignment, binary_lowering}
 pub use Rattle.lower.specs.Lowered.{element_assignment, element_read, element_setting, element_sides_set, element_step, element_updating, emission, entries}
 pub use Rattle.lower.specs.Lowered.{high_address, index_and_value, is_name, is_number, list_place, long_binary_lowering, long_program, long_setting}
@@ -138,8 +145,9 @@ pub use Rattle.lower.specs.Lowered.{write_step, written_array}
 pub use Rattle.lower.specs.Operations.{binary_meaning, long_meaning, long_shift, operand_type, plain_operation, shift_operation}
 pub use Rattle.lower.specs.Runs.{is_followed_by, longer, run_at, runs_from, runs_of}
 pub use Rattle.lower.specs.Seen.{place_seen, places_seen, task_seen}
-pub use Rattle.std.proofs.lemmas.List.Elements.{All-nil}
-pub use Rattle.lower.specs.Sizes.{BlocksKeepToCycles, BlocksKeepToWords, entry_cycles}
+pub use Rattle.std.proofs.lemmas.List.Elements.{All-cons, All-head, All-nil, All-tail}
+pub use Rattle.std.proofs.Common.{eq-eqb}
+pub use Rattle.lower.specs.Sizes.{BlocksKeepToCycles, BlocksKeepToWords, BodiesKeep, RoutinesKeep, entry_cycles}
 pub use Rattle.lower.specs.Spots.{AreApart, AreDifferent, AreEven, AreListed, Room, listed_of}
 pub use Rattle.lower.specs.declared.operations.BinaryMeaning.{BinaryMeaning}
 pub use Rattle.lower.specs.declared.operations.BinaryMeaning.TheVariants.{Calculates, CommonBits, Fails, Holds}

@@ -1,17 +1,31 @@
--- What a sum says of the paths of a text that calls no function.
-use Rattle.lower.proofs.Names.{◌≡◌, Bool, true, List, [], CheckedBlock, Variable, block_sum, summary}
-use Rattle.task_ast.specs.Calls.{BlockCallsBelow}
+-- What a sum says of the paths of a text, and of those of the functions that it calls.
+use Rattle.lower.proofs.Names.{◌≡◌, true, List, length, CheckedBlock, CheckedFunction, Variable, block_sum, summary, AccessSummary}
+use Rattle.task_ast.specs.Calls.{BlockCallsBelow, FunctionsCallBelow}
 use Rattle.path_sums.specs.Access.{SomePath, IsPrivate, writes, private_of}
+use Rattle.path_sums.specs.Known.{AreCallSums, EachReturns}
+use Rattle.path_sums.specs.Sums.{call_sums}
 use Rattle.path_sums.proofs.Interface as sums
 
-pub some_writes : (v : Variable) (b : CheckedBlock) → BlockCallsBelow 0 b → (block_sum [] (summary v) b).writes ≡ true → SomePath [] b (writes v)
-some_writes v b calls h = sums.some_writes v [] [] (sums.no_calls v) b calls h
+-- functions that call those in front of them and come to a return
+pub record AreCallable (fs : List CheckedFunction) : Type 0 where
+  pub calls : FunctionsCallBelow 0 fs
+  pub returning : EachReturns fs
 
-pub writes_some : (v : Variable) (b : CheckedBlock) → BlockCallsBelow 0 b → SomePath [] b (writes v) → (block_sum [] (summary v) b).writes ≡ true
-writes_some v b calls h = sums.writes_some v [] [] (sums.no_calls v) b calls h
+module _ (v : Variable) (fs : List CheckedFunction) (callable : AreCallable fs) (b : CheckedBlock) (below : BlockCallsBelow (length fs) b) where
+  abbrev known : List AccessSummary
+  known = call_sums (summary v) fs
 
-pub private_is : (v : Variable) (b : CheckedBlock) → BlockCallsBelow 0 b → private_of (block_sum [] (summary v) b) ≡ true → IsPrivate [] b v
-private_is v b calls h = sums.private_is v [] [] (sums.no_calls v) b calls h
+  are_sums : AreCallSums (summary v) fs known
+  are_sums = record { sums = refl; calls = callable.calls; returning = callable.returning }
 
-pub is_private_of : (v : Variable) (b : CheckedBlock) → BlockCallsBelow 0 b → IsPrivate [] b v → private_of (block_sum [] (summary v) b) ≡ true
-is_private_of v b calls h = sums.is_private_of v [] [] (sums.no_calls v) b calls h
+  pub some_writes : (block_sum known (summary v) b).writes ≡ true → SomePath fs b (writes v)
+  some_writes h = sums.some_writes v fs known are_sums b below h
+
+  pub writes_some : SomePath fs b (writes v) → (block_sum known (summary v) b).writes ≡ true
+  writes_some h = sums.writes_some v fs known are_sums b below h
+
+  pub private_is : private_of (block_sum known (summary v) b) ≡ true → IsPrivate fs b v
+  private_is h = sums.private_is v fs known are_sums b below h
+
+  pub is_private_of : IsPrivate fs b v → private_of (block_sum known (summary v) b) ≡ true
+  is_private_of h = sums.is_private_of v fs known are_sums b below h

@@ -153,6 +153,15 @@ pub redo_seen : (logging : Logging) (t : TaskPlace) → logging ≡ Redo → tas
 redo_seen Redo t e = refl
 redo_seen Undo t e = absurd (cc e)
 
+-- the number of its first local and its functions are as they are
+pub first_seen : (logging : Logging) (t : TaskPlace) → (task_seen logging t).first ≡ t.first
+first_seen Redo t = refl
+first_seen Undo t = refl
+
+pub routines_seen : (logging : Logging) (t : TaskPlace) → (task_seen logging t).routines ≡ t.routines
+routines_seen Redo t = refl
+routines_seen Undo t = refl
+
 -- no more of them are seen
 pub seen_words : (logging : Logging) (t : TaskPlace) → private_words (task_seen logging t).privates ≤ private_words t.privates
 seen_words Redo t = omega arith

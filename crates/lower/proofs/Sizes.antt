@@ -19,7 +19,9 @@ use Rattle.lower.proofs.Names.{update_step, setting, long_setting, updating, of_
 use Rattle.lower.proofs.Names.{index_and_value, element_setting, update_element_step, element_updating, element_sides_set, binary_lowering, sides_test}
 use Rattle.lower.proofs.Names.{lowering, assignment, element_assignment, emission, entries, lowered_transition, lowered_expression, lowered_test}
 use Rattle.lower.proofs.Names.{lowered_statement, lowered_choice, lowered_block}
+use Rattle.lower.proofs.Names.{CheckedValues, call_count, values_in, values_price, RoutinePlace, routine_of, call, give, call_at, call_step, arguments, BodiesKeep}
 use Rattle.std.proofs.Common.{slice_get}
+use Rattle.std.specs.Prelude.{slice_index_or}
 use Rattle.source_values.specs.Values.{by_width, joined_type, type_of}
 use Rattle.array_versions.proofs.Interface.{joined_words}
 use Rattle.task_ast.specs.Tree as t
@@ -327,44 +329,75 @@ same_wider (t.number n) = sym (literal_wider n)
 same_wider e = refl
 
 -- the same by the type by which an expression becomes long
-widened_type_has : (p : Places) (e : CheckedExpression) (x : Price) → HasPrice (type_of e) (lowering p e) x → HasPrice (widened_type e) (lowering p e) x
-widened_type_has p (t.number w) x h = word_has Unsigned (one (number w)) x h.word
-widened_type_has p e x h = h
+widened_type_has : (p : Places) (rs : List Program) (e : CheckedExpression) (x : Price) → HasPrice (type_of e) (lowering p rs e) x → HasPrice (widened_type e) (lowering p rs e) x
+widened_type_has p rs (t.number w) x h = word_has Unsigned (one (number w)) x h.word
+widened_type_has p rs e x h = h
 
--- with these answers of the functions in front
-module _ (known : List Summary) where
-  -- the price of an expression in the allowance of a source
-  abbrev price : ℕ → CheckedExpression → Price
-  price s e = record { words = expression_price known (words_column s) e; cycles = expression_price known cycles_column e }
+-- a call of so many values
+call_costs : (at : Option RoutinePlace) (count : ℕ) (body : Program) → StepCosts (call_at at count body) (8 + 2 * count) (16 + 5 * count + cycles_of body)
+call_costs None count body = (omega arith, omega arith)
+call_costs (Some r) count body = by r.frame
+  where
+    by : (frame : Option ℕ) → StepCosts (call r.code.address frame r.first count body) (8 + 2 * count) (16 + 5 * count + cycles_of body)
+    by None = (omega arith, omega arith)
+    by (Some f) = (omega arith, omega arith)
 
-  lowering_has : (p : Places) (s : ℕ) (e : CheckedExpression) → HasPrice (type_of e) (lowering p e) (price s e)
-  lowering_has p s (t.number n) = word_has _ _ _ (omega arith, omega arith)
-  lowering_has p s (t.long_number n) = long_value_has Long _ _ (omega arith) (omega arith)
-  lowering_has p s (t.name x) = name_has p x.word_type x.variable
-  lowering_has p s (t.element x index) =
-      let few = element_costs p x.variable in
-      last_has x.word_type (lowered_expression p index) (element_step p x.variable) 24 60 (price s index) (omega (arith, few), omega (arith, few))
-      (lowering_has p s index).word
-  lowering_has p s t.sense = word_has Unsigned _ _ (omega arith, omega arith)
-  lowering_has p s t.next_event = word_has Unsigned _ _ (omega arith, omega arith)
-  lowering_has p s (t.call f values) = word_has f.word_type _ _ (omega arith, omega arith)
-  lowering_has p s (t.unary op e) = operand_has (type_of e) op (lowering p e) (price s e) (lowering_has p s e)
-  lowering_has p s (t.binary op a b) =
-      let both : BothHave (type_of a) (type_of b) (widened_type a) (widened_type b) (lowering p a) (lowering p b) (price s a) (price s b) = record {
-        left = widened_type_has p a (price s a) (lowering_has p s a);
-        right = widened_type_has p b (price s b) (lowering_has p s b);
-        left_wider = same_wider a;
-        right_wider = same_wider b;
-      } in
-      sides_have s (operand_type op.operator (joined_type (type_of a) (type_of b))) (type_of a) (type_of b) (widened_type a) (widened_type b) op.operator
-      (lowering p a) (lowering p b) (price s a) (price s b) refl both
-  lowering_has p s (t.shift op e count) = shift_has (type_of e) op (lowering p e) (price s e) count.value (lowering_has p s e)
-  lowering_has p s (t.short_circuit op a b) =
-      let first = (lowering_has p s a).test in
-      let second = (lowering_has p s b).test in
-      let both = both_cost op (lowered_test p a) (lowered_test p b) in
-      let few = least (joined_type (type_of a) (type_of b)) in
-      test_has Int _ _ (omega (arith, both, first, second, few)) (omega (arith, both, first, second, few))
+-- the price of an expression in the allowance of a source
+abbrev price : List Summary → ℕ → CheckedExpression → Price
+price known s e = record { words = expression_price known (words_column s) e; cycles = expression_price known cycles_column e }
+
+-- the values of a call keep to theirs, with 4 words and 11 cycles to spare for each
+abbrev ValuesKeep : List Summary → ℕ → CheckedValues → Program → Type 0
+ValuesKeep known s values q =
+    (words_of q + 4 * values_in values ≤ values_price known (words_column s) values)
+    × (cycles_of q + 11 * values_in values ≤ values_price known cycles_column values)
+
+-- with these answers of the functions in front, and their bodies
+module _ (known : List Summary) (rs : List Program) (cheap : BodiesKeep known rs) where
+  mutual
+    lowering_has : (p : Places) (s : ℕ) (e : CheckedExpression) → HasPrice (type_of e) (lowering p rs e) (price known s e)
+    lowering_has p s (t.number n) = word_has _ _ _ (omega arith, omega arith)
+    lowering_has p s (t.long_number n) = long_value_has Long _ _ (omega arith) (omega arith)
+    lowering_has p s (t.name x) = name_has p x.word_type x.variable
+    lowering_has p s (t.element x index) =
+        let few = element_costs p x.variable in
+        last_has x.word_type (lowered_expression p rs index) (element_step p x.variable) 24 60 (price known s index) (omega (arith, few), omega (arith, few))
+        (lowering_has p s index).word
+    lowering_has p s t.sense = word_has Unsigned _ _ (omega arith, omega arith)
+    lowering_has p s t.next_event = word_has Unsigned _ _ (omega arith, omega arith)
+    lowering_has p s (t.call f values) =
+        let i = f.function in
+        let last = call_step p rs i (call_count values) in
+        let each = arguments_have p s values in
+        let few = call_costs (routine_of p i) (call_count values) (slice_index_or rs i nothing) in
+        let body = cheap i in
+        let l = added (arguments p rs values) (one last) in
+        word_has f.word_type _ (price known s (t.call f values)) (omega (arith, l, each, few), omega (arith, l, each, few, body))
+    lowering_has p s (t.unary op e) = operand_has (type_of e) op (lowering p rs e) (price known s e) (lowering_has p s e)
+    lowering_has p s (t.binary op a b) =
+        let both : BothHave (type_of a) (type_of b) (widened_type a) (widened_type b) (lowering p rs a) (lowering p rs b) (price known s a) (price known s b) = record {
+          left = widened_type_has p rs a (price known s a) (lowering_has p s a);
+          right = widened_type_has p rs b (price known s b) (lowering_has p s b);
+          left_wider = same_wider a;
+          right_wider = same_wider b;
+        } in
+        sides_have s (operand_type op.operator (joined_type (type_of a) (type_of b))) (type_of a) (type_of b) (widened_type a) (widened_type b) op.operator
+        (lowering p rs a) (lowering p rs b) (price known s a) (price known s b) refl both
+    lowering_has p s (t.shift op e count) = shift_has (type_of e) op (lowering p rs e) (price known s e) count.value (lowering_has p s e)
+    lowering_has p s (t.short_circuit op a b) =
+        let first = (lowering_has p s a).test in
+        let second = (lowering_has p s b).test in
+        let both = both_cost op (lowered_test p rs a) (lowered_test p rs b) in
+        let few = least (joined_type (type_of a) (type_of b)) in
+        test_has Int _ _ (omega (arith, both, first, second, few)) (omega (arith, both, first, second, few))
+
+    arguments_have : (p : Places) (s : ℕ) (values : CheckedValues) → ValuesKeep known s values (arguments p rs values)
+    arguments_have p s t.no_value = (omega arith, omega arith)
+    arguments_have p s (t.value e more) =
+        let first = (lowering_has p s e).word in
+        let others = arguments_have p s more in
+        let l = added (lowered_expression p rs e) (arguments p rs more) in
+        (omega (arith, l, first, others), omega (arith, l, first, others))
 
 -- ---- words of transitions
 
@@ -410,33 +443,33 @@ transition_words p s task few =
 abbrev Keeps : Program → Price → Type 0
 Keeps q x = (words_of q ≤ x.words) × (cycles_of q ≤ x.cycles)
 
-module _ (known : List Summary) where
-  setting_keeps : (p : Places) (s : ℕ) (x : Variable) (e : CheckedExpression) → Keeps (setting p x e) (beside 24 40 (price known s e))
+module _ (known : List Summary) (rs : List Program) (cheap : BodiesKeep known rs) where
+  setting_keeps : (p : Places) (s : ℕ) (x : Variable) (e : CheckedExpression) → Keeps (setting p rs x e) (beside 24 40 (price known s e))
   setting_keeps p s x e =
-      let l = added (lowered_expression p e) (one (write_step p x)) in
+      let l = added (lowered_expression p rs e) (one (write_step p x)) in
       let a = write_costs p x in
-      let h = (lowering_has known p s e).word in
+      let h = (lowering_has known rs cheap p s e).word in
       (omega (arith, a, l, h), omega (arith, a, l, h))
 
   sides_set_keeps : (p : Places) (s : ℕ) (x : Variable) (op : PlacedOperator) (a b : CheckedExpression) (o : Option PlainOperation)
-      → Keeps (sides_set p x op a b o) (beside 24 40 (price known s (t.binary op a b)))
+      → Keeps (sides_set p rs x op a b o) (beside 24 40 (price known s (t.binary op a b)))
   sides_set_keeps p s x op a b None = setting_keeps p s x (t.binary op a b)
   sides_set_keeps p s x op a b (Some o) =
-      let l = added (lowered_expression p b) (one (update_step p o x)) in
+      let l = added (lowered_expression p rs b) (one (update_step p o x)) in
       let c = update_costs p o x in
-      let h = (lowering_has known p s b).word in
+      let h = (lowering_has known rs cheap p s b).word in
       (omega (arith, c, l, h), omega (arith, c, l, h))
 
   -- the first clause makes it a proof by cases
-  pub assignment_keeps : (p : Places) (s : ℕ) (x : Variable) (e : CheckedExpression) → Keeps (assignment p x e) (beside 24 40 (price known s e))
+  pub assignment_keeps : (p : Places) (s : ℕ) (x : Variable) (e : CheckedExpression) → Keeps (assignment p rs x e) (beside 24 40 (price known s e))
   assignment_keeps p s x (t.binary op a b) =
-      sides_set_keeps p s x op a b (of_words (joined_type (type_of a) (type_of b)) (updating x op.operator a))
+      sides_set_keeps p s x op a b (of_words (joined_type (type_of a) (type_of b)) (updating x op.operator a b))
   assignment_keeps p s x e = setting_keeps p s x e
 
-  long_setting_keeps : (p : Places) (s : ℕ) (x : Variable) (e : CheckedExpression) → Keeps (long_setting p x e) (beside 40 80 (price known s e))
+  long_setting_keeps : (p : Places) (s : ℕ) (x : Variable) (e : CheckedExpression) → Keeps (long_setting p rs x e) (beside 40 80 (price known s e))
   long_setting_keeps p s x e =
-      let l = added (lowered_long p e) (write_long p x) in
-      let h = (widened_type_has p e (price known s e) (lowering_has known p s e)).long in
+      let l = added (lowered_long p rs e) (write_long p x) in
+      let h = (widened_type_has p rs e (price known s e) (lowering_has known rs cheap p s e)).long in
       let few = most_wider (widened_type e) in
       let a = writes x in
       (omega (arith, l, a, h, few), omega (arith, l, a, h))
@@ -450,7 +483,7 @@ module _ (known : List Summary) where
       writes (Local n) = (omega arith, omega arith)
 
   pub scalar_keeps : (p : Places) (s : ℕ) (of : WordType) (x : Variable) (e : CheckedExpression)
-      → Keeps (scalar_assignment p of x e) (beside (by_width of 24 40) (by_width of 40 80) (price known s e))
+      → Keeps (scalar_assignment p rs of x e) (beside (by_width of 24 40) (by_width of 40 80) (price known s e))
   scalar_keeps p s Long x e = long_setting_keeps p s x e
   scalar_keeps p s of x e = assignment_keeps p s x e
 
@@ -461,44 +494,50 @@ module _ (known : List Summary) where
     cycles = 120 + expression_price known cycles_column index + expression_price known cycles_column e;
   })
 
-  element_setting_keeps : (p : Places) (s : ℕ) (x : Variable) (index e : CheckedExpression) → ElementKeeps s index e (element_setting p x index e)
+  element_setting_keeps : (p : Places) (s : ℕ) (x : Variable) (index e : CheckedExpression) → ElementKeeps s index e (element_setting p rs x index e)
   element_setting_keeps p s x index e =
-      let l = added (lowered_expression p index) (lowered_expression p e) in
-      let m = added (index_and_value p index e) (one (store_step p x)) in
+      let l = added (lowered_expression p rs index) (lowered_expression p rs e) in
+      let m = added (index_and_value p rs index e) (one (store_step p x)) in
       let last = own_write_costs p.map.runtime.logging (stored_array p x) (list_place p) in
-      let h = (lowering_has known p s index).word in
-      let k = (lowering_has known p s e).word in
+      let h = (lowering_has known rs cheap p s index).word in
+      let k = (lowering_has known rs cheap p s e).word in
       (omega (arith, l, m, h, k, last), omega (arith, l, m, h, k, last))
 
   element_sides_keep : (p : Places) (s : ℕ) (x : Variable) (index : CheckedExpression) (op : PlacedOperator) (a b : CheckedExpression)
-      (o : Option PlainOperation) → ElementKeeps s index (t.binary op a b) (element_sides_set p x index op a b o)
+      (o : Option PlainOperation) → ElementKeeps s index (t.binary op a b) (element_sides_set p rs x index op a b o)
   element_sides_keep p s x index op a b None = element_setting_keeps p s x index (t.binary op a b)
   element_sides_keep p s x index op a b (Some o) =
       let most = row s op.operator Unsigned (joined_type (type_of a) (type_of b)) in
-      let l = added (lowered_expression p index) (lowered_expression p b) in
-      let m = added (index_and_value p index b) (one (update_element_step p o x)) in
+      let l = added (lowered_expression p rs index) (lowered_expression p rs b) in
+      let m = added (index_and_value p rs index b) (one (update_element_step p o x)) in
       let last = own_update_costs p.map.runtime.logging o (stored_array p x) (list_place p) in
-      let h = (lowering_has known p s index).word in
-      let k = (lowering_has known p s b).word in
+      let h = (lowering_has known rs cheap p s index).word in
+      let k = (lowering_has known rs cheap p s b).word in
       (omega (arith, most, l, m, h, k, last), omega (arith, most, l, m, h, k, last))
 
   -- the first clause makes it a proof by cases
-  pub element_keeps : (p : Places) (s : ℕ) (x : Variable) (index e : CheckedExpression) → ElementKeeps s index e (element_assignment p x index e)
+  pub element_keeps : (p : Places) (s : ℕ) (x : Variable) (index e : CheckedExpression) → ElementKeeps s index e (element_assignment p rs x index e)
   element_keeps p s x index (t.binary op a b) =
-      element_sides_keep p s x index op a b (of_words (joined_type (type_of a) (type_of b)) (element_updating x index op.operator a))
+      element_sides_keep p s x index op a b (of_words (joined_type (type_of a) (type_of b)) (element_updating x index op.operator a b))
   element_keeps p s x index e = element_setting_keeps p s x index e
 
-  pub emission_keeps : (p : Places) (s : ℕ) (e : CheckedExpression) → Keeps (emission p e) (beside 24 60 (price known s e))
+  pub emission_keeps : (p : Places) (s : ℕ) (e : CheckedExpression) → Keeps (emission p rs e) (beside 24 60 (price known s e))
   emission_keeps p s e =
-      let l = added (lowered_expression p e) (one (emit_word (word_place p.map EmitCount) p.map.emits.address)) in
-      let h = (lowering_has known p s e).word in
+      let l = added (lowered_expression p rs e) (one (emit_word (word_place p.map EmitCount) p.map.emits.address)) in
+      let h = (lowering_has known rs cheap p s e).word in
+      (omega (arith, l, h), omega (arith, l, h))
+
+  pub give_keeps : (p : Places) (s : ℕ) (e : CheckedExpression) → Keeps (joined (lowered_expression p rs e) (one give)) (beside 24 40 (price known s e))
+  give_keeps p s e =
+      let l = added (lowered_expression p rs e) (one give) in
+      let h = (lowering_has known rs cheap p s e).word in
       (omega (arith, l, h), omega (arith, l, h))
 
   -- ---- words of statements
 
   mutual
     pub statement_words : (p : Places) (s : ℕ) → private_words p.privates ≤ s → (x : CheckedStatement)
-        → words_of (lowered_statement p x) ≤ statement_price known (words_column s) x
+        → words_of (lowered_statement p rs x) ≤ statement_price known (words_column s) x
     statement_words p s few (t.declare of x None) = omega arith
     statement_words p s few (t.declare of x (Some e)) = (assignment_keeps p s x.variable e).0
     statement_words p s few (t.assign x e) = (scalar_keeps p s x.word_type x.variable e).0
@@ -506,36 +545,36 @@ module _ (known : List Summary) where
     statement_words p s few (t.choose choice) = let a = choice_words p s few choice in omega (arith, a)
     statement_words p s few (t.loop x from tested below stepped body) = let a = block_words p s few body in omega (arith, a)
     statement_words p s few (t.emit e) = (emission_keeps p s e).0
-    statement_words p s few (t.give at e) = omega arith
+    statement_words p s few (t.give at e) = (give_keeps p s e).0
     statement_words p s few (t.transition at task) = transition_words p s task.task few
 
     pub choice_words : (p : Places) (s : ℕ) → private_words p.privates ≤ s → (c : CheckedChoice)
-        → words_of (lowered_choice p c) ≤ conditions_price known (words_column s) c + blocks_price known (words_column s) c
+        → words_of (lowered_choice p rs c) ≤ conditions_price known (words_column s) c + blocks_price known (words_column s) c
     choice_words p s few t.nothing = omega arith
     choice_words p s few (t.otherwise block) = let a = block_words p s few block in omega (arith, a)
     choice_words p s few (t.test e block more) =
         let a = block_words p s few block in
         let b = choice_words p s few more in
-        let h = (lowering_has known p s e).test in
+        let h = (lowering_has known rs cheap p s e).test in
         omega (arith, a, b, h)
 
     pub block_words : (p : Places) (s : ℕ) → private_words p.privates ≤ s → (b : CheckedBlock)
-        → words_of (lowered_block p b) ≤ block_price known (words_column s) b
+        → words_of (lowered_block p rs b) ≤ block_price known (words_column s) b
     block_words p s few t.end = omega arith
     block_words p s few (t.step x more) =
         let a = statement_words p s few x in
         let b = block_words p s few more in
-        let l = joined_words (lowered_statement p x) (lowered_block p more) in
+        let l = joined_words (lowered_statement p rs x) (lowered_block p rs more) in
         omega (arith, a, b, l)
 
   -- ---- cycles of expressions: 11 less than is allowed, so that a test has them
 
-  pub expression_cycles : (p : Places) (e : CheckedExpression) → cycles_of (lowered_expression p e) + 11 ≤ expression_price known cycles_column e
-  expression_cycles p e = (lowering_has known p 0 e).word.1
+  pub expression_cycles : (p : Places) (e : CheckedExpression) → cycles_of (lowered_expression p rs e) + 11 ≤ expression_price known cycles_column e
+  expression_cycles p e = (lowering_has known rs cheap p 0 e).word.1
 
   -- a choice has 3 more for a branch
-  pub test_cycles_kept : (p : Places) (e : CheckedExpression) → test_cycles (lowered_test p e) + 3 ≤ expression_price known cycles_column e
-  test_cycles_kept p e = (lowering_has known p 0 e).test.1
+  pub test_cycles_kept : (p : Places) (e : CheckedExpression) → test_cycles (lowered_test p rs e) + 3 ≤ expression_price known cycles_column e
+  test_cycles_kept p e = (lowering_has known rs cheap p 0 e).test.1
 
 pub blocks_keep_to_words : BlocksKeepToWords
-blocks_keep_to_words known p s block few = block_words known p s few block
+blocks_keep_to_words known rs cheap p s block few = block_words known rs cheap p s few block

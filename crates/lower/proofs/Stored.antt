@@ -6,11 +6,10 @@ use Rattle.lower.proofs.Names.{put_at, put_other, Shared, Local, Variables, word
 use Rattle.lower.proofs.Names.{element_pair, HoldList, word_place, ListLength, EmitCount, Version, ArrayCopies, VariablePlace, Scalar, Array, first_word}
 use Rattle.lower.proofs.Names.{Places, address_of, scalar_address, IsScalarAt, words_at, IsScalarWord, IsArrayAt, Element, IsElement, IsCopied, Spot, scalar}
 use Rattle.lower.proofs.Names.{element, copy, version, IsSpot, element_address, copy_address, version_address, spot_address}
-use Rattle.lower.proofs.Names.{program_end, Logging, Redo, Undo, IsRedo, own_by}
+use Rattle.lower.proofs.Names.{program_end, Logging, Redo, Undo, IsRedo, own_by, Scene, code_places, local_number}
 use Rattle.std.proofs.Common.{get_or, slice_get, All, eq-eqb}
 use Rattle.array_versions.specs.Behaviour.{assigned}
 use Rattle.lower.proofs.Addresses.{element_is, copy_is, version_is, no_scalar, word_scalar, first_address}
-use Rattle.lower.proofs.Values.{small_modulo}
 
 -- ---- another word of a shared variable
 
@@ -270,33 +269,43 @@ scalar_set p room v i w m f locals apart is h = set_holds p v i w m f g locals r
 
 -- ---- an assignment to a local
 
-local_set : (locals : ℕ → Option ℕ) (words : List ℕ) (n v : ℕ) → n < length words → ((k u : ℕ) → locals k ≡ Some u → get_or words k 0 ≡ u)
-    → (k u : ℕ) → assigned locals n v k ≡ Some u → get_or (slice_set words n v) k 0 ≡ u
-local_set locals words n v h f k u e = ⊎_elim same other (cases_eq k n)
+-- a number below 256 is its own residue
+pub small_modulo : (n : ℕ) → n < 256 → n % 65536 ≡ n
+small_modulo n h = omega arith
+
+-- the number of a local of the code that is at work
+pub own_number : (z : Scene) (n : ℕ) → n < 256 → local_number (code_places z) n ≡ z.own + n
+own_number z n h = let low = z.own_low in omega (arith, h, low)
+
+local_set : (own : ℕ) (locals : ℕ → Option ℕ) (words : List ℕ) (n v : ℕ) → n < length words
+    → ((k u : ℕ) → locals (own + k) ≡ Some u → get_or words k 0 ≡ u)
+    → (k u : ℕ) → assigned locals (own + n) v (own + k) ≡ Some u → get_or (slice_set words n v) k 0 ≡ u
+local_set own locals words n v h f k u e = ⊎_elim same other (cases_eq k n)
   where
     same : k ≡ n → get_or (slice_set words n v) k 0 ≡ u
     same d =
         let P : ℕ → Type 0 = λ j. get_or (slice_set words n v) j 0 ≡ u in
-        let found : Some v ≡ Some u = sym (ap (λ b. if b then Some v else locals k) (eq-eqb k n d)) ∙ e in
+        let found : Some v ≡ Some u = sym (ap (λ b. if b then Some v else locals (own + k)) (eq-eqb (own + k) (own + n) (ap (λ j. own + j) d))) ∙ e in
         let word : v ≡ u = cc in
         subst P (sym d) (get_or-set_same words n v 0 h ∙ word)
 
     other : (k ≡ n → ⊥) → get_or (slice_set words n v) k 0 ≡ u
-    other ne = get_or-set_other words n k v 0 ne ∙ f k u (sym (ap (λ b. if b then Some v else locals k) (ne_eqb k n ne)) ∙ e)
+    other ne =
+        let differ : own + k ≡ own + n → ⊥ = λ d. ne (omega (arith, d)) in
+        get_or-set_other words n k v 0 ne ∙ f k u (sym (ap (λ b. if b then Some v else locals (own + k)) (ne_eqb (own + k) (own + n) differ)) ∙ e)
 
-pub local_holds : (p : Places) (n v : ℕ) (m : Variables) (f : ℕ → ℕ) (locals : ℕ → Option ℕ) → n < 256 → HoldVariables p m f locals
-    → HoldVariables p (with_word m (Local n) 0 v) f (assigned locals (n % 65536) v)
-local_holds p n v m f locals few h =
-    let P : ℕ → Type 0 = λ j. HoldVariables p (with_word m (Local n) 0 v) f (assigned locals j v) in
+pub local_holds : (p : Places) (own n v : ℕ) (m : Variables) (f : ℕ → ℕ) (locals : ℕ → Option ℕ) → n < 256
+    → HoldVariables p m f (λ k. locals (own + k)) → HoldVariables p (with_word m (Local n) 0 v) f (λ k. assigned locals (own + n) v (own + k))
+local_holds p own n v m f locals few h =
     let count = h.local_count in
-    subst P (sym (small_modulo n few)) (record {
+    record {
       words = h.words;
       elements = h.elements;
       rows = h.rows;
       lengths = h.lengths;
-      locals = local_set locals m.locals n v (omega (arith, few, count)) h.locals;
+      locals = local_set own locals m.locals n v (omega (arith, few, count)) h.locals;
       local_count = length-set m.locals n v ∙ h.local_count;
-    })
+    }
 
 -- ---- a word more in the buffer
 

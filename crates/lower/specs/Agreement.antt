@@ -1,21 +1,28 @@
 -- What it is that a word program does what the source does: the state that it works on stands for an attempt of the task, and its end
 -- for the outcome.
-use Rattle.std.specs.Prelude.{◌≡◌, ℕ, ◌+◌, ◌*◌, ◌/◌, ◌%◌, ◌<◌, ◌≤◌, ◌==◌, Bool, true, if◌then◌else◌, Contains, List, [], ◌∷◌, ◌++◌, length, map, Option}
+use Rattle.std.specs.Prelude.{◌≡◌, ℕ, ◌+◌, ◌*◌, ◌/◌, ◌%◌, ◌<◌, ◌≤◌, ◌==◌, Bool, true, if◌then◌else◌, Contains, List, [], ◌∷◌, ◌++◌, length, map, Option, All}
 use Rattle.std.specs.Prelude.{Some, None, slice_get, slice_index, slice_index_or}
 use Rattle.fram_board.specs.Effects.{Effect, Store, Take, Outside}
 use Rattle.machine_effects.specs.World.{fram_after}
 use Rattle.task_ast.specs.declared.SharedDeclaration.{SharedDeclaration}
-use Rattle.task_ast.specs.Paths.{CheckedExpression, CheckedBlock}
+use Rattle.task_ast.specs.Paths.{CheckedExpression, CheckedBlock, CheckedFunction}
 use Rattle.task_ast.specs.Types.{type_of}
 use Rattle.task_ast.specs.declared.WordType.{WordType}
 use Rattle.task_ast.specs.declared.WordType.TheVariants.{Unsigned, Long}
 use Rattle.task_ast.specs.declared.names.Variable.{Variable}
 use Rattle.task_ast.specs.declared.names.Variable.TheVariants.{Shared, Local}
-use Rattle.source_values.specs.Values.{Variables, Attempt, Evaluated, word_at, converted, made_of, truth_word, value_of}
+use Rattle.source_values.specs.Values.{Variables, Attempt, Evaluated, Meaning, word_at, converted, made_of, truth_word, value_of}
 use Rattle.memory_map.specs.event_places.Places.{sent_place, answer_place}
-use Rattle.source_values.specs.Statements.{Outcome, goes_on, to_task, returns, short, run_block, block_emits}
+use Rattle.source_values.specs.Statements.{Outcome, goes_on, to_task, returns, short, run_block, block_emits, expression_emits, meaning_of, function_emits}
 use Rattle.array_versions.specs.Behaviour.{WordState, End, GoesOn, Jumps, Gives, Short, Strays, Broken, Behaviour, behaviour, event_index}
-use Rattle.cost_bound.specs.Counts.{stores_of}
+use Rattle.array_versions.specs.Operations.{stacked}
+use Rattle.cost_bound.specs.Counts.{stores_of, expression_count, called_stores}
+use Rattle.cost_bound.specs.Summary.{Summary}
+use Rattle.cost_bound.specs.Summaries.{function_summaries}
+use Rattle.path_sums.specs.Sums.{expression_sum, block_sum, call_sums}
+use Rattle.path_sums.specs.Access.{summary}
+use Rattle.path_sums.specs.declared.access.AccessSummary.{AccessSummary}
+use Rattle.task_ast.specs.Answers.{answers}
 use Rattle.memory_map.specs.MemoryMap.{MemoryMap, word_place, where_events}
 use Rattle.address_space.specs.Limits.{program_end}
 use Rattle.memory_map.specs.declared.runtime.Logging.{Logging}
@@ -32,11 +39,10 @@ use Rattle.lower.specs.Spots.{Room, IsRedo, IsUndo, AreApart, AreEven, listed_of
 use Rattle.runtime_effects.specs.Places.{CopyPair, entries_from}
 use Rattle.lower.specs.declared.runs.Run.{Run}
 use Rattle.lower.specs.Runs.{runs_of}
-use Rattle.lower.specs.Seen.{some_path_writes}
-use Rattle.array_versions.specs.Program.{truth}
+use Rattle.array_versions.specs.Program.{Program, truth}
 use Rattle.lower.specs.Events.{AdmitsExpression, AdmitsBlock}
-use Rattle.lower.specs.Lowered.{one, lowered_expression, lowered_long, lowered_test, lowered_block}
-pub use Rattle.lower.specs.Stores.{TakesAndStores, IsAnswerStore, OnlyTakes, IsTaskStore, at_variable, at_copy, at_element, at_version, in_list}
+use Rattle.lower.specs.Lowered.{one, lowered_expression, lowered_long, lowered_test, lowered_block, routine_bodies}
+pub use Rattle.lower.specs.Stores.{TakesAndStores, IsAnswerStore, IsTaskStore, at_variable, at_copy, at_element, at_version, in_list}
 pub use Rattle.lower.specs.Stores.{at_list_length, at_emit_count, in_buffer, at_answer, AreMadeByActs, Did}
 
 -- ---- what is asked of the places of a task: the variables of its source have such as were declared
@@ -167,87 +173,79 @@ by_answers m value answers = value (answered_by answers m)
 abbrev pub made_by : (ℕ → ℕ) → Answering → Answering
 made_by f o answers = made_of f (o answers)
 
--- a value is left: its words on top of the stack, the readings that the attempt behind it has, and all else as it was, but for the words that
--- count events
-pub record IsLeft (words : ℕ → List ℕ) (w : WordState) (x : Evaluated) (s : WordState) : Type 0 where
-  pub stack : s.stack ≡ words x.value ++ w.stack
-  pub locals : s.locals ≡ w.locals
-  pub fram : (a : ℕ) → a < program_end → s.fram a ≡ w.fram a
-  pub readings : s.inputs.readings ≡ x.behind.left
-
--- the end leaves a state as it is asked for behind this value, or is short where there is none; these answers are left. A program that reads a
--- local before it is assigned is broken, and then nothing is said
-abbrev pub EndsAt : (Evaluated → WordState → Type 0) → List ℕ → End → Option Evaluated → Type 0
-EndsAt there left (GoesOn s) (Some x) = there x s × (x.behind.answers ≡ left)
-EndsAt there left (GoesOn s) None = ⊥
-EndsAt there left Short (Some x) = ⊥
-EndsAt there left Short None = Unit {0}
-EndsAt there left (Jumps to s) o = ⊥
-EndsAt there left (Gives v s) o = ⊥
-EndsAt there left Strays o = ⊥
-EndsAt there left Broken o = Unit {0}
-
--- A program takes readings, looks and tells answers alone, and ends as an expression does on the answers that it tells, with any others
--- behind these: with a state as its value leaves one and these others left, or short of readings
-abbrev pub AgreesAt : Bool → (Evaluated → WordState → Type 0) → Behaviour → Answering → Type 0
-AgreesAt events there b o = (others : List ℕ) → OnlyTakes events b.effects × EndsAt there others b.end (o (answers_told b.effects ++ others))
-
--- the same with the value pushed
-abbrev pub AgreesWithValue : Bool → WordState → Behaviour → Answering → Type 0
-AgreesWithValue events w b o = AgreesAt events (IsLeft (λ v. v ∷ []) w) b o
-
--- the same with the value pushed as a long: its high word is on top
-abbrev pub AgreesWithLong : Bool → WordState → Behaviour → Answering → Type 0
-AgreesWithLong events w b o = AgreesAt events (IsLeft (λ v. v / 65536 ∷ v % 65536 ∷ []) w) b o
-
--- an attempt with the readings left that a state has
-abbrev pub in_state : WordState → Attempt → Attempt
-in_state w m = record m { left = w.inputs.readings }
-
 -- a value of one type as one of another
 abbrev pub converted_to : WordType → WordType → Option Evaluated → Option Evaluated
 converted_to s t o = made_of (converted s t) o
-
--- an expression with its places: it is well-formed, and `next_event()` stands in it only where the program takes events
-abbrev pub IsFit : List SharedDeclaration → Places → CheckedExpression → Type 0
-IsFit shared p e = WellFormedExpression shared e × AdmitsExpression p.map.runtime.events e
-
--- the program of a well-formed expression, which calls no function, leaves its value, as one word
-abbrev pub ExpressionsAgree : Type 0
-ExpressionsAgree = (shared : List SharedDeclaration) (p : Places) (room : Room) (e : CheckedExpression) (m : Attempt) (w : WordState)
-    → AreApart p room → AreEven p → AsDeclared shared p → IsFit shared p e → HoldVariables p m.variables w.fram w.locals
-    → AgreesWithValue p.map.runtime.events w (behaviour (lowered_expression p e) w)
-    (by_answers (in_state w m) (λ s. converted_to (type_of e) Unsigned (value_of [] e s)))
-
--- and the other its value as a long
-abbrev pub LongsAgree : Type 0
-LongsAgree = (shared : List SharedDeclaration) (p : Places) (room : Room) (e : CheckedExpression) (m : Attempt) (w : WordState)
-    → AreApart p room → AreEven p → AsDeclared shared p → IsFit shared p e → HoldVariables p m.variables w.fram w.locals
-    → AgreesWithLong p.map.runtime.events w (behaviour (lowered_long p e) w)
-    (by_answers (in_state w m) (λ s. converted_to (type_of e) Long (value_of [] e s)))
 
 -- a value as 1 where it isn't 0, else 0
 abbrev pub truth_of : Option Evaluated → Option Evaluated
 truth_of o = made_of truth_word o
 
--- the test of an expression holds where its value isn't 0
-abbrev pub TestsAgree : Type 0
-TestsAgree = (shared : List SharedDeclaration) (p : Places) (room : Room) (e : CheckedExpression) (m : Attempt) (w : WordState)
-    → AreApart p room → AreEven p → AsDeclared shared p → IsFit shared p e → HoldVariables p m.variables w.fram w.locals
-    → AgreesWithValue p.map.runtime.events w (behaviour (one (truth (lowered_test p e))) w) (by_answers (in_state w m) (λ s. truth_of (value_of [] e s)))
+-- an expression with its places: it is well-formed, and `next_event()` stands in it only where the program takes events
+abbrev pub IsFit : List SharedDeclaration → Places → CheckedExpression → Type 0
+IsFit shared p e = WellFormedExpression shared e × AdmitsExpression p.map.runtime.events e
+
+-- ---- functions
+
+-- The functions that a text may call, in order of declaration: what each does, the program of its body, how many words it emits at most, what a call
+-- of it comes to, and for each shared variable what the paths of a call do with it
+pub record Functions : Type 0 where
+  pub meanings : List Meaning
+  pub bodies : List Program
+  pub emits : List ℕ
+  pub summaries : List Summary
+  pub sums : ℕ → List AccessSummary
+
+-- none
+abbrev pub no_functions : Functions
+no_functions = record { meanings = []; bodies = []; emits = []; summaries = []; sums = λ v. [] }
+
+-- these, where a task has its functions at these places
+abbrev pub functions_of : Places → List CheckedFunction → Functions
+functions_of p fs = record {
+  meanings = answers meaning_of fs;
+  bodies = routine_bodies p fs;
+  emits = answers function_emits fs;
+  summaries = function_summaries fs;
+  sums = λ v. call_sums (summary (Shared v)) fs;
+}
+
+-- how many elements of an array an expression's calls list at most
+abbrev pub expression_lists : Functions → ℕ → CheckedExpression → ℕ
+expression_lists fs v e = expression_count (called_stores fs.summaries v) e
+
+-- what some path of a block writes
+abbrev pub block_writes : Functions → CheckedBlock → ℕ → Bool
+block_writes fs block v = (block_sum (fs.sums v) (summary (Shared v)) block).writes
+
+-- what some path of an expression writes
+abbrev pub expression_writes : Functions → CheckedExpression → ℕ → Bool
+expression_writes fs e v = (expression_sum (fs.sums v) (summary (Shared v)) e).writes
 
 -- ---- statements
 
--- the task that statements stand in: its source's declarations, its places, apart, even and as declared, with room for so many stores to each
--- array behind so many words that the start lists (none under redo), the variables that it writes, and VER
+-- the locals of the code whose first local has this number
+abbrev pub locals_from : ℕ → (ℕ → Option ℕ) → ℕ → Option ℕ
+locals_from own locals = λ n. locals (own + n)
+
+-- a state as that code sees it
+abbrev pub seen_from : ℕ → WordState → WordState
+seen_from own w = record w { locals = locals_from own w.locals }
+
+-- the code that statements stand in, a task's or that of a function in it: its source's declarations, its places, apart, even and as declared, with room for so many stores
+-- to each array behind so many words that the start lists (none under redo), the number of its first local, the functions that it may call, the
+-- variables that the task writes, and VER
 pub record Scene : Type 0 where
   pub shared : List SharedDeclaration
   pub p : Places
+  pub own : ℕ
+  pub fs : Functions
   pub written : ℕ → Bool
   pub room : Room
   pub stores : ℕ → ℕ
   pub first : ℕ
   pub ver : ℕ
+  pub own_low : own + 256 ≤ 65536
   pub apart : AreApart p room
   pub even : AreEven p
   pub has_room : HasRoomBehind first p stores room
@@ -255,7 +253,7 @@ pub record Scene : Type 0 where
   pub copied : HasCopies shared p written
 
 -- what statements start from, and what bounds their stores: FRAM at their start, the scalars that they write, the room that they have,
--- how many words the start lists, VER, and how many elements of each array they may have listed at their end
+-- how many words the start lists, VER, how many elements of each array they may have listed at their end, and the number of the first local
 pub record Bounds : Type 0 where
   pub start : ℕ → ℕ
   pub written : ℕ → Bool
@@ -263,10 +261,15 @@ pub record Bounds : Type 0 where
   pub first : ℕ
   pub ver : ℕ
   pub most : ℕ → ℕ
+  pub own : ℕ
 
 -- the bounds of a task's statements from this FRAM on, which may list so many elements
 abbrev pub bounds : Scene → (ℕ → ℕ) → (ℕ → ℕ) → Bounds
-bounds z start most = record { start = start; written = z.written; room = z.room; first = z.first; ver = z.ver; most = most }
+bounds z start most = record { start = start; written = z.written; room = z.room; first = z.first; ver = z.ver; most = most; own = z.own }
+
+-- the places that its programs are made over
+abbrev pub code_places : Scene → Places
+code_places z = record z.p { first = z.own }
 
 -- what statements may do within these bounds
 abbrev pub DidWithin : Places → Bounds → List Effect → Type 0
@@ -277,9 +280,25 @@ pub record WentOn (p : Places) (b : Bounds) (stack left : List ℕ) (es : List E
   pub did : DidWithin p b es
   pub stack_kept : s.stack ≡ stack
   pub listed : List Element
-  pub stands : StandsFor p b.first m listed s
+  pub stands : StandsFor p b.first m listed (seen_from b.own s)
   pub few : (v : ℕ) → listed_of v listed ≤ b.most v
   pub answers : m.answers ≡ left
+
+-- the end of a program that leaves a value: as statements that went on, with the words of the value on top of the stack and the attempt behind it,
+-- or short where there is none; these answers are left. A program that reads a local before it is assigned is broken, and then nothing is said
+abbrev pub EndsWith : Places → Bounds → (ℕ → List ℕ) → List ℕ → List ℕ → List Effect → End → Option Evaluated → Type 0
+EndsWith p b words stack left es (GoesOn s) (Some x) = WentOn p b (words x.value ++ stack) left es s x.behind
+EndsWith p b words stack left es (GoesOn s) None = ⊥
+EndsWith p b words stack left es (Jumps to s) o = ⊥
+EndsWith p b words stack left es (Gives u s) o = ⊥
+EndsWith p b words stack left es Short (Some x) = ⊥
+EndsWith p b words stack left es Short None = DidWithin p b es
+EndsWith p b words stack left es Strays o = ⊥
+EndsWith p b words stack left es Broken o = Unit {0}
+
+-- a program does and ends as an expression does on the answers that it tells, with any others behind these: they are left
+abbrev pub AgreesWith : Places → Bounds → (ℕ → List ℕ) → List ℕ → Behaviour → Answering → Type 0
+AgreesWith p b words stack r o = (others : List ℕ) → EndsWith p b words stack others r.effects r.end (o (answers_told r.effects ++ others))
 
 -- statements that came to a transition to a task, with these answers left: from the state there on its effects, and last of all the store of 1
 -- to the gate
@@ -291,13 +310,22 @@ pub record Left (p : Places) (b : Bounds) (left : List ℕ) (es : List Effect) (
       (event_index there.fram) ++ Store (word_place p.map Gate) 1 ∷ [])
   pub did : DidWithin p b body
   pub arrived : there.fram ≡ fram_after body b.start
-  pub stands : StandsFor p b.first m listed there
+  pub stands : StandsFor p b.first m listed (seen_from b.own there)
   pub few : (v : ℕ) → listed_of v listed ≤ b.most v
   pub commits : to ≡ p.map.commit.address
   pub readings : s.inputs.readings ≡ m.left
   pub answers : m.answers ≡ left
 
--- the end is as the outcome has it, with these answers left; a task's statements don't return
+-- a function's statements that came to a `return` with this word, with these answers left: it is on the stack no more
+pub record Returned (p : Places) (b : Bounds) (left : List ℕ) (es : List Effect) (given : ℕ) (s : WordState) (word : ℕ) (m : Attempt) : Type 0 where
+  pub is : given ≡ word
+  pub did : DidWithin p b es
+  pub listed : List Element
+  pub stands : StandsFor p b.first m listed (seen_from b.own s)
+  pub few : (v : ℕ) → listed_of v listed ≤ b.most v
+  pub answers : m.answers ≡ left
+
+-- the end is as the outcome has it, with these answers left
 abbrev pub EndsAs : Places → Bounds → List ℕ → List ℕ → List Effect → End → Outcome → Type 0
 EndsAs p b stack left es (GoesOn s) (goes_on m) = WentOn p b stack left es s m
 EndsAs p b stack left es (GoesOn s) (to_task task m) = ⊥
@@ -307,7 +335,10 @@ EndsAs p b stack left es (Jumps to s) (goes_on m) = ⊥
 EndsAs p b stack left es (Jumps to s) (to_task task m) = Left p b left es to s task m
 EndsAs p b stack left es (Jumps to s) (returns u m) = ⊥
 EndsAs p b stack left es (Jumps to s) short = ⊥
-EndsAs p b stack left es (Gives v s) o = ⊥
+EndsAs p b stack left es (Gives u s) (goes_on m) = ⊥
+EndsAs p b stack left es (Gives u s) (to_task task m) = ⊥
+EndsAs p b stack left es (Gives u s) (returns word m) = Returned p b left es u s word m
+EndsAs p b stack left es (Gives u s) short = ⊥
 EndsAs p b stack left es Short (goes_on m) = ⊥
 EndsAs p b stack left es Short (to_task task m) = ⊥
 EndsAs p b stack left es Short (returns u m) = ⊥
@@ -320,13 +351,50 @@ abbrev pub Agrees : Places → Bounds → List ℕ → Behaviour → (List ℕ �
 Agrees p b stack r o = (others : List ℕ) → EndsAs p b stack others r.effects r.end (o (answers_told r.effects ++ others))
 
 -- what some path of a block writes, the task writes
-abbrev pub WritesWithin : (ℕ → Bool) → CheckedBlock → Type 0
-WritesWithin written block = (v : ℕ) → some_path_writes block v ≡ true → written v ≡ true
+abbrev pub WritesWithin : Scene → CheckedBlock → Type 0
+WritesWithin z block = (v : ℕ) → block_writes z.fs block v ≡ true → z.written v ≡ true
 
--- the program of well-formed statements, which call no function, does what they do, where there is room for what they emit and list
+abbrev pub ExpressionWritesWithin : Scene → CheckedExpression → Type 0
+ExpressionWritesWithin z e = (v : ℕ) → expression_writes z.fs e v ≡ true → z.written v ≡ true
+
+-- a source's functions: their bodies are well-formed, and `next_event()` stands in them only where the program takes events
+pub record AreFunctions (z : Scene) (fs : List CheckedFunction) : Type 0 where
+  pub are : z.fs ≡ functions_of z.p fs
+  pub fits : All (λ f. WellFormedBlock z.shared f.body) fs
+  pub admits : All (λ f. AdmitsBlock z.p.map.runtime.events f.body) fs
+  pub low : All (λ r. r.first + 256 ≤ 65536) z.p.routines
+
+-- The programs of well-formed expressions leave such words of such a value of them, where there is room for what they emit and list
+abbrev pub ValuesAgree : (ℕ → List ℕ) → (Places → List Program → CheckedExpression → Program) → (CheckedExpression → Option Evaluated → Option Evaluated)
+    → Type 0
+ValuesAgree words program value =
+    (z : Scene) (fs : List CheckedFunction) (e : CheckedExpression) (m : Attempt) (listed : List Element) (w : WordState)
+    → AreFunctions z fs → w.fram (word_place z.p.map Version) ≡ z.ver
+    → IsFit z.shared z.p e → ExpressionWritesWithin z e → StandsFor z.p z.first m listed (seen_from z.own w)
+    → length m.emitted + expression_emits z.fs.emits e ≤ z.room.emits
+    → ((v : ℕ) → listed_of v listed + expression_lists z.fs v e ≤ z.stores v)
+    → AgreesWith z.p (bounds z w.fram (λ v. listed_of v listed + expression_lists z.fs v e)) words w.stack
+    (behaviour (program (code_places z) z.fs.bodies e) w) (by_answers m (λ s. value e (value_of z.fs.meanings e s)))
+
+-- the value as one word, on top of the stack
+abbrev pub ExpressionsAgree : Type 0
+ExpressionsAgree = ValuesAgree (λ v. v ∷ []) lowered_expression (λ e o. converted_to (type_of e) Unsigned o)
+
+-- the value as a long: its high word is on top
+abbrev pub LongsAgree : Type 0
+LongsAgree = ValuesAgree stacked lowered_long (λ e o. converted_to (type_of e) Long o)
+
+-- the test of an expression holds where its value isn't 0
+abbrev pub TestsAgree : Type 0
+TestsAgree = ValuesAgree (λ v. v ∷ []) (λ p rs e. one (truth (lowered_test p rs e))) (λ e o. truth_of o)
+
+-- the program of well-formed statements does what they do, where there is room for what they emit and list
 abbrev pub BlocksAgree : Type 0
-BlocksAgree = (z : Scene) (block : CheckedBlock) (m : Attempt) (listed : List Element) (w : WordState) → w.fram (word_place z.p.map Version) ≡ z.ver
-    → WellFormedBlock z.shared block → AdmitsBlock z.p.map.runtime.events block → WritesWithin z.written block → StandsFor z.p z.first m listed w
-    → length m.emitted + block_emits [] block ≤ z.room.emits → ((v : ℕ) → listed_of v listed + stores_of [] v block ≤ z.stores v)
-    → Agrees z.p (bounds z w.fram (λ v. listed_of v listed + stores_of [] v block)) w.stack (behaviour (lowered_block z.p block) w)
-    (λ answers. run_block [] block (answered_by answers m))
+BlocksAgree = (z : Scene) (fs : List CheckedFunction) (block : CheckedBlock) (m : Attempt) (listed : List Element) (w : WordState)
+    → AreFunctions z fs → w.fram (word_place z.p.map Version) ≡ z.ver
+    → WellFormedBlock z.shared block → AdmitsBlock z.p.map.runtime.events block → WritesWithin z block
+    → StandsFor z.p z.first m listed (seen_from z.own w)
+    → length m.emitted + block_emits z.fs.emits block ≤ z.room.emits
+    → ((v : ℕ) → listed_of v listed + stores_of z.fs.summaries v block ≤ z.stores v)
+    → Agrees z.p (bounds z w.fram (λ v. listed_of v listed + stores_of z.fs.summaries v block)) w.stack
+    (behaviour (lowered_block (code_places z) z.fs.bodies block) w) (λ answers. run_block z.fs.meanings block (answered_by answers m))

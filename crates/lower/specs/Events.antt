@@ -1,18 +1,25 @@
 -- Which sources a program that takes events may stand for, and which one that takes none.
 use Rattle.std.specs.Prelude.{◌≡◌, Bool, true, Some, None}
-use Rattle.task_ast.specs.Tree.{element, next_event, unary, binary, shift, short_circuit}
+use Rattle.task_ast.specs.Tree.{element, next_event, call, unary, binary, shift, short_circuit, no_value, value}
 use Rattle.task_ast.specs.Tree.{declare, assign, store, choose, loop, emit, give, transition, nothing, otherwise, test, end, step}
-use Rattle.task_ast.specs.Paths.{CheckedExpression, CheckedStatement, CheckedChoice, CheckedBlock}
+use Rattle.task_ast.specs.Paths.{CheckedExpression, CheckedValues, CheckedStatement, CheckedChoice, CheckedBlock}
 
--- `next_event()` stands in an expression only where events are taken
-abbrev pub AdmitsExpression : Bool → CheckedExpression → Type 0
-AdmitsExpression events next_event = events ≡ true
-AdmitsExpression events (element x index) = AdmitsExpression events index
-AdmitsExpression events (unary op e) = AdmitsExpression events e
-AdmitsExpression events (binary op a b) = AdmitsExpression events a × AdmitsExpression events b
-AdmitsExpression events (shift op e count) = AdmitsExpression events e
-AdmitsExpression events (short_circuit op a b) = AdmitsExpression events a × AdmitsExpression events b
-AdmitsExpression events _ = Unit {0}
+abbrev mutual
+  -- `next_event()` stands in an expression only where events are taken
+  pub AdmitsExpression : Bool → CheckedExpression → Type 0
+  AdmitsExpression events next_event = events ≡ true
+  AdmitsExpression events (element x index) = AdmitsExpression events index
+  AdmitsExpression events (call f values) = AdmitsValues events values
+  AdmitsExpression events (unary op e) = AdmitsExpression events e
+  AdmitsExpression events (binary op a b) = AdmitsExpression events a × AdmitsExpression events b
+  AdmitsExpression events (shift op e count) = AdmitsExpression events e
+  AdmitsExpression events (short_circuit op a b) = AdmitsExpression events a × AdmitsExpression events b
+  AdmitsExpression events _ = Unit {0}
+
+  -- the same of a call's values
+  pub AdmitsValues : Bool → CheckedValues → Type 0
+  AdmitsValues events no_value = Unit {0}
+  AdmitsValues events (value e more) = AdmitsExpression events e × AdmitsValues events more
 
 abbrev mutual
   -- the same of a statement

@@ -1,7 +1,9 @@
 -- The word programs of expressions, statements and tasks.
-use Rattle.std.specs.Prelude.{ℕ, ◌/◌, ◌%◌, ◌==◌, ◌&&◌, Bool, false, if◌then◌else◌, List, [], ◌∷◌, Option, Some, None, slice_get}
+use Rattle.std.specs.Prelude.{ℕ, ◌+◌, ◌/◌, ◌%◌, ◌==◌, ◌&&◌, ◌||◌, not, Bool, true, false, if◌then◌else◌, List, [], ◌∷◌, length, map, Option, Some, None}
+use Rattle.std.specs.Prelude.{slice_get, slice_index_or}
 use Rattle.task_ast.specs.Tree as t
-use Rattle.task_ast.specs.Paths.{CheckedExpression, CheckedStatement, CheckedChoice, CheckedBlock, CheckedTask}
+use Rattle.task_ast.specs.Answers.{answers}
+use Rattle.task_ast.specs.Paths.{CheckedExpression, CheckedValues, CheckedStatement, CheckedChoice, CheckedBlock, CheckedFunction, CheckedTask}
 use Rattle.task_ast.specs.declared.WordType.{WordType}
 use Rattle.task_ast.specs.declared.WordType.TheVariants.{Unsigned, Int, Long}
 use Rattle.task_ast.specs.declared.UnaryOperator.{UnaryOperator}
@@ -16,6 +18,7 @@ use Rattle.task_ast.specs.declared.names.Variable.TheVariants.{Shared, Local}
 use Rattle.path_sums.specs.Access.{is_same}
 use Rattle.source_values.specs.Values.{by_width, joined_type, type_of}
 use Rattle.source_values.specs.Runs.{CheckedProgram}
+use Rattle.checked_trees.specs.WellFormed.{values_in}
 use Rattle.array_versions.specs.declared.operations.UnaryOperation.TheVariants.{Negate, Complement}
 use Rattle.array_versions.specs.declared.operations.PlainOperation.{PlainOperation}
 use Rattle.array_versions.specs.declared.operations.PlainOperation.TheVariants.{Subtract, And, Xor, Or}
@@ -28,15 +31,17 @@ use Rattle.array_versions.specs.Program.{versioned_update, logged_write, logged_
 use Rattle.array_versions.specs.declared.program.ArrayPlace.{ArrayPlace}
 use Rattle.array_versions.specs.declared.program.ListPlace.{ListPlace}
 use Rattle.array_versions.specs.declared.program.LoggedPlace.{LoggedPlace}
-use Rattle.array_versions.specs.Program.{move_word, jump, holds, compares, both, either, fails, nothing, step, joined, behind}
+use Rattle.array_versions.specs.TaskPrograms.{TaskPrograms}
+use Rattle.array_versions.specs.Program.{call, give, move_word, jump, holds, compares, both, either, fails, nothing, step, joined, behind}
 use Rattle.memory_map.specs.declared.words.RuntimeWord.TheVariants.{NextTask, Gate, ListLength, EmitCount, Base, SentBase}
 use Rattle.memory_map.specs.declared.place.VariablePlace.{VariablePlace}
 use Rattle.memory_map.specs.declared.place.VariablePlace.TheVariants.{Scalar, Array}
 use Rattle.memory_map.specs.declared.runtime.Logging.{Logging}
 use Rattle.memory_map.specs.declared.runtime.Logging.TheVariants.{Redo, Undo}
 use Rattle.memory_map.specs.MemoryMap.{MemoryMap, TaskPlace, word_place}
-use Rattle.memory_map.specs.Spots.{Places, places_of, address_of}
-pub use Rattle.variable_places.specs.Places.{high_address, array_place, no_array, list_place, written_array, stored_array}
+use Rattle.memory_map.specs.Spots.{Places, places_of, address_of, routine_of, routine_places}
+use Rattle.memory_map.specs.declared.place.RoutinePlace.{RoutinePlace}
+pub use Rattle.variable_places.specs.Places.{high_address, local_number, array_place, no_array, list_place, written_array, stored_array}
 use Rattle.lower.specs.declared.runs.Run.{Run}
 use Rattle.lower.specs.Runs.{runs_of}
 use Rattle.lower.specs.Seen.{map_seen, task_seen}
@@ -55,27 +60,27 @@ one s = step s nothing
 -- pushes a variable's word: a shared one by its address in the task, a local by its number
 abbrev pub read_step : Places → Variable → Step
 read_step p (Shared v) = load (address_of p v)
-read_step p (Local n) = local (n % 65536)
+read_step p (Local n) = local (local_number p n)
 
 -- pops a word and sets a variable to it
 abbrev pub write_step : Places → Variable → Step
 write_step p (Shared v) = keep (address_of p v)
-write_step p (Local n) = set_local (n % 65536)
+write_step p (Local n) = set_local (local_number p n)
 
 -- pops a word and sets a variable to what an operation gives of the variable and of that word
 abbrev pub update_step : Places → PlainOperation → Variable → Step
 update_step p op (Shared v) = update op (address_of p v)
-update_step p op (Local n) = update_local op (n % 65536)
+update_step p op (Local n) = update_local op (local_number p n)
 
 -- pushes a variable as a long, which is two words with the high one on top. A local has one word
 abbrev pub read_long : Places → Variable → Program
 read_long p (Shared v) = step (load (address_of p v)) (step (load (high_address (address_of p v))) (one (long with_longs.Join)))
-read_long p (Local n) = step (local (n % 65536)) (step (number 0) (one (long with_longs.Join)))
+read_long p (Local n) = step (local (local_number p n)) (step (number 0) (one (long with_longs.Join)))
 
 -- pops a long and sets a variable to it, the high word first
 abbrev pub write_long : Places → Variable → Program
 write_long p (Shared v) = step (keep (high_address (address_of p v))) (one (keep (address_of p v)))
-write_long p (Local n) = step (long with_longs.LowWord) (one (set_local (n % 65536)))
+write_long p (Local n) = step (long with_longs.LowWord) (one (set_local (local_number p n)))
 
 -- pops an index and pushes an element of an array that the task writes, as this attempt has the element: under undo it stands in its place
 abbrev pub own_read : Logging → ArrayPlace → ListPlace → Step
@@ -220,77 +225,107 @@ abbrev pub widened_type : CheckedExpression → WordType
 widened_type (t.number w) = Unsigned
 widened_type e = type_of e
 
--- an expression: the parts from left to right, then the operation by their types
-abbrev pub lowering : Places → CheckedExpression → Lowering
-lowering p (t.number w) = as_word (one (number w))
-lowering p (t.long_number w) = as_long (step (number (w % 65536)) (one (number (w / 65536))))
-lowering p (t.name x) = name_lowering p x.word_type x.variable
-lowering p (t.element x index) = as_word (behind (word_program (lowering p index)) (element_step p x.variable))
-lowering p t.sense = as_word (one sense)
-lowering p t.next_event = as_word (one next_event)
--- no program calls a function: where none is declared, none is called
-lowering p (t.call f values) = as_word (one (number 0))
-lowering p (t.unary op e) = operand_lowering (type_of e) op (lowering p e)
-lowering p (t.binary op a b) =
-    sides_lowering (operand_type op.operator (joined_type (type_of a) (type_of b))) op.operator (widened_type a) (widened_type b)
-    (lowering p a) (lowering p b)
-lowering p (t.shift op e count) = shift_lowering (type_of e) op (lowering p e) count.value
-lowering p (t.short_circuit op a b) = as_test (sides_test op (value_test (lowering p a)) (value_test (lowering p b)))
+-- with how many words a function is called: no program calls one with 2^16
+abbrev pub call_count : CheckedValues → ℕ
+call_count values = values_in values % 65536
+
+-- calls a function by its place in the task, its body being this, with so many values; one without a place has no body
+abbrev pub call_at : Option RoutinePlace → ℕ → Program → Step
+call_at (Some r) count body = call r.code.address r.frame r.first count body
+call_at None count body = call 0 None 0 count nothing
+
+-- calls the function of a number, by the bodies of those that are known
+abbrev pub call_step : Places → List Program → ℕ → ℕ → Step
+call_step p rs k count = call_at (routine_of p k) count (slice_index_or rs k nothing)
+
+-- An expression: the parts from left to right, then the operation by their types. A call has the body of its function, by the bodies that are
+-- known
+abbrev mutual
+  pub lowering : Places → List Program → CheckedExpression → Lowering
+  lowering p rs (t.number w) = as_word (one (number w))
+  lowering p rs (t.long_number w) = as_long (step (number (w % 65536)) (one (number (w / 65536))))
+  lowering p rs (t.name x) = name_lowering p x.word_type x.variable
+  lowering p rs (t.element x index) = as_word (behind (word_program (lowering p rs index)) (element_step p x.variable))
+  lowering p rs t.sense = as_word (one sense)
+  lowering p rs t.next_event = as_word (one next_event)
+  lowering p rs (t.call f values) = as_word (behind (arguments p rs values) (call_step p rs f.function (call_count values)))
+  lowering p rs (t.unary op e) = operand_lowering (type_of e) op (lowering p rs e)
+  lowering p rs (t.binary op a b) =
+      sides_lowering (operand_type op.operator (joined_type (type_of a) (type_of b))) op.operator (widened_type a) (widened_type b)
+      (lowering p rs a) (lowering p rs b)
+  lowering p rs (t.shift op e count) = shift_lowering (type_of e) op (lowering p rs e) count.value
+  lowering p rs (t.short_circuit op a b) = as_test (sides_test op (value_test (lowering p rs a)) (value_test (lowering p rs b)))
+
+  -- the values of a call, each as one word, from left to right
+  pub arguments : Places → List Program → CheckedValues → Program
+  arguments p rs t.no_value = nothing
+  arguments p rs (t.value e more) = joined (word_program (lowering p rs e)) (arguments p rs more)
 
 -- an expression's value as one word, on top of the stack
-abbrev pub lowered_expression : Places → CheckedExpression → Program
-lowered_expression p e = word_program (lowering p e)
+abbrev pub lowered_expression : Places → List Program → CheckedExpression → Program
+lowered_expression p rs e = word_program (lowering p rs e)
 
 -- an expression's value as a long, on top of the stack
-abbrev pub lowered_long : Places → CheckedExpression → Program
-lowered_long p e = long_program (widened_type e) (lowering p e)
+abbrev pub lowered_long : Places → List Program → CheckedExpression → Program
+lowered_long p rs e = long_program (widened_type e) (lowering p rs e)
 
 -- the test that an expression's value isn't 0
-abbrev pub lowered_test : Places → CheckedExpression → Test
-lowered_test p e = value_test (lowering p e)
+abbrev pub lowered_test : Places → List Program → CheckedExpression → Test
+lowered_test p rs e = value_test (lowering p rs e)
 
 -- sets a variable of one word to an expression's value
-abbrev pub setting : Places → Variable → CheckedExpression → Program
-setting p x e = behind (lowered_expression p e) (write_step p x)
+abbrev pub setting : Places → List Program → Variable → CheckedExpression → Program
+setting p rs x e = behind (lowered_expression p rs e) (write_step p x)
 
 -- sets a long to an expression's value
-abbrev pub long_setting : Places → Variable → CheckedExpression → Program
-long_setting p x e = joined (lowered_long p e) (write_long p x)
+abbrev pub long_setting : Places → List Program → Variable → CheckedExpression → Program
+long_setting p rs x e = joined (lowered_long p rs e) (write_long p x)
 
 -- whether an expression is a variable alone
 abbrev pub is_name : Variable → CheckedExpression → Bool
 is_name x (t.name y) = is_same x y.variable
 is_name x _ = false
 
--- the operation that sets a variable to what an operator gives of it, on the left, and of another side
-abbrev pub updating : Variable → BinaryOperator → CheckedExpression → Option PlainOperation
-updating x op a = if is_name x a then plain_operation op else None
+-- whether an expression calls a function
+abbrev pub has_call : CheckedExpression → Bool
+has_call (t.call f values) = true
+has_call (t.element x index) = has_call index
+has_call (t.unary op e) = has_call e
+has_call (t.binary op a b) = has_call a || has_call b
+has_call (t.shift op e count) = has_call e
+has_call (t.short_circuit op a b) = has_call a || has_call b
+has_call _ = false
+
+-- the operation that sets a variable to what an operator gives of it, on the left, and of another side, which calls no function that could
+-- change it
+abbrev pub updating : Variable → BinaryOperator → CheckedExpression → CheckedExpression → Option PlainOperation
+updating x op a b = if is_name x a && not (has_call b) then plain_operation op else None
 
 -- the operation, where it is one of words
 abbrev pub of_words : WordType → Option PlainOperation → Option PlainOperation
 of_words of o = by_width of o None
 
 -- sets a variable to what an operator gives of two sides: in place, where an operation does
-abbrev pub sides_set : Places → Variable → PlacedOperator → CheckedExpression → CheckedExpression → Option PlainOperation → Program
-sides_set p x op a b None = setting p x (t.binary op a b)
-sides_set p x op a b (Some o) = behind (lowered_expression p b) (update_step p o x)
+abbrev pub sides_set : Places → List Program → Variable → PlacedOperator → CheckedExpression → CheckedExpression → Option PlainOperation → Program
+sides_set p rs x op a b None = setting p rs x (t.binary op a b)
+sides_set p rs x op a b (Some o) = behind (lowered_expression p rs b) (update_step p o x)
 
 -- an assignment to a variable of one word; `x = x + e` and its like are in place, since `e` leaves x, where both sides are of one word
-abbrev pub assignment : Places → Variable → CheckedExpression → Program
-assignment p x (t.binary op a b) = sides_set p x op a b (of_words (joined_type (type_of a) (type_of b)) (updating x op.operator a))
-assignment p x e = setting p x e
+abbrev pub assignment : Places → List Program → Variable → CheckedExpression → Program
+assignment p rs x (t.binary op a b) = sides_set p rs x op a b (of_words (joined_type (type_of a) (type_of b)) (updating x op.operator a b))
+assignment p rs x e = setting p rs x e
 
 -- an assignment, by the type of the variable
-abbrev pub scalar_assignment : Places → WordType → Variable → CheckedExpression → Program
-scalar_assignment p of x e = by_width of (assignment p x e) (long_setting p x e)
+abbrev pub scalar_assignment : Places → List Program → WordType → Variable → CheckedExpression → Program
+scalar_assignment p rs of x e = by_width of (assignment p rs x e) (long_setting p rs x e)
 
 -- an index and an expression's value, on top of the stack: the index is evaluated first
-abbrev pub index_and_value : Places → CheckedExpression → CheckedExpression → Program
-index_and_value p index e = joined (lowered_expression p index) (lowered_expression p e)
+abbrev pub index_and_value : Places → List Program → CheckedExpression → CheckedExpression → Program
+index_and_value p rs index e = joined (lowered_expression p rs index) (lowered_expression p rs e)
 
 -- sets an element to an expression's value
-abbrev pub element_setting : Places → Variable → CheckedExpression → CheckedExpression → Program
-element_setting p x index e = behind (index_and_value p index e) (store_step p x)
+abbrev pub element_setting : Places → List Program → Variable → CheckedExpression → CheckedExpression → Program
+element_setting p rs x index e = behind (index_and_value p rs index e) (store_step p x)
 
 -- whether an expression is this number
 abbrev pub is_number : ℕ → CheckedExpression → Bool
@@ -308,35 +343,36 @@ abbrev pub is_element : Variable → CheckedExpression → CheckedExpression →
 is_element x index (t.element y other) = is_same x y.variable && are_alike index other
 is_element x index _ = false
 
--- the operation that sets an element to what an operator gives of it, on the left, and of another side
-abbrev pub element_updating : Variable → CheckedExpression → BinaryOperator → CheckedExpression → Option PlainOperation
-element_updating x index op a = if is_element x index a then plain_operation op else None
+-- the operation that sets an element to what an operator gives of it, on the left, and of another side, which calls no function that could
+-- change it
+abbrev pub element_updating : Variable → CheckedExpression → BinaryOperator → CheckedExpression → CheckedExpression → Option PlainOperation
+element_updating x index op a b = if is_element x index a && not (has_call b) then plain_operation op else None
 
 -- sets an element to what an operator gives of two sides: in place, where an operation does
-abbrev pub element_sides_set : Places → Variable → CheckedExpression → PlacedOperator → CheckedExpression → CheckedExpression → Option PlainOperation → Program
-element_sides_set p x index op a b None = element_setting p x index (t.binary op a b)
-element_sides_set p x index op a b (Some o) = behind (index_and_value p index b) (update_element_step p o x)
+abbrev pub element_sides_set : Places → List Program → Variable → CheckedExpression → PlacedOperator → CheckedExpression → CheckedExpression → Option PlainOperation → Program
+element_sides_set p rs x index op a b None = element_setting p rs x index (t.binary op a b)
+element_sides_set p rs x index op a b (Some o) = behind (index_and_value p rs index b) (update_element_step p o x)
 
 -- an assignment to an element; `a[i] = a[i] + e` and its like are in place, since `e` leaves the element and its index, where both sides are
 -- of one word
-abbrev pub element_assignment : Places → Variable → CheckedExpression → CheckedExpression → Program
-element_assignment p x index (t.binary op a b) =
-    element_sides_set p x index op a b (of_words (joined_type (type_of a) (type_of b)) (element_updating x index op.operator a))
-element_assignment p x index e = element_setting p x index e
+abbrev pub element_assignment : Places → List Program → Variable → CheckedExpression → CheckedExpression → Program
+element_assignment p rs x index (t.binary op a b) =
+    element_sides_set p rs x index op a b (of_words (joined_type (type_of a) (type_of b)) (element_updating x index op.operator a b))
+element_assignment p rs x index e = element_setting p rs x index e
 
 -- a declaration without a value has no steps; a local has one word
-abbrev pub declaration : Places → Variable → Option CheckedExpression → Program
-declaration p x None = nothing
-declaration p x (Some e) = assignment p x e
+abbrev pub declaration : Places → List Program → Variable → Option CheckedExpression → Program
+declaration p rs x None = nothing
+declaration p rs x (Some e) = assignment p rs x e
 
 -- puts an expression's value into the emit buffer
-abbrev pub emission : Places → CheckedExpression → Program
-emission p e = behind (lowered_expression p e) (emit_word (word_place p.map EmitCount) p.map.emits.address)
+abbrev pub emission : Places → List Program → CheckedExpression → Program
+emission p rs e = behind (lowered_expression p rs e) (emit_word (word_place p.map EmitCount) p.map.emits.address)
 
 -- the local that counts the turns of a loop
-abbrev pub loop_local : Variable → ℕ
-loop_local (Local n) = n % 65536
-loop_local (Shared v) = 0
+abbrev pub loop_local : Places → Variable → ℕ
+loop_local p (Local n) = local_number p n
+loop_local p (Shared v) = 0
 
 -- an entry of the commit list for each run
 abbrev pub entries : ℕ → ℕ → List Run → Program
@@ -360,37 +396,79 @@ lowered_transition p task =
 
 abbrev mutual
   -- what a statement does
-  pub lowered_statement : Places → CheckedStatement → Program
-  lowered_statement p (t.declare of x value) = declaration p x.variable value
-  lowered_statement p (t.assign x e) = scalar_assignment p x.word_type x.variable e
-  lowered_statement p (t.store x index e) = element_assignment p x.variable index e
-  lowered_statement p (t.choose choice) = lowered_choice p choice
-  lowered_statement p (t.loop x from tested below stepped body) = one (repeat (loop_local x.variable) from below (lowered_block p body))
-  lowered_statement p (t.emit e) = emission p e
-  -- it stands in functions alone
-  lowered_statement p (t.give at e) = nothing
-  lowered_statement p (t.transition at task) = lowered_transition p task.task
+  pub lowered_statement : Places → List Program → CheckedStatement → Program
+  lowered_statement p rs (t.declare of x value) = declaration p rs x.variable value
+  lowered_statement p rs (t.assign x e) = scalar_assignment p rs x.word_type x.variable e
+  lowered_statement p rs (t.store x index e) = element_assignment p rs x.variable index e
+  lowered_statement p rs (t.choose choice) = lowered_choice p rs choice
+  lowered_statement p rs (t.loop x from tested below stepped body) = one (repeat (loop_local p x.variable) from below (lowered_block p rs body))
+  lowered_statement p rs (t.emit e) = emission p rs e
+  lowered_statement p rs (t.give at e) = behind (lowered_expression p rs e) give
+  lowered_statement p rs (t.transition at task) = lowered_transition p task.task
 
   -- the conditions of an `if` one after another, up to the first that holds
-  pub lowered_choice : Places → CheckedChoice → Program
-  lowered_choice p t.nothing = nothing
-  lowered_choice p (t.otherwise block) = lowered_block p block
-  lowered_choice p (t.test e block more) = one (choose (lowered_test p e) (lowered_block p block) (lowered_choice p more))
+  pub lowered_choice : Places → List Program → CheckedChoice → Program
+  lowered_choice p rs t.nothing = nothing
+  lowered_choice p rs (t.otherwise block) = lowered_block p rs block
+  lowered_choice p rs (t.test e block more) = one (choose (lowered_test p rs e) (lowered_block p rs block) (lowered_choice p rs more))
 
   -- statements one after another
-  pub lowered_block : Places → CheckedBlock → Program
-  lowered_block p t.end = nothing
-  lowered_block p (t.step s more) = joined (lowered_statement p s) (lowered_block p more)
+  pub lowered_block : Places → List Program → CheckedBlock → Program
+  lowered_block p rs t.end = nothing
+  lowered_block p rs (t.step s more) = joined (lowered_statement p rs s) (lowered_block p rs more)
 
--- a task's program, over the memory map and its own place as the task sees them
-abbrev pub lowered_task : MemoryMap → TaskPlace → CheckedBlock → Program
-lowered_task l task body = lowered_block (places_of (map_seen body l) (task_seen l.runtime.logging task)) body
+-- the program of a function's body where it stands in a task, by the bodies of those in front of it; nothing, where it isn't one that the task reaches
+abbrev pub body_at : Places → Option RoutinePlace → List Program → CheckedBlock → Program
+body_at p (Some r) rs body = lowered_block (routine_places p r) rs body
+body_at p None rs body = nothing
+
+-- the same of a function, by its number
+abbrev pub routine_body : Places → List Program → CheckedFunction → Program
+routine_body p rs f = body_at p (routine_of p (length rs)) rs f.body
+
+-- the bodies of all functions, in order of declaration
+abbrev pub routine_bodies : Places → List CheckedFunction → List Program
+routine_bodies p fs = answers (routine_body p) fs
+
+-- the places of a task, over the memory map and its own place as the task sees them
+abbrev pub task_places : List CheckedFunction → MemoryMap → TaskPlace → CheckedBlock → Places
+task_places fs l task body = places_of (map_seen fs body l) (task_seen l.runtime.logging task)
+
+-- the programs of a task: its own, and those of the functions that it reaches, all by the bodies of the functions
+abbrev pub lowered_task : List CheckedFunction → MemoryMap → TaskPlace → CheckedBlock → TaskPrograms
+lowered_task fs l task body =
+    let p = task_places fs l task body in
+    let rs = routine_bodies p fs in
+    record { own = lowered_block p rs body; routines = map (λ r. slice_index_or rs r.function nothing) p.routines }
 
 -- the programs of tasks, each with its layout
-abbrev pub lowered_tasks : MemoryMap → List CheckedTask → List TaskPlace → List Program
-lowered_tasks l (task ∷ tasks) (layout ∷ layouts) = lowered_task l layout task.body ∷ lowered_tasks l tasks layouts
-lowered_tasks l _ _ = []
+abbrev pub lowered_tasks : List CheckedFunction → MemoryMap → List CheckedTask → List TaskPlace → List TaskPrograms
+lowered_tasks fs l (task ∷ tasks) (layout ∷ layouts) = lowered_task fs l layout task.body ∷ lowered_tasks fs l tasks layouts
+lowered_tasks fs l _ _ = []
 
 -- the programs of a source
-abbrev pub lowered : MemoryMap → CheckedProgram → List Program
-lowered l p = lowered_tasks l p.tasks l.tasks
+abbrev pub lowered : MemoryMap → CheckedProgram → List TaskPrograms
+lowered l p = lowered_tasks p.functions l p.tasks l.tasks
+
+-- ---- as they are made: a call has no body
+
+-- the body of a function by its place, if there is one of its number
+abbrev pub bare_body : Places → RoutinePlace → Option CheckedFunction → Program
+bare_body p r (Some f) = lowered_block (routine_places p r) [] f.body
+bare_body p r None = nothing
+
+abbrev pub bare_routine : Places → List CheckedFunction → RoutinePlace → Program
+bare_routine p fs r = bare_body p r (slice_get fs r.function)
+
+-- the programs of a task
+abbrev pub bare_task : List CheckedFunction → MemoryMap → TaskPlace → CheckedBlock → TaskPrograms
+bare_task fs l task body =
+    let p = task_places fs l task body in record { own = lowered_block p [] body; routines = map (bare_routine p fs) p.routines }
+
+abbrev pub bare_tasks : List CheckedFunction → MemoryMap → List CheckedTask → List TaskPlace → List TaskPrograms
+bare_tasks fs l (task ∷ tasks) (layout ∷ layouts) = bare_task fs l layout task.body ∷ bare_tasks fs l tasks layouts
+bare_tasks fs l _ _ = []
+
+-- the programs of a source
+abbrev pub bare_programs : MemoryMap → CheckedProgram → List TaskPrograms
+bare_programs l p = bare_tasks p.functions l p.tasks l.tasks

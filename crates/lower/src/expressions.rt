@@ -1,11 +1,11 @@
 //! The programs of expressions, which leave the expression's value on top of the stack, as one word or as a long, and the tests that
 //! expressions are.
-ghost use Rattle.std.specs.Prelude.{◌≡◌, ◌%◌, ◌/◌, OnOk, IfOk};
+ghost use Rattle.std.specs.Prelude.{◌≡◌, ◌%◌, ◌/◌, [], OnOk, IfOk};
 ghost use Rattle.array_versions.specs.Program.{joined, behind};
 ghost use Rattle.array_versions.specs.Program as step;
 ghost use Rattle.array_versions.specs.View.{program_of, test_of};
 ghost use Rattle.array_versions.specs.declared.operations.LongOperation.TheVariants as with_longs;
-ghost use Rattle.task_ast.specs.View.{expression_of};
+ghost use Rattle.task_ast.specs.View.{expression_of, values_of};
 ghost use Rattle.source_values.specs.Values.{type_of};
 ghost use Rattle.task_ast.specs.declared.names.Variable.TheVariants.{Shared};
 ghost use Rattle.lower.specs.View.{places_in, lowering_of};
@@ -14,7 +14,7 @@ ghost use Rattle.lower.specs.Lowered.{own_read};
 ghost use Rattle.lower.specs.Lowered.{one, read_step, read_long, element_step, word_program, value_test, widening, name_lowering, long_words, long_program};
 ghost use Rattle.lower.specs.Lowered.{unary_lowering, long_unary_lowering, operand_lowering, binary_lowering, answer, long_binary_lowering, sides_lowering};
 ghost use Rattle.lower.specs.Lowered.{shift_lowering, sides_test, widened_type, lowering, as_word, as_test, as_bits, as_long, lowered_expression, lowered_long};
-ghost use Rattle.lower.specs.Lowered.{Lowering, lowered_test};
+ghost use Rattle.lower.specs.Lowered.{Lowering, arguments, call_count, call_step, lowered_test};
 
 use crate::operations::{
     BinaryMeaning, LongMeaning, LongQuestion, binary_meaning, long_meaning, long_shift,
@@ -28,7 +28,7 @@ use memory_map::{Logging, VariablePlace};
 use std::alloc::{AllocError, Global};
 use task_ast::types::{binary_type, joined_type, literal_type, unary_type};
 use task_ast::{
-    BinaryOperator, Expr, FunctionName, ShiftOperator, ShortCircuitOperator, UnaryOperator,
+    Args, BinaryOperator, Expr, FunctionName, ShiftOperator, ShortCircuitOperator, UnaryOperator,
     Variable, VariableName, WordType,
 };
 use variable_places::{TaskPlaces, array_place, high_address, low_word};
@@ -93,7 +93,7 @@ fn read(
 {
     match variable {
         Variable::Shared(number) => program.load(places.address_of(number)),
-        Variable::Local(number) => program.local(low_word(number)),
+        Variable::Local(number) => program.local(places.local_number(number)),
     }
 }
 
@@ -114,7 +114,7 @@ fn read_long(
             program.load(high_address(address))?;
         }
         Variable::Local(number) => {
-            program.local(low_word(number))?;
+            program.local(places.local_number(number))?;
             program.number(0)?;
         }
     }
@@ -579,14 +579,63 @@ pub fn append(program: &mut WordProgram, mut more: WordProgram) -> Result<(), Al
     program.steps.append(&mut more.steps)
 }
 
+// With how many words a function is called. No program calls one with 2^16.
+#[tactic(auto, using(crate::proofs::Chains::one_value_more))]
+fn value_count(values: &Args<VariableName, FunctionName>) -> u16
+    ensures { result ≡ call_count (values_of values.now) }
+{
+    match values {
+        Args::End => 0,
+        Args::Value(_, more) => value_count(more).wrapping_add(1),
+    }
+}
+
+// Calls the function of a number. One that has no place in the task is never called.
+fn call(
+    function: u32,
+    count: u16,
+    places: &TaskPlaces<'_>,
+    program: &mut WordProgram,
+) -> Result<(), AllocError>
+    ensures { OnOk result (program_of program.new
+        ≡ behind (program_of program.old) (call_step (places_in places.now) [] function count)) }
+{
+    match places.routine_of(function) {
+        Some(routine) => program.call(routine.code.address, routine.frame, routine.first, count),
+        None => program.call(0, None, 0, count),
+    }
+}
+
+// Puts the programs of a call's values behind another, from left to right.
+#[cycle(expression)]
+#[tactic(auto, using(array_versions::proofs::Interface::joined_assoc, array_versions::proofs::Interface::joined_nothing))]
+fn append_values(
+    alloc: Global,
+    values: &Args<VariableName, FunctionName>,
+    places: &TaskPlaces<'_>,
+    program: &mut WordProgram,
+) -> Result<(), AllocError>
+    ensures { OnOk result (program_of program.new
+        ≡ joined (program_of program.old) (arguments (places_in places.now) [] (values_of values.now))) }
+{
+    match values {
+        Args::End => Ok(()),
+        Args::Value(e, more) => {
+            append(program, lower_expression(alloc, e, places)?)?;
+            append_values(alloc, more, places, program)
+        }
+    }
+}
+
 // What an expression comes to, and its type.
 #[cycle(expression)]
+#[tactic(auto, using(array_versions::proofs::Interface::joined_nothing))]
 fn lower(
     alloc: Global,
     e: &Expr<VariableName, FunctionName>,
     places: &TaskPlaces<'_>,
 ) -> Result<(ExpressionProgram, WordType), AllocError>
-    ensures program { IfOk result (λ x. lowering_of x.0 ≡ lowering (places_in places.now) (expression_of e.now)) }
+    ensures program { IfOk result (λ x. lowering_of x.0 ≡ lowering (places_in places.now) [] (expression_of e.now)) }
     ensures word_type { IfOk result (λ x. x.1 ≡ type_of (expression_of e.now)) }
 {
     match e {
@@ -599,8 +648,12 @@ fn lower(
         }
         Expr::Sense => with_type(reading(alloc), WordType::Unsigned),
         Expr::NextEvent => with_type(event(alloc), WordType::Unsigned),
-        // No program calls a function yet: where none is declared, none is called.
-        Expr::Call(function, _) => with_type(number(alloc, 0), function.word_type),
+        Expr::Call(function, values) => {
+            let mut program = WordProgram::new(alloc);
+            append_values(alloc, values, places, &mut program)?;
+            call(function.function, value_count(values), places, &mut program)?;
+            Ok((ExpressionProgram::Word(program), function.word_type))
+        }
         Expr::Unary(op, operand) => {
             let (operand, word_type) = lower(alloc, operand, places)?;
             let program = of_operand(alloc, word_type, *op, operand)?;
@@ -638,7 +691,7 @@ pub fn lower_expression(
     e: &Expr<VariableName, FunctionName>,
     places: &TaskPlaces<'_>,
 ) -> Result<WordProgram, AllocError>
-    ensures { IfOk result (λ p. program_of p ≡ lowered_expression (places_in places.now) (expression_of e.now)) }
+    ensures { IfOk result (λ p. program_of p ≡ lowered_expression (places_in places.now) [] (expression_of e.now)) }
 {
     let (program, _) = lower(alloc, e, places)?;
     into_program(alloc, program)
@@ -652,7 +705,7 @@ pub fn append_expression(
     program: &mut WordProgram,
 ) -> Result<(), AllocError>
     ensures { OnOk result (program_of program.new
-        ≡ joined (program_of program.old) (lowered_expression (places_in places.now) (expression_of e.now))) }
+        ≡ joined (program_of program.old) (lowered_expression (places_in places.now) [] (expression_of e.now))) }
 {
     let value = lower_expression(alloc, e, places)?;
     append(program, value)
@@ -664,7 +717,7 @@ pub fn lower_long(
     e: &Expr<VariableName, FunctionName>,
     places: &TaskPlaces<'_>,
 ) -> Result<WordProgram, AllocError>
-    ensures { IfOk result (λ p. program_of p ≡ lowered_long (places_in places.now) (expression_of e.now)) }
+    ensures { IfOk result (λ p. program_of p ≡ lowered_long (places_in places.now) [] (expression_of e.now)) }
 {
     let (program, word_type) = lower(alloc, e, places)?;
     into_long(alloc, widened_type(e, word_type), program)
@@ -676,7 +729,7 @@ pub fn lower_test(
     e: &Expr<VariableName, FunctionName>,
     places: &TaskPlaces<'_>,
 ) -> Result<WordTest, AllocError>
-    ensures { IfOk result (λ c. test_of c ≡ lowered_test (places_in places.now) (expression_of e.now)) }
+    ensures { IfOk result (λ c. test_of c ≡ lowered_test (places_in places.now) [] (expression_of e.now)) }
 {
     let (program, _) = lower(alloc, e, places)?;
     into_test(program)

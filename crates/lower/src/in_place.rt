@@ -1,7 +1,7 @@
 //! What an assignment in place does: where the left side of its operator is what is assigned.
 ghost use Rattle.std.specs.Prelude.{◌≡◌};
 ghost use Rattle.task_ast.specs.View.{expression_of};
-ghost use Rattle.lower.specs.Lowered.{is_name, updating, of_words, is_number, are_alike, is_element, element_updating};
+ghost use Rattle.lower.specs.Lowered.{has_call, is_name, updating, of_words, is_number, are_alike, is_element, element_updating};
 
 use crate::operations::plain_operation;
 use array_versions::PlainOperation;
@@ -27,15 +27,35 @@ fn is_name(variable: Variable, e: &Expr<VariableName, FunctionName>) -> bool
     }
 }
 
-/// The operation that sets a variable to what an operator gives of it, on the left, and of another side.
+// Whether an expression calls a function.
+fn has_call(e: &Expr<VariableName, FunctionName>) -> bool
+    ensures { result ≡ has_call (expression_of e.now) }
+{
+    match e {
+        Expr::Call(..) => true,
+        Expr::Element(_, inner) | Expr::Unary(_, inner) | Expr::Shift(_, inner, _) => {
+            has_call(inner)
+        }
+        Expr::Binary(_, a, b) | Expr::ShortCircuit(_, a, b) => has_call(a) || has_call(b),
+        Expr::Number(_)
+        | Expr::LongNumber(_)
+        | Expr::Name(_)
+        | Expr::Sense
+        | Expr::NextEvent => false,
+    }
+}
+
+/// The operation that sets a variable to what an operator gives of it, on the left, and of another side. None where that side calls
+/// a function: the variable is read first, and the function may change it.
 pub fn updating(
     variable: Variable,
     op: BinaryOperator,
     left: &Expr<VariableName, FunctionName>,
+    right: &Expr<VariableName, FunctionName>,
 ) -> Option<PlainOperation>
-    ensures { result ≡ updating variable op (expression_of left.now) }
+    ensures { result ≡ updating variable op (expression_of left.now) (expression_of right.now) }
 {
-    if is_name(variable, left) {
+    if is_name(variable, left) && !has_call(right) {
         plain_operation(op)
     } else {
         None
@@ -117,16 +137,17 @@ fn is_element(
 }
 
 /// The operation that sets an element to what an operator gives of it, on the left, and of another side. Both indexes are one
-/// number or one variable alone, so that it is one element.
+/// number or one variable alone, so that it is one element. None where the other side calls a function, which may change it.
 pub fn element_updating(
     variable: Variable,
     index: &Expr<VariableName, FunctionName>,
     op: BinaryOperator,
     left: &Expr<VariableName, FunctionName>,
+    right: &Expr<VariableName, FunctionName>,
 ) -> Option<PlainOperation>
-    ensures { result ≡ element_updating variable (expression_of index.now) op (expression_of left.now) }
+    ensures { result ≡ element_updating variable (expression_of index.now) op (expression_of left.now) (expression_of right.now) }
 {
-    if is_element(variable, index, left) {
+    if is_element(variable, index, left) && !has_call(right) {
         plain_operation(op)
     } else {
         None

@@ -1,17 +1,18 @@
 //! The word programs of a source.
 ghost use Rattle.std.specs.Prelude.{◌≡◌, ◌≤◌, IfOk, length, map};
-ghost use Rattle.array_versions.specs.View.{program_of};
+ghost use Rattle.array_versions.specs.View.{program_of, programs_of};
 ghost use Rattle.task_ast.specs.View as tree;
-ghost use Rattle.task_ast.specs.View.{block_view};
+ghost use Rattle.task_ast.specs.View.{block_view, function_of};
+ghost use Rattle.lower.specs.View.{places_in};
 ghost use Rattle.lower.specs.Seen.{some_path_writes, place_seen, places_seen, task_seen};
-ghost use Rattle.lower.specs.Lowered.{lowered_task, lowered};
+ghost use Rattle.lower.specs.Lowered.{bare_programs, bare_routine, bare_task};
 
 use crate::statements::lower_block;
-use array_versions::WordProgram;
-use memory_map::{Layout, Logging, PrivateScalar, TaskLayout, VariablePlace};
-use path_sums::access_summary;
+use array_versions::{TaskPrograms, WordProgram};
+use memory_map::{Layout, Logging, PrivateScalar, RoutinePlace, TaskLayout, VariablePlace};
+use path_sums::{access_summary, call_summaries};
 use std::alloc::{AllocError, Global};
-use task_ast::{FunctionName, Stmt, TaskName, Variable, VariableName};
+use task_ast::{FunctionDeclaration, FunctionName, Stmt, TaskName, Variable, VariableName};
 use task_check::Checked;
 use variable_places::TaskPlaces;
 
@@ -39,15 +40,18 @@ fn place_seen(written: bool, place: VariablePlace) -> VariablePlace
 // The places of all variables as a task sees them.
 fn places_seen(
     alloc: Global,
+    functions: &[FunctionDeclaration<VariableName, TaskName, FunctionName>],
     body: &[Stmt<VariableName, TaskName, FunctionName>],
     variables: &[VariablePlace],
 ) -> Result<Vec<VariablePlace>, AllocError>
     requires { length variables.now ≤ 256 }
-    ensures { IfOk result (λ v. v.items ≡ places_seen (some_path_writes (block_view body.now)) 0 variables.now) }
+    ensures { IfOk result (λ v. v.items ≡ places_seen (some_path_writes (map function_of functions.now) (block_view body.now)) 0 variables.now) }
 {
     let mut seen = Vec::new(alloc);
     for i in 0..variables.len() {
-        let summary = access_summary(&[], Variable::Shared(i as u32), body);
+        let variable = Variable::Shared(i as u32);
+        let known = call_summaries(alloc, variable, functions)?;
+        let summary = access_summary(&known, variable, body);
         seen.push(place_seen(summary.writes, variables[i]))?;
     }
     Ok(seen)
@@ -63,16 +67,56 @@ fn privates_seen(logging: Logging, task: &TaskLayout) -> &[PrivateScalar]
     }
 }
 
+// The program of a function that a task reaches.
+#[tactic(auto, using(array_versions::proofs::Interface::joined_nothing))]
+fn lower_routine(
+    alloc: Global,
+    functions: &[FunctionDeclaration<VariableName, TaskName, FunctionName>],
+    routine: RoutinePlace,
+    places: &TaskPlaces<'_>,
+) -> Result<WordProgram, AllocError>
+    ensures { IfOk result (λ p. program_of p ≡ bare_routine (places_in places.now) (map function_of functions.now) routine) }
+{
+    let mut program = WordProgram::new(alloc);
+    match functions.get(routine.function as usize) {
+        Some(function) => {
+            lower_block(alloc, &function.body, &places.of_routine(routine), &mut program)?;
+            Ok(program)
+        }
+        None => Ok(program),
+    }
+}
+
+// The programs of the functions that a task reaches, in order of declaration.
+fn lower_routines(
+    alloc: Global,
+    functions: &[FunctionDeclaration<VariableName, TaskName, FunctionName>],
+    places: &TaskPlaces<'_>,
+) -> Result<Vec<WordProgram>, AllocError>
+    ensures { IfOk result (λ ps. map program_of ps.items
+        ≡ map (bare_routine (places_in places.now) (map function_of functions.now)) (places_in places.now).routines) }
+{
+    let routines = places.routines;
+    let mut programs = Vec::new(alloc);
+    for i in 0..routines.len() {
+        programs.push(lower_routine(alloc, functions, routines[i], places)?)?;
+    }
+    Ok(programs)
+}
+
+#[tactic(auto, using(crate::proofs::Seen::first_seen, crate::proofs::Seen::routines_seen))]
 fn lower_task(
     alloc: Global,
+    functions: &[FunctionDeclaration<VariableName, TaskName, FunctionName>],
     body: &[Stmt<VariableName, TaskName, FunctionName>],
     layout: &Layout,
     task: &TaskLayout,
-) -> Result<WordProgram, AllocError>
+) -> Result<TaskPrograms, AllocError>
     requires { length layout.now.variables ≤ 256 }
-    ensures { IfOk result (λ p. program_of p ≡ lowered_task layout.now task.now (block_view body.now)) }
+    ensures { IfOk result (λ ps. programs_of ps
+        ≡ bare_task (map function_of functions.now) layout.now task.now (block_view body.now)) }
 {
-    let variables = places_seen(alloc, body, layout.variables())?;
+    let variables = places_seen(alloc, functions, body, layout.variables())?;
     let places = TaskPlaces {
         layout,
         variables: variables.as_slice(),
@@ -80,26 +124,29 @@ fn lower_task(
         first: task.first(),
         routines: task.routines(),
     };
-    let mut program = WordProgram::new(alloc);
-    lower_block(alloc, body, &places, &mut program)?;
-    Ok(program)
+    let mut own = WordProgram::new(alloc);
+    lower_block(alloc, body, &places, &mut own)?;
+    let routines = lower_routines(alloc, functions, &places)?;
+    Ok(TaskPrograms { own, routines })
 }
 
-/// The word program of each task, in order of declaration; or no memory is left. The layout is that of the source.
+/// The word programs of each task, in order of declaration: its own, and one for each function that it reaches; or no memory is left. The
+/// layout is that of the source.
 pub fn lower(
     alloc: Global,
     checked: &Checked,
     layout: &Layout,
-) -> Result<Vec<WordProgram>, AllocError>
+) -> Result<Vec<TaskPrograms>, AllocError>
     requires same_variables { length layout.now.variables ≡ length checked.now.source.shared.items }
     requires same_tasks { length layout.now.tasks ≡ length checked.now.source.tasks.items }
-    ensures { IfOk result (λ ps. map program_of ps.items ≡ lowered layout.now (tree.program_of checked.now.source)) }
+    ensures { IfOk result (λ ps. map programs_of ps.items ≡ bare_programs layout.now (tree.program_of checked.now.source)) }
 {
+    let functions = checked.source().functions.as_slice();
     let tasks = checked.source().tasks.as_slice();
     let layouts = layout.tasks();
     let mut programs = Vec::new(alloc);
     for i in 0..tasks.len() {
-        programs.push(lower_task(alloc, &tasks[i].body, layout, &layouts[i])?)?;
+        programs.push(lower_task(alloc, functions, &tasks[i].body, layout, &layouts[i])?)?;
     }
     Ok(programs)
 }

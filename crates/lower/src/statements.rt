@@ -2,6 +2,7 @@
 ghost use Rattle.std.specs.Prelude.{◌≡◌, [], map, Option, OnOk, IfOk};
 ghost use Rattle.std.specs.Option.{option_map};
 ghost use Rattle.array_versions.specs.Program.{joined, behind, choose};
+ghost use Rattle.array_versions.specs.Program as step;
 ghost use Rattle.array_versions.specs.View.{program_of};
 ghost use Rattle.task_ast.specs.Tree.{choice_of};
 ghost use Rattle.task_ast.specs.Paths.{CheckedBlock};
@@ -32,7 +33,7 @@ fn write(
 {
     match variable {
         Variable::Shared(number) => program.keep(places.address_of(number)),
-        Variable::Local(number) => program.set_local(low_word(number)),
+        Variable::Local(number) => program.set_local(places.local_number(number)),
     }
 }
 
@@ -54,7 +55,7 @@ fn write_long(
         }
         Variable::Local(number) => {
             program.long(LongOperation::LowWord)?;
-            program.set_local(low_word(number))
+            program.set_local(places.local_number(number))
         }
     }
 }
@@ -71,7 +72,7 @@ fn update(
 {
     match variable {
         Variable::Shared(number) => program.update(operation, places.address_of(number)),
-        Variable::Local(number) => program.update_local(operation, low_word(number)),
+        Variable::Local(number) => program.update_local(operation, places.local_number(number)),
     }
 }
 
@@ -85,7 +86,7 @@ fn set(
     program: &mut WordProgram,
 ) -> Result<(), AllocError>
     ensures { OnOk result (program_of program.new
-        ≡ joined (program_of program.old) (setting (places_in places.now) variable (expression_of e.now))) }
+        ≡ joined (program_of program.old) (setting (places_in places.now) [] variable (expression_of e.now))) }
 {
     append_expression(alloc, e, places, program)?;
     write(variable, places, program)
@@ -101,7 +102,7 @@ fn set_long(
     program: &mut WordProgram,
 ) -> Result<(), AllocError>
     ensures { OnOk result (program_of program.new
-        ≡ joined (program_of program.old) (long_setting (places_in places.now) variable (expression_of e.now))) }
+        ≡ joined (program_of program.old) (long_setting (places_in places.now) [] variable (expression_of e.now))) }
 {
     append(program, lower_long(alloc, e, places)?)?;
     write_long(variable, places, program)
@@ -118,7 +119,7 @@ fn set_in_place(
     program: &mut WordProgram,
 ) -> Result<(), AllocError>
     ensures { OnOk result (program_of program.new ≡ joined (program_of program.old)
-        (behind (lowered_expression (places_in places.now) (expression_of e.now)) (update_step (places_in places.now) operation variable))) }
+        (behind (lowered_expression (places_in places.now) [] (expression_of e.now)) (update_step (places_in places.now) operation variable))) }
 {
     append_expression(alloc, e, places, program)?;
     update(operation, variable, places, program)
@@ -133,12 +134,12 @@ fn assign(
     program: &mut WordProgram,
 ) -> Result<(), AllocError>
     ensures { OnOk result (program_of program.new
-        ≡ joined (program_of program.old) (assignment (places_in places.now) variable (expression_of e.now))) }
+        ≡ joined (program_of program.old) (assignment (places_in places.now) [] variable (expression_of e.now))) }
 {
     match e {
         Expr::Binary(op, left, right) => match of_words(
             joined_type(type_of(left), type_of(right)),
-            updating(variable, op.operator, left),
+            updating(variable, op.operator, left, right),
         ) {
             Some(operation) => set_in_place(alloc, operation, variable, right, places, program),
             None => set(alloc, variable, e, places, program),
@@ -166,7 +167,7 @@ fn assign_scalar(
     program: &mut WordProgram,
 ) -> Result<(), AllocError>
     ensures { OnOk result (program_of program.new
-        ≡ joined (program_of program.old) (scalar_assignment (places_in places.now) word_type variable (expression_of e.now))) }
+        ≡ joined (program_of program.old) (scalar_assignment (places_in places.now) [] word_type variable (expression_of e.now))) }
 {
     match word_type {
         WordType::Long => set_long(alloc, variable, e, places, program),
@@ -184,7 +185,7 @@ fn index_and_value(
     program: &mut WordProgram,
 ) -> Result<(), AllocError>
     ensures { OnOk result (program_of program.new ≡ joined (program_of program.old)
-        (index_and_value (places_in places.now) (expression_of index.now) (expression_of e.now))) }
+        (index_and_value (places_in places.now) [] (expression_of index.now) (expression_of e.now))) }
 {
     append_expression(alloc, index, places, program)?;
     append_expression(alloc, e, places, program)
@@ -247,7 +248,7 @@ fn set_element(
     program: &mut WordProgram,
 ) -> Result<(), AllocError>
     ensures { OnOk result (program_of program.new ≡ joined (program_of program.old)
-        (element_setting (places_in places.now) variable (expression_of index.now) (expression_of e.now))) }
+        (element_setting (places_in places.now) [] variable (expression_of index.now) (expression_of e.now))) }
 {
     index_and_value(alloc, index, e, places, program)?;
     write_element(variable, places, program)
@@ -265,7 +266,7 @@ fn set_element_in_place(
     program: &mut WordProgram,
 ) -> Result<(), AllocError>
     ensures { OnOk result (program_of program.new ≡ joined (program_of program.old)
-        (behind (index_and_value (places_in places.now) (expression_of index.now) (expression_of e.now))
+        (behind (index_and_value (places_in places.now) [] (expression_of index.now) (expression_of e.now))
         (update_element_step (places_in places.now) operation variable))) }
 {
     index_and_value(alloc, index, e, places, program)?;
@@ -282,12 +283,12 @@ fn store(
     program: &mut WordProgram,
 ) -> Result<(), AllocError>
     ensures { OnOk result (program_of program.new ≡ joined (program_of program.old)
-        (element_assignment (places_in places.now) variable (expression_of index.now) (expression_of e.now))) }
+        (element_assignment (places_in places.now) [] variable (expression_of index.now) (expression_of e.now))) }
 {
     match e {
         Expr::Binary(op, left, right) => match of_words(
             joined_type(type_of(left), type_of(right)),
-            element_updating(variable, index, op.operator, left),
+            element_updating(variable, index, op.operator, left, right),
         ) {
             Some(operation) => set_element_in_place(
                 alloc, operation, variable, index, right, places, program,
@@ -317,7 +318,7 @@ fn declare(
     program: &mut WordProgram,
 ) -> Result<(), AllocError>
     ensures { OnOk result (program_of program.new
-        ≡ joined (program_of program.old) (declaration (places_in places.now) variable (option_map expression_of value.now))) }
+        ≡ joined (program_of program.old) (declaration (places_in places.now) [] variable (option_map expression_of value.now))) }
 {
     match value {
         None => Ok(()),
@@ -333,7 +334,7 @@ fn emit(
     program: &mut WordProgram,
 ) -> Result<(), AllocError>
     ensures { OnOk result (program_of program.new
-        ≡ joined (program_of program.old) (emission (places_in places.now) (expression_of e.now))) }
+        ≡ joined (program_of program.old) (emission (places_in places.now) [] (expression_of e.now))) }
 {
     append_expression(alloc, e, places, program)?;
     let layout = places.layout;
@@ -341,12 +342,27 @@ fn emit(
     program.emit_word(emit_count, layout.emits().address)
 }
 
+// In a function: ends with an expression's value.
+#[tactic(auto, using(array_versions::proofs::Interface::joined_assoc))]
+fn give(
+    alloc: Global,
+    e: &Expr<VariableName, FunctionName>,
+    places: &TaskPlaces<'_>,
+    program: &mut WordProgram,
+) -> Result<(), AllocError>
+    ensures { OnOk result (program_of program.new ≡ joined (program_of program.old)
+        (behind (lowered_expression (places_in places.now) [] (expression_of e.now)) step.give)) }
+{
+    append_expression(alloc, e, places, program)?;
+    program.give()
+}
+
 // The local that counts the turns of a `for`. The checks refuse a shared variable there.
-fn loop_local(variable: Variable) -> u16
-    ensures { result ≡ loop_local variable }
+fn loop_local(variable: Variable, places: &TaskPlaces<'_>) -> u16
+    ensures { result ≡ loop_local (places_in places.now) variable }
 {
     match variable {
-        Variable::Local(number) => low_word(number),
+        Variable::Local(number) => places.local_number(number),
         Variable::Shared(_) => 0,
     }
 }
@@ -396,7 +412,7 @@ fn lower_statement(
     program: &mut WordProgram,
 ) -> Result<(), AllocError>
     ensures { OnOk result (program_of program.new
-        ≡ joined (program_of program.old) (lowered_statement (places_in places.now) (statement_of s.now))) }
+        ≡ joined (program_of program.old) (lowered_statement (places_in places.now) [] (statement_of s.now))) }
 {
     match s {
         Stmt::Declare(_, x, value) => declare(alloc, x.variable, value, places, program),
@@ -422,11 +438,10 @@ fn lower_statement(
         } => {
             let mut turn = WordProgram::new(alloc);
             lower_block(alloc, body, places, &mut turn)?;
-            program.repeat(loop_local(variable.variable), *from, *below, turn)
+            program.repeat(loop_local(variable.variable, places), *from, *below, turn)
         }
         Stmt::Emit(e) => emit(alloc, e, places, program),
-        // It stands in functions alone.
-        Stmt::Return(_keyword, _value) => Ok(()),
+        Stmt::Return(_, e) => give(alloc, e, places, program),
         Stmt::TransitionTo(_, t) => lower_transition(t.task, places, program),
     }
 }
@@ -439,8 +454,8 @@ fn lower_arm(
     otherwise: WordProgram,
     places: &TaskPlaces<'_>,
 ) -> Result<WordProgram, AllocError>
-    ensures { IfOk result (λ p. program_of p ≡ one (choose (lowered_test (places_in places.now) (tested_of arm.now).condition)
-        (lowered_block (places_in places.now) (tested_of arm.now).block) (program_of otherwise))) }
+    ensures { IfOk result (λ p. program_of p ≡ one (choose (lowered_test (places_in places.now) [] (tested_of arm.now).condition)
+        (lowered_block (places_in places.now) [] (tested_of arm.now).block) (program_of otherwise))) }
 {
     let test = lower_test(alloc, &arm.condition, places)?;
     let mut taken = WordProgram::new(alloc);
@@ -459,8 +474,8 @@ fn lower_arms(
     places: &TaskPlaces<'_>,
 ) -> Result<WordProgram, AllocError>
     ensures { (b : Option CheckedBlock)
-        → program_of last ≡ lowered_choice (places_in places.now) (choice_of [] b)
-        → IfOk result (λ p. program_of p ≡ lowered_choice (places_in places.now) (choice_of (map tested_of arms.now) b)) }
+        → program_of last ≡ lowered_choice (places_in places.now) [] (choice_of [] b)
+        → IfOk result (λ p. program_of p ≡ lowered_choice (places_in places.now) [] (choice_of (map tested_of arms.now) b)) }
 {
     let mut chain = last;
     for i in (0..arms.len()).rev() {
@@ -479,7 +494,7 @@ pub fn lower_block(
     program: &mut WordProgram,
 ) -> Result<(), AllocError>
     ensures { OnOk result (program_of program.new
-        ≡ joined (program_of program.old) (lowered_block (places_in places.now) (block_view body.now))) }
+        ≡ joined (program_of program.old) (lowered_block (places_in places.now) [] (block_view body.now))) }
 {
     for statement in body {
         lower_statement(alloc, statement, places, program)?;

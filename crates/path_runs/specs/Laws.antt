@@ -1,14 +1,16 @@
 -- What the paths of a block tell of its runs.
-use Rattle.std.specs.Prelude.{◌≡◌, ◌<◌, ◌≤◌, ℕ, true, false, List, [], Some, None}
+use Rattle.std.specs.Prelude.{◌≡◌, ◌<◌, ◌≤◌, ℕ, true, false, List, length, Some, None, All}
 use Rattle.source_values.specs.task_ast.Tree as t
-use Rattle.source_values.specs.task_ast.Calls.{BlockCallsBelow}
-use Rattle.source_values.specs.task_ast.Paths.{CheckedStatement, CheckedChoice, CheckedBlock}
+use Rattle.source_values.specs.task_ast.Answers.{answers}
+use Rattle.source_values.specs.task_ast.Calls.{BlockCallsBelow, FunctionsCallBelow}
+use Rattle.source_values.specs.task_ast.Paths.{CheckedStatement, CheckedChoice, CheckedBlock, CheckedFunction}
 use Rattle.source_values.specs.task_ast.declared.names.Variable.TheVariants.{Shared}
 use Rattle.source_values.specs.task_ast.declared.names.VariableName.{VariableName}
 use Rattle.path_sums.specs.Access.{is_same, writes, SomePath, IsPrivate}
+use Rattle.path_sums.specs.Known.{EachReturns}
 use Rattle.path_sums.specs.Reaches.{statement_falls_through}
 use Rattle.source_values.specs.Values.{Meaning, by_width}
-use Rattle.source_values.specs.Statements.{Attempt, goes_on, assigned, run_statement, run_block}
+use Rattle.source_values.specs.Statements.{Attempt, goes_on, assigned, run_statement, run_block, meaning_of}
 
 -- a statement that goes on has a path that goes on
 abbrev pub RunsGoOnAlongPaths : Type 0
@@ -42,9 +44,15 @@ abbrev mutual
   IsScalarIn v n t.end = Unit {0}
   IsScalarIn v n (t.step s more) = IsScalarInStatement v n s × IsScalarIn v n more
 
--- A scalar that some path of a block without calls writes, and that isn't private to it, is written on each path before it is read and
--- before the transition. So the block comes to the same whichever words the scalar held.
+-- functions that call those in front of them and come to a return, in each of which this shared variable is a scalar of so many words
+pub record HaveScalar (v n : ℕ) (fs : List CheckedFunction) : Type 0 where
+  pub calls : FunctionsCallBelow 0 fs
+  pub returning : EachReturns fs
+  pub scalars : All (λ f. IsScalarIn v n f.body) fs
+
+-- A scalar that some path of a block writes, and that isn't private to it, is written on each path before it is read and before the
+-- transition, be it in a call. So the block comes to the same whichever words the scalar held.
 abbrev pub FirstWritesForget : Type 0
-FirstWritesForget = (b : CheckedBlock) → BlockCallsBelow 0 b → (v n i w : ℕ) (s : Attempt) → IsScalarIn v n b → i < n
-    → SomePath [] b (writes (Shared v)) → (IsPrivate [] b (Shared v) → ⊥)
-    → run_block [] b (assigned s (Shared v) i w) ≡ run_block [] b s
+FirstWritesForget = (fs : List CheckedFunction) (b : CheckedBlock) → BlockCallsBelow (length fs) b → (v n i w : ℕ) (s : Attempt) → HaveScalar v n fs
+    → IsScalarIn v n b → i < n → SomePath fs b (writes (Shared v)) → (IsPrivate fs b (Shared v) → ⊥)
+    → run_block (answers meaning_of fs) b (assigned s (Shared v) i w) ≡ run_block (answers meaning_of fs) b s

@@ -14,7 +14,7 @@ use Rattle.task_ast.specs.Calls.{BlockCallsBelow}
 use Rattle.path_sums.specs.Access.{is_same, writes, SomePath, IsPrivate}
 use Rattle.war_analysis.specs.Plans.{is_scalar, IsScalarAt, IsArrayAt}
 use Rattle.privatise.specs.Sizes.{home_part}
-use Rattle.path_runs.proofs.Interface.{first_writes_forget}
+use Rattle.path_runs.proofs.Interface.{first_writes_forget, no_functions}
 
 -- ---- no element of a scalar is stored to, and each of its words is given
 
@@ -194,7 +194,8 @@ module _ (holds : ℕ → Bool) (words : ℕ → ℕ) (word : ℕ → ℕ → �
       → (j : ℕ) → j ≤ words n → (a : Attempt) → run_block [] b (record a { variables = with_words a.variables n j }) ≡ run_block [] b a
   words_run b calls n k written in_place zero h a = refl
   words_run b calls n k written in_place (suc j) h a =
-      first_writes_forget b calls n (words n) j (word n j) (record a { variables = with_words a.variables n j }) k (omega (arith, h)) written in_place
+      first_writes_forget [] b calls n (words n) j (word n j) (record a { variables = with_words a.variables n j }) (no_functions n (words n)) k
+      (omega (arith, h)) written in_place
       ∙ words_run b calls n k written in_place j (omega (arith, h)) a
 
   -- and so one that writes each of them first

@@ -1,5 +1,6 @@
 mod Numbers
 mod Steps
+mod Returning
 mod Counted
 mod Unique
 pub mod Interface

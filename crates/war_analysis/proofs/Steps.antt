@@ -1,7 +1,8 @@
 -- What one turn of the loops of the analysis finds.
 use Rattle.std.proofs.Common.{◌≡◌, ℕ, zero, suc, ◌+◌, ◌<◌, Bool, true, false, ◌&&◌, not, if◌then◌else◌, List, [], ◌∷◌, ◌++◌, length, map, get_or, refl, ap, sym}
 use Rattle.std.proofs.Common.{◌∙◌, subst, inl, inr, arith, Option, Some, None}
-use Rattle.std.specs.Prelude.{All, slice_get, IsSomeAnd, IsTrue, ◌↔◌}
+use Rattle.std.specs.Prelude.{All, slice_get, IsSomeAnd, IsTrue, ◌↔◌, Vec}
+use Rattle.std.specs.Global.{Global}
 use Rattle.std.specs.Option.{option_map}
 use Rattle.std.proofs.lemmas.Option.{slice_get_read, slice_get_past, get_or_from_slice_get, slice_get-map, same_Some}
 use Rattle.std.proofs.lemmas.List.{length_push, length-map, get_or-map}
@@ -21,6 +22,10 @@ use Rattle.task_ast.specs.declared.names.Variable.TheVariants.{Shared}
 use Rattle.cost_bound.specs.path_sums.Access.{writes, SomePath, IsPrivate}
 use Rattle.cost_bound.specs.Counts.{CheckedBlock}
 use Rattle.cost_bound.specs.Allowance.{CheckedTask}
+use Rattle.cost_bound.specs.path_sums.Access.{summary}
+use Rattle.cost_bound.specs.path_sums.Known.{AreCallSums}
+use Rattle.cost_bound.specs.path_sums.declared.access.AccessSummary.{AccessSummary}
+use Rattle.war_analysis.specs.Known.{AreSumsByVariable}
 use Rattle.war_analysis.specs.PlanValue.{TaskPlanValue}
 use Rattle.war_analysis.specs.Plans.{is_scalar, IsPrivateIn, IsVersionedIn, IsTaskPlan, ArePlans}
 use Rattle.war_analysis.proofs.Numbers.{AreNumbersBelow, one_more, none_more}
@@ -127,23 +132,45 @@ module _ (fs : List CheckedFunction) (shared : List SharedDeclaration) (code : C
 
 -- ---- one more plan
 
-plan_push : (P : ℕ → TaskPlanValue → Type 0) (xs : List TaskPlanValue) (y : TaskPlanValue) → ((k : ℕ) (x : TaskPlanValue) → slice_get xs k ≡ Some x → P k x)
-    → P (length xs) y
-    → (k : ℕ) (x : TaskPlanValue) → slice_get (xs ++ y ∷ []) k ≡ Some x → P k x
-plan_push P [] y each new zero x e = let same : y ≡ x = cc in subst (P 0) same new
-plan_push P [] y each new (suc k) x e = let no : None ≡ Some x = e in cc
-plan_push P (z ∷ zs) y each new zero x e = each zero x e
-plan_push P (z ∷ zs) y each new (suc k) x e = plan_push (λ n. P (suc n)) zs y (λ k x h. each (suc k) x h) new k x e
+pub push_at : {A : Type 0} (P : ℕ → A → Type 0) (xs : List A) (y : A) → ((k : ℕ) (x : A) → slice_get xs k ≡ Some x → P k x) → P (length xs) y
+    → (k : ℕ) (x : A) → slice_get (xs ++ y ∷ []) k ≡ Some x → P k x
+push_at P [] y each new zero x e = let same : y ≡ x = cc in subst (P 0) same new
+push_at P [] y each new (suc k) x e = let no : None ≡ Some x = e in cc
+push_at P (z ∷ zs) y each new zero x e = each zero x e
+push_at P (z ∷ zs) y each new (suc k) x e = push_at (λ n. P (suc n)) zs y (λ k x h. each (suc k) x h) new k x e
 
--- a task of those that call nothing
-pub calls_at : (tasks : List (TaskDeclaration VariableName TaskName FunctionName)) (n : ℕ) (task : TaskDeclaration VariableName TaskName FunctionName)
+-- a task of those that call so many functions
+pub calls_in : (functions : ℕ) (tasks : List (TaskDeclaration VariableName TaskName FunctionName)) (n : ℕ)
+    (task : TaskDeclaration VariableName TaskName FunctionName)
     (body : List (Stmt VariableName TaskName FunctionName)) → n < length tasks → task ≡ get_or tasks n task → body ≡ task.body.items
-    → All (λ t. BlockCallsBelow 0 t.body) (map task_of tasks) → BlockCallsBelow 0 (block_view body)
-calls_at tasks n task body lt at b calls =
+    → All (λ t. BlockCallsBelow functions t.body) (map task_of tasks) → BlockCallsBelow functions (block_view body)
+calls_in functions tasks n task body lt at b calls =
     let under : n < length (map task_of tasks) = subst (λ k. n < k) (sym (length-map tasks task_of)) lt in
-    let here = All-get_or (λ t. BlockCallsBelow 0 t.body) (map task_of tasks) n (task_of task) under calls in
+    let here = All-get_or (λ t. BlockCallsBelow functions t.body) (map task_of tasks) n (task_of task) under calls in
     let same : get_or (map task_of tasks) n (task_of task) ≡ task_of task = get_or-map task_of tasks n task (task_of task) lt ∙ ap task_of (sym at) in
-    subst (λ x. BlockCallsBelow 0 (block_view x)) (sym b) (subst (λ t. BlockCallsBelow 0 t.body) same here)
+    subst (λ x. BlockCallsBelow functions (block_view x)) (sym b) (subst (λ t. BlockCallsBelow functions t.body) same here)
+
+-- ---- one more variable's sums
+
+pub no_sums : (functions : List CheckedFunction) → AreSumsByVariable functions 0 []
+no_sums functions = record { count = refl; each = λ i known at. let no : None ≡ Some known = at in cc }
+
+pub next_sums : (functions : List CheckedFunction) (n : ℕ) (sums more : List (Vec AccessSummary Global)) (known : Vec AccessSummary Global)
+    → more ≡ sums ++ known ∷ [] → AreCallSums (summary (Shared n)) functions known.items → AreSumsByVariable functions n sums
+    → AreSumsByVariable functions (n + 1) more
+next_sums functions n sums more known e is h = subst (λ xs. AreSumsByVariable functions (n + 1) xs) (sym e) (record {
+  count = length_push sums known ∙ ap (λ k. k + 1) h.count;
+  each = push_at (λ i s. AreCallSums (summary (Shared i)) functions s.items) sums known h.each
+      (subst (λ i. AreCallSums (summary (Shared i)) functions known.items) (sym h.count) is);
+})
+
+-- those of one variable
+pub sums_at : (functions : List CheckedFunction) (n i : ℕ) (sums : List (Vec AccessSummary Global)) (known : Vec AccessSummary Global)
+    (items : List AccessSummary) → AreSumsByVariable functions n sums → i < n → known ≡ get_or sums i known → items ≡ known.items
+    → AreCallSums (summary (Shared i)) functions items
+sums_at functions n i sums known items h lt at e =
+    subst (λ (xs : List AccessSummary). AreCallSums (summary (Shared i)) functions xs) (sym e)
+    (h.each i known (slice_get_read sums n i known (sym h.count) lt at))
 
 -- the plans of the first tasks
 pub record PlansBelow (fs : List CheckedFunction) (shared : List SharedDeclaration) (tasks : List CheckedTask) (n : ℕ) (plans : List TaskPlanValue) : Type 0
@@ -163,7 +190,7 @@ pub next_plan : (fs : List CheckedFunction) (shared : List SharedDeclaration) (t
     → PlansBelow fs shared (map task_of tasks) n xs → PlansBelow fs shared (map task_of tasks) (n + 1) ys
 next_plan fs shared tasks n task body plan xs ys lt at b is e h = subst (λ zs. PlansBelow fs shared (map task_of tasks) (n + 1) zs) (sym e) (record {
   count = length_push xs plan ∙ ap (λ k. k + 1) h.count;
-  each = plan_push (λ k x. (t : CheckedTask) → slice_get (map task_of tasks) k ≡ Some t → IsTaskPlan fs shared t.body x) xs plan h.each
+  each = push_at (λ k x. (t : CheckedTask) → slice_get (map task_of tasks) k ≡ Some t → IsTaskPlan fs shared t.body x) xs plan h.each
       (λ t found. let there : slice_get (map task_of tasks) n ≡ Some (task_of task) = slice_get-map task_of tasks n
       ∙ ap (option_map task_of) (slice_get_read tasks (length tasks) n task refl lt at) in
       let here : slice_get (map task_of tasks) n ≡ Some t = ap (λ k. slice_get (map task_of tasks) k) (sym h.count) ∙ found in

@@ -1,15 +1,18 @@
 //! The analysis of the tasks of a source.
-ghost use Rattle.std.specs.Prelude.{◌≡◌, ◌≤◌, ◌&&◌, ◌++◌, ◌∷◌, [], IfOk, OnOk, All, length, map, not, if◌then◌else◌};
-ghost use Rattle.task_ast.specs.View.{block_view, task_of, program_of};
-ghost use Rattle.task_ast.specs.Calls.{BlockCallsBelow};
+ghost use Rattle.std.specs.Prelude.{◌≡◌, ◌≤◌, ◌&&◌, ◌++◌, ◌∷◌, [], IfOk, OnOk, List, All, length, map, not, if◌then◌else◌};
+ghost use Rattle.task_ast.specs.View.{block_view, function_of, task_of, program_of};
+ghost use Rattle.task_ast.specs.Calls.{BlockCallsBelow, FunctionsCallBelow, CallsAreKnown};
+ghost use Rattle.task_ast.specs.Paths.{CheckedFunction};
+ghost use Rattle.path_sums.specs.Known.{EachReturns};
 ghost use Rattle.war_analysis.specs.Plans.{is_scalar, IsPrivateIn, IsVersionedIn, AreNumbers, IsTaskPlan, ArePlans, IsPlan};
+ghost use Rattle.war_analysis.specs.Known.{AreSumsByVariable, ForCalled};
 
 use crate::plan::{Plan, TaskPlan};
-use path_sums::{is_private, is_written};
+use path_sums::{AccessSummary, call_summaries, is_private, is_written};
 use std::alloc::{AllocError, Global};
 use task_ast::{
-    CheckedSource, Extent, FunctionName, SharedDeclaration, Stmt, TaskDeclaration, TaskName,
-    Variable, VariableName,
+    CheckedSource, Extent, FunctionDeclaration, FunctionName, SharedDeclaration, Stmt,
+    TaskDeclaration, TaskName, Variable, VariableName,
 };
 use task_check::Checked;
 
@@ -47,19 +50,38 @@ fn push_if(numbers: &mut Vec<u32>, number: u32, found: bool) -> Result<(), Alloc
     Ok(())
 }
 
-// Of a task that calls no function.
+// What calls of the functions do with each of so many shared variables, by its number.
+fn sums_by_variable(
+    alloc: Global,
+    variables: usize,
+    functions: &[FunctionDeclaration<VariableName, TaskName, FunctionName>],
+) -> Result<Vec<Vec<AccessSummary>>, AllocError>
+    requires few { variables ≤ 256 }
+    requires calls { FunctionsCallBelow 0 (map function_of functions.now) }
+    requires returning { EachReturns (map function_of functions.now) }
+    ensures { IfOk result (λ sums. AreSumsByVariable (map function_of functions.now) variables sums.items) }
+{
+    let mut sums = Vec::new(alloc);
+    for i in 0..variables {
+        sums.push(call_summaries(alloc, Variable::Shared(i as u32), functions)?)?;
+    }
+    Ok(sums)
+}
+
 fn private_scalars(
     alloc: Global,
     shared: &[SharedDeclaration],
+    sums: &[Vec<AccessSummary>],
     body: &[Stmt<VariableName, TaskName, FunctionName>],
 ) -> Result<Vec<u32>, AllocError>
     requires few { length shared.now ≤ 256 }
-    requires calls { BlockCallsBelow 0 (block_view body.now) }
-    ensures { IfOk result (λ v. AreNumbers (IsPrivateIn [] shared.now (block_view body.now)) v.items) }
+    requires known { length sums.now ≡ length shared.now }
+    ensures { IfOk result (λ v. ForCalled (length shared.now) sums.now (block_view body.now)
+        (λ fs. AreNumbers (IsPrivateIn fs shared.now (block_view body.now)) v.items)) }
 {
     let mut numbers = Vec::new(alloc);
     for i in 0..shared.len() {
-        let private = is_private(&[], Variable::Shared(i as u32), body);
+        let private = is_private(&sums[i], Variable::Shared(i as u32), body);
         let found = is_private_scalar(private, shared[i].extent);
         push_if(&mut numbers, i as u32, found)?;
     }
@@ -69,15 +91,17 @@ fn private_scalars(
 fn versioned_arrays(
     alloc: Global,
     shared: &[SharedDeclaration],
+    sums: &[Vec<AccessSummary>],
     body: &[Stmt<VariableName, TaskName, FunctionName>],
 ) -> Result<Vec<u32>, AllocError>
     requires few { length shared.now ≤ 256 }
-    requires calls { BlockCallsBelow 0 (block_view body.now) }
-    ensures { IfOk result (λ v. AreNumbers (IsVersionedIn [] shared.now (block_view body.now)) v.items) }
+    requires known { length sums.now ≡ length shared.now }
+    ensures { IfOk result (λ v. ForCalled (length shared.now) sums.now (block_view body.now)
+        (λ fs. AreNumbers (IsVersionedIn fs shared.now (block_view body.now)) v.items)) }
 {
     let mut numbers = Vec::new(alloc);
     for i in 0..shared.len() {
-        let written = is_written(&[], Variable::Shared(i as u32), body);
+        let written = is_written(&sums[i], Variable::Shared(i as u32), body);
         let found = is_versioned_array(written, shared[i].extent);
         push_if(&mut numbers, i as u32, found)?;
     }
@@ -87,14 +111,16 @@ fn versioned_arrays(
 fn task_plan(
     alloc: Global,
     shared: &[SharedDeclaration],
+    sums: &[Vec<AccessSummary>],
     body: &[Stmt<VariableName, TaskName, FunctionName>],
 ) -> Result<TaskPlan, AllocError>
     requires few { length shared.now ≤ 256 }
-    requires calls { BlockCallsBelow 0 (block_view body.now) }
-    ensures { IfOk result (IsTaskPlan [] shared.now (block_view body.now)) }
+    requires known { length sums.now ≡ length shared.now }
+    ensures { IfOk result (λ plan. ForCalled (length shared.now) sums.now (block_view body.now)
+        (λ fs. IsTaskPlan fs shared.now (block_view body.now) plan)) }
 {
-    let private_scalars = private_scalars(alloc, shared, body)?;
-    let versioned_arrays = versioned_arrays(alloc, shared, body)?;
+    let private_scalars = private_scalars(alloc, shared, sums, body)?;
+    let versioned_arrays = versioned_arrays(alloc, shared, sums, body)?;
     Ok(TaskPlan {
         private_scalars,
         versioned_arrays,
@@ -104,35 +130,38 @@ fn task_plan(
 fn task_plans(
     alloc: Global,
     shared: &[SharedDeclaration],
+    sums: &[Vec<AccessSummary>],
     tasks: &[TaskDeclaration<VariableName, TaskName, FunctionName>],
 ) -> Result<Vec<TaskPlan>, AllocError>
     requires few { length shared.now ≤ 256 }
-    requires calls { All (λ task. BlockCallsBelow 0 task.body) (map task_of tasks.now) }
-    ensures { IfOk result (λ v. ArePlans [] shared.now (map task_of tasks.now) v.items) }
+    requires known { length sums.now ≡ length shared.now }
+    ensures { IfOk result (λ v. (fs : List CheckedFunction) → AreSumsByVariable fs (length shared.now) sums.now
+        → All (λ task. BlockCallsBelow (length fs) task.body) (map task_of tasks.now) → ArePlans fs shared.now (map task_of tasks.now) v.items) }
 {
     let mut plans = Vec::new(alloc);
     for task in tasks {
-        plans.push(task_plan(alloc, shared, &task.body)?)?;
+        plans.push(task_plan(alloc, shared, sums, &task.body)?)?;
     }
     Ok(plans)
 }
 
 fn plan_of(alloc: Global, source: &CheckedSource) -> Result<Plan, AllocError>
     requires few { length source.now.shared.items ≤ 256 }
-    requires plain { (program_of source.now).functions ≡ [] }
-    requires calls { All (λ task. BlockCallsBelow 0 task.body) (program_of source.now).tasks }
+    requires calls { CallsAreKnown (program_of source.now) }
+    requires returning { EachReturns (program_of source.now).functions }
     ensures { IfOk result (IsPlan (program_of source.now)) }
 {
-    let tasks = task_plans(alloc, &source.shared, &source.tasks)?;
+    let sums = sums_by_variable(alloc, source.shared.len(), &source.functions)?;
+    let tasks = task_plans(alloc, &source.shared, &sums, &source.tasks)?;
     Ok(Plan { tasks })
 }
 
-/// What each task of a source without functions works on in copies; or no memory is left.
+/// What each task of a source works on in copies; or no memory is left.
 ///
 /// A task's private scalars are exactly the shared scalars that some path of it writes, and that not every path writes before it
-/// reads them and before its transition; its versioned arrays are exactly those that some path writes.
+/// reads them and before its transition; its versioned arrays are exactly those that some path writes. Its paths go through the
+/// functions that it calls.
 pub fn analyse(alloc: Global, checked: &Checked) -> Result<Plan, AllocError>
-    requires plain { (program_of checked.now.source).functions ≡ [] }
     ensures { IfOk result (IsPlan (program_of checked.now.source)) }
 {
     let plan = plan_of(alloc, checked.source())?;

@@ -1,4 +1,4 @@
-use Rattle.lower.proofs.Blocks.{blocks_agree}
+use Rattle.lower.proofs.Agreed.{blocks_agree}
 use Rattle.lower.proofs.laws.statements_agree.Goals as goal
 
 pub returns : goal.returns

@@ -1,13 +1,13 @@
-use Rattle.std.proofs.Common.{ℕ, length, ap, subst}
-use Rattle.std.specs.Prelude.{All}
 use Rattle.task_ast.specs.View.{program_of}
-use Rattle.task_ast.specs.Calls.{BlockCallsBelow}
 use Rattle.task_check.proofs.Interface.{is_placed}
+use Rattle.war_analysis.proofs.Returning.{each_returns}
 use Rattle.war_analysis.proofs.analysis.analyse.Goals as goal
 
--- where there are no functions, each call of a task is of none
 pub plan_of-requires-clause-calls : goal.plan_of-requires-clause-calls
 plan_of-requires-clause-calls c =
-    rw c.source.ensures
-    (subst (λ (n : ℕ). All (λ task. BlockCallsBelow n task.body) (program_of c.args.checked.now.source).tasks) (ap length c.requires.plain)
-    (is_placed (program_of c.args.checked.now.source) c.args.checked.now.placed).calls.tasks)
+    rw c.source.ensures (is_placed (program_of c.args.checked.now.source) c.args.checked.now.placed).calls
+
+pub plan_of-requires-clause-returning : goal.plan_of-requires-clause-returning
+plan_of-requires-clause-returning c =
+    let p = program_of c.args.checked.now.source in
+    rw c.source.ensures (each_returns p (is_placed p c.args.checked.now.placed) c.args.checked.now.returns)
