@@ -29,7 +29,7 @@ use Rattle.link_image.specs.Needs.{HasOwnPlaces}
 
 -- ---- a block
 
-no_bodies : ℕ → Program
+abbrev pub no_bodies : ℕ → Program
 no_bodies address = nothing
 
 none_past : (i : ℕ) → nothing ≡ slice_index_or [] i nothing
@@ -40,7 +40,7 @@ fills : (p : Places) → FillsIn p [] no_bodies
 fills p = record { none = refl; routines = λ i r is. none_past i }
 
 -- without what stood in its calls it is bare
-bare_is : (p : Places) (rs : List Program) (b : CheckedBlock) → filled no_bodies (lowered_block p rs b) ≡ lowered_block p [] b
+pub bare_is : (p : Places) (rs : List Program) (b : CheckedBlock) → filled no_bodies (lowered_block p rs b) ≡ lowered_block p [] b
 bare_is p rs b = block_filled p rs [] no_bodies (fills p) b
 
 own_code : (events : Bool) (p : Places) (rs : List Program) (b : CheckedBlock) → code_of events (lowered_block p [] b) ≡ code_of events (lowered_block p rs b)
@@ -103,7 +103,7 @@ routines_are p fs [] own = refl
 routines_are p fs (r ∷ rs) own =
     ap₂ (λ (x : CodePart) xs. x ∷ xs) (routine_part_is p fs r (own 0 r refl)) (routines_are p fs rs (λ j q at. own (suc j) q at))
 
-seen_routines : (logging : Logging) (t : TaskPlace) → (task_seen logging t).routines ≡ t.routines
+pub seen_routines : (logging : Logging) (t : TaskPlace) → (task_seen logging t).routines ≡ t.routines
 seen_routines Redo t = refl
 seen_routines Undo t = refl
 
