@@ -14,8 +14,8 @@ use Rattle.task_ast.specs.declared.names.VariableName.{VariableName}
 use Rattle.task_ast.specs.declared.names.FunctionName.{FunctionName}
 use Rattle.task_ast.specs.declared.names.TaskName.{TaskName}
 use Rattle.task_ast.specs.View.{task_of, program_of}
-use Rattle.task_ast.specs.Calls.{BlockCallsBelow}
 use Rattle.task_check.proofs.Interface.{is_placed}
+use Rattle.war_analysis.proofs.Interface.{each_returns}
 use Rattle.task_check.specs.path_checks.Firsts.{CheckedTask}
 use Rattle.war_analysis.specs.PlanValue.{TaskPlanValue}
 use Rattle.war_analysis.specs.Plans.{IsPlan}
@@ -31,7 +31,7 @@ use Rattle.fram_state.specs.Suits.{line_of, declared_line, HasLinesOf, Suits}
 use Rattle.fram_state.specs.Kept.{number_of}
 use Rattle.fram_state.specs.Migrated.{EditionValue, IsStateOf, current, current_task, next_edition_of, GoesOnAt, IsUnsettled, HasNoTask, IsFirstUnsettled}
 use Rattle.fram_state.specs.Migrated.{CanMigrate, IsFault, edition_with}
-use Rattle.fram_state.specs.Editions.{IsEdition, CallsNone}
+use Rattle.fram_state.specs.Editions.{IsEdition, CallsReturn}
 use Rattle.fram_state.proofs.Declared.{planned_count, same_count}
 use Rattle.fram_state.proofs.Numbers.{names_of}
 
@@ -135,18 +135,12 @@ edition_at old s is text words source m text_is source_is mapped long rules =
           (subst (λ x. map line_of m.variables ≡ map (declared_line old.text.items) x.shared.items) (sym source_is) lines.variables);
     }
 
--- an accepted source without functions has tasks that call none
-pub calls_none_at : (a : Accepted) (source : Source VariableName TaskName FunctionName) → source ≡ a.checked.source
-    → (program_of a.checked.source).functions ≡ [] → CallsNone (program_of source)
-calls_none_at a source is plain = subst (λ x. CallsNone (program_of x)) (sym is) (record {
-  functions = plain;
-  calls = subst (λ (n : ℕ). All (λ task. BlockCallsBelow n task.body) (program_of a.checked.source).tasks) (ap length plain)
-      (is_placed (program_of a.checked.source) a.checked.placed).calls.tasks;
-})
-
--- a task of a program without functions calls none
-pub calls_none : (p : CheckedProgram) (i : ℕ) (task : CheckedTask) → CallsNone p → slice_get p.tasks i ≡ Some task → BlockCallsBelow 0 task.body
-calls_none p i task none at = none.calls i task at
+-- the calls of an accepted source come back
+pub calls_return_at : (a : Accepted) (source : Source VariableName TaskName FunctionName) → source ≡ a.checked.source → CallsReturn (program_of source)
+calls_return_at a source is =
+    let p = program_of a.checked.source in
+    let placed = is_placed p a.checked.placed in
+    subst (λ x. CallsReturn (program_of x)) (sym is) (record { calls = placed.calls; returning = each_returns p placed a.checked.returns })
 
 -- CUR names a task of its source
 pub current_at : (old : Accepted) (s : State) → IsStateOf old.text.items (program_of old.checked.source) s → (text words : List ℕ)

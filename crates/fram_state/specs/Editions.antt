@@ -1,5 +1,5 @@
 -- Editions as they stand in memory, and the table of an old one's names.
-use Rattle.std.specs.Prelude.{◌≡◌, ℕ, ◌≤◌, List, [], All, length, map}
+use Rattle.std.specs.Prelude.{◌≡◌, ℕ, ◌≤◌, List, length, map}
 use denote.Ref.{Bor}
 use Rattle.std.specs.Ordering.{nat_cmp}
 use Rattle.std.specs.Cmp.Lexicographic.{slice_cmp}
@@ -7,7 +7,8 @@ use Rattle.std.specs.BTreeMap.{BTreeMap, get_by}
 use Rattle.image_text.specs.address_space.Limits.{fram_words}
 use Rattle.image_text.specs.image_map.Kept.{IsMap}
 use Rattle.task_ast.specs.View.{program_of}
-use Rattle.task_ast.specs.Calls.{BlockCallsBelow}
+use Rattle.task_ast.specs.Calls.{CallsAreKnown}
+use Rattle.war_analysis.specs.path_sums.Known.{EachReturns}
 use Rattle.source_report.specs.source_values.Runs.{CheckedProgram}
 use Rattle.fram_state.specs.declared.edition.Edition.{Edition}
 use Rattle.fram_state.specs.Suits.{line_of, declared_line}
@@ -26,10 +27,10 @@ pub record IsEdition (e : EditionValue) : Type 0 where
   pub few_tasks : length e.program.tasks ≤ 64
   pub variables : map line_of e.named.variables ≡ map (declared_line e.text) e.program.shared
 
--- a program without functions, whose tasks call none
-pub record CallsNone (p : CheckedProgram) : Type 0 where
-  pub functions : p.functions ≡ []
-  pub calls : All (λ task. BlockCallsBelow 0 task.body) p.tasks
+-- a program whose calls are of functions that it has, each of which returns
+pub record CallsReturn (p : CheckedProgram) : Type 0 where
+  pub calls : CallsAreKnown p
+  pub returning : EachReturns p.functions
 
 -- a table gives the numbers of these names
 abbrev pub HasNumbers : List (List ℕ) → BTreeMap (Bor (List ℕ)) ℕ → Type 0

@@ -1,23 +1,24 @@
 //! What a new edition of a program keeps of an old one.
 ghost use Rattle.std.specs.Prelude.{◌≡◌, ◌↔◌, ◌<◌, ◌^◌, ℕ, List, [], IfOk, IfSome, IsTrue, length, map};
 ghost use Rattle.std.specs.Str.{bytes_eq};
-ghost use Rattle.task_ast.specs.View.{task_of, block_view, program_of};
+ghost use Rattle.task_ast.specs.View.{function_of, task_of, block_view, program_of};
 ghost use Rattle.task_ast.specs.declared.names.Variable.TheVariants.{Shared};
 ghost use Rattle.war_analysis.specs.path_sums.Access.{writes, SomePath, IsPrivate};
+ghost use Rattle.war_analysis.specs.path_sums.Known.{EachReturns};
 ghost use Rattle.source_report.specs.source_values.Runs.{task_body};
-ghost use Rattle.task_ast.specs.Calls.{BlockCallsBelow};
+ghost use Rattle.task_ast.specs.Calls.{BlockCallsBelow, FunctionsCallBelow};
 ghost use Rattle.source_report.specs.SourceReport.{spelled};
 ghost use Rattle.fram_state.specs.Kept as spec;
 ghost use Rattle.fram_state.specs.Kept.{number_of, shared_names, IsInPlace};
-ghost use Rattle.fram_state.specs.Editions.{HasNumbers, CallsNone};
+ghost use Rattle.fram_state.specs.Editions.{HasNumbers, CallsReturn};
 
-use path_sums::{is_private, is_written};
+use path_sums::{call_summaries, is_private, is_written};
 use source_report::spelled;
 use std::alloc::{AllocError, Global};
 use std::collections::BTreeMap;
 use task_ast::{
-    CheckedSource, Extent, FunctionName, SharedDeclaration, Stmt, TaskDeclaration, TaskName,
-    Variable, VariableName, WordType,
+    CheckedSource, Extent, FunctionDeclaration, FunctionName, SharedDeclaration, Stmt,
+    TaskDeclaration, TaskName, Variable, VariableName, WordType,
 };
 
 /// The numbers of shared variables, by their names.
@@ -127,24 +128,46 @@ pub fn task_named(
     None
 }
 
-// Whether a body that calls no function writes the shared scalar of this number, and whether this is private in it.
-fn is_touched(number: usize, body: &[Stmt<VariableName, TaskName, FunctionName>]) -> (bool, bool)
-    requires number { number < 2 ^ 32 }
-    requires calls { BlockCallsBelow 0 (block_view body.now) }
-    ensures written { IsTrue result.0 ↔ SomePath [] (block_view body.now) (writes (Shared number)) }
-    ensures private { IsTrue result.1 ↔ IsPrivate [] (block_view body.now) (Shared number) }
-{
-    let scalar = Variable::Shared(number as u32);
-    (is_written(&[], scalar, body), is_private(&[], scalar, body))
+// What a body that may call these functions does with the shared scalar of a number.
+struct Touches {
+    written: bool,
+    private: bool,
 }
 
-/// Whether the task of this number, of a source without functions, writes the shared scalar of this number in place.
-pub fn is_in_place(source: &CheckedSource, task: usize, number: usize) -> bool
+// Whether a body writes the shared scalar of this number, and whether this is private in it; or no memory is left.
+fn touches(
+    alloc: Global,
+    functions: &[FunctionDeclaration<VariableName, TaskName, FunctionName>],
+    number: usize,
+    body: &[Stmt<VariableName, TaskName, FunctionName>],
+) -> Result<Touches, AllocError>
+    requires number { number < 2 ^ 32 }
+    requires functions { FunctionsCallBelow 0 (map function_of functions.now) }
+    requires returning { EachReturns (map function_of functions.now) }
+    requires calls { BlockCallsBelow (length (map function_of functions.now)) (block_view body.now) }
+    ensures written { IfOk result (λ t. IsTrue t.written ↔ SomePath (map function_of functions.now) (block_view body.now) (writes (Shared number))) }
+    ensures private { IfOk result (λ t. IsTrue t.private ↔ IsPrivate (map function_of functions.now) (block_view body.now) (Shared number)) }
+{
+    let scalar = Variable::Shared(number as u32);
+    let known = call_summaries(alloc, scalar, functions)?;
+    Ok(Touches {
+        written: is_written(&known, scalar, body),
+        private: is_private(&known, scalar, body),
+    })
+}
+
+/// Whether the task of this number writes the shared scalar of this number in place; or no memory is left.
+pub fn is_in_place(
+    alloc: Global,
+    source: &CheckedSource,
+    task: usize,
+    number: usize,
+) -> Result<bool, AllocError>
     requires task { task < length source.now.tasks.items }
     requires number { number < 2 ^ 32 }
-    requires calls { CallsNone (program_of source.now) }
-    ensures { IsTrue result ↔ IsInPlace (program_of source.now).functions (task_body (program_of source.now) task) number }
+    requires calls { CallsReturn (program_of source.now) }
+    ensures { IfOk result (λ in_place. IsTrue in_place ↔ IsInPlace (program_of source.now).functions (task_body (program_of source.now) task) number) }
 {
-    let (written, private) = is_touched(number, &source.tasks[task].body);
-    written && !private
+    let touched = touches(alloc, &source.functions, number, &source.tasks[task].body)?;
+    Ok(touched.written && !touched.private)
 }

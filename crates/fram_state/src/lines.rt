@@ -180,13 +180,12 @@ fn has_lines_of(text: &[u8], source: &CheckedSource, plan: &Plan, map: &Map) -> 
         && map.ring().is_some() == has_ring(source)
 }
 
-/// Whether an image is one of a source without functions: it has a map, and the `scalar`, `array`, `task` and `private` lines of this are those that the source
+/// Whether an image is one of a source: it has a map, and the `scalar`, `array`, `task` and `private` lines of this are those that the source
 /// gives, addresses aside, and it has a ring exactly where the source has one.
 ///
 /// # Errors
 /// `OtherSource` exactly where it isn't; `Memory` where memory was refused.
 pub fn suits(alloc: Global, source: &Accepted, image: &Image) -> Result<(), SuitFault>
-    requires plain { (program_of source.now.checked.source).functions ≡ [] }
     ensures suits { IfOk result (λ _. Suits source.now.text.items (program_of source.now.checked.source) image.now) }
     ensures other { IsErrOf result SuitFault.OtherSource → Suits source.now.text.items (program_of source.now.checked.source) image.now → ⊥ }
 {

@@ -9,7 +9,7 @@ ghost use Rattle.fram_state.specs.Suits.{Suits};
 ghost use Rattle.war_analysis.specs.Plans as plans;
 ghost use Rattle.fram_state.specs.Migrated as spec;
 ghost use Rattle.fram_state.specs.Migrated.{IsPendingAt, IsUnsettled, IsStateOf, IsFault, Migrates, IsAnswerFor, edition_with};
-ghost use Rattle.fram_state.specs.Editions.{edition_of, HasNumbers, IsEdition, CallsNone};
+ghost use Rattle.fram_state.specs.Editions.{edition_of, HasNumbers, IsEdition, CallsReturn};
 
 use crate::edition::Edition;
 use crate::kept::{Numbers, is_in_place, kept_from, numbers_of, task_named};
@@ -78,60 +78,63 @@ fn is_scalar(extent: Extent) -> bool
     }
 }
 
-// Whether the new variable of a number is a scalar that is kept and isn't settled.
+// Whether the new variable of a number is a scalar that is kept and isn't settled; or no memory is left.
 fn is_unsettled<'a>(
+    alloc: Global,
     old: &Edition<'a>,
     numbers: &Numbers<'a>,
     new: &Edition<'a>,
     task: usize,
     number: usize,
-) -> bool
+) -> Result<bool, AllocError>
     requires old { IsEdition (edition_of old.now) }
     requires new { IsEdition (edition_of new.now) }
-    requires old_calls { CallsNone (edition_of old.now).program }
-    requires new_calls { CallsNone (edition_of new.now).program }
+    requires old_calls { CallsReturn (edition_of old.now).program }
+    requires new_calls { CallsReturn (edition_of new.now).program }
     requires names { HasNumbers (shared_names old.now.text.now old.now.source.now.shared.items) numbers.now }
     requires current { spec.current (edition_of old.now) < length old.now.source.now.tasks.items }
     requires task { task < length new.now.source.now.tasks.items }
     requires number { number < length new.now.source.now.shared.items }
-    ensures { IsTrue result ↔ IsUnsettled (edition_of old.now) (edition_of new.now) task number }
+    ensures { IfOk result (λ unsettled. IsTrue unsettled ↔ IsUnsettled (edition_of old.now) (edition_of new.now) task number) }
 {
     let declaration = &new.source.shared[number];
     let name = spelled(new.text, declaration.name);
     let shared = old.source.shared.as_slice();
     let Some(from) = kept_from(old.text, shared, numbers, name, declaration) else {
-        return false;
+        return Ok(false);
     };
-    is_scalar(declaration.extent)
-        && is_in_place(old.source, current(old), from)
-        && !is_in_place(new.source, task, number)
+    if !is_scalar(declaration.extent) || !is_in_place(alloc, old.source, current(old), from)? {
+        return Ok(false);
+    }
+    Ok(!is_in_place(alloc, new.source, task, number)?)
 }
 
-// The number of the first scalar that isn't settled.
+// The number of the first scalar that isn't settled; or no memory is left.
 fn first_unsettled<'a>(
+    alloc: Global,
     old: &Edition<'a>,
     numbers: &Numbers<'a>,
     new: &Edition<'a>,
     task: usize,
-) -> Option<usize>
+) -> Result<Option<usize>, AllocError>
     requires old { IsEdition (edition_of old.now) }
     requires new { IsEdition (edition_of new.now) }
-    requires old_calls { CallsNone (edition_of old.now).program }
-    requires new_calls { CallsNone (edition_of new.now).program }
+    requires old_calls { CallsReturn (edition_of old.now).program }
+    requires new_calls { CallsReturn (edition_of new.now).program }
     requires names { HasNumbers (shared_names old.now.text.now old.now.source.now.shared.items) numbers.now }
     requires current { spec.current (edition_of old.now) < length old.now.source.now.tasks.items }
     requires task { task < length new.now.source.now.tasks.items }
-    ensures some { IfSome result (IsUnsettled (edition_of old.now) (edition_of new.now) task) }
-    ensures first { IfSome result (λ n. (i : ℕ) → i < n → IsUnsettled (edition_of old.now) (edition_of new.now) task i → ⊥) }
-    ensures inside { IfSome result (λ n. n < length new.now.source.now.shared.items) }
-    ensures none { IfNone result ((i : ℕ) → IsUnsettled (edition_of old.now) (edition_of new.now) task i → ⊥) }
+    ensures some { IfOk result (λ found. IfSome found (IsUnsettled (edition_of old.now) (edition_of new.now) task)) }
+    ensures first { IfOk result (λ found. IfSome found (λ n. (i : ℕ) → i < n → IsUnsettled (edition_of old.now) (edition_of new.now) task i → ⊥)) }
+    ensures inside { IfOk result (λ found. IfSome found (λ n. n < length new.now.source.now.shared.items)) }
+    ensures none { IfOk result (λ found. IfNone found ((i : ℕ) → IsUnsettled (edition_of old.now) (edition_of new.now) task i → ⊥)) }
 {
     for i in 0..new.source.shared.len() {
-        if is_unsettled(old, numbers, new, task, i) {
-            return Some(i);
+        if is_unsettled(alloc, old, numbers, new, task, i)? {
+            return Ok(Some(i));
         }
     }
-    None
+    Ok(None)
 }
 
 // The words of the migrated FRAM, or what speaks against it.
@@ -142,8 +145,8 @@ fn words_behind<'a>(
 ) -> Result<Vec<u16>, MigrateFault>
     requires old { IsEdition (edition_of old.now) }
     requires new { IsEdition (edition_of new.now) }
-    requires old_calls { CallsNone (edition_of old.now).program }
-    requires new_calls { CallsNone (edition_of new.now).program }
+    requires old_calls { CallsReturn (edition_of old.now).program }
+    requires new_calls { CallsReturn (edition_of new.now).program }
     requires current { spec.current (edition_of old.now) < length old.now.source.now.tasks.items }
     ensures words { IfOk result (λ v. Migrates (edition_of old.now) (edition_of new.now) v.items) }
     ensures len { IfOk result (λ v. length v.items ≡ fram_words) }
@@ -158,16 +161,16 @@ fn words_behind<'a>(
         return Err(MigrateFault::NoTask { name });
     };
     let numbers = numbers_of(alloc, old.text, &old.source.shared)?;
-    if let Some(number) = first_unsettled(old, &numbers, new, task) {
+    if let Some(number) = first_unsettled(alloc, old, &numbers, new, task)? {
         let name = new.source.shared[number].name;
         return Err(MigrateFault::Unsettled { name });
     }
     Ok(migrated_words(alloc, old, &numbers, new, task)?)
 }
 
-/// The state of a new edition of a program that goes on in place of an old state, both without functions: each shared variable of the new source
-/// has the words of the old one of its name, kind, type and length, if there is one, or else those that it begins with; CUR is the task of the
-/// same name; BASE, the receiver's number and, where both maps have a ring, its HEAD, TAIL and slots are kept; and the rest is the new image's.
+/// The state of a new edition of a program that goes on in place of an old state: each shared variable of the new source has the words of the old
+/// one of its name, kind, type and length, if there is one, or else those that it begins with; CUR is the task of the same name; BASE, the
+/// receiver's number and, where both maps have a ring, its HEAD, TAIL and slots are kept; and the rest is the new image's.
 ///
 /// # Errors
 /// `Pending` where the commit of the state is pending; then `NoTask` with the name of the current task, where the new source has none of this
@@ -181,8 +184,6 @@ pub fn migrate(
     image: Image,
 ) -> Result<State, MigrateFault>
     requires old { IsStateOf old.now.text.items (program_of old.now.checked.source) state.now }
-    requires old_plain { (program_of old.now.checked.source).functions ≡ [] }
-    requires new_plain { (program_of new.now.checked.source).functions ≡ [] }
     requires new { Suits new.now.text.items (program_of new.now.checked.source) image }
     ensures answer { (m n : MapValue) → state.now.image.map ≡ Some m → image.map ≡ Some n
         → IsAnswerFor (edition_with old.now.text.items (program_of old.now.checked.source) m state.now.image.words)

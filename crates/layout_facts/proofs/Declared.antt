@@ -1,7 +1,7 @@
 -- A task's places have what its source declares.
-use Rattle.layout_facts.proofs.Names.{◌<◌, subst, sym, arith, Some, None, ⊎_elim, cases_Bool, Shared, IsArray, task_places, PlacesAreAsDeclared}
+use Rattle.layout_facts.proofs.Names.{◌<◌, [], subst, sym, arith, Some, None, ⊎_elim, cases_Bool, Shared, IsArray, task_places, PlacesAreAsDeclared}
 use Rattle.layout_facts.proofs.Names.{WrittenArraysHaveCopies, some_path_writes, scalar_seen, array_seen, array_read, TwoWords, IsScalarPlace}
-use Rattle.checked_trees.proofs.Interface.{block_assigned}
+use Rattle.checked_trees.proofs.Interface.{block_assigned, no_bodies}
 use Rattle.memory_map.specs.Spots.{words_at}
 use Rattle.layout_facts.proofs.Planned.{scalar_has_place, long_declared, long_has_place, array_has_place, array_declared, array_extent}
 use Rattle.layout_facts.proofs.Assigned.{stored_has_copies}
@@ -27,5 +27,5 @@ places_are_as_declared p allow plans l h t task layout k = record {
 
 pub written_arrays_have_copies : WrittenArraysHaveCopies
 written_arrays_have_copies p allow plans l h t task layout k formed v a w =
-    let x = stored_has_copies p allow plans l h t task layout k v a (block_assigned v p.shared task.body formed w) in
+    let x = stored_has_copies p allow plans l h t task layout k v a (block_assigned v p.shared [] (no_bodies p.shared) task.body formed w) in
     (x.0, x.1, x.2, record { place = array_seen (some_path_writes task.body) l.variables v x.0 x.1 (Some x.2) x.3 w })

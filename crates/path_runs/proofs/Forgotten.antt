@@ -27,7 +27,7 @@ use Rattle.source_values.specs.Values.{Variables, Attempt, Evaluated, EvaluatedW
 use Rattle.source_values.specs.Values.{value_of, holds, meaning_in, words_of, word_before}
 use Rattle.source_values.specs.Values.{evaluated, gives, made_of, reading_of, truth_word, is_settled, unary_result, binary_result, shift_result, type_of}
 use Rattle.source_values.specs.Values.{◌>>?◌}
-use Rattle.source_values.specs.Statements.{Outcome, goes_on, to_task, returns, short, and_then, if_value, with_value, assigned, assigned_to, assigned_value}
+use Rattle.source_values.specs.Statements.{Outcome, goes_on, to_task, returns, and_then, if_value, with_value, assigned, assigned_to, assigned_value}
 use Rattle.source_values.specs.Statements.{word_of, turns, run_statement, run_choice, run_block, entered, left_with, meaning_of}
 use Rattle.path_runs.specs.Laws.{HasWords, IsScalarInStatement, IsScalarInChoice, IsScalarIn, HaveScalar, FirstWritesForget}
 

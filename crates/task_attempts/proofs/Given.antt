@@ -151,7 +151,7 @@ module _ (text : List ℕ) (p : CheckedProgram) (allow : Allow) (plans : List Ta
     at = record { is_task = is_task; is_layout = is_layout }
 
     formed : WellFormedBlock p.shared task.body
-    formed = (task_checked text p laid.accepted.checks laid.layout.plain k task is_task).statements
+    formed = (task_checked text p laid.accepted.checks k task is_task).statements
 
     -- it calls no function
     calls : BlockCallsBelow 0 task.body

@@ -66,7 +66,7 @@ module _ (shared : List SharedDeclaration) (v : ℕ) (scalar : IsScalarAt shared
     scalar_statement (t.choose choice) u = scalar_choice choice u
     scalar_statement (t.loop x from tested below stepped body) u = (λ h. absurd (no_local x.variable u.0 h), scalar_block body u.1)
     scalar_statement (t.emit e) u = tt
-    scalar_statement (t.give at e) u = absurd u
+    scalar_statement (t.give at e) u = tt
     scalar_statement (t.transition at task) u = tt
 
     scalar_choice : (c : CheckedChoice) → WellFormedChoice shared c → IsScalarInChoice v n c

@@ -205,5 +205,5 @@ each_returns p placed closed k f at xs end h =
 
     by : (end : End) → EndsSo false (Through fs k (omega (arith, inside)) f.body) end → end ≡ path.returns
     by path.goes_on reaches = absurd (closed f.name (some_at (λ g. OpenAt fs g.name g.body f.name) fs k f at (refl, reaches)))
-    by (path.goes_to task) no = let never : false ≡ true = no in absurd (cc)
+    by (path.goes_to task) h = let never : false ≡ true = h in absurd (cc)
     by path.returns h = refl

@@ -1,11 +1,11 @@
 -- The fold over lowered programs: a fact that holds of steps, and of what is put together of what has it, holds of expressions and statements.
 use Rattle.std.proofs.Common.{◌≡◌, ℕ, suc, ◌+◌, ◌/◌, ◌%◌, ◌<◌, ◌≤◌, ◌||◌, Bool, true, false, List, [], ◌∷◌, Option, Some, None, arith, slice_get}
 use Rattle.std.proofs.Common.{if◌then◌else◌}
-use Rattle.std.proofs.lemmas.Bool.{or_parts}
+use Rattle.std.proofs.lemmas.Bool.{or_parts, and_parts, not-true}
 use Rattle.std.specs.List.{AllByRecursion}
 use Rattle.alp_words.specs.Words.{IsWord}
 use Rattle.task_ast.specs.Tree as t
-use Rattle.task_ast.specs.Paths.{CheckedExpression, CheckedStatement, CheckedChoice, CheckedBlock}
+use Rattle.task_ast.specs.Paths.{CheckedExpression, CheckedValues, CheckedStatement, CheckedChoice, CheckedBlock}
 use Rattle.task_ast.specs.declared.SharedDeclaration.{SharedDeclaration}
 use Rattle.task_ast.specs.declared.WordType.{WordType}
 use Rattle.task_ast.specs.declared.WordType.TheVariants.{Unsigned, Int, Long}
@@ -20,6 +20,7 @@ use Rattle.task_ast.specs.declared.ShortCircuitOperator.TheVariants.{And as Both
 use Rattle.task_ast.specs.declared.names.Variable.{Variable}
 use Rattle.task_ast.specs.declared.names.Variable.TheVariants.{Shared, Local}
 use Rattle.path_checks.specs.Loops.{is_same_local, statement_assigns, choice_assigns, block_assigns}
+use Rattle.task_check.specs.Placed.{statement_ends, choice_ends, block_ends}
 use Rattle.source_values.specs.Values.{joined_type, type_of}
 use Rattle.array_versions.specs.declared.operations.UnaryOperation.{UnaryOperation}
 use Rattle.array_versions.specs.declared.operations.UnaryOperation.TheVariants.{Negate, Complement}
@@ -35,7 +36,7 @@ use Rattle.array_versions.specs.declared.program.ArrayPlace.{ArrayPlace}
 use Rattle.array_versions.specs.declared.program.ListPlace.{ListPlace}
 use Rattle.array_versions.specs.Program.{Step, Test, Program, number, load, keep, local, set_local, update_local, unary, binary, shift, long, element}
 use Rattle.array_versions.specs.Program.{update, emit_word, list_entry, versioned_read, sense, next_event, freeze_events, truth, choose, repeat}
-use Rattle.array_versions.specs.Program.{store_number, move_word, jump}
+use Rattle.array_versions.specs.Program.{store_number, move_word, jump, give}
 use Rattle.array_versions.specs.Program.{holds, compares, both, either, fails, nothing, step, joined}
 use Rattle.array_versions.specs.Form.{ArrayOfWords, ListOfWords, StepOfWords}
 use Rattle.memory_map.specs.MemoryMap.{word_place}
@@ -65,9 +66,10 @@ use Rattle.lower.specs.Lowered.{index_and_value, element_updating, element_sides
 use Rattle.lower.specs.Lowered.{lowered_transition}
 use Rattle.lower.specs.Lowered.{lowered_statement, lowered_choice, lowered_block}
 use Rattle.lower.proofs.Interface.{RunOfWords, runs_of_words}
-use Rattle.checked_trees.specs.WellFormed.{IsWordName, IsLocal, stack_words, enough, HasRoom, WellFormedExpression, WellFormedStatement}
+use Rattle.checked_trees.specs.WellFormed.{IsWordName, IsLocal, stack_words, WellFormedExpression, WellFormedValues, WellFormedStatement}
 use Rattle.checked_trees.specs.WellFormed.{WellFormedChoice, WellFormedBlock}
 use Rattle.whole_programs.proofs.Placed.{PlaceOfWords, PlacesOfWords}
+use Rattle.whole_programs.proofs.Rooms.{IsRoomFor, StatementRoom, ChoiceRoom, BlockRoom}
 
 -- ---- steps of expressions
 
@@ -103,18 +105,23 @@ abbrev pub ReadOf : (ℕ → Type 0) → Variable → Type 0
 ReadOf F (Shared v) = Unit {0}
 ReadOf F (Local n) = F n
 
-abbrev pub Reads : (ℕ → Type 0) → CheckedExpression → Type 0
-Reads F (t.number w) = Unit {0}
-Reads F (t.long_number w) = Unit {0}
-Reads F (t.name x) = ReadOf F x.variable
-Reads F (t.element x index) = Reads F index
-Reads F t.sense = Unit {0}
-Reads F t.next_event = Unit {0}
-Reads F (t.call f values) = Unit {0}
-Reads F (t.unary op e) = Reads F e
-Reads F (t.binary op a b) = Reads F a × Reads F b
-Reads F (t.shift op e count) = Reads F e
-Reads F (t.short_circuit op a b) = Reads F a × Reads F b
+abbrev mutual
+  pub Reads : (ℕ → Type 0) → CheckedExpression → Type 0
+  Reads F (t.number w) = Unit {0}
+  Reads F (t.long_number w) = Unit {0}
+  Reads F (t.name x) = ReadOf F x.variable
+  Reads F (t.element x index) = Reads F index
+  Reads F t.sense = Unit {0}
+  Reads F t.next_event = Unit {0}
+  Reads F (t.call f values) = ValuesRead F values
+  Reads F (t.unary op e) = Reads F e
+  Reads F (t.binary op a b) = Reads F a × Reads F b
+  Reads F (t.shift op e count) = Reads F e
+  Reads F (t.short_circuit op a b) = Reads F a × Reads F b
+
+  pub ValuesRead : (ℕ → Type 0) → CheckedValues → Type 0
+  ValuesRead F t.no_value = Unit {0}
+  ValuesRead F (t.value e more) = Reads F e × ValuesRead F more
 
 -- an expression leaves a word, or two
 two_needed : (e : CheckedExpression) → 2 ≤ stack_words e
@@ -402,7 +409,6 @@ pub data Stores (p : Places) : Step → Type 0 where
   the_sent_base : Stores p (move_word (word_place p.map Base) (word_place p.map SentBase))
   the_sent_tail : Stores p freeze_events
   the_gate : Stores p (store_number (word_place p.map Gate) 1)
-  to_the_commit : Stores p (jump p.map.commit.address)
 
 -- a variable that is none of these locals
 abbrev pub IsApart : (ℕ → Type 0) → Variable → Type 0
@@ -410,7 +416,7 @@ IsApart F x = (y : ℕ) → F y → is_same_local x (Local y) ≡ false
 
 -- a fact of each step whatever the stack: the locals of which it wants that no step assigns them, what it asks of a loop's body beside
 -- itself, by the loop's local, and that it holds of single steps and of what is put together of what has it
-pub record EachStep (p : Places) : Type 1 where
+pub record EachStep (p : Places) (in_task : Bool) : Type 1 where
   pub of_step : Step → Type 0
   pub of_program : Program → Type 0
   pub of_test : Test → Type 0
@@ -418,6 +424,8 @@ pub record EachStep (p : Places) : Type 1 where
   pub of_body : ℕ → Program → Type 0
   pub leaf : (d e : ℕ) (s : Step) → Leaf d e s → StepOfWords s → of_step s
   pub stores : (s : Step) → Stores p s → StepOfWords s → of_step s
+  pub jumps : in_task ≡ true → IsWord p.map.commit.address → of_step (jump p.map.commit.address)
+  pub gives : in_task ≡ false → of_step give
   pub reads : (n : ℕ) → n < 256 → of_step (local (n % 65536))
   pub writes : (n : ℕ) → n < 256 → IsApart spared (Local n) → of_step (set_local (n % 65536))
   pub updates : (op : PlainOperation) (n : ℕ) → n < 256 → IsApart spared (Local n) → of_step (update_local op (n % 65536))
@@ -435,8 +443,8 @@ pub record EachStep (p : Places) : Type 1 where
   pub turned : (c : Test) → of_test c → of_test (fails c)
 
 -- such a fact of expressions
-abbrev whatever_the_stack : (p : Places) → EachStep p → (room : ℕ) → Fact {0} room
-whatever_the_stack p G room = record {
+abbrev whatever_the_stack : (p : Places) (in_task : Bool) → EachStep p in_task → (room : ℕ) → Fact {0} room
+whatever_the_stack p in_task G room = record {
   of_step = λ d e s. G.of_step s;
   of_program = λ d e q. G.of_program q;
   of_test = λ d c. G.of_test c;
@@ -453,23 +461,28 @@ whatever_the_stack p G room = record {
   turned = λ d c h. G.turned c h;
 }
 
--- the locals of an expression are below 256
-reads_low : (shared : List SharedDeclaration) (e : CheckedExpression) → WellFormedExpression shared e → Reads (λ n. n < 256) e
-reads_low shared (t.number w) is = tt
-reads_low shared (t.long_number w) is = tt
-reads_low shared (t.name x) is = by_variable x.variable is.0
-  where
-    by_variable : (v : Variable) → IsWordName shared v → ReadOf (λ n. n < 256) v
-    by_variable (Shared v) h = tt
-    by_variable (Local n) h = h
-reads_low shared (t.element x index) is = reads_low shared index is.1
-reads_low shared t.sense is = tt
-reads_low shared t.next_event is = tt
-reads_low shared (t.call f values) is = tt
-reads_low shared (t.unary op e) is = reads_low shared e is
-reads_low shared (t.binary op a b) is = (reads_low shared a is.0, reads_low shared b is.1)
-reads_low shared (t.shift op e count) is = reads_low shared e is.0
-reads_low shared (t.short_circuit op a b) is = (reads_low shared a is.0, reads_low shared b is.1)
+mutual
+  -- the locals of an expression are below 256
+  reads_low : (shared : List SharedDeclaration) (e : CheckedExpression) → WellFormedExpression shared e → Reads (λ n. n < 256) e
+  reads_low shared (t.number w) is = tt
+  reads_low shared (t.long_number w) is = tt
+  reads_low shared (t.name x) is = by_variable x.variable is.0
+    where
+      by_variable : (v : Variable) → IsWordName shared v → ReadOf (λ n. n < 256) v
+      by_variable (Shared v) h = tt
+      by_variable (Local n) h = h
+  reads_low shared (t.element x index) is = reads_low shared index is.1
+  reads_low shared t.sense is = tt
+  reads_low shared t.next_event is = tt
+  reads_low shared (t.call f values) is = values_read_low shared values is.1
+  reads_low shared (t.unary op e) is = reads_low shared e is
+  reads_low shared (t.binary op a b) is = (reads_low shared a is.0, reads_low shared b is.1)
+  reads_low shared (t.shift op e count) is = reads_low shared e is.0
+  reads_low shared (t.short_circuit op a b) is = (reads_low shared a is.0, reads_low shared b is.1)
+
+  values_read_low : (shared : List SharedDeclaration) (values : CheckedValues) → WellFormedValues shared values → ValuesRead (λ n. n < 256) values
+  values_read_low shared t.no_value is = tt
+  values_read_low shared (t.value e more) is = (reads_low shared e is.0, values_read_low shared more is.1)
 
 -- a local may stand for a word
 local_word : (shared : List SharedDeclaration) (x : Variable) → IsLocal x → IsWordName shared x
@@ -477,23 +490,23 @@ local_word shared (Shared v) h = absurd h
 local_word shared (Local n) h = h
 
 -- a well-formed expression with room above so many words
-abbrev pub FitsAbove : List SharedDeclaration → ℕ → CheckedExpression → Type 0
-FitsAbove shared d e = WellFormedExpression shared e × HasRoom d e
+abbrev pub FitsAbove : List SharedDeclaration → (room d : ℕ) → CheckedExpression → Type 0
+FitsAbove shared room d e = WellFormedExpression shared e × IsRoomFor room d e
 
 -- so is the right side of an operator, without the left one
-pub right_fits : (shared : List SharedDeclaration) (d : ℕ) (op : PlacedOperator) (b c : CheckedExpression) → FitsAbove shared d (t.binary op b c)
-    → FitsAbove shared d c
-right_fits shared d op b c fits = let few = fits.1 in (fits.0.1, omega (arith, few))
+pub right_fits : (shared : List SharedDeclaration) (room d : ℕ) (op : PlacedOperator) (b c : CheckedExpression)
+    → FitsAbove shared room d (t.binary op b c) → FitsAbove shared room d c
+right_fits shared room d op b c fits = let few = fits.1 in (fits.0.1, omega (arith, few))
 
-module _ (p : Places) (G : EachStep p) (words : PlacesOfWords p) (shared : List SharedDeclaration) where
+module _ (p : Places) (in_task : Bool) (G : EachStep p in_task) (words : PlacesOfWords p) (shared : List SharedDeclaration) (room : ℕ) where
   -- a step behind a program
   then_step : (q : Program) (s : Step) → G.of_program q → G.of_step s → G.of_program (joined q (one s))
   then_step q s h k = G.chain q (one s) h (G.alone s k)
 
-  expression_built : (d : ℕ) (e : CheckedExpression) → FitsAbove shared d e → Built (whatever_the_stack p G enough) d (lowering p e)
-  expression_built d e is = lowering_has (whatever_the_stack p G enough) p words shared d e is.0 is.1 (reads_low shared e is.0)
+  expression_built : (d : ℕ) (e : CheckedExpression) → FitsAbove shared room d e → Built (whatever_the_stack p in_task G room) d (lowering p e)
+  expression_built d e is = lowering_has (whatever_the_stack p in_task G room) p words shared d e is.0 is.1 (reads_low shared e is.0)
 
-  word_has : (d : ℕ) (e : CheckedExpression) → FitsAbove shared d e → G.of_program (lowered_expression p e)
+  word_has : (d : ℕ) (e : CheckedExpression) → FitsAbove shared room d e → G.of_program (lowered_expression p e)
   word_has d e is = (expression_built d e is).word
 
   stored_of_words : (x : Variable) → ArrayOfWords (stored_array p x)
@@ -523,26 +536,27 @@ module _ (p : Places) (G : EachStep p) (words : PlacesOfWords p) (shared : List 
   write_long_has (Local n) l a =
       let low = long with_longs.LowWord in then_step (one low) (set_local (n % 65536)) (G.alone low (G.leaf 2 1 low a_low_word tt)) (G.writes n l a)
 
-  setting_has : (x : Variable) (e : CheckedExpression) → IsWordName shared x → IsApart G.spared x → FitsAbove shared 0 e → G.of_program (setting p x e)
+  setting_has : (x : Variable) (e : CheckedExpression) → IsWordName shared x → IsApart G.spared x → FitsAbove shared room 0 e → G.of_program (setting p x e)
   setting_has x e n a is = then_step (lowered_expression p e) (write_step p x) (word_has 0 e is) (write_has x n a)
 
   sides_set_has : (x : Variable) (op : PlacedOperator) (b c : CheckedExpression) (o : Option PlainOperation) → IsWordName shared x → IsApart G.spared x
-      → FitsAbove shared 0 (t.binary op b c) → G.of_program (sides_set p x op b c o)
+      → FitsAbove shared room 0 (t.binary op b c) → G.of_program (sides_set p x op b c o)
   sides_set_has x op b c None n a is = setting_has x (t.binary op b c) n a is
   sides_set_has x op b c (Some o) n a is =
-      then_step (lowered_expression p c) (update_step p o x) (word_has 0 c (right_fits shared 0 op b c is)) (update_has o x n a)
+      then_step (lowered_expression p c) (update_step p o x) (word_has 0 c (right_fits shared room 0 op b c is)) (update_has o x n a)
 
   -- the first clause makes it a proof by cases
-  assignment_has : (x : Variable) (e : CheckedExpression) → IsWordName shared x → IsApart G.spared x → FitsAbove shared 0 e → G.of_program (assignment p x e)
+  assignment_has : (x : Variable) (e : CheckedExpression) → IsWordName shared x → IsApart G.spared x → FitsAbove shared room 0 e
+      → G.of_program (assignment p x e)
   assignment_has x (t.binary op b c) n a is = sides_set_has x op b c (of_words (joined_type (type_of b) (type_of c)) (updating x op.operator b)) n a is
   assignment_has x e n a is = setting_has x e n a is
 
-  typed_assignment_has : (of : WordType) (x : Variable) (e : CheckedExpression) → IsWordName shared x → IsApart G.spared x → FitsAbove shared 0 e
+  typed_assignment_has : (of : WordType) (x : Variable) (e : CheckedExpression) → IsWordName shared x → IsApart G.spared x → FitsAbove shared room 0 e
       → G.of_program (scalar_assignment p of x e)
   typed_assignment_has Int x e n a is = assignment_has x e n a is
   typed_assignment_has Unsigned x e n a is = assignment_has x e n a is
   typed_assignment_has Long x e n a is =
-      let long = long_has (whatever_the_stack p G enough) 0 (widened_type e) (lowering p e) (two_fit enough 0 e is.1) (expression_built 0 e is) in
+      let long = long_has (whatever_the_stack p in_task G room) 0 (widened_type e) (lowering p e) (two_fit room 0 e is.1) (expression_built 0 e is) in
       G.chain (lowered_long p e) (write_long p x) long (write_long_has x n a)
 
   -- a step behind an index and a value
@@ -572,14 +586,14 @@ module _ (p : Places) (G : EachStep p) (words : PlacesOfWords p) (shared : List 
       index_and_value_have index e (store_step p x) h k (own_write_has p.map.runtime.logging x)
 
   element_sides_have : (x : Variable) (index : CheckedExpression) (op : PlacedOperator) (b c : CheckedExpression) (o : Option PlainOperation)
-      → G.of_program (lowered_expression p index) → FitsAbove shared 1 (t.binary op b c) → G.of_program (element_sides_set p x index op b c o)
+      → G.of_program (lowered_expression p index) → FitsAbove shared room 1 (t.binary op b c) → G.of_program (element_sides_set p x index op b c o)
   element_sides_have x index op b c None h is = store_has x index (t.binary op b c) h (word_has 1 (t.binary op b c) is)
   element_sides_have x index op b c (Some o) h is =
-      index_and_value_have index c (update_element_step p o x) h (word_has 1 c (right_fits shared 1 op b c is))
+      index_and_value_have index c (update_element_step p o x) h (word_has 1 c (right_fits shared room 1 op b c is))
       (own_update_has p.map.runtime.logging o x)
 
   -- the first clause makes it a proof by cases
-  element_assignment_has : (x : Variable) (index e : CheckedExpression) → G.of_program (lowered_expression p index) → FitsAbove shared 1 e
+  element_assignment_has : (x : Variable) (index e : CheckedExpression) → G.of_program (lowered_expression p index) → FitsAbove shared room 1 e
       → G.of_program (element_assignment p x index e)
   element_assignment_has x index (t.binary op b c) h is =
       element_sides_have x index op b c (of_words (joined_type (type_of b) (type_of c)) (element_updating x index op.operator b)) h is
@@ -598,8 +612,8 @@ module _ (p : Places) (G : EachStep p) (words : PlacesOfWords p) (shared : List 
   frozen_has true = G.alone freeze_events (G.stores freeze_events the_sent_tail tt)
   frozen_has false = G.empty
 
-  transition_has : (task : ℕ) → G.of_program (lowered_transition p task)
-  transition_has task =
+  transition_has : (task : ℕ) → in_task ≡ true → G.of_program (lowered_transition p task)
+  transition_has task ends =
       let next = store_number (word_place p.map NextTask) (task % 65536) in
       let sent = move_word (word_place p.map Base) (word_place p.map SentBase) in
       let gate = store_number (word_place p.map Gate) 1 in
@@ -611,7 +625,7 @@ module _ (p : Places) (G : EachStep p) (words : PlacesOfWords p) (shared : List 
       (G.chain runs closes (entries_have (runs_of p.privates) (runs_of_words p.privates words.privates))
       (G.chain (one sent) (joined (freezing p) last) (G.alone sent (G.stores sent the_sent_base (words.words Base, words.words SentBase)))
       (G.chain (freezing p) last (frozen_has p.map.runtime.events)
-      (then_step (one gate) leaves (G.alone gate (G.stores gate the_gate (words.words Gate, omega arith))) (G.stores leaves to_the_commit words.commit)))))
+      (then_step (one gate) leaves (G.alone gate (G.stores gate the_gate (words.words Gate, omega arith))) (G.jumps ends words.commit)))))
 
   -- no local that the fact wants spared is assigned
   abbrev LeavesAlone : (Variable → Bool) → Type 0
@@ -624,49 +638,55 @@ module _ (p : Places) (G : EachStep p) (words : PlacesOfWords p) (shared : List 
   second_leaves f g h y s = (or_parts (f (Local y)) (g (Local y)) (h y s)).1
 
   -- what the fact asks of the bodies of loops beside itself holds of each that doesn't assign the loop's local
-  module _ (body_has : (n : ℕ) (b : CheckedBlock) → n < 256 → block_assigns (Local n) b ≡ false → WellFormedBlock shared b
-      → G.of_body (n % 65536) (lowered_block p b)) where
+  module _ (body_has : (n : ℕ) (b : CheckedBlock) → n < 256 → block_assigns (Local n) b ≡ false → WellFormedBlock shared b → BlockRoom room b
+      → block_ends in_task b ≡ true → G.of_body (n % 65536) (lowered_block p b)) where
     -- a loop by its local
     loop_has : (v : Variable) (from below : ℕ) (b : CheckedBlock) → IsLocal v → IsApart G.spared v → IsWord from → IsWord below
-        → block_assigns v b ≡ false → WellFormedBlock shared b → G.of_program (lowered_block p b)
+        → block_assigns v b ≡ false → WellFormedBlock shared b → BlockRoom room b → block_ends in_task b ≡ true → G.of_program (lowered_block p b)
         → G.of_step (repeat (loop_local v) from below (lowered_block p b))
-    loop_has (Shared v) from below b low a i j s is h = absurd low
-    loop_has (Local n) from below b low a i j s is h = G.counted n from below (lowered_block p b) low a i j (body_has n b low s is) h
+    loop_has (Shared v) from below b low a i j s is r ends h = absurd low
+    loop_has (Local n) from below b low a i j s is r ends h =
+        G.counted n from below (lowered_block p b) low a i j (body_has n b low s is r ends) h
 
     mutual
-      statement_has : (s : CheckedStatement) → LeavesAlone (λ v. statement_assigns v s) → WellFormedStatement shared s
-          → G.of_program (lowered_statement p s)
-      statement_has (t.declare of x None) a is = G.empty
-      statement_has (t.declare of x (Some e)) a is = assignment_has x.variable e (local_word shared x.variable is.0) a (is.1, is.3)
-      statement_has (t.assign x e) a is = typed_assignment_has x.word_type x.variable e is.0 a (is.1, is.3)
-      statement_has (t.store x index e) a is = element_assignment_has x.variable index e (word_has 0 index (is.1, is.4)) (is.2, is.5)
-      statement_has (t.choose choice) a is = choice_has choice a is
-      statement_has (t.loop x from y below z body) a is =
+      statement_has : (s : CheckedStatement) → LeavesAlone (λ v. statement_assigns v s) → WellFormedStatement shared s → StatementRoom room s
+          → statement_ends in_task s ≡ true → G.of_program (lowered_statement p s)
+      statement_has (t.declare of x None) a is r ends = G.empty
+      statement_has (t.declare of x (Some e)) a is r ends = assignment_has x.variable e (local_word shared x.variable is.0) a (is.1, r)
+      statement_has (t.assign x e) a is r ends = typed_assignment_has x.word_type x.variable e is.0 a (is.1, r)
+      statement_has (t.store x index e) a is r ends = element_assignment_has x.variable index e (word_has 0 index (is.1, r.0)) (is.2, r.1)
+      statement_has (t.choose choice) a is r ends = choice_has choice a is r ends
+      statement_has (t.loop x from y below z body) a is r ends =
           let others : Variable → Bool = λ v. is_same_local y.variable v || is_same_local z.variable v in
           let names : Variable → Bool = λ v. is_same_local x.variable v || others v in
           let own = first_leaves (λ v. is_same_local x.variable v) others (first_leaves names (λ v. block_assigns v body) a) in
-          let h = block_has body (second_leaves names (λ v. block_assigns v body) a) is.1 in
+          let h = block_has body (second_leaves names (λ v. block_assigns v body) a) is.1 r ends in
           G.alone (repeat (loop_local x.variable) from below (lowered_block p body))
-          (loop_has x.variable from below body is.0 own is.2 is.3 is.4 is.1 h)
-      statement_has (t.emit e) a is =
+          (loop_has x.variable from below body is.0 own is.2 is.3 is.4 is.1 r ends h)
+      statement_has (t.emit e) a is r ends =
           let emits = emit_word (word_place p.map EmitCount) p.map.emits.address in
-          then_step (lowered_expression p e) emits (word_has 0 e is) (G.stores emits an_emission (words.words EmitCount, words.emits))
-      statement_has (t.give at e) a is = absurd is
-      statement_has (t.transition at task) a is = transition_has task.task
+          then_step (lowered_expression p e) emits (word_has 0 e (is.0, r)) (G.stores emits an_emission (words.words EmitCount, words.emits))
+      statement_has (t.give at e) a is r ends =
+          then_step (lowered_expression p e) give (word_has 0 e (is.0, r)) (G.gives (not-true in_task ends))
+      statement_has (t.transition at task) a is r ends = transition_has task.task ends
 
-      choice_has : (c : CheckedChoice) → LeavesAlone (λ v. choice_assigns v c) → WellFormedChoice shared c → G.of_program (lowered_choice p c)
-      choice_has t.nothing a is = G.empty
-      choice_has (t.otherwise b) a is = block_has b a is
-      choice_has (t.test e b more) a is =
-          let taken = block_has b (first_leaves (λ v. block_assigns v b) (λ v. choice_assigns v more) a) is.1 in
-          let passed = choice_has more (second_leaves (λ v. block_assigns v b) (λ v. choice_assigns v more) a) is.2 in
+      choice_has : (c : CheckedChoice) → LeavesAlone (λ v. choice_assigns v c) → WellFormedChoice shared c → ChoiceRoom room c
+          → choice_ends in_task c ≡ true → G.of_program (lowered_choice p c)
+      choice_has t.nothing a is r ends = G.empty
+      choice_has (t.otherwise b) a is r ends = block_has b a is r ends
+      choice_has (t.test e b more) a is r ends =
+          let both = and_parts (block_ends in_task b) (choice_ends in_task more) ends in
+          let taken = block_has b (first_leaves (λ v. block_assigns v b) (λ v. choice_assigns v more) a) is.1 r.1 both.0 in
+          let passed = choice_has more (second_leaves (λ v. block_assigns v b) (λ v. choice_assigns v more) a) is.2 r.2 both.1 in
           G.alone (choose (lowered_test p e) (lowered_block p b) (lowered_choice p more))
-          (G.chosen (lowered_test p e) (lowered_block p b) (lowered_choice p more) (expression_built 0 e (is.0, is.3)).test taken passed)
+          (G.chosen (lowered_test p e) (lowered_block p b) (lowered_choice p more) (expression_built 0 e (is.0, r.0)).test taken passed)
 
       -- the fact holds of the program of each well-formed block
-      pub block_has : (b : CheckedBlock) → LeavesAlone (λ v. block_assigns v b) → WellFormedBlock shared b → G.of_program (lowered_block p b)
-      block_has t.end a is = G.empty
-      block_has (t.step s more) a is =
+      pub block_has : (b : CheckedBlock) → LeavesAlone (λ v. block_assigns v b) → WellFormedBlock shared b → BlockRoom room b
+          → block_ends in_task b ≡ true → G.of_program (lowered_block p b)
+      block_has t.end a is r ends = G.empty
+      block_has (t.step s more) a is r ends =
+          let both = and_parts (statement_ends in_task s) (block_ends in_task more) ends in
           G.chain (lowered_statement p s) (lowered_block p more)
-          (statement_has s (first_leaves (λ v. statement_assigns v s) (λ v. block_assigns v more) a) is.0)
-          (block_has more (second_leaves (λ v. statement_assigns v s) (λ v. block_assigns v more) a) is.1)
+          (statement_has s (first_leaves (λ v. statement_assigns v s) (λ v. block_assigns v more) a) is.0 r.0 both.0)
+          (block_has more (second_leaves (λ v. statement_assigns v s) (λ v. block_assigns v more) a) is.1 r.1 both.1)

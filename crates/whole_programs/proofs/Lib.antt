@@ -1,3 +1,4 @@
+mod Rooms
 mod Ways
 mod Placed
 mod Built

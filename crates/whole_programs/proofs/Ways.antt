@@ -1,11 +1,15 @@
 -- Along each way through a task's program: the stack has room, each local that is read is assigned, and the way ends in a jump where the
 -- paths of the task do.
 use Rattle.std.proofs.Common.{◌≡◌, ℕ, zero, suc, ◌+◌, ◌-◌, ◌%◌, ◌==◌, ◌<◌, ◌≤◌, ◌||◌, Bool, true, false, nat_eq, List, [], ◌∷◌, ◌++◌, Option, Some}
-use Rattle.std.proofs.Common.{None, refl, sym, ap, subst, ◌∙◌, arith, if◌then◌else◌}
+use Rattle.std.proofs.Common.{None, length, map, not, nat_lt, ltb-true, refl, sym, ap, subst, ◌∙◌, arith, if◌then◌else◌}
+use Rattle.std.proofs.lemmas.Bool.{and_parts}
 use Rattle.std.proofs.lemmas.Bool.Decides.{nat_tests}
 use Rattle.task_ast.specs.Tree as t
-use Rattle.task_ast.specs.Paths.{CheckedExpression, CheckedStatement, CheckedChoice, CheckedBlock, Access, read, write, unset, End, goes_on}
-use Rattle.task_ast.specs.Paths.{goes_to, returns, StatementPath, ChoicePath, TurnsPath, BlockPath}
+use Rattle.task_ast.specs.Calls.{CallsAreBelow, StatementCallsBelow, ChoiceCallsBelow, BlockCallsBelow}
+use Rattle.task_ast.specs.Paths.{CheckedExpression, CheckedValues, CheckedStatement, CheckedChoice, CheckedBlock, CheckedFunction, Access, read, write}
+use Rattle.task_ast.specs.Paths.{unset, End, goes_on, goes_to, returns, StatementPath, ChoicePath, TurnsPath, BlockPath}
+use Rattle.cost_bound.specs.path_sums.Reaches.{at_once}
+use Rattle.task_check.specs.Placed.{statement_ends, choice_ends, block_ends}
 use Rattle.task_ast.specs.Paths as path
 use Rattle.task_ast.specs.declared.SharedDeclaration.{SharedDeclaration}
 use Rattle.task_ast.specs.declared.WordType.{WordType}
@@ -17,7 +21,7 @@ use Rattle.task_ast.specs.declared.names.VariableName.{VariableName}
 use Rattle.path_checks.specs.Loops.{is_local}
 use Rattle.source_values.specs.Values.{joined_type, type_of}
 use Rattle.array_versions.specs.declared.operations.PlainOperation.{PlainOperation}
-use Rattle.array_versions.specs.Program.{Step, Test, Program, emit_word, store_number, move_word, jump, nothing}
+use Rattle.array_versions.specs.Program.{Step, Test, Program, emit_word, store_number, move_word, jump, give, nothing}
 use Rattle.array_versions.specs.Program.{step, joined, truth, holds, local, compares}
 use Rattle.array_versions.specs.declared.operations.Comparison.{Comparison}
 use Rattle.array_versions.specs.Form.{Place, start, assigning, Moves, EachTurn, EachStepWay, EachTestWay, EachWay, StepOfWords}
@@ -38,15 +42,18 @@ use Rattle.array_versions.specs.declared.program.ListPlace.{ListPlace}
 use Rattle.memory_map.specs.declared.runtime.Logging.{Logging}
 use Rattle.memory_map.specs.declared.runtime.Logging.TheVariants.{Redo, Undo}
 use Rattle.lower.specs.Lowered.{freezing, loop_local, entries, lowered_transition, lowered_statement, lowered_choice, lowered_block}
-use Rattle.checked_trees.specs.WellFormed.{enough, IsWordName, IsArrayName, WellFormedExpression, WellFormedStatement, WellFormedChoice, WellFormedBlock}
+use Rattle.checked_trees.specs.WellFormed.{IsWordName, IsArrayName, WellFormedExpression, WellFormedValues, WellFormedStatement, WellFormedChoice}
+use Rattle.checked_trees.specs.WellFormed.{WellFormedBlock}
 use Rattle.lower.proofs.Interface.{small_modulo, is_update}
 use Rattle.whole_programs.proofs.Placed.{PlacesOfWords}
 use Rattle.whole_programs.proofs.Built.{Leaf, a_number, a_load, a_reading, an_event, a_unary, a_shift, an_element, a_version, a_binary, a_widening, a_join}
 use Rattle.whole_programs.proofs.Built.{a_low_word}
-use Rattle.whole_programs.proofs.Built.{a_complement, a_left_shift, a_right_shift, a_calculation, is_below, is_above, ReadOf, Reads, two_fit, Fact}
+use Rattle.whole_programs.proofs.Built.{a_complement, a_left_shift, a_right_shift, a_calculation, is_below, is_above, ReadOf, Reads, ValuesRead, two_fit}
+use Rattle.whole_programs.proofs.Built.{Fact}
+use Rattle.whole_programs.proofs.Rooms.{StatementRoom, ChoiceRoom, BlockRoom}
 use Rattle.whole_programs.proofs.Built.{FitsAbove, right_fits, lowering_has, long_has}
-use Rattle.checked_trees.proofs.Interface.{HasPath, names_read, is_path, some_turns, some_block, written, forgotten, behind, behind_both, behind_names}
-use Rattle.checked_trees.proofs.Interface.{behind_expression, IsAssigned, Safe, safe_both, safe_expression}
+use Rattle.checked_trees.proofs.Interface.{HasPath, names_read, values_read, is_path, some_turns, some_block, written, forgotten, behind, behind_both}
+use Rattle.checked_trees.proofs.Interface.{behind_names, behind_expression, IsAssigned, Safe, safe_both, safe_expression, not_given}
 
 -- ---- ways
 
@@ -144,17 +151,17 @@ module _ (room : ℕ) (a : ℕ → Bool) where
   }
 
 -- a well-formed expression with room above so many words, whose locals are assigned
-abbrev Ready : List SharedDeclaration → (ℕ → Bool) → ℕ → CheckedExpression → Type 0
-Ready shared a d e = FitsAbove shared d e × Reads (Assigned a) e
+abbrev Ready : List SharedDeclaration → ℕ → (ℕ → Bool) → ℕ → CheckedExpression → Type 0
+Ready shared room a d e = FitsAbove shared room d e × Reads (Assigned a) e
 
 -- so is the right side of an operator
-right_ready : (shared : List SharedDeclaration) (a : ℕ → Bool) (d : ℕ) (op : PlacedOperator) (b e : CheckedExpression) → Ready shared a d (t.binary op b e)
-    → Ready shared a d e
-right_ready shared a d op b e r = (right_fits shared d op b e r.0, r.1.1)
+right_ready : (shared : List SharedDeclaration) (room : ℕ) (a : ℕ → Bool) (d : ℕ) (op : PlacedOperator) (b e : CheckedExpression)
+    → Ready shared room a d (t.binary op b e) → Ready shared room a d e
+right_ready shared room a d op b e r = (right_fits shared room d op b e r.0, r.1.1)
 
-expression_way : (p : Places) → PlacesOfWords p → (shared : List SharedDeclaration) (d : ℕ) (a : ℕ → Bool) (e : CheckedExpression) (next : Place → Type 0)
-    → Ready shared a d e → next (at (suc d) a) → EachWay enough (lowered_expression p e) next (at d a)
-expression_way p words shared d a e next r h = (lowering_has (ways enough a) p words shared d e r.0.0 r.0.1 r.1).word next h
+expression_way : (p : Places) → PlacesOfWords p → (shared : List SharedDeclaration) (room d : ℕ) (a : ℕ → Bool) (e : CheckedExpression)
+    (next : Place → Type 0) → Ready shared room a d e → next (at (suc d) a) → EachWay room (lowered_expression p e) next (at d a)
+expression_way p words shared room d a e next r h = (lowering_has (ways room a) p words shared d e r.0.0 r.0.1 r.1).word next h
 
 -- ---- locals
 
@@ -195,26 +202,33 @@ covers_forgotten u a x c y l h = c y l (by_test (is_local y x.variable) h)
     by_test true h = absurd (cc)
     by_test false h = h
 
--- what an expression reads is assigned
-reads_assigned : (shared : List SharedDeclaration) (u a : ℕ → Bool) (e : CheckedExpression) → Covers u a → WellFormedExpression shared e → Safe u (names_read e)
-    → Reads (Assigned a) e
-reads_assigned shared u a (t.number w) c n s = tt
-reads_assigned shared u a (t.long_number w) c n s = tt
-reads_assigned shared u a (t.name x) c n s = by_variable x.variable n.0 s.0
-  where
-    by_variable : (v : Variable) → IsWordName shared v → IsAssigned u v → ReadOf (Assigned a) v
-    by_variable (Shared v) n s = tt
-    by_variable (Local k) n s = subst (λ m. a m ≡ true) (sym (small_modulo k n)) (c k n s)
-reads_assigned shared u a (t.element x index) c n s = reads_assigned shared u a index c n.1 (safe_both u (names_read index) (read x ∷ []) s).0
-reads_assigned shared u a t.sense c n s = tt
-reads_assigned shared u a t.next_event c n s = tt
-reads_assigned shared u a (t.call f values) c n s = tt
-reads_assigned shared u a (t.unary op e) c n s = reads_assigned shared u a e c n s
-reads_assigned shared u a (t.binary op x y) c n s =
-    let r = safe_expression u x (names_read y) s in (reads_assigned shared u a x c n.0 r.0, reads_assigned shared u a y c n.1 r.1)
-reads_assigned shared u a (t.shift op e count) c n s = reads_assigned shared u a e c n.0 s
-reads_assigned shared u a (t.short_circuit op x y) c n s =
-    let r = safe_expression u x (names_read y) s in (reads_assigned shared u a x c n.0 r.0, reads_assigned shared u a y c n.1 r.1)
+mutual
+  -- what an expression reads is assigned
+  reads_assigned : (shared : List SharedDeclaration) (u a : ℕ → Bool) (e : CheckedExpression) → Covers u a → WellFormedExpression shared e
+      → Safe u (names_read e) → Reads (Assigned a) e
+  reads_assigned shared u a (t.number w) c n s = tt
+  reads_assigned shared u a (t.long_number w) c n s = tt
+  reads_assigned shared u a (t.name x) c n s = by_variable x.variable n.0 s.0
+    where
+      by_variable : (v : Variable) → IsWordName shared v → IsAssigned u v → ReadOf (Assigned a) v
+      by_variable (Shared v) n s = tt
+      by_variable (Local k) n s = subst (λ m. a m ≡ true) (sym (small_modulo k n)) (c k n s)
+  reads_assigned shared u a (t.element x index) c n s = reads_assigned shared u a index c n.1 (safe_both u (names_read index) (read x ∷ []) s).0
+  reads_assigned shared u a t.sense c n s = tt
+  reads_assigned shared u a t.next_event c n s = tt
+  reads_assigned shared u a (t.call f values) c n s = values_assigned shared u a values c n.1 s
+  reads_assigned shared u a (t.unary op e) c n s = reads_assigned shared u a e c n s
+  reads_assigned shared u a (t.binary op x y) c n s =
+      let r = safe_expression u x (names_read y) s in (reads_assigned shared u a x c n.0 r.0, reads_assigned shared u a y c n.1 r.1)
+  reads_assigned shared u a (t.shift op e count) c n s = reads_assigned shared u a e c n.0 s
+  reads_assigned shared u a (t.short_circuit op x y) c n s =
+      let r = safe_expression u x (names_read y) s in (reads_assigned shared u a x c n.0 r.0, reads_assigned shared u a y c n.1 r.1)
+
+  values_assigned : (shared : List SharedDeclaration) (u a : ℕ → Bool) (values : CheckedValues) → Covers u a → WellFormedValues shared values
+      → Safe u (values_read values) → ValuesRead (Assigned a) values
+  values_assigned shared u a t.no_value c n s = tt
+  values_assigned shared u a (t.value e more) c n s =
+      let r = safe_expression u e (values_read more) s in (reads_assigned shared u a e c n.0 r.0, values_assigned shared u a more c n.1 r.1)
 
 -- ---- statements
 
@@ -224,67 +238,79 @@ record Follows (Path : List Access → End → Type 0) (u : ℕ → Bool) (next 
   on : (xs : List Access) → Path xs goes_on → (a : ℕ → Bool) → Covers (behind u xs) a → next (at 0 a)
 
 -- the body of a loop
-abbrev BodyWay : ℕ → Program → CheckedBlock → Type 1
-BodyWay room code body = (u a : ℕ → Bool) (next : Place → Type 0) → Covers u a → Follows (BlockPath [] body) u next → EachWay room code next (at 0 a)
+abbrev BodyWay : List CheckedFunction → ℕ → Program → CheckedBlock → Type 1
+BodyWay functions room code body =
+    (u a : ℕ → Bool) (next : Place → Type 0) → Covers u a → Follows (BlockPath (map at_once functions) body) u next → EachWay room code next (at 0 a)
 
-module _ (room : ℕ) (x : VariableName) (code : Program) (body : CheckedBlock) (way : BodyWay room code body) (some : HasPath (BlockPath [] body)) where
+module _ (functions : List CheckedFunction) (n : ℕ) (few : n ≤ length functions) (room : ℕ) (x : VariableName) (code : Program) (body : CheckedBlock)
+    (way : BodyWay functions room code body) (some : HasPath (BlockPath (map at_once functions) body)) where
+  abbrev direct_turns : List CheckedFunction
+  direct_turns = map at_once functions
+
   -- what follows the body, with turns left
-  turn_follows : (m : ℕ) (u : ℕ → Bool) (next : Place → Type 0) (rest : Place → Type 0) → Follows (TurnsPath [] x (suc m) body) u next
-      → ((xs : List Access) → BlockPath [] body xs goes_on → (a : ℕ → Bool) → Covers (behind u xs) a → rest (at 0 a)) → Follows (BlockPath [] body) u rest
+  turn_follows : (m : ℕ) (u : ℕ → Bool) (next : Place → Type 0) (rest : Place → Type 0) → Follows (TurnsPath direct_turns x (suc m) body) u next
+      → ((xs : List Access) → BlockPath direct_turns body xs goes_on → (a : ℕ → Bool) → Covers (behind u xs) a → rest (at 0 a))
+      → Follows (BlockPath direct_turns body) u rest
   turn_follows m u next rest h k = record { safe = λ xs end q. by_end xs end q; on = k }
     where
-      by_end : (xs : List Access) (end : End) → BlockPath [] body xs end → Safe u xs
+      by_end : (xs : List Access) (end : End) → BlockPath direct_turns body xs end → Safe u xs
       by_end xs goes_on q =
-          let more = some_turns [] x m body some in
+          let more = some_turns functions n few x m body some in
           let r = path.turn x m body xs more.accesses more.end q more.is in
           (safe_both u xs (write x ∷ more.accesses) (h.safe (xs ++ write x ∷ more.accesses) more.end r)).0
       by_end xs (goes_to task) q = h.safe xs (goes_to task) (path.cut x m body xs (goes_to task) tt q)
       by_end xs returns q = h.safe xs returns (path.cut x m body xs returns tt q)
 
   -- what follows a turn
-  turns_follow : (m : ℕ) (u : ℕ → Bool) (next : Place → Type 0) (xs : List Access) → Follows (TurnsPath [] x (suc m) body) u next → BlockPath [] body xs goes_on
-      → Follows (TurnsPath [] x m body) (written (behind u xs) x) next
+  turns_follow : (m : ℕ) (u : ℕ → Bool) (next : Place → Type 0) (xs : List Access) → Follows (TurnsPath direct_turns x (suc m) body) u next
+      → BlockPath direct_turns body xs goes_on
+      → Follows (TurnsPath direct_turns x m body) (written (behind u xs) x) next
   turns_follow m u next xs h q = record {
     safe = λ ys end r. (safe_both u xs (write x ∷ ys) (h.safe (xs ++ write x ∷ ys) end (path.turn x m body xs ys end q r))).1;
     on = λ ys r a c. h.on (xs ++ write x ∷ ys) (path.turn x m body xs ys goes_on q r) a (subst (λ v. Covers v a) (sym (behind_both u xs (write x ∷ ys))) c);
   }
 
-  turns_way : (m : ℕ) (u a : ℕ → Bool) (next : Place → Type 0) → Covers u a → Follows (TurnsPath [] x m body) (written u x) next
+  turns_way : (m : ℕ) (u a : ℕ → Bool) (next : Place → Type 0) → Covers u a → Follows (TurnsPath direct_turns x m body) (written u x) next
       → EachTurn m (loop_local x.variable) (EachWay room code) next (at 0 a)
   turns_way zero u a next c h = h.on [] (path.over x body) _ (covers_written u a x c)
   turns_way (suc m) u a next c h =
       way (written u x) _ _ (covers_written u a x c)
       (turn_follows m (written u x) next _ h (λ xs q b d. turns_way m (behind (written u x) xs) b next d (turns_follow m (written u x) next xs h q)))
 
-module _ (p : Places) (words : PlacesOfWords p) (shared : List SharedDeclaration) (even : p.map.commit.address % 2 ≡ 0) where
+-- a body that calls the first n of these functions, in a task or in a function
+module _ (p : Places) (words : PlacesOfWords p) (shared : List SharedDeclaration) (functions : List CheckedFunction) (n : ℕ) (few : n ≤ length functions)
+    (room : ℕ) (in_task : Bool) (even : in_task ≡ true → p.map.commit.address % 2 ≡ 0) where
+  abbrev direct : List CheckedFunction
+  direct = map at_once functions
+
   write_way : (u a : ℕ → Bool) (x : VariableName) (next : Place → Type 0) → Covers u a → ((b : ℕ → Bool) → Covers (written u x) b → next (at 0 b))
-      → EachStepWay enough (write_step p x.variable) next (at 1 a)
+      → EachStepWay room (write_step p x.variable) next (at 1 a)
   write_way u a x next c h = by_variable x.variable refl
     where
-      by_variable : (v : Variable) → x.variable ≡ v → EachStepWay enough (write_step p v) next (at 1 a)
-      by_variable (Shared v) is = moves enough 1 0 1 0 a next (omega arith) (omega arith) (omega arith) (h a (covers_shared u a x v is c))
+      by_variable : (v : Variable) → x.variable ≡ v → EachStepWay room (write_step p v) next (at 1 a)
+      by_variable (Shared v) is = moves room 1 0 1 0 a next (omega arith) (omega arith) (omega arith) (h a (covers_shared u a x v is c))
       by_variable (Local n) is =
-          moves enough 1 0 1 0 a (λ q. next (assigning (n % 65536) q)) (omega arith) (omega arith) (omega arith)
+          moves room 1 0 1 0 a (λ q. next (assigning (n % 65536) q)) (omega arith) (omega arith) (omega arith)
           (h (λ m. nat_eq m (n % 65536) || a m) (subst (λ v. Covers (written u x) (λ m. nat_eq m (loop_local v) || a m)) is (covers_written u a x c)))
 
   -- the same of a long
-  long_write_way : (u a : ℕ → Bool) (x : VariableName) (next : Place → Type 0) → 2 ≤ enough → Covers u a
+  long_write_way : (u a : ℕ → Bool) (x : VariableName) (next : Place → Type 0) → 2 ≤ room → Covers u a
       → ((b : ℕ → Bool) → Covers (written u x) b → next (at 0 b))
-      → EachWay enough (write_long p x.variable) next (at 2 a)
+      → EachWay room (write_long p x.variable) next (at 2 a)
   long_write_way u a x next l c h = by_variable x.variable refl
     where
-      by_variable : (v : Variable) → x.variable ≡ v → EachWay enough (write_long p v) next (at 2 a)
+      by_variable : (v : Variable) → x.variable ≡ v → EachWay room (write_long p v) next (at 2 a)
       by_variable (Shared v) is =
-          moves enough 1 0 2 1 a (Moves enough 1 0 next) (omega arith) (omega arith) (omega (arith, l))
-          (moves enough 1 0 1 0 a next (omega arith) (omega arith) (omega arith) (h a (covers_shared u a x v is c)))
+          moves room 1 0 2 1 a (Moves room 1 0 next) (omega arith) (omega arith) (omega (arith, l))
+          (moves room 1 0 1 0 a next (omega arith) (omega arith) (omega arith) (h a (covers_shared u a x v is c)))
       by_variable (Local n) is =
-          moves enough 2 1 2 1 a (EachStepWay enough (write_step p (Local n)) next) (omega arith) (omega arith) (omega (arith, l))
-          (subst (λ v. EachStepWay enough (write_step p v) next (at 1 a)) is (write_way u a x next c h))
+          moves room 2 1 2 1 a (EachStepWay room (write_step p (Local n)) next) (omega arith) (omega arith) (omega (arith, l))
+          (subst (λ v. EachStepWay room (write_step p v) next (at 1 a)) is (write_way u a x next c h))
 
   -- where the variable is assigned it may be updated
   update_way : (a : ℕ → Bool) (o : PlainOperation) (v : Variable) (next : Place → Type 0) → ReadOf (Assigned a) v
-      → EachStepWay enough (write_step p v) next (at 1 a)
-      → EachStepWay enough (update_step p o v) next (at 1 a)
+      → EachStepWay room (write_step p v) next (at 1 a)
+      → EachStepWay room (update_step p o v) next (at 1 a)
   update_way a o (Shared v) next r h = h
   update_way a o (Local n) next r h = (r, h)
 
@@ -293,109 +319,109 @@ module _ (p : Places) (words : PlacesOfWords p) (shared : List SharedDeclaration
   Written u x e next = (b : ℕ → Bool) → Covers (behind u (names_read e ++ write x ∷ [])) b → next (at 0 b)
 
   write_behind : (u a : ℕ → Bool) (x : VariableName) (e : CheckedExpression) (next : Place → Type 0) → Covers u a → Written u x e next
-      → EachStepWay enough (write_step p x.variable) next (at 1 a)
+      → EachStepWay room (write_step p x.variable) next (at 1 a)
   write_behind u a x e next c h = write_way u a x next c (λ b d. h b (subst (λ v. Covers v b) (sym (behind_expression u e (write x ∷ []))) d))
 
   -- an expression's value is set
-  setting_way : (u a : ℕ → Bool) (x : VariableName) (e : CheckedExpression) (next : Place → Type 0) → Ready shared a 0 e → Covers u a
-      → Written u x e next → EachWay enough (setting p x.variable e) next (at 0 a)
+  setting_way : (u a : ℕ → Bool) (x : VariableName) (e : CheckedExpression) (next : Place → Type 0) → Ready shared room a 0 e → Covers u a
+      → Written u x e next → EachWay room (setting p x.variable e) next (at 0 a)
   setting_way u a x e next r c h =
-      joined_way enough (lowered_expression p e) (one (write_step p x.variable)) next (at 0 a)
-      (expression_way p words shared 0 a e _ r (write_behind u a x e next c h))
+      joined_way room (lowered_expression p e) (one (write_step p x.variable)) next (at 0 a)
+      (expression_way p words shared room 0 a e _ r (write_behind u a x e next c h))
 
   -- so is one of two words
-  long_setting_way : (u a : ℕ → Bool) (x : VariableName) (e : CheckedExpression) (next : Place → Type 0) → Ready shared a 0 e → Covers u a
-      → Written u x e next → EachWay enough (long_setting p x.variable e) next (at 0 a)
+  long_setting_way : (u a : ℕ → Bool) (x : VariableName) (e : CheckedExpression) (next : Place → Type 0) → Ready shared room a 0 e → Covers u a
+      → Written u x e next → EachWay room (long_setting p x.variable e) next (at 0 a)
   long_setting_way u a x e next r c h =
-      let two = two_fit enough 0 e r.0.1 in
-      joined_way enough (lowered_long p e) (write_long p x.variable) next (at 0 a)
-      (long_has (ways enough a) 0 (widened_type e) (lowering p e) two (lowering_has (ways enough a) p words shared 0 e r.0.0 r.0.1 r.1)
-      (EachWay enough (write_long p x.variable) next)
+      let two = two_fit room 0 e r.0.1 in
+      joined_way room (lowered_long p e) (write_long p x.variable) next (at 0 a)
+      (long_has (ways room a) 0 (widened_type e) (lowering p e) two (lowering_has (ways room a) p words shared 0 e r.0.0 r.0.1 r.1)
+      (EachWay room (write_long p x.variable) next)
       (long_write_way u a x next two c (λ b d. h b (subst (λ v. Covers v b) (sym (behind_expression u e (write x ∷ []))) d))))
 
   sides_set_way : (u a : ℕ → Bool) (x : VariableName) (op : PlacedOperator) (b e : CheckedExpression) (o : Option PlainOperation) (next : Place → Type 0)
-      → updating x.variable op.operator b ≡ o → Ready shared a 0 (t.binary op b e) → Covers u a
-      → Written u x (t.binary op b e) next → EachWay enough (sides_set p x.variable op b e o) next (at 0 a)
+      → updating x.variable op.operator b ≡ o → Ready shared room a 0 (t.binary op b e) → Covers u a
+      → Written u x (t.binary op b e) next → EachWay room (sides_set p x.variable op b e o) next (at 0 a)
   sides_set_way u a x op b e None next is r c h = setting_way u a x (t.binary op b e) next r c h
   sides_set_way u a x op b e (Some o) next is r c h =
       let update = is_update x.variable op.operator b o is in
       let own : ReadOf (Assigned a) x.variable = subst (ReadOf (Assigned a)) update.same (subst (Reads (Assigned a)) update.is r.1.0) in
-      joined_way enough (lowered_expression p e) (one (update_step p o x.variable)) next (at 0 a)
-      (expression_way p words shared 0 a e _ (right_ready shared a 0 op b e r)
+      joined_way room (lowered_expression p e) (one (update_step p o x.variable)) next (at 0 a)
+      (expression_way p words shared room 0 a e _ (right_ready shared room a 0 op b e r)
       (update_way a o x.variable next own (write_behind u a x (t.binary op b e) next c h)))
 
   -- the first clause makes it a proof by cases
-  assignment_way : (u a : ℕ → Bool) (x : VariableName) (e : CheckedExpression) (next : Place → Type 0) → Ready shared a 0 e → Covers u a
-      → Written u x e next → EachWay enough (assignment p x.variable e) next (at 0 a)
+  assignment_way : (u a : ℕ → Bool) (x : VariableName) (e : CheckedExpression) (next : Place → Type 0) → Ready shared room a 0 e → Covers u a
+      → Written u x e next → EachWay room (assignment p x.variable e) next (at 0 a)
   assignment_way u a x (t.binary op b e) next r c h = by_type (joined_type (type_of b) (type_of e))
     where
-      by_type : (of : WordType) → EachWay enough (sides_set p x.variable op b e (of_words of (updating x.variable op.operator b))) next (at 0 a)
+      by_type : (of : WordType) → EachWay room (sides_set p x.variable op b e (of_words of (updating x.variable op.operator b))) next (at 0 a)
       by_type Long = setting_way u a x (t.binary op b e) next r c h
       by_type Int = sides_set_way u a x op b e (updating x.variable op.operator b) next refl r c h
       by_type Unsigned = sides_set_way u a x op b e (updating x.variable op.operator b) next refl r c h
   assignment_way u a x e next r c h = setting_way u a x e next r c h
 
-  typed_assignment_way : (u a : ℕ → Bool) (of : WordType) (x : VariableName) (e : CheckedExpression) (next : Place → Type 0) → Ready shared a 0 e
-      → Covers u a → Written u x e next → EachWay enough (scalar_assignment p of x.variable e) next (at 0 a)
+  typed_assignment_way : (u a : ℕ → Bool) (of : WordType) (x : VariableName) (e : CheckedExpression) (next : Place → Type 0) → Ready shared room a 0 e
+      → Covers u a → Written u x e next → EachWay room (scalar_assignment p of x.variable e) next (at 0 a)
   typed_assignment_way u a Long x e next r c h = long_setting_way u a x e next r c h
   typed_assignment_way u a Int x e next r c h = assignment_way u a x e next r c h
   typed_assignment_way u a Unsigned x e next r c h = assignment_way u a x e next r c h
 
-  assigned_way : (u a : ℕ → Bool) (of : WordType) (x : VariableName) (e : CheckedExpression) (next : Place → Type 0) → FitsAbove shared 0 e
+  assigned_way : (u a : ℕ → Bool) (of : WordType) (x : VariableName) (e : CheckedExpression) (next : Place → Type 0) → FitsAbove shared room 0 e
       → Covers u a → Safe u (names_read e ++ write x ∷ []) → Written u x e next
-      → EachWay enough (scalar_assignment p of x.variable e) next (at 0 a)
+      → EachWay room (scalar_assignment p of x.variable e) next (at 0 a)
   assigned_way u a of x e next f c s h =
       typed_assignment_way u a of x e next (f, reads_assigned shared u a e c f.0 (safe_expression u e (write x ∷ []) s).0) c h
 
   entries_way : (count list : ℕ) (runs : List Run) (next : Place → Type 0) (o : Place) → next o
-      → EachWay enough (entries count list runs) next o
+      → EachWay room (entries count list runs) next o
   entries_way count list [] next o h = h
   entries_way count list (s ∷ more) next o h = entries_way count list more next o h
 
-  frozen_way : (events : Bool) (next : Place → Type 0) (o : Place) → next o → EachWay enough (if events then one freeze_events else nothing) next o
+  frozen_way : (events : Bool) (next : Place → Type 0) (o : Place) → next o → EachWay room (if events then one freeze_events else nothing) next o
   frozen_way true next o h = h
   frozen_way false next o h = h
 
-  transition_way : (task : ℕ) (next : Place → Type 0) (o : Place) → EachWay enough (lowered_transition p task) next o
-  transition_way task next o =
+  transition_way : (task : ℕ) (next : Place → Type 0) (o : Place) → in_task ≡ true → EachWay room (lowered_transition p task) next o
+  transition_way task next o ends =
       let gated : Program = step (store_number (word_place p.map Gate) 1) (one (jump p.map.commit.address)) in
       let close : Program = step (move_word (word_place p.map Base) (word_place p.map SentBase)) (joined (freezing p) gated) in
-      joined_way enough (entries (word_place p.map ListLength) p.map.list.address (runs_of p.privates)) close next o
-      (entries_way (word_place p.map ListLength) p.map.list.address (runs_of p.privates) (EachWay enough close next) o
-      (joined_way enough (freezing p) gated next o (frozen_way p.map.runtime.events (EachWay enough gated next) o even)))
+      joined_way room (entries (word_place p.map ListLength) p.map.list.address (runs_of p.privates)) close next o
+      (entries_way (word_place p.map ListLength) p.map.list.address (runs_of p.privates) (EachWay room close next) o
+      (joined_way room (freezing p) gated next o (frozen_way p.map.runtime.events (EachWay room gated next) o (even ends))))
 
   -- an index and a value, and a step behind both
-  index_and_value_way : (a : ℕ → Bool) (index e : CheckedExpression) (s : Step) (next : Place → Type 0) → Ready shared a 0 index → Ready shared a 1 e
-      → EachStepWay enough s next (at 2 a) → EachWay enough (joined (index_and_value p index e) (one s)) next (at 0 a)
+  index_and_value_way : (a : ℕ → Bool) (index e : CheckedExpression) (s : Step) (next : Place → Type 0) → Ready shared room a 0 index → Ready shared room a 1 e
+      → EachStepWay room s next (at 2 a) → EachWay room (joined (index_and_value p index e) (one s)) next (at 0 a)
   index_and_value_way a index e s next q r h =
-      joined_way enough (index_and_value p index e) (one s) next (at 0 a)
-      (joined_way enough (lowered_expression p index) (lowered_expression p e) (EachWay enough (one s) next) (at 0 a)
-      (expression_way p words shared 0 a index _ q (expression_way p words shared 1 a e _ r h)))
+      joined_way room (index_and_value p index e) (one s) next (at 0 a)
+      (joined_way room (lowered_expression p index) (lowered_expression p e) (EachWay room (one s) next) (at 0 a)
+      (expression_way p words shared room 0 a index _ q (expression_way p words shared room 1 a e _ r h)))
 
   -- a store to an element takes both, under each runtime
-  own_write_way : (logging : Logging) (array : ArrayPlace) (list : ListPlace) (next : Place → Type 0) (o : Place) → Moves enough 2 0 next o
-      → EachStepWay enough (own_write logging array list) next o
+  own_write_way : (logging : Logging) (array : ArrayPlace) (list : ListPlace) (next : Place → Type 0) (o : Place) → Moves room 2 0 next o
+      → EachStepWay room (own_write logging array list) next o
   own_write_way Redo array list next o h = h
   own_write_way Undo array list next o h = h
 
   own_update_way : (logging : Logging) (op : PlainOperation) (array : ArrayPlace) (list : ListPlace) (next : Place → Type 0) (o : Place)
-      → Moves enough 2 0 next o → EachStepWay enough (own_update logging op array list) next o
+      → Moves room 2 0 next o → EachStepWay room (own_update logging op array list) next o
   own_update_way Redo op array list next o h = h
   own_update_way Undo op array list next o h = h
 
   element_sides_way : (a : ℕ → Bool) (x : Variable) (index : CheckedExpression) (op : PlacedOperator) (b e : CheckedExpression) (o : Option PlainOperation)
-      (next : Place → Type 0) → Ready shared a 0 index → Ready shared a 1 (t.binary op b e) → Moves enough 2 0 next (at 2 a)
-      → EachWay enough (element_sides_set p x index op b e o) next (at 0 a)
+      (next : Place → Type 0) → Ready shared room a 0 index → Ready shared room a 1 (t.binary op b e) → Moves room 2 0 next (at 2 a)
+      → EachWay room (element_sides_set p x index op b e o) next (at 0 a)
   element_sides_way a x index op b e None next q r h =
       index_and_value_way a index (t.binary op b e) (store_step p x) next q r
       (own_write_way p.map.runtime.logging (stored_array p x) (list_place p) next (at 2 a) h)
   element_sides_way a x index op b e (Some o) next q r h =
-      index_and_value_way a index e (update_element_step p o x) next q (right_ready shared a 1 op b e r)
+      index_and_value_way a index e (update_element_step p o x) next q (right_ready shared room a 1 op b e r)
       (own_update_way p.map.runtime.logging o (stored_array p x) (list_place p) next (at 2 a) h)
 
   -- the first clause makes it a proof by cases
-  element_assignment_way : (a : ℕ → Bool) (x : Variable) (index e : CheckedExpression) (next : Place → Type 0) → Ready shared a 0 index
-      → Ready shared a 1 e → Moves enough 2 0 next (at 2 a) → EachWay enough (element_assignment p x index e) next (at 0 a)
+  element_assignment_way : (a : ℕ → Bool) (x : Variable) (index e : CheckedExpression) (next : Place → Type 0) → Ready shared room a 0 index
+      → Ready shared room a 1 e → Moves room 2 0 next (at 2 a) → EachWay room (element_assignment p x index e) next (at 0 a)
   element_assignment_way a x index (t.binary op b e) next q r h =
       element_sides_way a x index op b e (of_words (joined_type (type_of b) (type_of e)) (element_updating x index op.operator b)) next q r h
   element_assignment_way a x index e next q r h =
@@ -403,11 +429,11 @@ module _ (p : Places) (words : PlacesOfWords p) (shared : List SharedDeclaration
       (own_write_way p.map.runtime.logging (stored_array p x) (list_place p) next (at 2 a) h)
 
   -- of an index and a value
-  element_assigned_way : (u a : ℕ → Bool) (x : VariableName) (index e : CheckedExpression) (next : Place → Type 0) → FitsAbove shared 0 index
-      → FitsAbove shared 1 e → IsArrayName shared x.variable → Covers u a
+  element_assigned_way : (u a : ℕ → Bool) (x : VariableName) (index e : CheckedExpression) (next : Place → Type 0) → FitsAbove shared room 0 index
+      → FitsAbove shared room 1 e → IsArrayName shared x.variable → Covers u a
       → Safe u (names_read index ++ (names_read e ++ write x ∷ []))
       → ((b : ℕ → Bool) → Covers (behind u (names_read index ++ (names_read e ++ write x ∷ []))) b → next (at 0 b))
-      → EachWay enough (element_assignment p x.variable index e) next (at 0 a)
+      → EachWay room (element_assignment p x.variable index e) next (at 0 a)
   element_assigned_way u a x index e next f g array c s h =
       let first = safe_expression u index (names_read e ++ write x ∷ []) s in
       let second = safe_expression u e (write x ∷ []) first.1 in
@@ -419,26 +445,28 @@ module _ (p : Places) (words : PlacesOfWords p) (shared : List SharedDeclaration
           subst (λ w. Covers w a) (sym (behind_expression u index (names_read e ++ write x ∷ []) ∙ behind_expression u e (write x ∷ [])))
           (covers_shared u a x v is c)
 
-      by_variable : (v : Variable) → x.variable ≡ v → IsArrayName shared v → Moves enough 2 0 next (at 2 a)
-      by_variable (Shared v) is k = moves enough 2 0 2 0 a next (omega arith) (omega arith) (omega arith) (h a (reaches v is))
+      by_variable : (v : Variable) → x.variable ≡ v → IsArrayName shared v → Moves room 2 0 next (at 2 a)
+      by_variable (Shared v) is k = moves room 2 0 2 0 a next (omega arith) (omega arith) (omega arith) (h a (reaches v is))
       by_variable (Local v) is k = absurd k
 
   -- what follows a statement, where others stand behind it
-  step_follows : (s : CheckedStatement) (more : CheckedBlock) (u : ℕ → Bool) (next rest : Place → Type 0) → WellFormedBlock shared more
-      → Follows (BlockPath [] (t.step s more)) u next
-      → ((xs : List Access) → StatementPath [] s xs goes_on → (a : ℕ → Bool) → Covers (behind u xs) a → rest (at 0 a)) → Follows (StatementPath [] s) u rest
-  step_follows s more u next rest is h k = record { safe = λ xs end q. by_end xs end q; on = k }
+  step_follows : (s : CheckedStatement) (more : CheckedBlock) (u : ℕ → Bool) (next rest : Place → Type 0) → BlockCallsBelow n more
+      → Follows (BlockPath direct (t.step s more)) u next
+      → ((xs : List Access) → StatementPath direct s xs goes_on → (a : ℕ → Bool) → Covers (behind u xs) a → rest (at 0 a))
+      → Follows (StatementPath direct s) u rest
+  step_follows s more u next rest calls h k = record { safe = λ xs end q. by_end xs end q; on = k }
     where
-      by_end : (xs : List Access) (end : End) → StatementPath [] s xs end → Safe u xs
+      by_end : (xs : List Access) (end : End) → StatementPath direct s xs end → Safe u xs
       by_end xs goes_on q =
-          let m = some_block [] shared more is in (safe_both u xs m.accesses (h.safe (xs ++ m.accesses) m.end (path.step s more xs m.accesses m.end q m.is))).0
+          let m = some_block functions n few more calls in
+          (safe_both u xs m.accesses (h.safe (xs ++ m.accesses) m.end (path.step s more xs m.accesses m.end q m.is))).0
       by_end xs (goes_to task) q = h.safe xs (goes_to task) (path.stopped s more xs (goes_to task) tt q)
       by_end xs returns q = h.safe xs returns (path.stopped s more xs returns tt q)
 
   -- what follows those
   block_follows : (s : CheckedStatement) (more : CheckedBlock) (u : ℕ → Bool) (next : Place → Type 0) (xs : List Access)
-      → Follows (BlockPath [] (t.step s more)) u next → StatementPath [] s xs goes_on
-      → Follows (BlockPath [] more) (behind u xs) next
+      → Follows (BlockPath direct (t.step s more)) u next → StatementPath direct s xs goes_on
+      → Follows (BlockPath direct more) (behind u xs) next
   block_follows s more u next xs h q = record {
     safe = λ ys end r. (safe_both u xs ys (h.safe (xs ++ ys) end (path.step s more xs ys end q r))).1;
     on = λ ys r a c. h.on (xs ++ ys) (path.step s more xs ys goes_on q r) a (subst (λ v. Covers v a) (sym (behind_both u xs ys)) c);
@@ -446,83 +474,165 @@ module _ (p : Places) (words : PlacesOfWords p) (shared : List SharedDeclaration
 
   -- what follows a block that an `if` takes, and what the conditions that come next
   taken_follows : (e : CheckedExpression) (b : CheckedBlock) (more : CheckedChoice) (u : ℕ → Bool) (next : Place → Type 0)
-      → WellFormedExpression shared e → Follows (ChoicePath [] (t.test e b more)) u next → Follows (BlockPath [] b) u next
-  taken_follows e b more u next is h = record {
-    safe = λ ys end r. (safe_expression u e ys (h.safe (names_read e ++ ys) end (path.taken e b more (names_read e) ys end (is_path [] shared e is) r))).1;
+      → CallsAreBelow n e → Follows (ChoicePath direct (t.test e b more)) u next → Follows (BlockPath direct b) u next
+  taken_follows e b more u next calls h = record {
+    safe =
+        λ ys end r. (safe_expression u e ys (h.safe (names_read e ++ ys) end
+        (path.taken e b more (names_read e) ys end (is_path functions n few e calls) r))).1;
     on =
-        λ ys r a c. h.on (names_read e ++ ys) (path.taken e b more (names_read e) ys goes_on (is_path [] shared e is) r) a
+        λ ys r a c. h.on (names_read e ++ ys) (path.taken e b more (names_read e) ys goes_on (is_path functions n few e calls) r) a
         (subst (λ v. Covers v a) (sym (behind_expression u e ys)) c);
   }
 
   passed_follows : (e : CheckedExpression) (b : CheckedBlock) (more : CheckedChoice) (u : ℕ → Bool) (next : Place → Type 0)
-      → WellFormedExpression shared e → Follows (ChoicePath [] (t.test e b more)) u next → Follows (ChoicePath [] more) u next
-  passed_follows e b more u next is h = record {
-    safe = λ ys end r. (safe_expression u e ys (h.safe (names_read e ++ ys) end (path.passed e b more (names_read e) ys end (is_path [] shared e is) r))).1;
+      → CallsAreBelow n e → Follows (ChoicePath direct (t.test e b more)) u next → Follows (ChoicePath direct more) u next
+  passed_follows e b more u next calls h = record {
+    safe =
+        λ ys end r. (safe_expression u e ys (h.safe (names_read e ++ ys) end
+        (path.passed e b more (names_read e) ys end (is_path functions n few e calls) r))).1;
     on =
-        λ ys r a c. h.on (names_read e ++ ys) (path.passed e b more (names_read e) ys goes_on (is_path [] shared e is) r) a
+        λ ys r a c. h.on (names_read e ++ ys) (path.passed e b more (names_read e) ys goes_on (is_path functions n few e calls) r) a
         (subst (λ v. Covers v a) (sym (behind_expression u e ys)) c);
   }
 
+  -- a body's statement, choice and block: well-formed, with room, calls of these functions, and ends as they may be
+  record IsFitStatement (s : CheckedStatement) : Type 0 where
+    formed : WellFormedStatement shared s
+    fits : StatementRoom room s
+    calls : StatementCallsBelow n s
+    ends : statement_ends in_task s ≡ true
+
+  record IsFitChoice (c : CheckedChoice) : Type 0 where
+    formed : WellFormedChoice shared c
+    fits : ChoiceRoom room c
+    calls : ChoiceCallsBelow n c
+    ends : choice_ends in_task c ≡ true
+
+  pub record IsFitBlock (b : CheckedBlock) : Type 0 where
+    pub formed : WellFormedBlock shared b
+    pub fits : BlockRoom room b
+    pub calls : BlockCallsBelow n b
+    pub ends : block_ends in_task b ≡ true
+
+  first_fit : (s : CheckedStatement) (more : CheckedBlock) → IsFitBlock (t.step s more) → IsFitStatement s
+  first_fit s more is = record {
+    formed = is.formed.0;
+    fits = is.fits.0;
+    calls = is.calls.0;
+    ends = (and_parts (statement_ends in_task s) (block_ends in_task more) is.ends).0;
+  }
+
+  rest_fit : (s : CheckedStatement) (more : CheckedBlock) → IsFitBlock (t.step s more) → IsFitBlock more
+  rest_fit s more is = record {
+    formed = is.formed.1;
+    fits = is.fits.1;
+    calls = is.calls.1;
+    ends = (and_parts (statement_ends in_task s) (block_ends in_task more) is.ends).1;
+  }
+
+  taken_fit : (e : CheckedExpression) (b : CheckedBlock) (more : CheckedChoice) → IsFitChoice (t.test e b more) → IsFitBlock b
+  taken_fit e b more is = record {
+    formed = is.formed.1;
+    fits = is.fits.1;
+    calls = is.calls.1.0;
+    ends = (and_parts (block_ends in_task b) (choice_ends in_task more) is.ends).0;
+  }
+
+  passed_fit : (e : CheckedExpression) (b : CheckedBlock) (more : CheckedChoice) → IsFitChoice (t.test e b more) → IsFitChoice more
+  passed_fit e b more is = record {
+    formed = is.formed.2;
+    fits = is.fits.2;
+    calls = is.calls.1.1;
+    ends = (and_parts (block_ends in_task b) (choice_ends in_task more) is.ends).1;
+  }
+
   mutual
-    statement_way : (s : CheckedStatement) (u a : ℕ → Bool) (next : Place → Type 0) → WellFormedStatement shared s → Covers u a
-        → Follows (StatementPath [] s) u next → EachWay enough (lowered_statement p s) next (at 0 a)
+    statement_way : (s : CheckedStatement) (u a : ℕ → Bool) (next : Place → Type 0) → IsFitStatement s → Covers u a
+        → Follows (StatementPath direct s) u next → EachWay room (lowered_statement p s) next (at 0 a)
     statement_way (t.declare of x None) u a next is c h = h.on (unset x ∷ []) (path.declare_unset of x) a (covers_forgotten u a x c)
     statement_way (t.declare of x (Some e)) u a next is c h =
-        let q = path.declare_set of x e (names_read e) (is_path [] shared e is.1) in
-        assigned_way u a Unsigned x e next (is.1, is.3) c (h.safe (names_read e ++ write x ∷ []) goes_on q) (h.on (names_read e ++ write x ∷ []) q)
+        let q = path.declare_set of x e (names_read e) (is_path functions n few e is.calls) in
+        let xs = names_read e ++ write x ∷ [] in
+        assigned_way u a Unsigned x e next (is.formed.1, is.fits) c (h.safe xs goes_on q) (h.on xs q)
     statement_way (t.assign x e) u a next is c h =
-        let q = path.assign x e (names_read e) (is_path [] shared e is.1) in
-        assigned_way u a x.word_type x e next (is.1, is.3) c (h.safe (names_read e ++ write x ∷ []) goes_on q) (h.on (names_read e ++ write x ∷ []) q)
+        let q = path.assign x e (names_read e) (is_path functions n few e is.calls) in
+        let xs = names_read e ++ write x ∷ [] in
+        assigned_way u a x.word_type x e next (is.formed.1, is.fits) c (h.safe xs goes_on q) (h.on xs q)
     statement_way (t.store x index e) u a next is c h =
-        let q = path.store x index e (names_read index) (names_read e) (is_path [] shared index is.1) (is_path [] shared e is.2) in
+        let q = path.store x index e (names_read index) (names_read e) (is_path functions n few index is.calls.0) (is_path functions n few e is.calls.1) in
         let xs = names_read index ++ (names_read e ++ write x ∷ []) in
-        element_assigned_way u a x index e next (is.1, is.4) (is.2, is.5) is.0 c (h.safe xs goes_on q) (h.on xs q)
+        element_assigned_way u a x index e next (is.formed.1, is.fits.0) (is.formed.2, is.fits.1) is.formed.0 c (h.safe xs goes_on q) (h.on xs q)
     statement_way (t.choose choice) u a next is c h =
-        choice_way choice u a next is c (record {
+        choice_way choice u a next (record { formed = is.formed; fits = is.fits; calls = is.calls; ends = is.ends }) c (record {
           safe = λ xs end q. h.safe xs end (path.choose choice xs end q);
           on = λ xs q. h.on xs (path.choose choice xs goes_on q);
         })
     statement_way (t.loop x from tested below stepped body) u a next is c h =
-        turns_way enough x (lowered_block p body) body (λ v b rest d k. block_way body v b rest is.1 d k) (some_block [] shared body is.1)
-        (below - from) u a next c (record {
+        let inner : IsFitBlock body = record { formed = is.formed.1; fits = is.fits; calls = is.calls; ends = is.ends } in
+        turns_way functions n few room x (lowered_block p body) body (λ v b rest d k. block_way body v b rest inner d k)
+        (some_block functions n few body is.calls) (below - from) u a next c (record {
           safe = λ xs end q. h.safe (write x ∷ xs) end (path.loop x from tested below stepped body xs end q);
           on = λ xs q. h.on (write x ∷ xs) (path.loop x from tested below stepped body xs goes_on q);
         })
     statement_way (t.emit e) u a next is c h =
-        let q = path.emit e (names_read e) (is_path [] shared e is.0) in
-        joined_way enough (lowered_expression p e) (one (emit_word (word_place p.map EmitCount) p.map.emits.address)) next (at 0 a)
-        (expression_way p words shared 0 a e _ (is, reads_assigned shared u a e c is.0 (h.safe (names_read e) goes_on q))
-        (moves enough 1 0 1 0 a next (omega arith) (omega arith) (omega arith) (h.on (names_read e) q a (subst (λ v. Covers v a) (sym (behind_names u e)) c))))
-    statement_way (t.give place e) u a next is c h = absurd is
-    statement_way (t.transition place task) u a next is c h = transition_way task.task next (at 0 a)
+        let q = path.emit e (names_read e) (is_path functions n few e is.calls) in
+        let reads = reads_assigned shared u a e c is.formed.0 (h.safe (names_read e) goes_on q) in
+        joined_way room (lowered_expression p e) (one (emit_word (word_place p.map EmitCount) p.map.emits.address)) next (at 0 a)
+        (expression_way p words shared room 0 a e _ ((is.formed.0, is.fits), reads)
+        (moves room 1 0 1 0 a next (omega arith) (omega arith) (omega arith) (h.on (names_read e) q a (subst (λ v. Covers v a) (sym (behind_names u e)) c))))
+    -- a body gives its word from an otherwise empty stack
+    statement_way (t.give place e) u a next is c h =
+        let q = path.give place e (names_read e) (is_path functions n few e is.calls) in
+        let reads = reads_assigned shared u a e c is.formed.0 (h.safe (names_read e) returns q) in
+        joined_way room (lowered_expression p e) (one give) next (at 0 a) (expression_way p words shared room 0 a e _ ((is.formed.0, is.fits), reads) refl)
+    statement_way (t.transition place task) u a next is c h = transition_way task.task next (at 0 a) is.ends
 
-    choice_way : (choice : CheckedChoice) (u a : ℕ → Bool) (next : Place → Type 0) → WellFormedChoice shared choice → Covers u a
-        → Follows (ChoicePath [] choice) u next → EachWay enough (lowered_choice p choice) next (at 0 a)
+    choice_way : (choice : CheckedChoice) (u a : ℕ → Bool) (next : Place → Type 0) → IsFitChoice choice → Covers u a
+        → Follows (ChoicePath direct choice) u next → EachWay room (lowered_choice p choice) next (at 0 a)
     choice_way t.nothing u a next is c h = h.on [] path.nothing a c
     choice_way (t.otherwise b) u a next is c h =
-        block_way b u a next is c
+        block_way b u a next (record { formed = is.formed; fits = is.fits; calls = is.calls; ends = is.ends }) c
         (record { safe = λ xs end q. h.safe xs end (path.otherwise b xs end q); on = λ xs q. h.on xs (path.otherwise b xs goes_on q) })
     choice_way (t.test e b more) u a next is c h =
-        let some = some_block [] shared b is.1 in
+        let some = some_block functions n few b is.calls.1.0 in
         let s = h.safe (names_read e ++ some.accesses) some.end
-        (path.taken e b more (names_read e) some.accesses some.end (is_path [] shared e is.0) some.is) in
-        let reads = reads_assigned shared u a e c is.0 (safe_expression u e some.accesses s).0 in
-        (lowering_has (ways enough a) p words shared 0 e is.0 is.3 reads).test (EachWay enough (lowered_block p b) next)
-        (EachWay enough (lowered_choice p more) next)
-        (block_way b u a next is.1 c (taken_follows e b more u next is.0 h)) (choice_way more u a next is.2 c (passed_follows e b more u next is.0 h))
+        (path.taken e b more (names_read e) some.accesses some.end (is_path functions n few e is.calls.0) some.is) in
+        let reads = reads_assigned shared u a e c is.formed.0 (safe_expression u e some.accesses s).0 in
+        (lowering_has (ways room a) p words shared 0 e is.formed.0 is.fits.0 reads).test (EachWay room (lowered_block p b) next)
+        (EachWay room (lowered_choice p more) next)
+        (block_way b u a next (taken_fit e b more is) c (taken_follows e b more u next is.calls.0 h))
+        (choice_way more u a next (passed_fit e b more is) c (passed_follows e b more u next is.calls.0 h))
 
-    block_way : (b : CheckedBlock) (u a : ℕ → Bool) (next : Place → Type 0) → WellFormedBlock shared b → Covers u a
-        → Follows (BlockPath [] b) u next → EachWay enough (lowered_block p b) next (at 0 a)
+    block_way : (b : CheckedBlock) (u a : ℕ → Bool) (next : Place → Type 0) → IsFitBlock b → Covers u a
+        → Follows (BlockPath direct b) u next → EachWay room (lowered_block p b) next (at 0 a)
     block_way t.end u a next is c h = h.on [] path.finished a c
     block_way (t.step s more) u a next is c h =
-        joined_way enough (lowered_statement p s) (lowered_block p more) next (at 0 a)
-        (statement_way s u a (EachWay enough (lowered_block p more) next) is.0 c
-        (step_follows s more u next (EachWay enough (lowered_block p more) next) is.1 h
-        (λ xs q b d. block_way more (behind u xs) b next is.1 d (block_follows s more u next xs h q))))
+        joined_way room (lowered_statement p s) (lowered_block p more) next (at 0 a)
+        (statement_way s u a (EachWay room (lowered_block p more) next) (first_fit s more is) c
+        (step_follows s more u next (EachWay room (lowered_block p more) next) is.calls.1 h
+        (λ xs q b d. block_way more (behind u xs) b next (rest_fit s more is) d (block_follows s more u next xs h q))))
 
-  -- from the start of a task, of which no path reads an unassigned local or goes on behind its end
-  pub task_way : (b : CheckedBlock) → WellFormedBlock shared b → ((xs : List Access) (end : End) → BlockPath [] b xs end → Safe (λ x. true) xs)
-      → ((xs : List Access) → BlockPath [] b xs goes_on → ⊥)
-      → EachWay enough (lowered_block p b) (λ q. ⊥) start
+  -- from the start of a body, of which no path reads an unassigned local or goes on behind its end, and where these locals are assigned
+  pub body_way : (b : CheckedBlock) (u a : ℕ → Bool) → IsFitBlock b → Covers u a
+      → ((xs : List Access) (end : End) → BlockPath direct b xs end → Safe u xs)
+      → ((xs : List Access) → BlockPath direct b xs goes_on → ⊥)
+      → EachWay room (lowered_block p b) (λ q. ⊥) (at 0 a)
+  body_way b u a is c safe none = block_way b u a (λ q. ⊥) is c (record { safe = safe; on = λ xs q d e. none xs q })
+
+  -- of a task, all whose locals are unassigned
+  pub task_way : (b : CheckedBlock) → IsFitBlock b → ((xs : List Access) (end : End) → BlockPath direct b xs end → Safe (not_given 0) xs)
+      → ((xs : List Access) → BlockPath direct b xs goes_on → ⊥)
+      → EachWay room (lowered_block p b) (λ q. ⊥) start
   task_way b is safe none =
-      block_way b (λ x. true) (λ x. false) (λ q. ⊥) is (λ x l h. absurd (cc)) (record { safe = safe; on = λ xs q a c. none xs q })
+      body_way b (not_given 0) (λ x. false) is (λ x l h. absurd (differs (not_given 0 x) (none_given x) h)) safe none
+    where
+      differs : (c : Bool) → c ≡ true → c ≡ false → ⊥
+      differs true h k = let no : true ≡ false = k in cc
+      differs false h k = let no : false ≡ true = h in cc
+
+      none_given : (x : ℕ) → not_given 0 x ≡ true
+      none_given x = by (nat_lt x 0) refl
+        where
+          by : (c : Bool) → nat_lt x 0 ≡ c → not c ≡ true
+          by true e = let low : x < 0 = ltb-true x 0 e in let none : ⊥ = omega (arith, low) in absurd none
+          by false e = refl

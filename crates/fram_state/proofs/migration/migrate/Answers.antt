@@ -1,5 +1,5 @@
 use Rattle.std.proofs.Common.{◌∙◌, ap}
-use Rattle.fram_state.proofs.Answered.{edition_at, current_at, calls_none_at}
+use Rattle.fram_state.proofs.Answered.{edition_at, current_at, calls_return_at}
 use Rattle.fram_state.proofs.migration.migrate.Goals as goal
 
 pub words_behind-requires-clause-old : goal.words_behind-requires-clause-old
@@ -14,8 +14,8 @@ words_behind-requires-clause-current c =
 
 pub words_behind-requires-clause-old_calls : goal.words_behind-requires-clause-old_calls
 words_behind-requires-clause-old_calls c =
-    calls_none_at c.args.old.now c.source-2.result.now (c.source-2.ensures ∙ ap (λ x. x.source) c.checked.ensures) c.requires.old_plain
+    calls_return_at c.args.old.now c.source-2.result.now (c.source-2.ensures ∙ ap (λ x. x.source) c.checked.ensures)
 
 pub words_behind-requires-clause-new_calls : goal.words_behind-requires-clause-new_calls
 words_behind-requires-clause-new_calls c =
-    calls_none_at c.args.new.now c.source-4.result.now (c.source-4.ensures ∙ ap (λ x. x.source) c.checked-2.ensures) c.requires.new_plain
+    calls_return_at c.args.new.now c.source-4.result.now (c.source-4.ensures ∙ ap (λ x. x.source) c.checked-2.ensures)
