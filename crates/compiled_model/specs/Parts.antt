@@ -1,11 +1,12 @@
 -- A compiled source as the crash theorem takes it: its tasks, its start, its tasks' programs, and the cycles that each is allowed.
-use Rattle.std.specs.Prelude.{ℕ, Bool, true, false, List, ◌++◌, length, Option, Some, None, get_or}
+use Rattle.std.specs.Prelude.{ℕ, Bool, true, false, List, ◌++◌, length, Option, Some, None}
 use Rattle.fram_board.specs.Effects.{Effect}
 use Rattle.machine_effects.specs.World.{World}
 use Rattle.cost_bound.specs.Summaries.{summaries}
 use Rattle.cost_bound.specs.Allowance.{task_bound, uses_events, versions_of}
 use Rattle.source_values.specs.Runs.{CheckedProgram, State, Completion, completion_of, attempt_of, task_body}
-use Rattle.array_versions.specs.Program.{Program, nothing}
+use Rattle.array_versions.specs.Program.{Program}
+use Rattle.array_versions.specs.TaskPrograms.{program_at}
 use Rattle.array_versions.specs.Behaviour.{Behaviour, End, GoesOn, Jumps, Gives, Short as Starves, Strays, Broken, behaviour, started}
 use Rattle.memory_map.specs.declared.runtime.Logging.{Logging}
 use Rattle.memory_map.specs.declared.runtime.Logging.TheVariants.{Redo, Undo}
@@ -52,9 +53,9 @@ has_jumped Broken = false
 abbrev pub effects_of : Behaviour → ProgramEffects
 effects_of b = program_effects b.effects (has_jumped b.end)
 
--- the word program of a task by its number
+-- the word program of a task by its number, with those of the functions that it calls in its calls
 abbrev pub task_program : CheckedProgram → MemoryMap → ℕ → Program
-task_program p l t = get_or (lowered l p) t nothing
+task_program p l t = program_at (lowered l p) t
 
 -- the tasks, the start and the programs, each task within its allowance
 abbrev pub program_parts : CheckedProgram → MemoryMap → ProgramParts State

@@ -1,10 +1,9 @@
 -- The layout of a source has room for the code of its programs.
-use Rattle.std.proofs.Common.{◌≡◌, ◌≤◌, ◌+◌, ℕ, suc, List, [], ◌∷◌, length, Some, slice_get, refl, arith}
+use Rattle.std.proofs.Common.{◌≡◌, ◌≤◌, ℕ, suc, List, [], ◌∷◌, length, Some, slice_get, refl, arith}
 use Rattle.task_ast.specs.declared.SharedDeclaration.{SharedDeclaration}
 use Rattle.cost_bound.specs.Summary.{Summary}
 use Rattle.cost_bound.specs.Summaries.{summaries}
-use Rattle.cost_bound.specs.Counts.{routine_words}
-use Rattle.cost_bound.specs.Allowance.{CheckedTask, own_words, scalars_of}
+use Rattle.cost_bound.specs.Allowance.{CheckedTask, scalars_of}
 use Rattle.memory_map.specs.MemoryMap.{MemoryMap, TaskPlace}
 use Rattle.memory_map.specs.Spots.{places_of, private_words}
 use Rattle.lower.specs.Seen.{map_seen, task_seen}
@@ -13,9 +12,6 @@ use Rattle.lower.proofs.Interface.{blocks_keep_to_words, seen_words}
 use Rattle.linked_code.specs.Rooms.{ProgramsKeep}
 use Rattle.linked_code.proofs.Interface.{layouts_have_room}
 use Rattle.compiled_runs.specs.Laws.{SourcesHaveRoom}
-
-with_routines : (n own routines : ℕ) → n ≤ own → n ≤ own + routines
-with_routines n own routines h = omega (arith, h)
 
 programs_keep : (known : List Summary) (l : MemoryMap) (shared : List SharedDeclaration) (tasks : List CheckedTask) (ts : List TaskPlace)
     → length ts ≡ length tasks
@@ -27,8 +23,7 @@ programs_keep known l shared (task ∷ tasks) (t ∷ ts) n f =
     let e = f 0 task t refl refl in
     let own = task_seen l.runtime.logging t in
     let no_more = seen_words l.runtime.logging t in (
-      with_routines _ (own_words known shared task.body) (routine_words known task.body)
-          (blocks_keep_to_words known (places_of (map_seen task.body l) own) (scalars_of known shared task.body) task.body (omega (arith, e, no_more))),
+      blocks_keep_to_words known (places_of (map_seen task.body l) own) (scalars_of known shared task.body) task.body (omega (arith, e, no_more)),
       programs_keep known l shared tasks ts (omega (arith, n)) (λ k u v a b. f (suc k) u v a b),
     )
 

@@ -108,6 +108,11 @@ deepest_among calls k (s ∷ known) (suc j) z at is =
     let rest = deepest_among calls (k + 1) known j z at there in
     omega (arith, rest)
 
+-- the first function has the number 0
+deepest_at : (calls : ℕ → Bool) (known : List Summary) (j : ℕ) (z : Summary) → slice_get known j ≡ Some z → calls j ≡ true
+    → z.depth ≤ most_called_from calls (λ s. s.depth) 0 known
+deepest_at calls known j z at is = deepest_among calls 0 known j z at (ap calls (let e : 0 + j ≡ j = omega arith in e) ∙ is)
+
 -- one of the called functions of which something is so
 pub record Found (calls : ℕ → Bool) (is : Summary → Bool) (k : ℕ) (known : List Summary) : Type 0 where
   pub number : ℕ
@@ -140,6 +145,12 @@ found calls is k (s ∷ known) h = or_either (if calls k then is s else false) (
           holds = x.holds;
         }
 
+found_at : (calls : ℕ → Bool) (is : Summary → Bool) (known : List Summary) → some_called_from calls is 0 known ≡ true
+    → (n : ℕ) × (s : Summary) × (slice_get known n ≡ Some s) × (calls n ≡ true) × (is s ≡ true)
+found_at calls is known h =
+    let x = found calls is 0 known h in
+    (x.number, x.summary, x.at, ap calls (let e : x.number ≡ 0 + x.number = omega arith in e) ∙ x.called, x.holds)
+
 -- the other way round
 is_some : (calls : ℕ → Bool) (is : Summary → Bool) (k : ℕ) (known : List Summary) (j : ℕ) (s : Summary) → slice_get known j ≡ Some s → calls (k + j) ≡ true
     → is s ≡ true → some_called_from calls is k known ≡ true
@@ -156,6 +167,10 @@ is_some calls is k (x ∷ known) (suc j) s at c h =
     or_true : (b : Bool) → (b || true) ≡ true
     or_true true = refl
     or_true false = refl
+
+some_at : (calls : ℕ → Bool) (is : Summary → Bool) (known : List Summary) (j : ℕ) (s : Summary) → slice_get known j ≡ Some s → calls j ≡ true
+    → is s ≡ true → some_called_from calls is 0 known ≡ true
+some_at calls is known j s at c h = is_some calls is 0 known j s at (ap calls (let e : 0 + j ≡ j = omega arith in e) ∙ c) h
 
 module _ (fs : List CheckedFunction) (below : FunctionsCallBelow 0 fs) where
   abbrev known : List Summary
@@ -181,7 +196,7 @@ module _ (fs : List CheckedFunction) (below : FunctionsCallBelow 0 fs) where
       → block_calls j f.body ≡ true → frame f + z.depth ≤ s.depth
   callees j k f s z is at there calls =
       let lt : j < 0 + k = block_below (0 + k) j f.body (below_at 0 fs k f below is) calls in
-      let low = deepest_among (λ n. block_calls n f.body) 0 (function_summaries (take k fs)) j z (front j k (omega (arith, lt)) ∙ there) calls in
+      let low = deepest_at (λ n. block_calls n f.body) (function_summaries (take k fs)) j z (front j k (omega (arith, lt)) ∙ there) calls in
       let depth : s.depth ≡ frame f + deepest (function_summaries (take k fs)) f.body = ap (λ x. x.depth) (made k f s is at) in
       omega (arith, low, depth)
 
@@ -213,34 +228,34 @@ module _ (fs : List CheckedFunction) (below : FunctionsCallBelow 0 fs) where
 
       far : some_called_from (λ n. block_calls n f.body) (λ x. x.reaches j) 0 (function_summaries (take k fs)) ≡ true → IsWithin s j
       far some =
-          let x = found (λ n. block_calls n f.body) (λ y. y.reaches j) 0 (function_summaries (take k fs)) some in
+          let (n, x, there, called, holds) = found_at (λ n. block_calls n f.body) (λ y. y.reaches j) (function_summaries (take k fs)) some in
           let count = answers_length function_summary [] (take k fs) in
           let short = take_short fs k in
-          let inside = slice_get_within (function_summaries (take k fs)) x.number x.summary x.at in
-          let lt : x.number < k = omega (arith, count, short, inside) in
-          let at_x : slice_get known x.number ≡ Some x.summary = sym (front x.number k lt) ∙ x.at in
-          let g = element fs x.number (let m = slice_get_within fs k f is in omega (arith, m, lt)) in
-          let deep = within fuel x.number g.0 x.summary j (omega (arith, l, lt)) g.1 at_x x.holds in
-          let c = callees x.number k f s x.summary is at at_x x.called in
-          let d = deep.1.1 in
-          (deep.0, deep.1.0, omega (arith, c, d))
+          let inside = slice_get_within (function_summaries (take k fs)) n x there in
+          let lt : n < k = omega (arith, count, short, inside) in
+          let at_x : slice_get known n ≡ Some x = sym (front n k lt) ∙ there in
+          let g = element fs n (let m = slice_get_within fs k f is in omega (arith, m, lt)) in
+          let deep = within fuel n g.0 x j (omega (arith, l, lt)) g.1 at_x holds in
+          let c = callees n k f s x is at at_x called in
+          let d = deep.2 in
+          (deep.0, deep.1, omega (arith, c, d))
 
   reached : (b : CheckedBlock) (j : ℕ) (z : Summary) → BlockCallsBelow (length fs) b → slice_get known j ≡ Some z → reaches_of known j b ≡ true
       → z.depth ≤ deepest known b
   reached b j z calls at r =
       or_either (some_called_from (λ n. block_calls n b) (λ x. x.reaches j) 0 known) (block_calls j b) r far
-      (λ c. deepest_among (λ n. block_calls n b) 0 known j z at c)
+      (λ c. deepest_at (λ n. block_calls n b) known j z at c)
     where
       far : some_called_from (λ n. block_calls n b) (λ x. x.reaches j) 0 known ≡ true → z.depth ≤ deepest known b
       far some =
-          let x = found (λ n. block_calls n b) (λ y. y.reaches j) 0 known some in
+          let (n, x, there, called, holds) = found_at (λ n. block_calls n b) (λ y. y.reaches j) known some in
           let count = answers_length function_summary [] fs in
-          let inside = slice_get_within known x.number x.summary x.at in
-          let g = element fs x.number (omega (arith, count, inside)) in
-          let deep = within (suc x.number) x.number g.0 x.summary j (omega arith) g.1 x.at x.holds in
-          let same : deep.0 ≡ z = same_Some deep.0 z (sym deep.1.0 ∙ at) in
-          let low = deepest_among (λ n. block_calls n b) 0 known x.number x.summary x.at x.called in
-          let d = deep.1.1 in
+          let inside = slice_get_within known n x there in
+          let g = element fs n (omega (arith, count, inside)) in
+          let deep = within (suc n) n g.0 x j (omega arith) g.1 there holds in
+          let same : deep.0 ≡ z = same_Some deep.0 z (sym deep.1 ∙ at) in
+          let low = deepest_at (λ n. block_calls n b) known n x there called in
+          let d = deep.2 in
           let e = ap (λ y. y.depth) same in
           omega (arith, low, d, e)
 
@@ -252,7 +267,7 @@ pub depths_stand : AllDepthsStand
 depths_stand fs below = record {
   callees = callees fs below;
   frame = frames fs below;
-  called = λ b j z at calls. deepest_among (λ n. block_calls n b) 0 (function_summaries fs) j z at calls;
+  called = λ b j z at calls. deepest_at (λ n. block_calls n b) (function_summaries fs) j z at calls;
   reached = reached fs below;
 }
 
@@ -282,7 +297,7 @@ module _ (fs : List CheckedFunction) (below : FunctionsCallBelow 0 fs) (j k : �
   through : (among : List Summary) (b : CheckedBlock) (n : ℕ) (x : Summary) → slice_get among n ≡ Some x → block_calls n b ≡ true → x.reaches j ≡ true
       → reaches_of among j b ≡ true
   through among b n x at called holds =
-      ap (λ c. c || block_calls j b) (is_some (λ n. block_calls n b) (λ y. y.reaches j) 0 among n x at called holds)
+      ap (λ c. c || block_calls j b) (some_at (λ n. block_calls n b) (λ y. y.reaches j) among n x at called holds)
 
   on : (fuel n : ℕ) (g : CheckedFunction) (x : Summary) → n < fuel → slice_get fs n ≡ Some g → slice_get all n ≡ Some x → x.reaches k ≡ true
       → x.reaches j ≡ true
@@ -300,14 +315,14 @@ module _ (fs : List CheckedFunction) (below : FunctionsCallBelow 0 fs) (j k : �
       far : some_called_from (λ m. block_calls m g.body) (λ y. y.reaches k) 0 (function_summaries (take n fs)) ≡ true
           → reaches_of (function_summaries (take n fs)) j g.body ≡ true
       far some =
-          let y = found (λ m. block_calls m g.body) (λ z. z.reaches k) 0 (function_summaries (take n fs)) some in
+          let (m, y, it, called, holds) = found_at (λ m. block_calls m g.body) (λ z. z.reaches k) (function_summaries (take n fs)) some in
           let count = answers_length function_summary [] (take n fs) in
           let short = take_short fs n in
-          let inside = slice_get_within (function_summaries (take n fs)) y.number y.summary y.at in
-          let lt : y.number < n = omega (arith, count, short, inside) in
-          let h = element fs y.number (let m = slice_get_within fs n g at in omega (arith, m, lt)) in
-          through (function_summaries (take n fs)) g.body y.number y.summary y.at y.called
-          (on fuel y.number h.0 y.summary (omega (arith, l, lt)) h.1 (sym (front fs below y.number n lt) ∙ y.at) y.holds)
+          let inside = slice_get_within (function_summaries (take n fs)) m y it in
+          let lt : m < n = omega (arith, count, short, inside) in
+          let h = element fs m (let i = slice_get_within fs n g at in omega (arith, i, lt)) in
+          through (function_summaries (take n fs)) g.body m y it called
+          (on fuel m h.0 y (omega (arith, l, lt)) h.1 (sym (front fs below m n lt) ∙ it) holds)
 
   pub reached_on : (b : CheckedBlock) → reaches_of all k b ≡ true → reaches_of all j b ≡ true
   reached_on b r =
@@ -316,11 +331,11 @@ module _ (fs : List CheckedFunction) (below : FunctionsCallBelow 0 fs) (j k : �
     where
       far : some_called_from (λ m. block_calls m b) (λ y. y.reaches k) 0 all ≡ true → reaches_of all j b ≡ true
       far some =
-          let y = found (λ m. block_calls m b) (λ z. z.reaches k) 0 all some in
+          let (m, y, it, called, holds) = found_at (λ m. block_calls m b) (λ z. z.reaches k) all some in
           let count = answers_length function_summary [] fs in
-          let inside = slice_get_within all y.number y.summary y.at in
-          let h = element fs y.number (omega (arith, count, inside)) in
-          through all b y.number y.summary y.at y.called (on (suc y.number) y.number h.0 y.summary (omega arith) h.1 y.at y.holds)
+          let inside = slice_get_within all m y it in
+          let h = element fs m (omega (arith, count, inside)) in
+          through all b m y it called (on (suc m) m h.0 y (omega arith) h.1 it holds)
 
 pub reaches_go_on : ReachesGoOn
 reaches_go_on fs b j k f below is r calls = reached_on fs below j k f is calls b r

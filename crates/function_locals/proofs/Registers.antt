@@ -27,6 +27,11 @@ end_among calls k (l ∷ known) (suc j) m at is =
     let rest = end_among calls (k + 1) known j m at there in
     omega (arith, rest)
 
+-- the first function has the number 0
+end_at : (calls : ℕ → Bool) (known : List FunctionLocals) (j : ℕ) (m : FunctionLocals) → slice_get known j ≡ Some m → calls j ≡ true
+    → register_end m ≤ greatest_end calls 0 known
+end_at calls known j m at is = end_among calls 0 known j m at (ap calls (let e : 0 + j ≡ j = omega arith in e) ∙ is)
+
 if_low : (b : Bool) (n : ℕ) → n ≤ 8 → (if b then n else 0) ≤ 8
 if_low true n h = h
 if_low false n h = omega arith
@@ -75,9 +80,9 @@ locals_stand fs = record {
       let taken : slice_get (all_locals (take k fs)) j ≡ Some m =
       ap (λ ls. slice_get ls j) (sym (answers_take function_locals fs k)) ∙ get_taken (all_locals fs) j k lt ∙ there in
       subst (λ n. register_end m ≤ n) (sym (ap (λ x. x.base) (made k f l is at)))
-      (end_among (λ n. block_calls n f.body) 0 (all_locals (take k fs)) j m taken calls);
+      (end_at (λ n. block_calls n f.body) (all_locals (take k fs)) j m taken calls);
   few_of_task = λ b. end_low (λ k. block_calls k b) 0 (all_locals fs) (all_few fs);
-  callees_of_task = λ b j m at calls. end_among (λ k. block_calls k b) 0 (all_locals fs) j m at calls;
+  callees_of_task = λ b j m at calls. end_at (λ k. block_calls k b) (all_locals fs) j m at calls;
 }
   where
     made : (k : ℕ) (f : CheckedFunction) (l : FunctionLocals) → slice_get fs k ≡ Some f → slice_get (all_locals fs) k ≡ Some l

@@ -21,7 +21,7 @@ pub record IsCompiledFor (logging : Logging) (text : List ℕ) (p : CheckedProgr
   pub layout : MemoryMap
   pub is_plan : IsPlan p plans
   pub is_layout : IsLayoutFor logging p allow plans layout
-  pub of_words : All OfWords (lowered layout p)
+  pub of_words : All (λ q. OfWords q.own) (lowered layout p)
   pub words : AreImageWords p layout image.words
   pub map : image.map ≡ Some (map_of text p layout allow)
 

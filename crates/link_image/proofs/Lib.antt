@@ -1,5 +1,6 @@
-mod Low
 mod Names
+mod Bare
+mod Emitted
 mod Written
 mod Placing
 mod Ready

@@ -3,7 +3,7 @@ use Rattle.link_image.proofs.Names.{◌≡◌, ◌∙◌, ℕ, zero, suc, ◌+�
 use Rattle.link_image.proofs.Names.{subst, arith, append_assoc, length-append, get_or, All, at_drop_more, instructions, words_of, program_of, All-nil, All-cons}
 use Rattle.link_image.proofs.Names.{All-head, All-tail, reset_vector, repeated, MemoryMap, TaskPlace, end_of, AreInOrder, apart_of, even_of, in_order_end}
 use Rattle.link_image.proofs.Names.{filler, CodePart, part_end, chained, PartsInOrder, boot_part, commit_part, task_part, task_parts, linked, ProgramsFit}
-use Rattle.link_image.proofs.Names.{CodeFits, IsShort, Bool}
+use Rattle.link_image.proofs.Names.{IsShort, Bool}
 use Rattle.msp_isa.specs.declared.instructions.Instr.{Instr}
 use Rattle.msp_isa.specs.Encoding.{encoding}
 use Rattle.code_forms.specs.Forms.{Form}
@@ -19,8 +19,7 @@ use Rattle.memory_map.specs.declared.place.Region.{Region}
 use Rattle.memory_map.specs.declared.place.RoutinePlace.{RoutinePlace}
 use Rattle.memory_map.specs.Places.{code_regions}
 use Rattle.linked_code.specs.Linked.{routine_part, routine_parts, parts_of_task, RoutinesFit}
-use Rattle.linked_code.proofs.Interface.{in_order}
-use Rattle.link_image.specs.Needs.{TaskHasFewLocals, TaskIsEmitted, TasksAreEmitted}
+use Rattle.link_image.specs.Needs.{HasPlaces, TaskHasFewLocals, TaskIsEmitted, TasksAreEmitted}
 
 -- the words of forms
 abbrev pub words_in : List Form → List ℕ
@@ -168,12 +167,6 @@ parts_more events ts ps k t p l m a b =
     ∙ at_drop_more (λ xs. task_parts events (t ∷ drop (k + 1) ts) (map programs_of xs)) ps k p m
     ∙ ap (λ x. task_parts events (t ∷ drop (k + 1) ts) (map programs_of (x ∷ drop (k + 1) ps))) (sym b)
 
-pub same_count : (ts : List TaskPlace) (ps : List TaskPrograms) → ProgramsFit ts ps → length ts ≡ length ps
-same_count [] [] f = refl
-same_count [] (p ∷ ps) f = absurd f
-same_count (t ∷ ts) [] f = absurd f
-same_count (t ∷ ts) (p ∷ ps) f = let r = same_count ts ps f.1 in omega (arith, r)
-
 -- the next task, and those behind it
 pub next_order : (events : Bool) (ts : List TaskPlace) (ps : List Programs) (at k : ℕ) (t : TaskPlace) (p : Programs) → k < length ts
     → length ts ≡ length ps → t ≡ get_or ts k t → p ≡ get_or ps k p
@@ -194,40 +187,9 @@ next_emitted ts ps k t p l m a b h = subst (λ x. x) same h
         ∙ at_drop_more (λ xs. TasksAreEmitted (t ∷ drop (k + 1) ts) (map programs_of xs)) ps k p m
         ∙ ap (λ x. TasksAreEmitted (t ∷ drop (k + 1) ts) (map programs_of (x ∷ drop (k + 1) ps))) (sym b)
 
--- programs whose code has its places are short
-routines_short : (from : ℕ) (rs : List RoutinePlace) (ps : List Program) (others : List Region) (end : ℕ)
-    → AreInOrder from (map (λ r. r.code) rs ++ others) end → end < 0x10000 → RoutinesFit rs ps
-    → (length rs ≡ length ps) × All IsShort ps × ((mid : ℕ) × AreInOrder mid others end)
-routines_short from [] [] others end o l f = (refl, All-nil IsShort, (from, o))
-routines_short from [] (p ∷ ps) others end o l f = absurd f
-routines_short from (r ∷ rs) [] others end o l f = absurd f
-routines_short from (r ∷ rs) (p ∷ ps) others end o l f =
-    let rest = routines_short (end_of r.code) rs ps others end o.1 l f.1 in
-    let high = in_order_end (end_of r.code) (map (λ r. r.code) rs ++ others) end o.1 in
-    let w = f.0 in
-    let count = rest.0 in
-    (omega (arith, count), All-cons IsShort p ps (omega (arith, high, w, l)) rest.1.0, rest.1.1)
-
-pub each_emitted : (from : ℕ) (ts : List TaskPlace) (ps : List TaskPrograms) (end : ℕ) → AreInOrder from (flat_map code_regions ts) end → end < 0x10000
-    → ProgramsFit ts ps → All TaskHasFewLocals ps → TasksAreEmitted ts ps
-each_emitted from [] ps end o l f few = tt
-each_emitted from (t ∷ ts) [] end o l f few = tt
-each_emitted from (t ∷ ts) (p ∷ ps) end o l f few =
-    let there = routines_short (end_of t.code) t.routines p.routines (flat_map code_regions ts) end o.1 l f.0.routines in
-    let high = in_order_end (end_of t.code) (map (λ r. r.code) t.routines ++ flat_map code_regions ts) end o.1 in
-    let w = f.0.own in (
-      record {
-        count = there.0;
-        short = omega (arith, high, w, l);
-        shorts = there.1.0;
-        locals = All-head TaskHasFewLocals p ps few;
-      },
-      each_emitted there.1.1.0 ts ps end there.1.1.1 l f.1 (All-tail TaskHasFewLocals p ps few),
-    )
-
 -- ---- the whole code
 
-module _ (l : MemoryMap) (programs : List TaskPrograms) (fits : CodeFits l programs) where
+module _ (l : MemoryMap) (programs : List TaskPrograms) (fits : HasPlaces l programs) where
   -- what is written when so many words stand, with the other parts behind them
   pub record WrittenTo (start : ℕ) (words : List ℕ) (end : ℕ) (parts : List CodePart) : Type 0 where
     pub there : start + 2 * length words ≡ end
@@ -253,7 +215,7 @@ module _ (l : MemoryMap) (programs : List TaskPrograms) (fits : CodeFits l progr
       subst (λ x. WrittenTo x new (part_end (boot_part l)) others) (sym s) (record { there = r.0; rest = r.1 })
 
   pub commit_behind : (start : ℕ) (words : List ℕ) → WrittenTo start words (part_end (boot_part l)) others → start + 2 * length words ≤ l.commit.address
-  commit_behind start words h = let there = h.there in let from = (in_order l programs fits).1.0.from in omega (arith, there, from)
+  commit_behind start words h = let there = h.there in let from = fits.order.1.0.from in omega (arith, there, from)
 
   pub after_commit : (start at : ℕ) (old new : List ℕ) (code : List Form) → start ≡ l.boot.address → at ≡ l.commit.address
       → code ≡ (commit_part l).forms → WrittenTo start old (part_end (boot_part l)) others → new ≡ written start at old code
@@ -273,4 +235,4 @@ module _ (l : MemoryMap) (programs : List TaskPrograms) (fits : CodeFits l progr
       let high = (apart_of l fits.rules).high in
       subst (λ x. PartsInOrder x (task_parts l.runtime.events l.tasks programs) reset_vector) (sym h.there)
       (weaker_order (part_end (commit_part l)) (end_of l.code) reset_vector (task_parts l.runtime.events l.tasks programs) (omega (arith, high))
-      (in_order l programs fits).1.1)
+      fits.order.1.1)

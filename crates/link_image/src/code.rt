@@ -3,11 +3,10 @@ ghost use Rattle.std.specs.Prelude.{◌≡◌, ◌+◌, ◌-◌, ◌*◌, ◌/�
 ghost use Rattle.address_space.specs.Limits.{reset_vector};
 ghost use Rattle.code_forms.specs.Placed.{instructions, words_of};
 ghost use Rattle.array_versions.specs.View.{program_of, programs_of};
-ghost use Rattle.link_image.specs.Needs.{HasFewLocals, TaskHasFewLocals, IsShort, TaskIsEmitted, TasksAreEmitted};
+ghost use Rattle.link_image.specs.Needs.{HasFewLocals, HasPlaces, IsShort, TaskIsEmitted, TasksAreEmitted};
 ghost use Rattle.word_code.specs.Code.{repeated, routine_code};
 ghost use Rattle.linked_code.specs.Parts.{filler, chained, PartsInOrder};
 ghost use Rattle.linked_code.specs.Linked.{boot_code, bytes_of_boot, commit_code, StartsFit, linked, routine_part, routine_parts, parts_of_task, task_parts};
-ghost use Rattle.linked_code.specs.Linked.{CodeFits};
 
 use array_versions::TaskPrograms;
 use codegen::{Form, WordProgram, emit, emit_routine, instruction_of};
@@ -179,8 +178,9 @@ pub fn code_words(
     layout: &Layout,
     programs: &[TaskPrograms],
 ) -> Result<Vec<u16>, AllocError>
-    requires fits { CodeFits layout.now (map programs_of programs.now) }
-    requires locals { All TaskHasFewLocals (map programs_of programs.now) }
+    requires places { HasPlaces layout.now (map programs_of programs.now) }
+    requires count { length layout.now.tasks ≡ length programs.now }
+    requires emitted { TasksAreEmitted layout.now.tasks (map programs_of programs.now) }
     ensures { IfOk result (λ words. words.items ≡ words_of (linked layout.now (map programs_of programs.now))) }
 {
     let start = layout.boot().address;

@@ -31,7 +31,7 @@ task_in from (u ∷ ts) end o zero t a j r b =
     let d : u ≡ t = cc a in
     routine_in (end_of u.code) u.routines (flat_map code_regions ts) end o.1 j r (ap (λ x. slice_get x.routines j) d ∙ b)
 task_in from (u ∷ ts) end o (suc k) t a j r b =
-    let s = in_order_split (end_of u.code) (map (λ x. x.code) u.routines) (flat_map code_regions ts) end o.1 in task_in s.0 ts end s.1.1 k t a j r b
+    let s = in_order_split (end_of u.code) (map (λ x. x.code) u.routines) (flat_map code_regions ts) end o.1 in task_in s.0 ts end s.2 k t a j r b
 
 pub routine_even : (l : MemoryMap) → IsLaidOut l → (k : ℕ) (t : TaskPlace) → slice_get l.tasks k ≡ Some t → (j : ℕ) (r : RoutinePlace)
     → slice_get t.routines j ≡ Some r → r.code.address % 2 ≡ 0
@@ -52,35 +52,12 @@ module _ (code : Code) (t : TaskPlace) (p : TaskPrograms)
   mutual
     step_stands : (s : Step) → StepCallsAmong t.routines p.routines s → StepRoutinesStand code s
     step_stands (w.truth c) h = test_stands c h
-    step_stands (w.choose c taken otherwise) h = (test_stands c h.0, all_stand taken h.1.0, all_stand otherwise h.1.1)
+    step_stands (w.choose c taken otherwise) h = (test_stands c h.0, all_stand taken h.1, all_stand otherwise h.2)
     step_stands (w.repeat n from below body) h = all_stand body h
     step_stands (w.call entry frame first count body) h = let s = called_stands entry body h.0 in (s.0, s.1, all_stand body h.1)
+    -- of each other step alike: the first clause makes it a proof by cases
     step_stands (w.number n) h = tt
-    step_stands (w.load a) h = tt
-    step_stands (w.keep a) h = tt
-    step_stands (w.update o a) h = tt
-    step_stands (w.local n) h = tt
-    step_stands (w.set_local n) h = tt
-    step_stands (w.update_local o n) h = tt
-    step_stands (w.unary o) h = tt
-    step_stands (w.binary o) h = tt
-    step_stands (w.shift o k) h = tt
-    step_stands (w.long o) h = tt
-    step_stands (w.element base length) h = tt
-    step_stands (w.emit_word count buffer) h = tt
-    step_stands (w.list_entry count list home copy words) h = tt
-    step_stands (w.versioned_read place list) h = tt
-    step_stands (w.versioned_write place list) h = tt
-    step_stands (w.versioned_update o place list) h = tt
-    step_stands (w.logged_write place list) h = tt
-    step_stands (w.logged_update o place list) h = tt
-    step_stands w.sense h = tt
-    step_stands w.next_event h = tt
-    step_stands w.freeze_events h = tt
-    step_stands (w.store_number a v) h = tt
-    step_stands (w.move_word from to) h = tt
-    step_stands (w.jump to) h = tt
-    step_stands w.give h = tt
+    step_stands _ h = tt
 
     test_stands : (c : Test) → TestCallsAmong t.routines p.routines c → TestRoutinesStand code c
     test_stands (w.holds q) h = all_stand q h

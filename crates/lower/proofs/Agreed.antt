@@ -1,5 +1,6 @@
 -- The laws of expressions and statements, and the programs of tasks by their numbers.
-use Rattle.lower.proofs.Names.{◌≡◌, ℕ, zero, suc, ◌+◌, ◌≤◌, List, [], ◌∷◌, Some, Option, ap, ◌∙◌, arith, le_refl, CheckedExpression, CheckedFunction, CheckedTask}
+use Rattle.lower.proofs.Names.{◌≡◌, ℕ, zero, suc, ◌+◌, ◌≤◌, List, [], ◌∷◌, Some, Option, ap, ◌∙◌, arith, le_refl, CheckedExpression, CheckedFunction}
+use Rattle.lower.proofs.Names.{CheckedTask}
 use Rattle.lower.proofs.Names.{Evaluated, Unsigned, Long, truth, one, stacked, Program, WordState, behaviour, Places, MemoryMap, TaskPlace, Element, listed_of}
 use Rattle.lower.proofs.Names.{lowered_expression, lowered_long, lowered_test, lowered_task, lowered_tasks, no_programs, Scene, code_places, by_answers}
 use Rattle.lower.proofs.Names.{converted_to, truth_of, expression_lists, value_of, ValuesAgree, ExpressionsAgree, LongsAgree, TestsAgree, BlocksAgree}

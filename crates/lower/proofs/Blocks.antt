@@ -180,7 +180,8 @@ module _ (z : Scene) (known : KnownAgree z) where
       let high = v / 65536 in
       let behind = word_set i 1 here high k.0 in
       let last : Attempt → Outcome = λ m. goes_on (source.assigned m (Shared i) 0 low) in
-      subst (λ x. DoesFrom here (behaviour (write_long (code_places z) (Shared i)) (pushed high (pushed low here.w))) (λ m. goes_on (record m { variables = x })))
+      subst (λ x. DoesFrom here (behaviour (write_long (code_places z) (Shared i)) (pushed high (pushed low here.w)))
+      (λ m. goes_on (record m { variables = x })))
       (words_commute here.m.variables i high low)
       (subst (λ c. DoesFrom here (behaviour (step (keep c) (one (keep a))) (pushed high (pushed low here.w)))
       (λ m. last (source.assigned m (Shared i) 1 high))) (sym (high_is z.p z.room i z.apart k.0))
@@ -421,7 +422,8 @@ module _ (z : Scene) (known : KnownAgree z) where
   -- a variable of one word takes the value as one word
   word_assigned_does : (of : WordType) (x : Variable) (e : CheckedExpression) {n : ℕ} {count : ℕ → ℕ} (here : Start z n count) → IsOneWord of
       → HasSpare e n count none_spare → Fits e → IsTarget z.p z.written x
-      → DoesFrom here (behaviour (assignment (code_places z) z.fs.bodies x e) here.w) (λ m. with_value z.fs.meanings e m (λ v s. goes_on (assigned_as of s x (type_of e) v)))
+      → DoesFrom here (behaviour (assignment (code_places z) z.fs.bodies x e) here.w)
+      (λ m. with_value z.fs.meanings e m (λ v s. goes_on (assigned_as of s x (type_of e) v)))
   word_assigned_does of x e here word room fits target =
       subst (DoesFrom here (behaviour (assignment (code_places z) z.fs.bodies x e) here.w)) (λ j. λ m. as_word m j) (assignment_does x e here room fits target)
     where
@@ -438,7 +440,8 @@ module _ (z : Scene) (known : KnownAgree z) where
   -- an assignment to a scalar of a type
   scalar_does : (of : WordType) (x : Variable) (e : CheckedExpression) {n : ℕ} {count : ℕ → ℕ} (here : Start z n count)
       → HasSpare e n count none_spare → Fits e → IsTargetOf z.p z.written of x
-      → DoesFrom here (behaviour (scalar_assignment (code_places z) z.fs.bodies of x e) here.w) (λ m. with_value z.fs.meanings e m (λ v s. goes_on (assigned_as of s x (type_of e) v)))
+      → DoesFrom here (behaviour (scalar_assignment (code_places z) z.fs.bodies of x e) here.w)
+      (λ m. with_value z.fs.meanings e m (λ v s. goes_on (assigned_as of s x (type_of e) v)))
   scalar_does Long x e here room fits target =
       subst (DoesFrom here (behaviour (long_setting (code_places z) z.fs.bodies x e) here.w))
       (λ j. λ m. if_converted (type_of e) Long (value_of z.fs.meanings e m) (λ v s. goes_on (both_assigned s x v)) j)
@@ -490,7 +493,8 @@ module _ (z : Scene) (known : KnownAgree z) where
 
   -- what is given of an index and of a value, as of expressions of one word
   as_values : (index e : CheckedExpression) (m : Attempt) (given : ℕ → ℕ → Attempt → Outcome) → IsOneWord (type_of index) → IsOneWord (type_of e)
-      → if_value (word_value z.fs.meanings index m) (λ i s. if_value (word_value z.fs.meanings e s) (given i)) ≡ with_value z.fs.meanings index m (λ i s. with_value z.fs.meanings e s (given i))
+      → if_value (word_value z.fs.meanings index m) (λ i s. if_value (word_value z.fs.meanings e s) (given i))
+      ≡ with_value z.fs.meanings index m (λ i s. with_value z.fs.meanings e s (given i))
   as_values index e m given of_index of_e =
       let more : ℕ → Attempt → Outcome = λ i s. with_value z.fs.meanings e s (given i) in
       if_same (word_value z.fs.meanings index m) _ more (λ i s. ap (λ r. if_value r (given i)) (word_as_value z.fs.meanings e s of_e))
@@ -757,7 +761,8 @@ module _ (z : Scene) (known : KnownAgree z) where
   Writes writes = (v : ℕ) → writes v ≡ true → z.written v ≡ true
 
   mutual
-    statement_does : (s : CheckedStatement) (here : Start z (statement_emits z.fs.emits s) (λ v. statement_count (stores_in v) (is_store_to v) s)) → WellFormedStatement z.shared s
+    statement_does : (s : CheckedStatement) (here : Start z (statement_emits z.fs.emits s) (λ v. statement_count (stores_in v) (is_store_to v) s))
+        → WellFormedStatement z.shared s
         → AdmitsStatement z.p.map.runtime.events s → Writes (λ v. (statement_sum (z.fs.sums v) (summary (Shared v)) s).writes)
         → DoesFrom here (behaviour (lowered_statement (code_places z) z.fs.bodies s) here.w) (run_statement z.fs.meanings s)
     statement_does (t.declare of x None) here fits admits writes = nothing_does here
@@ -780,7 +785,8 @@ module _ (z : Scene) (known : KnownAgree z) where
     statement_does (t.choose choice) here fits admits writes =
         choice_does choice here fits admits writes
     statement_does (t.loop x from tested below stepped body) here fits admits writes =
-        loop_does x.variable from below (lowered_block (code_places z) z.fs.bodies body) (run_block z.fs.meanings body) (block_emits z.fs.emits body) (λ v. block_count (stores_in v) (is_store_to v) body) fits.0
+        loop_does x.variable from below (lowered_block (code_places z) z.fs.bodies body) (run_block z.fs.meanings body) (block_emits z.fs.emits body)
+        (λ v. block_count (stores_in v) (is_store_to v) body) fits.0
         (λ some. record {
           does = λ turn. block_does body turn fits.1 admits (λ v k. writes v (loop_writes v (z.fs.sums v) x from tested below stepped body some k));
           emitted = block_emitted z.fs.meanings z.fs.emits known.up_to body;
@@ -806,20 +812,24 @@ module _ (z : Scene) (known : KnownAgree z) where
         → DoesFrom here (behaviour (lowered_choice (code_places z) z.fs.bodies c) here.w) (run_choice z.fs.meanings c)
     choice_does t.nothing here fits admits writes = nothing_does here
     choice_does (t.otherwise block) here fits admits writes =
-        block_does block (with_fewer here (block_emits z.fs.emits block) (λ v. block_count (stores_in v) (is_store_to v) block) (omega arith) (λ v. omega arith)) fits admits writes
+        block_does block (with_fewer here (block_emits z.fs.emits block) (λ v. block_count (stores_in v) (is_store_to v) block) (omega arith)
+        (λ v. omega arith)) fits admits writes
     choice_does (t.test e block more) here fits admits writes =
         let free = ways_spare block more in
-        choice_of_ways e here free (lowered_block (code_places z) z.fs.bodies block) (lowered_choice (code_places z) z.fs.bodies more) (run_block z.fs.meanings block) (run_choice z.fs.meanings more)
+        choice_of_ways e here free (lowered_block (code_places z) z.fs.bodies block) (lowered_choice (code_places z) z.fs.bodies more)
+        (run_block z.fs.meanings block) (run_choice z.fs.meanings more)
         (record { emits = omega arith; lists = λ v. omega arith })
         (fits.0, admits.0, λ v k. writes v (condition_writes v (z.fs.sums v) (known.go_on v) e block more k))
         (λ there. block_does block
-        (with_fewer (behind_value here free there) (block_emits z.fs.emits block) (λ v. block_count (stores_in v) (is_store_to v) block) (omega arith) (λ v. omega arith)) fits.1
+        (with_fewer (behind_value here free there) (block_emits z.fs.emits block) (λ v. block_count (stores_in v) (is_store_to v) block) (omega arith)
+        (λ v. omega arith)) fits.1
         admits.1 (λ v k. writes v (taken_writes v (z.fs.sums v) (known.go_on v) e block more k)))
         (λ there. choice_does more
         (with_fewer (behind_value here free there) (choice_spare more).emits (choice_spare more).lists (omega arith) (λ v. omega arith)) fits.2
         admits.2 (λ v k. writes v (passed_writes v (z.fs.sums v) (known.go_on v) e block more k)))
 
-    block_does : (b : CheckedBlock) (here : Start z (block_emits z.fs.emits b) (λ v. block_count (stores_in v) (is_store_to v) b)) → WellFormedBlock z.shared b
+    pub block_does : (b : CheckedBlock) (here : Start z (block_emits z.fs.emits b) (λ v. block_count (stores_in v) (is_store_to v) b))
+        → WellFormedBlock z.shared b
         → AdmitsBlock z.p.map.runtime.events b → Writes (λ v. (block_sum (z.fs.sums v) (summary (Shared v)) b).writes)
         → DoesFrom here (behaviour (lowered_block (code_places z) z.fs.bodies b) here.w) (run_block z.fs.meanings b)
     block_does t.end here fits admits writes = nothing_does here
@@ -848,7 +858,8 @@ module _ (z : Scene) (known : KnownAgree z) where
           w = w;
           ver = here.number;
           does = statement_does s first fits.0 admits.0 (λ v k. writes v (first_writes v (z.fs.sums v) s more k));
-          emits = λ answers. statement_emitted z.fs.meanings z.fs.emits known.up_to s (answered_by answers m) (length m.emitted + statement_emits z.fs.emits s) (omega arith);
+          emits = λ answers. statement_emitted z.fs.meanings z.fs.emits known.up_to s (answered_by answers m)
+              (length m.emitted + statement_emits z.fs.emits s) (omega arith);
         })
         (behaviour (lowered_block (code_places z) z.fs.bodies more)) (run_block z.fs.meanings more) fewer
         (λ u n listing answers is there.
@@ -867,4 +878,5 @@ module _ (z : Scene) (known : KnownAgree z) where
           within = here.within;
         } in
         subst Q there.stack_kept
-        (block_does more behind fits.1 admits.1 (λ v k. writes v (others_write v (z.fs.sums v) (known.go_on v) s more (runs_go_on_along_paths z.fs.meanings s (answered_by answers m) n is) k)))))
+        (block_does more behind fits.1 admits.1 (λ v k. writes v
+        (others_write v (z.fs.sums v) (known.go_on v) s more (runs_go_on_along_paths z.fs.meanings s (answered_by answers m) n is) k)))))

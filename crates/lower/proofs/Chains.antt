@@ -43,7 +43,7 @@ pub entries_end : (count list : ℕ) (r : Run) (privates : List PrivateScalar) (
 entries_end count list r privates i p h = sym (ap (λ l. joined p (entries count list (runs_from r l))) (drop_all i privates h))
 
 -- a value more, with no overflow
-pub one_value_more : (n : ℕ) → (n % 65536 + 1) % 65536 ≡ (n + 1) % 65536
+pub one_value_more : (n : ℕ) → (n % 65536 + 1) % 65536 ≡ suc n % 65536
 one_value_more n = omega arith
 
 -- the statements from one on, as its own program and that of those behind it

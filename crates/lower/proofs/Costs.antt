@@ -10,7 +10,8 @@ use Rattle.lower.proofs.Names.{with_local, turns, step_behaviour, tested, behavi
 use Rattle.lower.proofs.Names.{turns_spent, step_spent, test_spent, spent, joined_go_on, joined_cycles, joined_spend, ways_keep_to_cycles, Places, emission}
 use Rattle.lower.proofs.Names.{scalar_assignment, one, assignment, element_assignment, entries, lowered_transition, loop_local, lowered_test}
 use Rattle.lower.proofs.Names.{lowered_statement, lowered_choice, lowered_block, entry_cycles, BlocksKeepToCycles}
-use Rattle.lower.proofs.Names.{ap, ◌∙◌, map, map-append, ◌++◌, length-append, length-map, cases_eq, cases_lt, ⊎_elim, get_or_past, and_parts, All-head, All-tail}
+use Rattle.lower.proofs.Names.{ap, ◌∙◌, ◌&&◌, ◌<◌, map, map-append, ◌++◌, length-append, length-map, cases_eq, cases_lt, ⊎_elim, get_or_past, and_parts}
+use Rattle.lower.proofs.Names.{All-head, All-tail}
 use Rattle.lower.proofs.Names.{CheckedFunction, Option, RoutinePlace, routine_of, routine_places, routine_body, body_at, BodiesKeep, RoutinesKeep, give}
 use Rattle.lower.proofs.Names.{lowered_expression, called_price}
 use Rattle.std.proofs.Common.{get_or, All}

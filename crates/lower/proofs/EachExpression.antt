@@ -1,5 +1,6 @@
 -- The programs of expressions leave their values.
-use Rattle.lower.proofs.Names.{◌≡◌, ℕ, ◌+◌, ◌%◌, ◌≤◌, List, Option, Some, None, Bool, true, false, nat_le, nat_lt, if◌then◌else◌, refl, sym, ap, ◌∙◌, subst, arith}
+use Rattle.lower.proofs.Names.{◌≡◌, ℕ, ◌+◌, ◌%◌, ◌≤◌, List, Option, Some, None, Bool, true, false, nat_le, nat_lt, if◌then◌else◌, refl, sym, ap, ◌∙◌, subst}
+use Rattle.lower.proofs.Names.{arith}
 use Rattle.lower.proofs.Names.{[], ◌∷◌, ◌++◌, length, CheckedExpression, CheckedValues, WordType, Unsigned, Int, Long, UnaryOperator, BinaryOperator}
 use Rattle.lower.proofs.Names.{ShiftOperator, Variable, Shared, Local, nat_tests, IsOneWord, binary_type, unary_type, literal_type, is_refused, Evaluated}
 use Rattle.lower.proofs.Names.{gives, made_of, word_at, two_words, converted, value_of, unary_result, binary_value, binary_result, long_binary_value}
@@ -102,12 +103,12 @@ module _ (k : Keeping) where
       let a = address_of k.z.p v in
       let joins = one (long with_longs.Join) in
       let first : IsScalarWord k.z.p v 0 = omega (arith, is) in
-      then_program k single stacked w (one (load a)) (step (load (high_address a)) joins) (by_answers m (gives (word_at m.variables (Shared v) 0)))
+      then_program k single stacked w.stack w (one (load a)) (step (load (high_address a)) joins) (by_answers m (gives (word_at m.variables (Shared v) 0)))
       (λ x. gives (two_words x.value (word_at x.behind.variables (Shared v) 1)) x.behind)
       (word_read_agrees k v 0 a m w kept (sym (first_address k.z.p v)) first)
       (λ x s kept.
       let u = with_stack (x.value ∷ w.stack) s in
-      then_program k single stacked u (one (load (high_address a))) joins (by_answers x.behind (gives (word_at x.behind.variables (Shared v) 1)))
+      then_program k single stacked w.stack u (one (load (high_address a))) joins (by_answers x.behind (gives (word_at x.behind.variables (Shared v) 1)))
       (λ y. gives (two_words x.value y.value) y.behind)
       (word_read_agrees k v 1 (high_address a) x.behind u kept (high_is k.z.p k.z.room v k.z.apart is) is)
       (λ y t kept.
@@ -150,7 +151,8 @@ module _ (k : Keeping) where
     o : Answering
     second : Attempt → Option Evaluated
     left : AgreesAs (sparing middle k) left_type w l o
-    right : (x : Evaluated) (s : WordState) → Keeps (sparing middle k) x.behind s → AgreesAs k right_type (with_stack (x.value ∷ w.stack) s) r (by_answers x.behind second)
+    right : (x : Evaluated) (s : WordState) → Keeps (sparing middle k) x.behind s
+        → AgreesAs k right_type (with_stack (x.value ∷ w.stack) s) r (by_answers x.behind second)
     longs : SidesAgree k middle stacked w (long_program left_wide l) (long_program right_wide r) (converted_by left_type Long o)
         (λ m. converted_to right_type Long (second m))
 
@@ -249,7 +251,8 @@ by_words : (e : CheckedExpression) (o : Option Evaluated) (rest : Attempt → Op
 by_words e None rest more = refl
 by_words e (Some x) rest more = by (rest x.behind)
   where
-    by : (r : Option EvaluatedWords) → (r >>? λ ws. more (word_before (word_of e x.value) ws)) ≡ ((r >>? λ ws. Some (word_before (word_of e x.value) ws)) >>? more)
+    by : (r : Option EvaluatedWords) → (r >>? λ ws. more (word_before (word_of e x.value) ws))
+        ≡ ((r >>? λ ws. Some (word_before (word_of e x.value) ws)) >>? more)
     by None = refl
     by (Some ws) = refl
 
@@ -273,7 +276,7 @@ mutual
       (lowering_agrees k known index m w kept fits.1 admits (λ v h. writes v (index_writes v (k.z.fs.sums v) (known.go_on v) x index h))) in
       as_one_word k x.word_type (array_word k.z.shared x.word_type x.variable fits.0 fits.2) w _ _
       (by_word k w (joined (word_program l) last) _
-      (then_program k single single w (word_program l) last o
+      (then_program k single single w.stack w (word_program l) last o
       (λ i. gives (word_at i.behind.variables x.variable i.value) i.behind) agrees.word
       (λ i s kept. element_agrees k w.stack i.behind s kept x.variable i.value (array_known k.z.shared k.z.p k.z.declared x.variable fits.0))))
   lowering_agrees k known t.sense m w kept fits admits writes = by_word k w (one sense) _ (sense_agrees k m w (spared_behind k t.sense m w kept))
@@ -408,7 +411,8 @@ mutual
 
 pub expression_leaves : (k : Keeping) → KnownAgree k.z → (e : CheckedExpression) (m : Attempt) (w : WordState) → KeepsBefore k e m w → IsFit k.z.shared k.z.p e
     → ExpressionWritesWithin k.z e
-    → LeavesWord k w (behaviour (lowered_expression (code_places k.z) k.z.fs.bodies e) w) (by_answers m (λ s. converted_to (type_of e) Unsigned (value_in k e s)))
+    → LeavesWord k w (behaviour (lowered_expression (code_places k.z) k.z.fs.bodies e) w)
+    (by_answers m (λ s. converted_to (type_of e) Unsigned (value_in k e s)))
 expression_leaves k known e m w kept fits writes =
     word_agrees k (type_of e) w (lowered_in k e) (by_answers m (value_in k e)) (lowering_agrees k known e m w kept fits.0 fits.1 writes)
 

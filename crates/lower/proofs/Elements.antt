@@ -122,7 +122,8 @@ module _ (z : Scene) (n i v elements len : ℕ) (c : ArrayCopies) (at : IsArrayA
       let row = held.rows n (Array elements len (Some c)) at.place in
       let l = held.lengths n (Array elements len (Some c)) at.place in
       let short : length (get_or m.variables.shared n []) ≤ i = omega (arith, l, past) in
-      set_holds z.p n i v m.variables w.fram w.fram (locals_from z.own w.locals) row held (λ u j is. held.words u j is ∙ sym (word_past m.variables n i v u j row short))
+      set_holds z.p n i v m.variables w.fram w.fram (locals_from z.own w.locals) row held (λ u j is. held.words u j is
+      ∙ sym (word_past m.variables n i v u j row short))
       (λ y is. held.elements y is ∙ sym (word_past m.variables n i v y.array y.index row short))
 
   pub past : len ≤ i → Result (going_on [] w)

@@ -1,8 +1,10 @@
 -- The programs as they are made, with the bodies of functions in their calls, are those that behave.
-use Rattle.lower.proofs.Names.{◌≡◌, ℕ, ◌%◌, Bool, true, false, List, [], ◌∷◌, Option, Some, None, refl, sym, ap, ◌∙◌, if◌then◌else◌, CheckedExpression, CheckedValues}
+use Rattle.lower.proofs.Names.{◌≡◌, ℕ, ◌%◌, Bool, true, false, List, [], ◌∷◌, Option, Some, None, refl, sym, ap, ◌∙◌, if◌then◌else◌, CheckedExpression}
+use Rattle.lower.proofs.Names.{CheckedValues}
 use Rattle.lower.proofs.Names.{CheckedStatement, CheckedChoice, CheckedBlock, PlacedOperator, UnaryOperator, BinaryOperator, ShiftOperator}
 use Rattle.lower.proofs.Names.{ShortCircuitOperator, BothHold, OneHolds, WordType, Int, Unsigned, Long, Variable, Shared, Local, Places, RoutinePlace}
-use Rattle.lower.proofs.Names.{routine_of, VariablePlace, Scalar, Array, ArrayPlace, ListPlace, Logging, Redo, Undo, PlainOperation, Step, Test, Program, nothing}
+use Rattle.lower.proofs.Names.{routine_of, VariablePlace, Scalar, Array, ArrayPlace, ListPlace, Logging, Redo, Undo, PlainOperation, Step, Test, Program}
+use Rattle.lower.proofs.Names.{nothing}
 use Rattle.lower.proofs.Names.{joined, one, truth, binary, unary, shift, long, call, give, emit_word, freeze_events, choose, repeat, word_place, Gate, Base}
 use Rattle.lower.proofs.Names.{SentBase, NextTask, ListLength, EmitCount, Run, runs_of, Plain, And, Or, Xor, Negate, Complement, Subtract, BinaryMeaning}
 use Rattle.lower.proofs.Names.{Calculates, CommonBits, Holds, Fails, LongQuestion, LongMeaning, binary_meaning, long_meaning, shift_operation, long_shift}
@@ -133,7 +135,8 @@ module _ (bodies : ℕ → Program) where
   shift_filled Long shift_operator.Left l k =
       ap as_long (behind_filled (long_words l) (long (with_longs.ShiftLeft k)) ∙ ap (λ r. joined r (one (long (with_longs.ShiftLeft k)))) (long_words_filled l))
   shift_filled Long shift_operator.Right l k =
-      ap as_long (behind_filled (long_words l) (long (with_longs.ShiftRight k)) ∙ ap (λ r. joined r (one (long (with_longs.ShiftRight k)))) (long_words_filled l))
+      ap as_long (behind_filled (long_words l) (long (with_longs.ShiftRight k)) ∙ ap (λ r. joined r (one (long (with_longs.ShiftRight k))))
+      (long_words_filled l))
   shift_filled of op l k =
       let last = shift (shift_operation op of) k in
       ap as_word (behind_filled (word_program l) last ∙ ap (λ r. joined r (one last)) (word_filled l))
@@ -209,60 +212,60 @@ module _ (bodies : ℕ → Program) where
       ap (words.step (words.store_number (word_place p.map NextTask) (task % 65536)))
       (both_filled listed closing _ _ (entries_filled (word_place p.map ListLength) p.map.list.address (runs_of p.privates)) closed)
 
--- ---- all programs of a task
+-- ---- all programs of a task, whatever bodies stood in their calls
 
-module _ (p : Places) (rs : List Program) (bodies : ℕ → Program) (fills : FillsIn p rs bodies) where
-  call_filled : (i count : ℕ) → step_filled bodies (call_at (routine_of p i) count (slice_index_or [] i nothing))
+module _ (p : Places) (os rs : List Program) (bodies : ℕ → Program) (fills : FillsIn p rs bodies) where
+  call_filled : (i count : ℕ) → step_filled bodies (call_at (routine_of p i) count (slice_index_or os i nothing))
       ≡ call_at (routine_of p i) count (slice_index_or rs i nothing)
   call_filled i count = by (routine_of p i) refl
     where
       by : (at : Option RoutinePlace) → routine_of p i ≡ at
-          → step_filled bodies (call_at at count (slice_index_or [] i nothing)) ≡ call_at at count (slice_index_or rs i nothing)
+          → step_filled bodies (call_at at count (slice_index_or os i nothing)) ≡ call_at at count (slice_index_or rs i nothing)
       by (Some r) is = ap (call r.code.address r.frame r.first count) (fills.routines i r is)
       by None is = ap (call 0 None 0 count) fills.none
 
   mutual
-    lowering_filled : (e : CheckedExpression) → filled_lowering bodies (lowering p [] e) ≡ lowering p rs e
+    lowering_filled : (e : CheckedExpression) → filled_lowering bodies (lowering p os e) ≡ lowering p rs e
     lowering_filled (t.number n) = refl
     lowering_filled (t.long_number n) = refl
     lowering_filled (t.name x) = name_filled bodies p x.word_type x.variable
     lowering_filled (t.element x index) =
-        let l = lowering p [] index in
+        let l = lowering p os index in
         ap as_word (both_filled bodies (word_program l) (one (element_step p x.variable)) _ _ (word_filled bodies l ∙ ap word_program (lowering_filled index))
         (ap one (element_filled bodies p x.variable)))
     lowering_filled t.sense = refl
     lowering_filled t.next_event = refl
     lowering_filled (t.call f values) =
-        ap as_word (both_filled bodies (arguments p [] values) _ _ _ (arguments_filled values) (ap one (call_filled f.function (call_count values))))
+        ap as_word (both_filled bodies (arguments p os values) _ _ _ (arguments_filled values) (ap one (call_filled f.function (call_count values))))
     lowering_filled (t.unary op e) =
-        operand_filled bodies (type_of e) op (lowering p [] e) ∙ ap (operand_lowering (type_of e) op) (lowering_filled e)
+        operand_filled bodies (type_of e) op (lowering p os e) ∙ ap (operand_lowering (type_of e) op) (lowering_filled e)
     lowering_filled (t.binary op a b) =
         let is = operand_type op.operator (joined_type (type_of a) (type_of b)) in
-        sides_filled bodies is op.operator (widened_type a) (widened_type b) (lowering p [] a) (lowering p [] b)
+        sides_filled bodies is op.operator (widened_type a) (widened_type b) (lowering p os a) (lowering p os b)
         ∙ (λ i. sides_lowering is op.operator (widened_type a) (widened_type b) (lowering_filled a i) (lowering_filled b i))
     lowering_filled (t.shift op e count) =
-        shift_filled bodies (type_of e) op (lowering p [] e) count.value ∙ ap (λ l. shift_lowering (type_of e) op l count.value) (lowering_filled e)
+        shift_filled bodies (type_of e) op (lowering p os e) count.value ∙ ap (λ l. shift_lowering (type_of e) op l count.value) (lowering_filled e)
     lowering_filled (t.short_circuit op a b) =
-        let c = value_test (lowering p [] a) in
-        let d = value_test (lowering p [] b) in
+        let c = value_test (lowering p os a) in
+        let d = value_test (lowering p os b) in
         ap as_test (sides_test_filled bodies op c d
-        ∙ (λ i. sides_test op ((value_test_filled bodies (lowering p [] a) ∙ ap value_test (lowering_filled a)) i)
-        ((value_test_filled bodies (lowering p [] b) ∙ ap value_test (lowering_filled b)) i)))
+        ∙ (λ i. sides_test op ((value_test_filled bodies (lowering p os a) ∙ ap value_test (lowering_filled a)) i)
+        ((value_test_filled bodies (lowering p os b) ∙ ap value_test (lowering_filled b)) i)))
 
-    arguments_filled : (values : CheckedValues) → filled bodies (arguments p [] values) ≡ arguments p rs values
+    arguments_filled : (values : CheckedValues) → filled bodies (arguments p os values) ≡ arguments p rs values
     arguments_filled t.no_value = refl
     arguments_filled (t.value e more) =
-        both_filled bodies (lowered_expression p [] e) (arguments p [] more) _ _
-        (word_filled bodies (lowering p [] e) ∙ ap word_program (lowering_filled e)) (arguments_filled more)
+        both_filled bodies (lowered_expression p os e) (arguments p os more) _ _
+        (word_filled bodies (lowering p os e) ∙ ap word_program (lowering_filled e)) (arguments_filled more)
 
-  expression_filled : (e : CheckedExpression) → filled bodies (lowered_expression p [] e) ≡ lowered_expression p rs e
-  expression_filled e = word_filled bodies (lowering p [] e) ∙ ap word_program (lowering_filled e)
+  expression_filled : (e : CheckedExpression) → filled bodies (lowered_expression p os e) ≡ lowered_expression p rs e
+  expression_filled e = word_filled bodies (lowering p os e) ∙ ap word_program (lowering_filled e)
 
-  long_is_filled : (e : CheckedExpression) → filled bodies (lowered_long p [] e) ≡ lowered_long p rs e
-  long_is_filled e = long_filled bodies (widened_type e) (lowering p [] e) ∙ ap (long_program (widened_type e)) (lowering_filled e)
+  long_is_filled : (e : CheckedExpression) → filled bodies (lowered_long p os e) ≡ lowered_long p rs e
+  long_is_filled e = long_filled bodies (widened_type e) (lowering p os e) ∙ ap (long_program (widened_type e)) (lowering_filled e)
 
-  test_is_filled : (e : CheckedExpression) → test_filled bodies (lowered_test p [] e) ≡ lowered_test p rs e
-  test_is_filled e = value_test_filled bodies (lowering p [] e) ∙ ap value_test (lowering_filled e)
+  test_is_filled : (e : CheckedExpression) → test_filled bodies (lowered_test p os e) ≡ lowered_test p rs e
+  test_is_filled e = value_test_filled bodies (lowering p os e) ∙ ap value_test (lowering_filled e)
 
   -- a step behind a program
   last_filled : (q r : Program) (s : Step) → filled bodies q ≡ r → step_filled bodies s ≡ s → filled bodies (joined q (one s)) ≡ joined r (one s)
@@ -270,41 +273,41 @@ module _ (p : Places) (rs : List Program) (bodies : ℕ → Program) (fills : Fi
 
   -- ---- assignments
 
-  setting_filled : (x : Variable) (e : CheckedExpression) → filled bodies (setting p [] x e) ≡ setting p rs x e
-  setting_filled x e = last_filled (lowered_expression p [] e) _ (write_step p x) (expression_filled e) (write_filled bodies p x)
+  setting_filled : (x : Variable) (e : CheckedExpression) → filled bodies (setting p os x e) ≡ setting p rs x e
+  setting_filled x e = last_filled (lowered_expression p os e) _ (write_step p x) (expression_filled e) (write_filled bodies p x)
 
   sides_set_filled : (x : Variable) (op : PlacedOperator) (a b : CheckedExpression) (o : Option PlainOperation)
-      → filled bodies (sides_set p [] x op a b o) ≡ sides_set p rs x op a b o
+      → filled bodies (sides_set p os x op a b o) ≡ sides_set p rs x op a b o
   sides_set_filled x op a b None = setting_filled x (t.binary op a b)
-  sides_set_filled x op a b (Some o) = last_filled (lowered_expression p [] b) _ (update_step p o x) (expression_filled b) (update_filled bodies p o x)
+  sides_set_filled x op a b (Some o) = last_filled (lowered_expression p os b) _ (update_step p o x) (expression_filled b) (update_filled bodies p o x)
 
   -- the first clause makes it a proof by cases
-  assignment_filled : (x : Variable) (e : CheckedExpression) → filled bodies (assignment p [] x e) ≡ assignment p rs x e
+  assignment_filled : (x : Variable) (e : CheckedExpression) → filled bodies (assignment p os x e) ≡ assignment p rs x e
   assignment_filled x (t.binary op a b) = sides_set_filled x op a b (of_words (joined_type (type_of a) (type_of b)) (updating x op.operator a b))
   assignment_filled x e = setting_filled x e
 
-  scalar_filled : (of : WordType) (x : Variable) (e : CheckedExpression) → filled bodies (scalar_assignment p [] of x e) ≡ scalar_assignment p rs of x e
-  scalar_filled Long x e = both_filled bodies (lowered_long p [] e) (write_long p x) _ _ (long_is_filled e) (write_long_filled bodies p x)
+  scalar_filled : (of : WordType) (x : Variable) (e : CheckedExpression) → filled bodies (scalar_assignment p os of x e) ≡ scalar_assignment p rs of x e
+  scalar_filled Long x e = both_filled bodies (lowered_long p os e) (write_long p x) _ _ (long_is_filled e) (write_long_filled bodies p x)
   scalar_filled of x e = assignment_filled x e
 
-  both_values_filled : (index e : CheckedExpression) → filled bodies (index_and_value p [] index e) ≡ index_and_value p rs index e
+  both_values_filled : (index e : CheckedExpression) → filled bodies (index_and_value p os index e) ≡ index_and_value p rs index e
   both_values_filled index e =
-      both_filled bodies (lowered_expression p [] index) (lowered_expression p [] e) _ _ (expression_filled index) (expression_filled e)
+      both_filled bodies (lowered_expression p os index) (lowered_expression p os e) _ _ (expression_filled index) (expression_filled e)
 
-  element_setting_filled : (x : Variable) (index e : CheckedExpression) → filled bodies (element_setting p [] x index e) ≡ element_setting p rs x index e
+  element_setting_filled : (x : Variable) (index e : CheckedExpression) → filled bodies (element_setting p os x index e) ≡ element_setting p rs x index e
   element_setting_filled x index e =
-      last_filled (index_and_value p [] index e) _ (store_step p x) (both_values_filled index e)
+      last_filled (index_and_value p os index e) _ (store_step p x) (both_values_filled index e)
       (own_write_filled bodies p.map.runtime.logging (stored_array p x) (list_place p))
 
   element_sides_filled : (x : Variable) (index : CheckedExpression) (op : PlacedOperator) (a b : CheckedExpression) (o : Option PlainOperation)
-      → filled bodies (element_sides_set p [] x index op a b o) ≡ element_sides_set p rs x index op a b o
+      → filled bodies (element_sides_set p os x index op a b o) ≡ element_sides_set p rs x index op a b o
   element_sides_filled x index op a b None = element_setting_filled x index (t.binary op a b)
   element_sides_filled x index op a b (Some o) =
-      last_filled (index_and_value p [] index b) _ (update_element_step p o x) (both_values_filled index b)
+      last_filled (index_and_value p os index b) _ (update_element_step p o x) (both_values_filled index b)
       (own_update_filled bodies p.map.runtime.logging o (stored_array p x) (list_place p))
 
   -- the first clause makes it a proof by cases
-  element_is_filled : (x : Variable) (index e : CheckedExpression) → filled bodies (element_assignment p [] x index e) ≡ element_assignment p rs x index e
+  element_is_filled : (x : Variable) (index e : CheckedExpression) → filled bodies (element_assignment p os x index e) ≡ element_assignment p rs x index e
   element_is_filled x index (t.binary op a b) =
       element_sides_filled x index op a b (of_words (joined_type (type_of a) (type_of b)) (element_updating x index op.operator a b))
   element_is_filled x index e = element_setting_filled x index e
@@ -312,7 +315,7 @@ module _ (p : Places) (rs : List Program) (bodies : ℕ → Program) (fills : Fi
   -- ---- statements
 
   mutual
-    statement_filled : (s : CheckedStatement) → filled bodies (lowered_statement p [] s) ≡ lowered_statement p rs s
+    statement_filled : (s : CheckedStatement) → filled bodies (lowered_statement p os s) ≡ lowered_statement p rs s
     statement_filled (t.declare of x None) = refl
     statement_filled (t.declare of x (Some e)) = assignment_filled x.variable e
     statement_filled (t.assign x e) = scalar_filled x.word_type x.variable e
@@ -320,16 +323,16 @@ module _ (p : Places) (rs : List Program) (bodies : ℕ → Program) (fills : Fi
     statement_filled (t.choose choice) = choice_filled choice
     statement_filled (t.loop x from tested below stepped body) = ap (λ q. one (repeat (loop_local p x.variable) from below q)) (block_filled body)
     statement_filled (t.emit e) =
-        last_filled (lowered_expression p [] e) _ (emit_word (word_place p.map EmitCount) p.map.emits.address) (expression_filled e) refl
-    statement_filled (t.give at e) = last_filled (lowered_expression p [] e) _ give (expression_filled e) refl
+        last_filled (lowered_expression p os e) _ (emit_word (word_place p.map EmitCount) p.map.emits.address) (expression_filled e) refl
+    statement_filled (t.give at e) = last_filled (lowered_expression p os e) _ give (expression_filled e) refl
     statement_filled (t.transition at task) = transition_filled bodies p task.task
 
-    choice_filled : (c : CheckedChoice) → filled bodies (lowered_choice p [] c) ≡ lowered_choice p rs c
+    choice_filled : (c : CheckedChoice) → filled bodies (lowered_choice p os c) ≡ lowered_choice p rs c
     choice_filled t.nothing = refl
     choice_filled (t.otherwise block) = block_filled block
     choice_filled (t.test e block more) = λ i. one (choose (test_is_filled e i) (block_filled block i) (choice_filled more i))
 
-    pub block_filled : (b : CheckedBlock) → filled bodies (lowered_block p [] b) ≡ lowered_block p rs b
+    pub block_filled : (b : CheckedBlock) → filled bodies (lowered_block p os b) ≡ lowered_block p rs b
     block_filled t.end = refl
     block_filled (t.step s more) =
-        both_filled bodies (lowered_statement p [] s) (lowered_block p [] more) _ _ (statement_filled s) (block_filled more)
+        both_filled bodies (lowered_statement p os s) (lowered_block p os more) _ _ (statement_filled s) (block_filled more)

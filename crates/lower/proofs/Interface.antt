@@ -2,7 +2,7 @@
 
 -- Effects one stretch behind another, and a number below 256.
 pub use Rattle.lower.proofs.Effects.{takes_append, told_append}
-pub use Rattle.lower.proofs.Stored.{small_modulo}
+pub use Rattle.lower.proofs.Stored.{small_modulo, local_is}
 -- What a sum says of the paths of a text, and of those of the functions that it calls.
 pub use Rattle.lower.proofs.Paths.{AreCallable, some_writes, writes_some, private_is, is_private_of}
 -- A program that takes events where its source uses some admits each task and each function.

@@ -46,7 +46,8 @@ pub use Rattle.checked_trees.proofs.Interface.{store_writes, taken_writes}
 pub use Rattle.checked_trees.specs.WellFormed.{IsArrayName, IsLocal, IsOfType, IsWordName, WellFormedBlock, WellFormedChoice, WellFormedExpression}
 pub use Rattle.checked_trees.specs.WellFormed.{WellFormedStatement, WellFormedValues, values_in}
 pub use Rattle.cost_bound.specs.Allowance.{CheckedTask}
-pub use Rattle.cost_bound.specs.Counts.{block_count, called_stores, values_count, choice_count, conditions_count, expression_count, is_shared, is_store_to, statement_count}
+pub use Rattle.cost_bound.specs.Counts.{block_count, called_stores, values_count, choice_count, conditions_count, expression_count, is_shared, is_store_to}
+pub use Rattle.cost_bound.specs.Counts.{statement_count}
 pub use Rattle.cost_bound.specs.Summary.{Summary}
 pub use Rattle.cost_bound.specs.Table.{block_price, blocks_price, conditions_price, cycles_column, expression_price, operator_price, statement_price}
 pub use Rattle.cost_bound.specs.Table.{called_price, values_price, words_column}
@@ -124,11 +125,13 @@ pub use Rattle.undo_effects.specs.Stages.{element_stored, first_logged, word_log
 -- this room
 pub use Rattle.lower.specs.Agreement.{AreFunctions, DidWithin, ExpressionWritesWithin, Functions, Returned, block_writes, code_places, expression_lists}
 pub use Rattle.lower.specs.Agreement.{functions_of, locals_from, no_functions, own_by, seen_from}
-pub use Rattle.lower.specs.Lowered.{arguments, body_at, call_at, call_count, call_step, has_call, logged_place, own_read, routine_body, own_update, own_write, stored_array}
+pub use Rattle.lower.specs.Lowered.{arguments, body_at, call_at, call_count, call_step, has_call, logged_place, own_read, routine_body, own_update, own_write}
+pub use Rattle.lower.specs.Lowered.{stored_array}
 pub use Rattle.lower.specs.Stores.{Act, AreActs, AreMadeByActs, Did, IsAct, IsPlainStore, act_effects, acts_effects, alone, at_element, to_answer}
 pub use Rattle.lower.specs.Stores.{to_buffer, to_element, to_emit_count, to_variable}
 pub use Rattle.lower.specs.Spots.{HasRoomBehind, IsRedo, IsUndo}
-pub use Rattle.lower.specs.Agreement.{Agrees, AgreesWith, Answering, AsDeclared, BlocksAgree, EndsAs, EndsWith, ExpressionsAgree, HasCopies, HoldEmits, HoldList}
+pub use Rattle.lower.specs.Agreement.{Agrees, AgreesWith, Answering, AsDeclared, BlocksAgree, EndsAs, EndsWith, ExpressionsAgree, HasCopies, HoldEmits}
+pub use Rattle.lower.specs.Agreement.{HoldList}
 pub use Rattle.lower.specs.Agreement.{IsAnswerStore, IsFit, answered_by, answers_told, at_answer, by_answers, freeze_effects, made_by}
 pub use Rattle.lower.specs.Agreement.{HoldVariables, IsArray, IsTaskStore, IsWrittenArray, Left, LongsAgree, Scene, StandsFor, TakesAndStores}
 pub use Rattle.lower.specs.Agreement.{TestsAgree, WentOn, at_copy, at_emit_count, at_list_length, at_variable, at_version, bounds, converted_to, element_pair}
@@ -146,7 +149,7 @@ pub use Rattle.lower.specs.Operations.{binary_meaning, long_meaning, long_shift,
 pub use Rattle.lower.specs.Runs.{is_followed_by, longer, run_at, runs_from, runs_of}
 pub use Rattle.lower.specs.Seen.{place_seen, places_seen, task_seen}
 pub use Rattle.std.proofs.lemmas.List.Elements.{All-cons, All-head, All-nil, All-tail}
-pub use Rattle.std.proofs.Common.{eq-eqb}
+pub use Rattle.std.proofs.Common.{◌||◌, eq-eqb}
 pub use Rattle.lower.specs.Sizes.{BlocksKeepToCycles, BlocksKeepToWords, BodiesKeep, RoutinesKeep, entry_cycles}
 pub use Rattle.lower.specs.Spots.{AreApart, AreDifferent, AreEven, AreListed, Room, listed_of}
 pub use Rattle.lower.specs.declared.operations.BinaryMeaning.{BinaryMeaning}

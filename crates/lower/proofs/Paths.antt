@@ -1,5 +1,5 @@
 -- What a sum says of the paths of a text, and of those of the functions that it calls.
-use Rattle.lower.proofs.Names.{◌≡◌, true, List, length, CheckedBlock, CheckedFunction, Variable, block_sum, summary, AccessSummary}
+use Rattle.lower.proofs.Names.{◌≡◌, refl, true, List, length, CheckedBlock, CheckedFunction, Variable, block_sum, summary, AccessSummary}
 use Rattle.task_ast.specs.Calls.{BlockCallsBelow, FunctionsCallBelow}
 use Rattle.path_sums.specs.Access.{SomePath, IsPrivate, writes, private_of}
 use Rattle.path_sums.specs.Known.{AreCallSums, EachReturns}

@@ -1,5 +1,6 @@
 -- Lists with one more at their end.
-use Rattle.lower.proofs.Names.{◌≡◌, ℕ, zero, suc, ◌+◌, ◌<◌, ◌≤◌, List, [], ◌∷◌, ◌++◌, length, Some, None, ap, ◌∙◌, arith, ⊎_elim, inl, inr, ◌⊎◌, length-append}
+use Rattle.lower.proofs.Names.{◌≡◌, ℕ, zero, suc, ◌+◌, ◌<◌, ◌≤◌, List, [], ◌∷◌, ◌++◌, length, Some, None, refl, ap, ◌∙◌, arith, ⊎_elim, inl, inr, ◌⊎◌}
+use Rattle.lower.proofs.Names.{length-append}
 use Rattle.lower.proofs.Names.{get_or_append_left, get_or-append_seam}
 use Rattle.std.proofs.Common.{get_or, slice_get}
 

@@ -1,13 +1,15 @@
 -- The functions of a source do as their meanings say, where they stand in a task: each by those in front of it.
 use Rattle.lower.proofs.Names.{◌≡◌, ℕ, zero, suc, ◌+◌, ◌<◌, ◌≤◌, ◌==◌, List, [], ◌∷◌, ◌++◌, length, Option, Some, None, Bool, refl, sym, ap, ◌∙◌, subst, arith}
 use Rattle.lower.proofs.Names.{if◌then◌else◌, ⊎_elim, inl, inr, ◌⊎◌, cases_eq, cases_lt, eq-eqb, ne_eqb, map, map-append, length-append, length-map, append-nil}
-use Rattle.lower.proofs.Names.{All-head, All-tail, append_assoc, eqb-true, no_functions, get_or_append_left, get_or_past, get_or-append_seam, fram_after, Effect, Shared, summary, CheckedFunction, CheckedBlock, Evaluated}
+use Rattle.lower.proofs.Names.{All-head, All-tail, append_assoc, eqb-true, no_functions, get_or_append_left, get_or_past, get_or-append_seam, fram_after}
+use Rattle.lower.proofs.Names.{Effect, Shared, summary, CheckedFunction, CheckedBlock, Evaluated}
 use Rattle.lower.proofs.Names.{Outcome, returns, short, run_block, block_emits, EmitsUpTo, block_up_to, Variables, Functions, functions_of, Scene, Places}
 use Rattle.lower.proofs.Names.{code_places, locals_from, seen_from, StandsFor, HoldVariables, Returned, AreFunctions, WellFormedBlock, AdmitsBlock}
-use Rattle.lower.proofs.Names.{lowered_block, routine_of, routine_among, routine_places, routine_body, body_at, RoutinePlace, Program, nothing, WordState, End, GoesOn}
+use Rattle.lower.proofs.Names.{lowered_block, routine_of, routine_among, routine_places, routine_body, body_at, RoutinePlace, Program, nothing, WordState}
+use Rattle.lower.proofs.Names.{End, GoesOn}
 use Rattle.lower.proofs.Names.{Jumps, Gives, Short, Strays, Broken, Behaviour, behaviour, called, called_behind, behind_call, parameter_words, with_stack}
 use Rattle.lower.proofs.Names.{behaves_by_effects, EndsByEffects, answered_by, answers_told, by_answers, word_place, Version, listed_of, Element, is_store_to}
-use Rattle.lower.proofs.Names.{block_writes, called_stores, block_count, AccessSummary}
+use Rattle.lower.proofs.Names.{true, false, block_sum, block_writes, called_stores, block_count, AccessSummary}
 use Rattle.std.proofs.Common.{get_or, slice_get, All, replicate, take}
 use Rattle.std.proofs.lemmas.List.{get_or-take, length-take-le, length-replicate}
 use Rattle.std.proofs.lemmas.Option.{slice_get-get_or, slice_get_within}
@@ -67,7 +69,8 @@ one_named first vs words w h = record { count = count; each = each }
 all_named : (first : ℕ) (words vs before : List ℕ) → Named first vs before → Named first (turned words vs) (before ++ words)
 all_named first [] vs before h = subst (Named first vs) (sym (append-nil before)) h
 all_named first (w ∷ words) vs before h =
-    subst (Named first (turned words (w ∷ vs))) (append_assoc before (w ∷ []) words) (all_named first words (w ∷ vs) (before ++ w ∷ []) (one_named first vs before w h))
+    subst (Named first (turned words (w ∷ vs))) (append_assoc before (w ∷ []) words)
+    (all_named first words (w ∷ vs) (before ++ w ∷ []) (one_named first vs before w h))
 
 -- the words that a function is called with are the first of its locals
 entered_locals : (first : ℕ) (words : List ℕ) (j u : ℕ) → length words ≤ 256 → parameter_words first (turned words []) (first + j) ≡ Some u
@@ -262,12 +265,12 @@ all_more p fs [] = fs
 all_more p fs (f ∷ rest) = all_more p (one_more p fs f) rest
 
 all_are : (p : Places) (fs : Functions) (rest : List CheckedFunction) → all_more p fs rest ≡ record {
-      meanings = answers_from meaning_of fs.meanings rest;
-      bodies = answers_from (routine_body p) fs.bodies rest;
-      emits = answers_from function_emits fs.emits rest;
-      summaries = answers_from function_summary fs.summaries rest;
-      sums = λ v. answers_from (function_sum (summary (Shared v))) (fs.sums v) rest;
-    }
+  meanings = answers_from meaning_of fs.meanings rest;
+  bodies = answers_from (routine_body p) fs.bodies rest;
+  emits = answers_from function_emits fs.emits rest;
+  summaries = answers_from function_summary fs.summaries rest;
+  sums = λ v. answers_from (function_sum (summary (Shared v))) (fs.sums v) rest;
+}
 all_are p fs [] = refl
 all_are p fs (f ∷ rest) = all_are p (one_more p fs f) rest
 

@@ -19,7 +19,8 @@ use Rattle.lower.proofs.Names.{update_step, setting, long_setting, updating, of_
 use Rattle.lower.proofs.Names.{index_and_value, element_setting, update_element_step, element_updating, element_sides_set, binary_lowering, sides_test}
 use Rattle.lower.proofs.Names.{lowering, assignment, element_assignment, emission, entries, lowered_transition, lowered_expression, lowered_test}
 use Rattle.lower.proofs.Names.{lowered_statement, lowered_choice, lowered_block}
-use Rattle.lower.proofs.Names.{CheckedValues, call_count, values_in, values_price, RoutinePlace, routine_of, call, give, call_at, call_step, arguments, BodiesKeep}
+use Rattle.lower.proofs.Names.{CheckedValues, call_count, values_in, values_price, RoutinePlace, routine_of, call, give, call_at, call_step, arguments}
+use Rattle.lower.proofs.Names.{BodiesKeep}
 use Rattle.std.proofs.Common.{slice_get}
 use Rattle.std.specs.Prelude.{slice_index_or}
 use Rattle.source_values.specs.Values.{by_width, joined_type, type_of}
@@ -329,7 +330,8 @@ same_wider (t.number n) = sym (literal_wider n)
 same_wider e = refl
 
 -- the same by the type by which an expression becomes long
-widened_type_has : (p : Places) (rs : List Program) (e : CheckedExpression) (x : Price) → HasPrice (type_of e) (lowering p rs e) x → HasPrice (widened_type e) (lowering p rs e) x
+widened_type_has : (p : Places) (rs : List Program) (e : CheckedExpression) (x : Price) → HasPrice (type_of e) (lowering p rs e) x
+    → HasPrice (widened_type e) (lowering p rs e) x
 widened_type_has p rs (t.number w) x h = word_has Unsigned (one (number w)) x h.word
 widened_type_has p rs e x h = h
 
@@ -375,7 +377,8 @@ module _ (known : List Summary) (rs : List Program) (cheap : BodiesKeep known rs
         word_has f.word_type _ (price known s (t.call f values)) (omega (arith, l, each, few), omega (arith, l, each, few, body))
     lowering_has p s (t.unary op e) = operand_has (type_of e) op (lowering p rs e) (price known s e) (lowering_has p s e)
     lowering_has p s (t.binary op a b) =
-        let both : BothHave (type_of a) (type_of b) (widened_type a) (widened_type b) (lowering p rs a) (lowering p rs b) (price known s a) (price known s b) = record {
+        let both : BothHave (type_of a) (type_of b) (widened_type a) (widened_type b) (lowering p rs a) (lowering p rs b) (price known s a)
+        (price known s b) = record {
           left = widened_type_has p rs a (price known s a) (lowering_has p s a);
           right = widened_type_has p rs b (price known s b) (lowering_has p s b);
           left_wider = same_wider a;

@@ -274,8 +274,11 @@ pub small_modulo : (n : ℕ) → n < 256 → n % 65536 ≡ n
 small_modulo n h = omega arith
 
 -- the number of a local of the code that is at work
+pub local_is : (p : Places) (n : ℕ) → p.first + 256 ≤ 65536 → n < 256 → local_number p n ≡ p.first + n
+local_is p n low h = omega (arith, h, low)
+
 pub own_number : (z : Scene) (n : ℕ) → n < 256 → local_number (code_places z) n ≡ z.own + n
-own_number z n h = let low = z.own_low in omega (arith, h, low)
+own_number z n h = local_is (code_places z) n z.own_low h
 
 local_set : (own : ℕ) (locals : ℕ → Option ℕ) (words : List ℕ) (n v : ℕ) → n < length words
     → ((k u : ℕ) → locals (own + k) ≡ Some u → get_or words k 0 ≡ u)

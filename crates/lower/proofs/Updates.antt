@@ -1,9 +1,11 @@
 -- An assignment in place: `x = x + e`, `a[i] = a[i] + e` and their like.
-use Rattle.lower.proofs.Names.{List, [], ◌≡◌, ℕ, Bool, true, false, not, ◌&&◌, ◌||◌, Option, Some, None, refl, sym, ap, subst, ◌∙◌, if◌then◌else◌, eqb-true, and_parts}
+use Rattle.lower.proofs.Names.{List, [], ◌≡◌, ℕ, Bool, true, false, not, ◌&&◌, ◌||◌, Option, Some, None, refl, sym, ap, subst, ◌∙◌, if◌then◌else◌, eqb-true}
+use Rattle.lower.proofs.Names.{and_parts}
 use Rattle.lower.proofs.Names.{CheckedExpression, WordType, Unsigned, Int, Long, BinaryOperator, Variable, Shared, Local, VariableName, PlacedOperator}
 use Rattle.lower.proofs.Names.{IsOneWord, by_one_word, joined_word, ◌>>?◌, Evaluated, gives, made_of, word_at, scalar_value, binary_value, binary_result}
 use Rattle.lower.proofs.Names.{value_of, scalar_word, value_keeps, Outcome, if_value, with_value, PlainOperation, plain_word, plain_operation, is_same}
-use Rattle.lower.proofs.Names.{has_call, is_settled, shift_result, truth_word, unary_result, is_name, updating, of_words, is_number, are_alike, element_updating}
+use Rattle.lower.proofs.Names.{has_call, is_settled, shift_result, truth_word, unary_result, is_name, updating, of_words, is_number, are_alike}
+use Rattle.lower.proofs.Names.{element_updating}
 use Rattle.source_values.specs.Values.{Attempt, Meaning, joined_type, type_of}
 use Rattle.source_values.specs.Statements.{goes_on, assigned}
 use Rattle.task_ast.specs.Tree as t

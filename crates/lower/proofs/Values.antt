@@ -24,7 +24,8 @@ use Rattle.lower.proofs.Effects.{takes_weaker}
 use Rattle.lower.proofs.Acts.{plain_did}
 use Rattle.lower.proofs.Stored.{own_number, same_variables, same_list, same_emits, spots_low, list_low, emits_low}
 use Rattle.lower.proofs.Ends.{DidFrom}
-use Rattle.lower.proofs.Sequence.{Spare, Covers, Keeping, sparing, Keeps, spared, LeavesWords, as_value, comes_alone, comes_behind_looks, from_value, value_then}
+use Rattle.lower.proofs.Sequence.{Spare, Covers, Keeping, sparing, Keeps, spared, LeavesWords, as_value, comes_alone, comes_behind_looks, from_value}
+use Rattle.lower.proofs.Sequence.{value_then}
 use Rattle.task_ast.specs.declared.UnaryOperator.TheVariants as unary_operator
 use Rattle.task_ast.specs.declared.BinaryOperator.TheVariants as operator
 use Rattle.task_ast.specs.declared.ShiftOperator.TheVariants as shift_operator
@@ -258,7 +259,8 @@ module _ (k : Keeping) where
     where
       by : (rs : List ℕ) → LeavesWord k w (then_on (reading_pushed rs w) (behaviour nothing)) (by_answers m (reading_of rs))
       by [] others = plain_did k.z.p k.z.written k.z.room k.z.ver [] w.fram tt
-      by (r ∷ rs) = comes_alone (as_value k single w.stack) w.fram (reading_pushed (r ∷ rs) w) (by_answers m (reading_of (r ∷ rs))) (taken r rs m w kept)
+      by (r ∷ rs) others =
+          comes_alone (as_value k single w.stack) w.fram (reading_pushed (r ∷ rs) w) (by_answers m (reading_of (r ∷ rs))) (taken r rs m w kept) others
 
   -- stores behind the end of programs, and looks, change nothing of what is kept
   still_kept : (m : Attempt) (w : WordState) (f : ℕ → ℕ) (looks : List Look) → Keeps k m w → ((a : ℕ) → a < program_end → f a ≡ w.fram a)
@@ -387,7 +389,8 @@ module _ (k : Keeping) where
         own_reads : (c : ArrayCopies) (at : IsArrayAt k.z.p v elements length (Some c)) (logging : Logging)
             → (i < length → own_by logging (w.fram (word_place k.z.p.map Version) == w.fram (2 * i + c.versions)) (w.fram (2 * i + c.copies))
             (w.fram (2 * i + elements)) ≡ word)
-            → LeavesWord k (with_stack below w) (behaviour (one (own_read logging (array_place elements length c) (list_place k.z.p))) (with_stack (i ∷ below) w))
+            → LeavesWord k (with_stack below w) (behaviour (one (own_read logging (array_place elements length c) (list_place k.z.p)))
+            (with_stack (i ∷ below) w))
             (by_answers m (gives word))
         own_reads c at Redo own =
             let e = 2 * i + elements in
@@ -433,7 +436,8 @@ module _ (k : Keeping) where
         (by_answers m (gives (word_at m.variables x i)))
     element_agrees (Shared v) i is =
         subst
-        (λ o. LeavesWord k (with_stack below w) (behaviour (one (element_read k.z.p o)) (with_stack (i ∷ below) w)) (by_answers m (gives (word_at m.variables (Shared v) i))))
+        (λ o. LeavesWord k (with_stack below w) (behaviour (one (element_read k.z.p o)) (with_stack (i ∷ below) w))
+        (by_answers m (gives (word_at m.variables (Shared v) i))))
         (sym is.3.place) (array_read v is.0 is.1 i is.2 is.3)
     element_agrees (Local n) i is = absurd is
 
@@ -455,15 +459,15 @@ module _ (k : Keeping) where
       → LeavesWords k to u (then_on b next) (λ answers. o answers >>? more)
   agrees_behind from to u b o next more h f = words_then k.free from to u b o next more h f
 
-  -- a program behind that of a value
-  pub then_program : (from to : ℕ → List ℕ) (w : WordState) (q next : Program) (o : Answering) (more : Evaluated → Option Evaluated)
+  -- a program behind that of a value: what it leaves stands on top of these
+  pub then_program : (from to : ℕ → List ℕ) (below : List ℕ) (w : WordState) (q next : Program) (o : Answering) (more : Evaluated → Option Evaluated)
       → LeavesWords k from w (behaviour q w) o
       → ((x : Evaluated) (s : WordState) → Keeps k x.behind s
-      → LeavesWords k to (with_stack w.stack s) (behaviour next (with_stack (from x.value ++ w.stack) s)) (from_value x more))
-      → LeavesWords k to w (behaviour (joined q next) w) (λ answers. o answers >>? more)
-  then_program from to w q next o more h f =
-      subst (λ b. LeavesWords k to w b (λ answers. o answers >>? more)) (sym (joined_go_on q next w))
-      (agrees_behind from to w (behaviour q w) o (behaviour next) more h f)
+      → LeavesWords k to (with_stack below s) (behaviour next (with_stack (from x.value ++ w.stack) s)) (from_value x more))
+      → LeavesWords k to (with_stack below w) (behaviour (joined q next) w) (λ answers. o answers >>? more)
+  then_program from to below w q next o more h f =
+      subst (λ b. LeavesWords k to (with_stack below w) b (λ answers. o answers >>? more)) (sym (joined_go_on q next w))
+      (value_then k (as_value k to below) from w (behaviour q w) o (behaviour next) more h f)
 
   -- what is done with both values
   pub sides_then : (middle : Spare) (from to : ℕ → List ℕ) (w : WordState) (a b : Program) (next : WordState → Behaviour)
@@ -486,7 +490,7 @@ module _ (k : Keeping) where
       → ((x : ℕ) (s : WordState) → step_behaviour last (with_stack (from x ++ w.stack) s) ≡ goes_on [] (with_stack (to (f x) ++ w.stack) s))
       → LeavesWords k to w (behaviour (behind q last) w) (made_by f o)
   step_leaves from to last f w q o h does =
-      then_program from to w q (one last) o (λ x. gives (f x.value) x.behind) h
+      then_program from to w.stack w q (one last) o (λ x. gives (f x.value) x.behind) h
       (λ x s kept. subst
       (λ b. LeavesWords k to (with_stack w.stack s) (then_on b (behaviour nothing)) (by_answers x.behind (gives (f x.value)))) (sym (does x.value s))
       (is_left to w.stack (f x.value) x.behind (with_stack (to (f x.value) ++ w.stack) s) kept refl))
@@ -543,7 +547,8 @@ module _ (k : Keeping) where
       pair_leaves middle single single (binary op) f w a b o second h (λ x y s. ap (λ v. goes_on [] (with_stack (v ∷ w.stack) s)) (e x y))
 
   -- an operator of two sides
-  pub binary_agrees : (middle : Spare) (meaning : BinaryMeaning) (w : WordState) (a b : Program) (o : Answering) (second : Attempt → Option Evaluated) (f : ℕ → ℕ → ℕ)
+  pub binary_agrees : (middle : Spare) (meaning : BinaryMeaning) (w : WordState) (a b : Program) (o : Answering) (second : Attempt → Option Evaluated)
+      (f : ℕ → ℕ → ℕ)
       → SidesAgree k middle single w a b o second → ((x y : ℕ) → meaning_word meaning x y ≡ f x y)
       → LoweringAgrees k w (binary_lowering meaning (joined a b)) (pair_value f o second)
   binary_agrees middle (Calculates op) w a b o second f h e =

@@ -1,5 +1,6 @@
 -- What the paths of a text write, its parts write: each expression's calls of what a statement's sum has.
-use Rattle.lower.proofs.Names.{◌≡◌, ℕ, ◌&&◌, ◌||◌, List, Bool, true, false, refl, Some, if◌then◌else◌, CheckedExpression, CheckedValues, CheckedChoice, CheckedBlock}
+use Rattle.lower.proofs.Names.{◌≡◌, ℕ, ◌&&◌, ◌||◌, List, Bool, true, false, refl, Some, if◌then◌else◌, CheckedExpression, CheckedValues, CheckedChoice}
+use Rattle.lower.proofs.Names.{CheckedBlock}
 use Rattle.lower.proofs.Names.{PlacedOperator, ShortCircuitOperator, Shared, VariableName, FunctionName, WordType, summary, AccessSummary, is_same}
 use Rattle.alp_text.specs.declared.lines.Span.{Span}
 use Rattle.path_sums.specs.Access.{summary_read, summary_unit}
@@ -98,7 +99,8 @@ module _ (v : ℕ) (known : List AccessSummary) (on : CallsGoOn v known) where
   unfolding summary
   assigned_writes n e h = or_left (expression_sum known (summary (Shared v)) e).writes _ h
 
-  pub place_writes : (n : VariableName) (index e : CheckedExpression) → Writes index → (statement_sum known (summary (Shared v)) (t.store n index e)).writes ≡ true
+  pub place_writes : (n : VariableName) (index e : CheckedExpression) → Writes index → (statement_sum known (summary (Shared v)) (t.store n index e)).writes
+      ≡ true
   unfolding summary
   place_writes n index e h = or_left (expression_sum known (summary (Shared v)) index).writes _ h
 

@@ -232,7 +232,8 @@ locals_from own locals = λ n. locals (own + n)
 abbrev pub seen_from : ℕ → WordState → WordState
 seen_from own w = record w { locals = locals_from own w.locals }
 
--- the code that statements stand in, a task's or that of a function in it: its source's declarations, its places, apart, even and as declared, with room for so many stores
+-- the code that statements stand in, a task's or that of a function in it: its source's declarations, its places, apart, even and as declared, with room for
+-- so many stores
 -- to each array behind so many words that the start lists (none under redo), the number of its first local, the functions that it may call, the
 -- variables that the task writes, and VER
 pub record Scene : Type 0 where

@@ -349,7 +349,8 @@ abbrev pub element_updating : Variable → CheckedExpression → BinaryOperator 
 element_updating x index op a b = if is_element x index a && not (has_call b) then plain_operation op else None
 
 -- sets an element to what an operator gives of two sides: in place, where an operation does
-abbrev pub element_sides_set : Places → List Program → Variable → CheckedExpression → PlacedOperator → CheckedExpression → CheckedExpression → Option PlainOperation → Program
+abbrev pub element_sides_set : Places → List Program → Variable → CheckedExpression → PlacedOperator → CheckedExpression → CheckedExpression
+    → Option PlainOperation → Program
 element_sides_set p rs x index op a b None = element_setting p rs x index (t.binary op a b)
 element_sides_set p rs x index op a b (Some o) = behind (index_and_value p rs index b) (update_element_step p o x)
 

@@ -37,11 +37,8 @@ fn has_call(e: &Expr<VariableName, FunctionName>) -> bool
             has_call(inner)
         }
         Expr::Binary(_, a, b) | Expr::ShortCircuit(_, a, b) => has_call(a) || has_call(b),
-        Expr::Number(_)
-        | Expr::LongNumber(_)
-        | Expr::Name(_)
-        | Expr::Sense
-        | Expr::NextEvent => false,
+        Expr::Number(_) | Expr::LongNumber(_) | Expr::Name(_) | Expr::Sense | Expr::NextEvent =>
+            false,
     }
 }
 

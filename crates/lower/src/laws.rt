@@ -1,10 +1,10 @@
 //! Laws of the word programs of a source. The functions do nothing: their contracts are the laws.
 
 ghost use Rattle.lower.specs.Agreement.{ExpressionsAgree, LongsAgree, TestsAgree, BlocksAgree};
-ghost use Rattle.lower.specs.Sizes.{BlocksKeepToWords, BlocksKeepToCycles, ExpressionsKeepToCycles};
+ghost use Rattle.lower.specs.Sizes.{BlocksKeepToWords, BlocksKeepToCycles, ExpressionsKeepToCycles, RoutinesKeep};
 
-/// The program of an expression takes readings alone, and leaves the expression's value on top of the stack, of a long its low word,
-/// with the readings left as the expression leaves them. It is short exactly where the expression is.
+/// The program of an expression leaves the expression's value on top of the stack, of a long its low word, in a state that stands for the
+/// attempt behind it: with its variables, its emitted words and the readings that are left. It is short exactly where the expression is.
 pub fn expressions_agree()
     ensures { ExpressionsAgree }
 {}
@@ -19,9 +19,10 @@ pub fn tests_agree()
     ensures { TestsAgree }
 {}
 
-/// The program of statements does what they do: it goes on with the same words of the variables, with the words that they
-/// emit in the buffer, with the elements that they stored to in the commit list, and with the same readings left; it leaves by
-/// the stores of a transition exactly where they come to one, and is short exactly where they are.
+/// The program of statements, with the bodies of the functions that it calls, does what they do: it goes on with the same words of the
+/// variables, with the words that they emit in the buffer, with the elements that they stored to in the commit list, and with the
+/// same readings left; it leaves by the stores of a transition exactly where they come to one, gives the word of a `return` where
+/// they come to that, and is short exactly where they are.
 pub fn statements_agree()
     ensures { BlocksAgree }
 {}
@@ -43,4 +44,10 @@ pub fn expressions_keep_to_cycles()
 #[tactic(auto, using(crate::proofs::Costs::blocks_keep_to_cycles))]
 pub fn statements_keep_to_cycles()
     ensures { BlocksKeepToCycles }
+{}
+
+/// The bodies of functions take no more cycles than the allowance has for their calls.
+#[tactic(auto, using(crate::proofs::Costs::routines_keep))]
+pub fn routines_keep_to_cycles()
+    ensures { RoutinesKeep }
 {}

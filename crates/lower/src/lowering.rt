@@ -80,7 +80,12 @@ fn lower_routine(
     let mut program = WordProgram::new(alloc);
     match functions.get(routine.function as usize) {
         Some(function) => {
-            lower_block(alloc, &function.body, &places.of_routine(routine), &mut program)?;
+            lower_block(
+                alloc,
+                &function.body,
+                &places.of_routine(routine),
+                &mut program,
+            )?;
             Ok(program)
         }
         None => Ok(program),

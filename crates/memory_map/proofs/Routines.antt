@@ -17,8 +17,8 @@ pub codes_in_order : (from : ℕ) (ts : List TaskPlace) (end : ℕ) → AreInOrd
 codes_in_order from [] end h = h
 codes_in_order from (t ∷ ts) end (here, rest) =
     let s = in_order_split (end_of t.code) (map (λ r. r.code) t.routines) (flat_map code_regions ts) end rest in
-    let high = in_order_end (end_of t.code) (map (λ r. r.code) t.routines) s.0 s.1.0 in
-    (here, in_order_lower (end_of t.code) s.0 (map (λ t. t.code) ts) end high (codes_in_order s.0 ts end s.1.1))
+    let high = in_order_end (end_of t.code) (map (λ r. r.code) t.routines) s.0 s.1 in
+    (here, in_order_lower (end_of t.code) s.0 (map (λ t. t.code) ts) end high (codes_in_order s.0 ts end s.2))
 
 -- ---- words
 

@@ -1,6 +1,7 @@
 -- A task has a place for each function that it reaches, and the frames of these are within its stack.
 use Rattle.std.proofs.Common.{◌≡◌, ℕ, zero, suc, ◌+◌, ◌-◌, ◌*◌, ◌≤◌, ◌==◌, Bool, true, false, if◌then◌else◌, List, [], ◌∷◌, length, Some, None, refl, sym, ap}
 use Rattle.std.proofs.Common.{◌∙◌, subst, arith, eq-eqb}
+use Rattle.std.proofs.lemmas.Bool.{ne_eqb}
 use Rattle.std.specs.Prelude.{slice_get}
 use Rattle.std.proofs.lemmas.Bool.Decides.{nat_tests}
 use Rattle.std.proofs.lemmas.Option.{same_Some}
@@ -74,6 +75,29 @@ module _ (stack : ℕ) (marks : ℕ → Bool) where
       by true m (suc j) e = behind_first k s l ss ls r (among (k + 1) (at + 2 * routine_room s) ss ls j r e)
       by false m j e = behind_first k s l ss ls r (among (k + 1) at ss ls j r e)
 
+  -- it is the first of its function's
+  own_place : (k at : ℕ) (ss : List Summary) (ls : List FunctionLocals) (j : ℕ) (r : RoutinePlace) → slice_get (routines_from stack marks k at ss ls) j ≡ Some r
+      → routine_among (routines_from stack marks k at ss ls) r.function ≡ Some r
+  own_place k at [] ls j r e = let no : None ≡ Some r = e in cc
+  own_place k at (s ∷ ss) [] j r e = let no : None ≡ Some r = e in cc
+  own_place k at (s ∷ ss) (l ∷ ls) j r e = by (marks k) j e
+    where
+      by : (b : Bool) (j : ℕ) → slice_get (if_marked b stack marks k at s l ss ls) j ≡ Some r
+          → routine_among (if_marked b stack marks k at s l ss ls) r.function ≡ Some r
+      by true zero e =
+          let first = routine_at stack k at s l in
+          let same : first ≡ r = same_Some first r e in
+          ap (λ b. if b then Some first else routine_among (routines_from stack marks (k + 1) (at + 2 * routine_room s) ss ls) r.function)
+          (eq-eqb k r.function (ap (λ x. x.function) same)) ∙ ap (λ x. Some x) same
+      by true (suc j) e =
+          let rest = routines_from stack marks (k + 1) (at + 2 * routine_room s) ss ls in
+          let h = among (k + 1) (at + 2 * routine_room s) ss ls j r e in
+          let is : r.function ≡ (k + 1) + h.index = ap (λ x. x.function) h.is in
+          let other : (k == r.function) ≡ false = ne_eqb k r.function (λ same. let none : ⊥ = omega (arith, is, same) in none) in
+          ap (λ b. if b then Some (routine_at stack k at s l) else routine_among rest r.function) other
+          ∙ own_place (k + 1) (at + 2 * routine_room s) ss ls j r e
+      by false j e = own_place (k + 1) at ss ls j r e
+
   later : (r : RoutinePlace) (rs : List RoutinePlace) (number : ℕ) → (r.function == number) ≡ false → IsPlacedIn rs number → IsPlacedIn (r ∷ rs) number
   later r rs number other h = record {
     place = h.place;
@@ -128,25 +152,33 @@ module _ (p : CheckedProgram) (body : CheckedBlock) (at : ℕ) where
   of_each j r e =
       let h = among stack marks 0 at (summaries p) (all_locals p.functions) j r e in
       let f = functions_at p.functions h.index h.locals h.locals_is in
-      let number : h.index ≡ r.function = ap (λ x. x.function) (sym h.is) in
+      let counted : r.function ≡ 0 + h.index = ap (λ x. x.function) h.is in
+      let number : r.function ≡ h.index = omega (arith, counted) in
       record {
         known = record { function = f.0; summary = h.summary; locals = h.locals };
         is = record {
-          function = ap (slice_get p.functions) (sym number) ∙ f.1;
-          summary = ap (slice_get (summaries p)) (sym number) ∙ h.summary_is;
-          locals = ap (slice_get (all_locals p.functions)) (sym number) ∙ h.locals_is;
+          function = ap (slice_get p.functions) number ∙ f.1;
+          summary = ap (slice_get (summaries p)) number ∙ h.summary_is;
+          locals = ap (slice_get (all_locals p.functions)) number ∙ h.locals_is;
         };
-        reached = ap marks (sym number) ∙ h.marked;
+        reached = ap marks counted ∙ h.marked;
         words = ap (λ x. x.code.words) h.is;
         first = ap (λ x. x.first) h.is;
         frame = ap (λ x. x.frame) h.is;
       }
 
+  of_all : (k : ℕ) (f : Known) → IsFunction p k f → marks k ≡ true → IsPlacedIn (task_routines (known_functions p) body at) k
+  of_all k f is reached =
+      let same : 0 + k ≡ k = omega arith in
+      subst (IsPlacedIn (task_routines (known_functions p) body at)) same
+      (placed stack marks 0 at (summaries p) (all_locals p.functions) k f.summary f.locals is.summary is.locals (ap marks same ∙ reached))
+
 pub routines_stand : AllRoutinesStand
 routines_stand p body at = record {
   each = of_each p body at;
-  all = λ k f is reached. placed (stack_of (summaries p) body) (λ n. reaches_of (summaries p) n body) 0 at (summaries p) (all_locals p.functions) k f.summary
-      f.locals is.summary is.locals reached;
+  own = λ j r e.
+      own_place (stack_of (summaries p) body) (λ k. reaches_of (summaries p) k body) 0 at (summaries p) (all_locals p.functions) j r e;
+  all = of_all p body at;
 }
 
 -- ---- frames

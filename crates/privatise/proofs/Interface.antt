@@ -1,4 +1,4 @@
 -- What the proofs of other crates cite.
 
--- A task has a place for each function that it reaches, with a frame below those of all that call it.
+-- A task has one place for each function that it reaches, and the frames of these are within its stack.
 pub use Rattle.privatise.proofs.Frames.{routines_stand, frames_stand}

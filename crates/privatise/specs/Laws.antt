@@ -40,9 +40,10 @@ pub record IsPlacedIn (rs : List RoutinePlace) (number : ℕ) : Type 0 where
   pub found : routine_among rs number ≡ Some place
   pub is : place.function ≡ number
 
--- a task has a place for each function that it reaches, and for no other
+-- a task has one place for each function that it reaches, and for no other
 pub record RoutinesStand (p : CheckedProgram) (body : CheckedBlock) (rs : List RoutinePlace) : Type 0 where
   pub each : (j : ℕ) (r : RoutinePlace) → slice_get rs j ≡ Some r → IsRoutineOf p body r
+  pub own : (j : ℕ) (r : RoutinePlace) → slice_get rs j ≡ Some r → routine_among rs r.function ≡ Some r
   pub all : (k : ℕ) (f : Known) → IsFunction p k f → reaches_of (summaries p) k body ≡ true → IsPlacedIn rs k
 
 abbrev pub AllRoutinesStand : Type 0

@@ -1,7 +1,8 @@
 -- The code of a task keeps to its dearest way.
-use Rattle.std.proofs.Common.{ℕ, false, subst, get_or}
+use Rattle.std.proofs.Common.{ℕ, subst}
 use Rattle.machine_effects.specs.Inputs.{Inputs}
-use Rattle.array_versions.specs.Program.{Program, nothing}
+use Rattle.array_versions.specs.Program.{Program}
+use Rattle.array_versions.specs.TaskPrograms.{program_at}
 use Rattle.array_versions.specs.Behaviour.{behaviour, started}
 use Rattle.word_code.specs.Laws.{ComesTo}
 use Rattle.code_costs.specs.Dearest.{most_spent}
@@ -15,7 +16,7 @@ use Rattle.task_needs.specs.Laws.{TasksKeepToTheirWays}
 pub tasks_keep_to_their_ways : TasksKeepToTheirWays
 tasks_keep_to_their_ways l programs fits whole v k g inputs enters named words ready =
     let code = linked_code l programs in
-    let program : Program = get_or programs k nothing in
+    let program : Program = program_at programs k in
     let Does : (ℕ → ℕ) → Inputs → Type 0 = λ f given.
     let b = behaviour program (started f given) in ComesTo code (most_spent l.runtime.events program) v b.effects b.end in
     let fit = whole.whole k named in

@@ -1,5 +1,5 @@
 -- What the code of a task spends, and that its need has all of it.
-use Rattle.std.specs.Prelude.{ℕ, ◌+◌, ◌<◌, ◌≤◌, true, List, length, get_or}
+use Rattle.std.specs.Prelude.{ℕ, ◌+◌, ◌<◌, ◌≤◌, true, List, length}
 use Rattle.cost_bound.specs.Summaries.{summaries}
 use Rattle.alp_words.specs.Words.{HoldsWords}
 use Rattle.machine_effects.specs.Inputs.{Inputs, InputsAreWords}
@@ -7,7 +7,7 @@ use Rattle.code_forms.specs.Forms.{Core}
 use Rattle.cost_bound.specs.Allowance.{list_of}
 use Rattle.cost_bound.specs.Counts.{emits_of}
 use Rattle.source_values.specs.Runs.{CheckedProgram, task_body}
-use Rattle.array_versions.specs.Program.{Program, nothing}
+use Rattle.array_versions.specs.TaskPrograms.{TaskPrograms, program_at}
 use Rattle.array_versions.specs.Behaviour.{behaviour, started}
 use Rattle.word_code.specs.Laws.{ComesTo}
 use Rattle.code_costs.specs.Dearest.{most_spent}
@@ -29,11 +29,11 @@ use Rattle.task_needs.specs.Lists.{with_needs}
 
 -- where a task of linked code is entered, its code does as its word program within the cycles of its dearest way
 abbrev pub TasksKeepToTheirWays : Type 0
-TasksKeepToTheirWays = (l : MemoryMap) (programs : List Program) → CodeFits l programs → ProgramsAreWhole programs → (v : Core) (k : ℕ) (g : ℕ → ℕ)
+TasksKeepToTheirWays = (l : MemoryMap) (programs : List TaskPrograms) → CodeFits l programs → ProgramsAreWhole programs → (v : Core) (k : ℕ) (g : ℕ → ℕ)
     (inputs : Inputs) → Enters (entry_at (task_entries l) k).code (stack_origin l.runtime.events) g inputs v → k < length programs → HoldsWords g
     → InputsAreWords inputs
-    → let b = behaviour (get_or programs k nothing) (started g inputs) in
-    ComesTo (linked_code l programs) (most_spent l.runtime.events (get_or programs k nothing)) v b.effects b.end
+    → let b = behaviour (program_at programs k) (started g inputs) in
+    ComesTo (linked_code l programs) (most_spent l.runtime.events (program_at programs k)) v b.effects b.end
 
 -- an attempt from a power-up on that spends so much on its code, under a runtime: a boot, under undo with the entries put back that an attempt of the task left
 -- which was cut, as many as its list may have; a start that clears the version words, and copies or lists the task's private scalars; and a commit of all that

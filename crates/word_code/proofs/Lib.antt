@@ -38,6 +38,7 @@ mod Lengths
 mod Calls
 mod Frames
 mod Whole
+mod Filled
 mod TaskForms
 pub mod Interface
 pub use Rattle.array_versions.proofs as array_versions

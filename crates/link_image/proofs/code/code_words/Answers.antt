@@ -6,12 +6,12 @@ use Rattle.link_image.proofs.code.code_words.Goals as goal
 use Rattle.linked_code.specs.Linked.{boot_code, commit_code, bytes_of_boot, bytes_of_commit, StartsFit}
 use Rattle.memory_map.specs.declared.runtime.Logging.{Logging}
 use Rattle.memory_map.specs.declared.runtime.Logging.TheVariants.{Redo, Undo}
-use Rattle.link_image.proofs.Written.{words_in, after_boot, commit_behind, after_commit, tasks_behind, same_count, each_emitted}
+use Rattle.link_image.proofs.Written.{words_in, after_boot, commit_behind, after_commit, tasks_behind}
 
 pub boot_of-requires-clause-room : goal.boot_of-requires-clause-room
 boot_of-requires-clause-room c =
     let l = c.args.layout.now in
-    let fits = c.requires.fits in
+    let fits = c.requires.places in
     let room = fits.boot in
     let apart = apart_of l fits.rules in
     let commit = apart.commit in
@@ -21,7 +21,7 @@ boot_of-requires-clause-room c =
 
 pub boot_of-requires-clause-starts : goal.boot_of-requires-clause-starts
 boot_of-requires-clause-starts c =
-    subst (λ g. StartsFit g c.args.layout.now) (sym (ap (λ r. r.logging) c.runtime-logging.ensures)) c.requires.fits.starts
+    subst (λ g. StartsFit g c.args.layout.now) (sym (ap (λ r. r.logging) c.runtime-logging.ensures)) c.requires.places.starts
 
 -- a commit has 52 bytes at least
 commit_long : (logging : Logging) (events : Bool) → 52 ≤ bytes_of_commit logging events
@@ -31,7 +31,7 @@ commit_long Undo events = omega arith
 pub commit_of-requires : goal.commit_of-requires
 commit_of-requires c =
     let l = c.args.layout.now in
-    let fits = c.requires.fits in
+    let fits = c.requires.places in
     let long = commit_long l.runtime.logging l.runtime.events in
     let room = fits.commit in
     let apart = apart_of l fits.rules in
@@ -46,18 +46,16 @@ push_part-requires-2 c =
     let ps = map programs_of c.args.programs.now in
     let start : c.boot-start.result.address ≡ l.boot.address = ap (λ r. r.address) c.boot-start.ensures in
     let logs = ap (λ r. r.logging) c.runtime-logging.ensures in
-    let boot = after_boot l ps c.requires.fits c.boot-start.result.address c.new-words.result.items c.push_part.new.words.items c.as_slice.result.now start
+    let boot = after_boot l ps c.requires.places c.boot-start.result.address c.new-words.result.items c.push_part.new.words.items c.as_slice.result.now start
     c.new-words.ensures.items
     (c.as_slice.ensures.value ∙ c.in_ok-boot.ensures
     ∙ ap (λ g. boot_code g l) logs) c.in_ok-push_part.ensures in
     let at : c.commit.result.address ≡ l.commit.address = ap (λ r. r.address) c.commit.ensures in
-    let behind = commit_behind l ps c.requires.fits c.boot-start.result.address c.push_part.new.words.items boot in
+    let behind = commit_behind l ps c.requires.places c.boot-start.result.address c.push_part.new.words.items boot in
     record { behind = omega (arith, at, behind) }
 
 pub push_tasks-requires-clause-count : goal.push_tasks-requires-clause-count
-push_tasks-requires-clause-count c =
-    let n = same_count c.args.layout.now.tasks (map programs_of c.args.programs.now) c.requires.fits.tasks in
-    ap length c.tasks.ensures ∙ n ∙ length-map c.args.programs.now programs_of
+push_tasks-requires-clause-count c = ap length c.tasks.ensures ∙ c.requires.count
 
 pub push_tasks-requires-clause-order : goal.push_tasks-requires-clause-order
 push_tasks-requires-clause-order c =
@@ -65,27 +63,22 @@ push_tasks-requires-clause-order c =
     let ps = map programs_of c.args.programs.now in
     let start : c.boot-start.result.address ≡ l.boot.address = ap (λ r. r.address) c.boot-start.ensures in
     let logs = ap (λ r. r.logging) c.runtime-logging.ensures in
-    let boot = after_boot l ps c.requires.fits c.boot-start.result.address c.new-words.result.items c.push_part.new.words.items c.as_slice.result.now start
+    let boot = after_boot l ps c.requires.places c.boot-start.result.address c.new-words.result.items c.push_part.new.words.items c.as_slice.result.now start
     c.new-words.ensures.items
     (c.as_slice.ensures.value ∙ c.in_ok-boot.ensures
     ∙ ap (λ g. boot_code g l) logs) c.in_ok-push_part.ensures in
-    let commit = after_commit l ps c.requires.fits c.boot-start.result.address c.commit.result.address c.push_part.new.words.items
+    let commit = after_commit l ps c.requires.places c.boot-start.result.address c.commit.result.address c.push_part.new.words.items
     c.push_part-2.new.words.items c.as_slice-2.result.now
     start (ap (λ r. r.address) c.commit.ensures) (c.as_slice-2.ensures.value ∙ c.in_ok-commit.ensures ∙ ap (λ g. commit_code g l) logs) boot
     c.in_ok-push_part-2.ensures in
     let end = c.boot-start.result.address + 2 * length c.push_part-2.new.words.items in
     subst (λ ts. PartsInOrder end (task_parts c.runtime-events.result.events ts ps) reset_vector) (sym c.tasks.ensures)
     (subst (λ events. PartsInOrder end (task_parts events l.tasks ps) reset_vector) (sym (ap (λ r. r.events) c.runtime-events.ensures))
-    (tasks_behind l ps c.requires.fits c.boot-start.result.address c.push_part-2.new.words.items commit))
+    (tasks_behind l ps c.requires.places c.boot-start.result.address c.push_part-2.new.words.items commit))
 
 pub push_tasks-requires-clause-emitted : goal.push_tasks-requires-clause-emitted
 push_tasks-requires-clause-emitted c =
-    let l = c.args.layout.now in
-    let fits = c.requires.fits in
-    let high = fits.high in
-    subst (λ ts. TasksAreEmitted ts (map programs_of c.args.programs.now)) (sym c.tasks.ensures)
-    (each_emitted l.code.address l.tasks (map programs_of c.args.programs.now) (end_of l.code) fits.rules.code (omega (arith, high)) fits.tasks
-    c.requires.locals)
+    subst (λ ts. TasksAreEmitted ts (map programs_of c.args.programs.now)) (sym c.tasks.ensures) c.requires.emitted
 
 pub returns : goal.returns
 returns c =
@@ -93,11 +86,11 @@ returns c =
     let ps = map programs_of c.args.programs.now in
     let start : c.boot-start.result.address ≡ l.boot.address = ap (λ r. r.address) c.boot-start.ensures in
     let logs = ap (λ r. r.logging) c.runtime-logging.ensures in
-    let boot = after_boot l ps c.requires.fits c.boot-start.result.address c.new-words.result.items c.push_part.new.words.items c.as_slice.result.now start
+    let boot = after_boot l ps c.requires.places c.boot-start.result.address c.new-words.result.items c.push_part.new.words.items c.as_slice.result.now start
     c.new-words.ensures.items
     (c.as_slice.ensures.value ∙ c.in_ok-boot.ensures
     ∙ ap (λ g. boot_code g l) logs) c.in_ok-push_part.ensures in
-    let commit = after_commit l ps c.requires.fits c.boot-start.result.address c.commit.result.address c.push_part.new.words.items
+    let commit = after_commit l ps c.requires.places c.boot-start.result.address c.commit.result.address c.push_part.new.words.items
     c.push_part-2.new.words.items c.as_slice-2.result.now
     start (ap (λ r. r.address) c.commit.ensures) (c.as_slice-2.ensures.value ∙ c.in_ok-commit.ensures ∙ ap (λ g. commit_code g l) logs) boot
     c.in_ok-push_part-2.ensures in
