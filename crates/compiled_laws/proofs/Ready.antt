@@ -42,12 +42,12 @@ module _ (text : List ℕ) (p : CheckedProgram) (allow : Allow) (plans : List Ta
   }
 
   -- the program of a task is whole, and of words
-  one_whole : (k : ℕ) → k < length p.tasks → FitsTheStack (task_program p l k) × OfWords (task_program p l k)
+  one_whole : (k : ℕ) → k < length p.tasks → FitsTheStack l.runtime.events (task_program p l k) × OfWords (task_program p l k)
   one_whole k below =
       let task = element p.tasks k below in
       let count = t.layout.tasks.count in
       let own = element l.tasks k (omega (arith, below, count)) in
-      let P : Program → Type 0 = λ q. FitsTheStack q × OfWords q in
+      let P : Program → Type 0 = λ q. FitsTheStack l.runtime.events q × OfWords q in
       subst P (sym (program_at l p.tasks l.tasks k task.0 own.0 task.1 own.1)) (tasks_are_whole text p allow plans l t k task.0 own.0 task.1 own.1)
 
   few : PrivatesAreCounted p l

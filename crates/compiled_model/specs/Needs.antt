@@ -70,7 +70,7 @@ pub record TasksLeave (p : CheckedProgram) (l : MemoryMap) : Type 0 where
 
 -- each task's program is one of which code can be made, with room for its stack
 pub record ProgramsAreWhole (p : CheckedProgram) (l : MemoryMap) : Type 0 where
-  pub whole : (t : ℕ) → t < length p.tasks → FitsTheStack (task_program p l t)
+  pub whole : (t : ℕ) → t < length p.tasks → FitsTheStack l.runtime.events (task_program p l t)
   pub of_words : (t : ℕ) → t < length p.tasks → OfWords (task_program p l t)
 
 -- each attempt of a model stores only so

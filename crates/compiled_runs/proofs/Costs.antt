@@ -77,7 +77,7 @@ by_undo p l logs r = subst (λ g. RunsBy g p l) logs r.own
 pub programs_are : (p : CheckedProgram) (l : MemoryMap) → CanRun p l → length (lowered l p) ≡ length p.tasks
 programs_are p l r = let a = programs_count l.tasks (lowered l p) r.fits.tasks in a ∙ r.count
 
-pub are_whole : (p : CheckedProgram) (l : MemoryMap) → CanRun p l → ProgramsAreWhole (lowered l p)
+pub are_whole : (p : CheckedProgram) (l : MemoryMap) → CanRun p l → ProgramsAreWhole l.runtime.events (lowered l p)
 are_whole p l r =
     let n = programs_are p l r in
     record { whole = λ k h. r.programs.whole k (omega (arith, h, n)); of_words = λ k h. r.programs.of_words k (omega (arith, h, n)) }

@@ -98,7 +98,7 @@ module _ (p : CheckedProgram) (l : MemoryMap) (logs : l.runtime.logging ≡ Undo
   abbrev emits : ℕ → ℕ
   emits t = emits_of (summaries p) (task_body p t)
 
-  whole : ProgramsAreWhole (lowered l p)
+  whole : ProgramsAreWhole l.runtime.events (lowered l p)
   whole = are_whole p l r
 
   start_keeps : LoggingContract (program_places p l) (state_view p l) (private_homes l) start

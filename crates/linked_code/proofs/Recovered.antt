@@ -41,7 +41,8 @@ tasks_count : (ts : List TaskPlace) → length (map task_of ts) ≡ length ts
 tasks_count [] = refl
 tasks_count (t ∷ ts) = let e = tasks_count ts in omega (arith, e)
 
-module _ (l : MemoryMap) (programs : List TaskPrograms) (fits : CodeFits l programs) (whole : ProgramsAreWhole programs) (logs : l.runtime.logging ≡ Undo) where
+module _ (l : MemoryMap) (programs : List TaskPrograms) (fits : CodeFits l programs) (whole : ProgramsAreWhole l.runtime.events programs)
+    (logs : l.runtime.logging ≡ Undo) where
   abbrev tasks : List LoggedTask
   tasks = logged_tasks l
 

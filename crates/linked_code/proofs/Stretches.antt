@@ -71,7 +71,7 @@ fits_at (t ∷ ts) [] k f l = absurd f
 fits_at (t ∷ ts) (p ∷ ps) zero f l = f.0
 fits_at (t ∷ ts) (p ∷ ps) (suc k) f l = fits_at ts ps k f.1 (omega arith)
 
-module _ (l : MemoryMap) (programs : List TaskPrograms) (fits : CodeFits l programs) (whole : ProgramsAreWhole programs) where
+module _ (l : MemoryMap) (programs : List TaskPrograms) (fits : CodeFits l programs) (whole : ProgramsAreWhole l.runtime.events programs) where
   abbrev pub code : Code
   code = linked_code l programs
 
@@ -131,7 +131,7 @@ module _ (l : MemoryMap) (programs : List TaskPrograms) (fits : CodeFits l progr
   body_there v k g inputs h named words ready =
       let fit = whole.whole k named in
       let a : DoesBody v k v.fram v.inputs = code_does_as_program code (entry_at tasks k).code (program k) v is_linked.tidy
-      (task_stands k named) (routines_there k named) fit.whole (λ e. fit.fits) (whole.of_words k named) (entry_there v k g inputs h words ready) in
+      (task_stands k named) (routines_there k named) fit.whole fit.fits (whole.of_words k named) (entry_there v k g inputs h words ready) in
       subst (λ q. DoesBody v k g q) h.inputs (subst (λ f. DoesBody v k f v.inputs) h.fram a)
 
   -- ---- under redo

@@ -170,7 +170,7 @@ pub record CodeFits (l : MemoryMap) (programs : List TaskPrograms) : Type 0 wher
   pub tasks : ProgramsFit l.tasks programs
   pub high : end_of l.code + 6 ≤ 0x10000
 
--- of each program code can be made, and its stack has room
-pub record ProgramsAreWhole (programs : List TaskPrograms) : Type 0 where
-  pub whole : (k : ℕ) → k < length programs → FitsTheStack (program_at programs k)
+-- of each program code can be made, and its stack has room, where events are taken or not
+pub record ProgramsAreWhole (events : Bool) (programs : List TaskPrograms) : Type 0 where
+  pub whole : (k : ℕ) → k < length programs → FitsTheStack events (program_at programs k)
   pub of_words : (k : ℕ) → k < length programs → OfWords (program_at programs k)
