@@ -30,7 +30,8 @@ use Rattle.task_needs.specs.Lists.{with_needs}
 -- where a task of linked code is entered, its code does as its word program within the cycles of its dearest way
 abbrev pub TasksKeepToTheirWays : Type 0
 TasksKeepToTheirWays = (l : MemoryMap) (programs : List TaskPrograms) → CodeFits l programs → ProgramsAreWhole l.runtime.events programs
-    → (v : Core) (k : ℕ) (g : ℕ → ℕ) (inputs : Inputs) → Enters (entry_at (task_entries l) k).code (stack_origin l.runtime.events) g inputs v → k < length programs → HoldsWords g
+    → (v : Core) (k : ℕ) (g : ℕ → ℕ) (inputs : Inputs)
+    → Enters (entry_at (task_entries l) k).code (stack_origin l.runtime.events) g inputs v → k < length programs → HoldsWords g
     → InputsAreWords inputs
     → let b = behaviour (program_at programs k) (started g inputs) in
     ComesTo (linked_code l programs) (most_spent l.runtime.events (program_at programs k)) v b.effects b.end
