@@ -1,8 +1,10 @@
 -- The functions of a task: each may be called where it is, its locals and its stack below those of its caller; its body is sound, and each way through
 -- it ends by giving a word.
-use Rattle.std.proofs.Common.{◌≡◌, ℕ, zero, suc, ◌+◌, ◌-◌, ◌*◌, ◌%◌, ◌==◌, ◌<◌, ◌≤◌, ◌||◌, Bool, true, false, not, nat_eq, nat_lt, if◌then◌else◌}
+use Rattle.std.proofs.Common.{◌≡◌, ℕ, zero, suc, ◌+◌, ◌-◌, ◌*◌, ◌%◌, ◌<◌, ◌≤◌, ◌||◌, Bool, true, false, not, nat_eq, nat_lt, if◌then◌else◌}
 use Rattle.std.proofs.Common.{List, [], ◌∷◌, length, map, take, Option, Some, None, IsSomeAnd, slice_get, slice_index_or, refl, sym, ap, subst, ◌∙◌}
-use Rattle.std.proofs.Common.{◌⊎◌, inl, inr, arith, ltb-true, eqb-true, eq-eqb}
+use Rattle.std.proofs.Common.{◌⊎◌, inl, inr, ⊎_elim, arith, ltb-true}
+use Rattle.std.proofs.lemmas.Bool.{cases_lt}
+use Rattle.std.proofs.lemmas.Bool.Decides.{nat_tests}
 use Rattle.std.proofs.lemmas.List.{take-take, length-take-le}
 use Rattle.std.proofs.lemmas.Option.{same_Some, slice_get_within}
 use Rattle.alp_words.specs.Words.{IsWord}
@@ -95,18 +97,16 @@ entry_is first (suc n) = ap (assigning (first + n)) (entry_is first n)
 
 entered_at : (first count x : ℕ) → x < count → entered first count (first + x) ≡ true
 entered_at first zero x l = absurd (let none : ⊥ = omega arith in none)
-entered_at first (suc n) x l = by (x == n) refl
+entered_at first (suc n) x l = ⊎_elim before last (cases_lt x n)
   where
-    by : (same : Bool) → (x == n) ≡ same → (nat_eq (first + x) (first + n) || entered first n (first + x)) ≡ true
-    by true e =
-        let is : x ≡ n = eqb-true x n e in
-        ap (λ b. b || entered first n (first + x)) (eq-eqb (first + x) (first + n) (ap (λ m. first + m) is))
-    by false e =
-        let other : x < n = omega (arith, l, apart e) in
-        or_second (nat_eq (first + x) (first + n)) (entered first n (first + x)) (entered_at first n x other)
-      where
-        apart : (x == n) ≡ false → (x < n) ⊎ (n < x)
-        apart e = grind (arith, e)
+    before : x < n → (nat_eq (first + x) (first + n) || entered first n (first + x)) ≡ true
+    before low = or_second (nat_eq (first + x) (first + n)) (entered first n (first + x)) (entered_at first n x low)
+
+    last : n ≤ x → (nat_eq (first + x) (first + n) || entered first n (first + x)) ≡ true
+    last high =
+        let is : first + x ≡ first + n = omega (arith, l, high) in
+        let same : nat_eq (first + x) (first + n) ≡ true = grind (arith, nat_tests) in
+        ap (λ b. b || entered first n (first + x)) same
 
 given_below : (given x : ℕ) → not_given given x ≡ false → x < given
 given_below given x h = by (nat_lt x given) refl h
