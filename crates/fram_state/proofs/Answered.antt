@@ -4,6 +4,7 @@ use Rattle.std.proofs.Common.{sym, ap, subst, arith, true≢false}
 use Rattle.std.specs.Prelude.{All, IsTrue, ◌↔◌, nat_lt, slice_get}
 use Rattle.std.proofs.lemmas.Bool.{cases_lt, ltb-true}
 use Rattle.std.proofs.lemmas.List.{length-map}
+use Rattle.std.proofs.lemmas.Option.{get_or_from_slice_get, slice_get_within}
 use Rattle.image_text.specs.image_map.MapValue.{MapValue}
 use Rattle.image_text.specs.image_map.Kept.{IsMap}
 use Rattle.image_text.specs.ImageValue.{ImageValue}
@@ -14,6 +15,7 @@ use Rattle.task_ast.specs.declared.names.VariableName.{VariableName}
 use Rattle.task_ast.specs.declared.names.FunctionName.{FunctionName}
 use Rattle.task_ast.specs.declared.names.TaskName.{TaskName}
 use Rattle.task_ast.specs.View.{task_of, program_of}
+use Rattle.task_ast.specs.Calls.{BlockCallsBelow}
 use Rattle.task_check.proofs.Interface.{is_placed}
 use Rattle.war_analysis.proofs.Interface.{each_returns}
 use Rattle.task_check.specs.path_checks.Firsts.{CheckedTask}
@@ -141,6 +143,13 @@ calls_return_at a source is =
     let p = program_of a.checked.source in
     let placed = is_placed p a.checked.placed in
     subst (λ x. CallsReturn (program_of x)) (sym is) (record { calls = placed.calls; returning = each_returns p placed a.checked.returns })
+
+-- a task of such a program calls functions that this has
+pub calls_known_at : (p : CheckedProgram) (i : ℕ) (task : CheckedTask) → CallsReturn p → slice_get p.tasks i ≡ Some task
+    → BlockCallsBelow (length p.functions) task.body
+calls_known_at p i task back at =
+    subst (λ (t : CheckedTask). BlockCallsBelow (length p.functions) t.body) (get_or_from_slice_get p.tasks i task task at)
+    (back.calls.tasks i task (slice_get_within p.tasks i task at))
 
 -- CUR names a task of its source
 pub current_at : (old : Accepted) (s : State) → IsStateOf old.text.items (program_of old.checked.source) s → (text words : List ℕ)
