@@ -176,6 +176,7 @@ module _ (program : CheckedProgram) (body : CheckedBlock) (p : Places) (task : T
     pub is : IsFunction program k known
     pub reached : reaches_of (summaries program) k body ≡ true
     pub place : RoutinePlace
+    pub number_is : place.function ≡ k
     pub index : ℕ
     pub stands : slice_get p.routines index ≡ Some place
     pub found : routine_of p k ≡ Some place
@@ -202,6 +203,7 @@ module _ (program : CheckedProgram) (body : CheckedBlock) (p : Places) (task : T
         is = subst (λ n. IsFunction program n of.known) placed.is of.is;
         reached = reached;
         place = placed.place;
+        number_is = placed.is;
         index = placed.index;
         stands = placed.at;
         found = placed.found;
@@ -222,9 +224,23 @@ module _ (program : CheckedProgram) (body : CheckedBlock) (p : Places) (task : T
       by (Some f) e h = record { function = f; at = e; count_is = h }
       by None e h = absurd h
 
-  count_of : (k count : ℕ) → (of : IsThere k count) (h : Here k) → count ≡ length h.known.function.parameters
-  count_of k count of h =
+  -- it is one that is here
+  count_of : (k count : ℕ) → HasParameters functions k count → (h : Here k) → count ≡ length h.known.function.parameters
+  count_of k count has h =
+      let of = there k count has in
       sym of.count_is ∙ ap (λ f. length f.parameters) (same_Some of.function h.known.function (sym of.at ∙ h.is.function))
+
+  -- a function that is called by one that the task reaches, and one that the task calls
+  pub callee_of : (k : ℕ) (h : Here k) (j count : ℕ) → Made functions k h.known.function.body j count → Here j
+  callee_of k h j count made =
+      let of = there j count made.0 in
+      here j of.function of.at (reaches_go_on functions body j k h.known.function task.calls h.is.function h.reached made.2)
+
+  pub task_callee : (j count : ℕ) → Made functions (length functions) body j count → Here j
+  task_callee j count made =
+      let of = there j count made.0 in
+      here j of.function of.at
+      (or_second (some_called_from (λ k. block_calls k body) (λ s. s.reaches j) 0 (summaries program)) (block_calls j body) made.2)
 
   -- ---- one function
 
@@ -341,13 +357,13 @@ module _ (program : CheckedProgram) (body : CheckedBlock) (p : Places) (task : T
         ∙ ap (λ o. body_at p o (routine_bodies p (take k functions)) f.body) h.found
 
     -- among those of functions that begin with it and all in front of it
-    body_among : (some : List CheckedFunction) → slice_get some k ≡ Some f → take k some ≡ take k functions
+    pub body_among : (some : List CheckedFunction) → slice_get some k ≡ Some f → take k some ≡ take k functions
         → slice_index_or (routine_bodies p some) k nothing ≡ program_of
     body_among some e same =
         get_is (routine_bodies p some) k nothing (routine_body p (routine_bodies p (take k some)) f) (answer_of (routine_body p) some k f e)
         ∙ ap (λ gs. routine_body p (routine_bodies p gs) f) same ∙ body_is
 
-    body_in_front : (m : ℕ) → k < m → slice_index_or (routine_bodies p (take m functions)) k nothing ≡ program_of
+    pub body_in_front : (m : ℕ) → k < m → slice_index_or (routine_bodies p (take m functions)) k nothing ≡ program_of
     body_in_front m low =
         body_among (take m functions) (get_taken functions k m low ∙ h.is.function) (take-take k m functions (omega (arith, low)))
 
@@ -427,9 +443,7 @@ module _ (program : CheckedProgram) (body : CheckedBlock) (p : Places) (task : T
     called : (j count : ℕ) → count ≤ 256 → Made functions k h.known.function.body j count
         → StepSound (code_of k h low) (call_step (routine_places p h.place) (routine_bodies p (take k functions)) j (count % 65536))
     called j count few made =
-        let of = there j count made.0 in
-        let reached = reaches_go_on functions body j k h.known.function task.calls h.is.function h.reached made.2 in
-        let callee = here j of.function of.at reached in
+        let callee = callee_of k h j count made in
         let depth = frames.callees j k h.known callee.known h.is callee.is h.reached made.2 in
         let below : ceiling j callee ≤ floor k h = omega (arith, depth) in
         let caller : IsCaller j callee (code_of k h low) = record {
@@ -438,7 +452,7 @@ module _ (program : CheckedProgram) (body : CheckedBlock) (p : Places) (task : T
           framed_is = refl;
           sound = sound j made.1 callee (floor k h) below;
         } in
-        call_sound j callee (code_of k h low) (routine_bodies p (take k functions)) count caller few (count_of j count of callee)
+        call_sound j callee (code_of k h low) (routine_bodies p (take k functions)) count caller few (count_of j count made.0 callee)
         (body_in_front j callee k made.1)
 
     body_sound : Sound (code_of k h low) (program_of k h)
@@ -481,8 +495,7 @@ module _ (program : CheckedProgram) (body : CheckedBlock) (p : Places) (task : T
     task_calls : (j count : ℕ) → count ≤ 256 → Made functions (length functions) body j count
         → StepSound (task_code locals) (call_step p (routine_bodies p functions) j (count % 65536))
     task_calls j count few made =
-        let of = there j count made.0 in
-        let callee = here j of.function of.at (calls_reach j made.2) in
+        let callee = task_callee j count made in
         let depth = frames.callees_of_task j callee.known callee.is made.2 in
         let under : ceiling j callee ≤ stack.top - 2 * frame_of 0 body = omega (arith, depth) in
         let caller : IsCaller j callee (task_code locals) = record {
@@ -491,12 +504,8 @@ module _ (program : CheckedProgram) (body : CheckedBlock) (p : Places) (task : T
           framed_is = refl;
           sound = sound_below (suc j) j (omega arith) callee (stack.top - 2 * frame_of 0 body) under;
         } in
-        call_sound j callee (task_code locals) (routine_bodies p functions) count caller few (count_of j count of callee)
+        call_sound j callee (task_code locals) (routine_bodies p functions) count caller few (count_of j count made.0 callee)
         (body_among j callee functions callee.is.function refl)
-      where
-        calls_reach : (j : ℕ) → block_calls j body ≡ true → reaches_of (summaries program) j body ≡ true
-        calls_reach j calls =
-            or_second (some_called_from (λ k. block_calls k body) (λ s. s.reaches j) 0 (summaries program)) (block_calls j body) calls
 
     pub task_sound : Sound (task_code locals) task_program
     task_sound =

@@ -7,6 +7,7 @@ mod Steps
 mod Spared
 mod Called
 mod Grounds
+mod Among
 mod Whole
 mod Few
 pub mod Interface

@@ -24,15 +24,17 @@ use Rattle.array_versions.specs.TaskPrograms.{TaskPrograms}
 use Rattle.array_versions.specs.Form.{IsWhole, FitsTheStack, OfWords}
 use Rattle.array_versions.proofs.Interface.{each_local_as}
 use Rattle.memory_map.specs.Spots.{Places}
+use Rattle.linked_code.specs.Linked.{CallsAmong}
 use Rattle.lower.specs.Seen.{some_path_writes, map_seen, task_seen}
 use Rattle.lower.specs.Lowered.{task_places, lowered_task, lowered_tasks}
 use Rattle.lower.proofs.Interface.{privates_seen, seen_all, seen_laid_out, first_seen, routines_seen}
 use Rattle.checked_trees.specs.WellFormed.{IsWellFormed}
-use Rattle.whole_programs.specs.Laws.{IsLaidOutText, TasksAreWhole, ProgramsAreWhole}
+use Rattle.whole_programs.specs.Laws.{IsLaidOutText, TasksAreWhole, ProgramsAreWhole, CallsAreTheirs}
 use Rattle.whole_programs.proofs.Rooms.{room_of}
 use Rattle.whole_programs.proofs.Called.{Task, task_code, task_program, task_sound, way_of_task}
 use Rattle.whole_programs.proofs.Grounds.{below_greatest, Ground, ground}
 use Rattle.whole_programs.proofs.Steps.{Sound}
+use Rattle.whole_programs.proofs.Among.{task_among}
 use Rattle.whole_programs.proofs.Placed.{PlacesOfWords, HasCodeOfWords, places_are_words, routines_of_words}
 use Rattle.checked_trees.proofs.Interface.{all_at, task_checked, function_checked}
 
@@ -143,6 +145,15 @@ module _ (text : List ℕ) (program : CheckedProgram) (allow : Allow) (plans : L
         (fits_the_stack program task.body p is_task has_ground formed first even),
         (sound program task.body p is_task has_ground formed first even).2,
       )
+
+  pub calls_of_task : CallsAmong t.routines (lowered_task program.functions l t task.body).routines (lowered_task program.functions l t task.body).own
+  calls_of_task =
+      subst (λ rs. CallsAmong rs (lowered_task program.functions l t task.body).routines (lowered_task program.functions l t task.body).own)
+      (routines_seen l.runtime.logging t)
+      (task_among program task.body p is_task has_ground.stack (task_checked text program laid.accepted.checks k task e))
+
+pub calls_are_theirs : CallsAreTheirs
+calls_are_theirs text program allow plans l laid k task t e f = calls_of_task text program allow plans l laid k task t e f
 
 pub tasks_are_whole : TasksAreWhole
 tasks_are_whole text program allow plans l laid k task t e f = task_is_whole text program allow plans l laid k task t e f

@@ -12,6 +12,7 @@ use Rattle.memory_map.specs.MemoryMap.{MemoryMap, TaskPlace}
 use Rattle.memory_map.specs.Spots.{private_words}
 use Rattle.privatise.specs.Layouts.{IsLayoutFor}
 use Rattle.array_versions.specs.Form.{IsWhole, FitsTheStack, OfWords}
+use Rattle.linked_code.specs.Linked.{CallsAmong}
 use Rattle.lower.specs.Lowered.{lowered_task, lowered}
 
 -- an accepted text, with a plan and a layout of its source for some runtime
@@ -40,6 +41,11 @@ TasksAreWhole = OfTasks (λ program task l t. FitsTheStack l.runtime.events (low
 -- the same of all of them
 abbrev pub ProgramsAreWhole : Type 0
 ProgramsAreWhole = OfTexts (λ program l. All (λ q. IsWhole q.own) (lowered l program) × All (λ q. OfWords q.own) (lowered l program))
+
+-- each call of a task, and of what it calls, is of the code of one of the functions that it reaches, and has its program
+abbrev pub CallsAreTheirs : Type 0
+CallsAreTheirs = OfTasks (λ program task l t. CallsAmong t.routines (lowered_task program.functions l t task.body).routines
+    (lowered_task program.functions l t task.body).own)
 
 -- the private scalars of each task have at most as many words as its allowance counts, which counts those on the left of an assignment in it or in what
 -- it calls

@@ -1,6 +1,6 @@
 //! Laws of the word programs of accepted sources. The functions do nothing: their contracts are the laws.
 
-ghost use Rattle.whole_programs.specs.Laws.{TasksAreWhole, ProgramsAreWhole, PrivatesAreFew};
+ghost use Rattle.whole_programs.specs.Laws.{TasksAreWhole, ProgramsAreWhole, CallsAreTheirs, PrivatesAreFew};
 
 /// The word program of each task of an accepted source is whole, and its numbers are words: whatever its layout, there is
 /// room for its locals and its stack, it reads no local before it has assigned it, and each way through it ends in the jump
@@ -12,6 +12,11 @@ pub fn tasks_are_whole()
 /// The same of the programs of all tasks.
 pub fn programs_are_whole()
     ensures { ProgramsAreWhole }
+{}
+
+/// Each call of a task, and of what it calls, is of the code of one of the functions that it reaches.
+pub fn calls_are_theirs()
+    ensures { CallsAreTheirs }
 {}
 
 /// The private scalars of each task have at most as many words as its allowance counts.

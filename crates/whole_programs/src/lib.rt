@@ -3,4 +3,4 @@
 
 mod laws;
 
-pub use laws::{privates_are_few, programs_are_whole, tasks_are_whole};
+pub use laws::{calls_are_theirs, privates_are_few, programs_are_whole, tasks_are_whole};
