@@ -1,5 +1,5 @@
 -- What a program leaves with a value, and what goes on behind it: another value, or statements.
-use Rattle.lower.proofs.Names.{◌≡◌, ℕ, ◌+◌, ◌≤◌, List, [], ◌++◌, length, Option, Some, None, refl, sym, ap, ◌∙◌, subst, arith, append-nil, word_place, Version}
+use Rattle.lower.proofs.Names.{◌≡◌, ℕ, ◌+◌, ◌≤◌, List, [], ◌∷◌, ◌++◌, length, Option, Some, None, refl, sym, ap, ◌∙◌, subst, arith, append-nil, word_place, Version}
 use Rattle.lower.proofs.Names.{EmitCount, Effect, Looked, Outside, fram_after, fram_after-append, CheckedExpression, Evaluated, Outcome, if_value, ◌>>?◌}
 use Rattle.lower.proofs.Names.{expression_emits, expression_count, Look, look_effects, nothing, WordState, End, GoesOn, Jumps, Short, Strays, Broken}
 use Rattle.lower.proofs.Names.{Behaviour, behaves, behind_effects, on_end, then_on, behaviour, with_stack, Places, Element, listed_of, Answering}
@@ -96,7 +96,7 @@ Leaves k words start stack left es Short None = DidFrom k.z start es
 Leaves k words start stack left es Strays o = ⊥
 Leaves k words start stack left es Broken o = Unit {0}
 
-leaves_behind : (k : Keeping) (words : ℕ → List ℕ) (stack : List ℕ) (start from : ℕ → ℕ) (left : List ℕ) (es fs : List Effect) (e : End) (o : Option Evaluated)
+pub leaves_behind : (k : Keeping) (words : ℕ → List ℕ) (stack : List ℕ) (start from : ℕ → ℕ) (left : List ℕ) (es fs : List Effect) (e : End) (o : Option Evaluated)
     → from ≡ fram_after es start → DidFrom k.z start es → Leaves k words from stack left fs e o → Leaves k words start stack left (es ++ fs) e o
 leaves_behind k words stack start from left es fs (GoesOn s) (Some x) is did h = record {
   did = did_append k.z start from es fs is did h.did;
