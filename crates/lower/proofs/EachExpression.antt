@@ -91,12 +91,12 @@ module _ (k : Keeping) where
       let a = address_of k.z.p v in
       let joins = one (long with_longs.Join) in
       let first : IsScalarWord k.z.p v 0 = omega (arith, is) in
-      then_program k single stacked w (one (load a)) (step (load (high_address a)) joins) (by_answers m (gives (word_at m.variables (Shared v) 0)))
+      then_program k single stacked w.stack w (one (load a)) (step (load (high_address a)) joins) (by_answers m (gives (word_at m.variables (Shared v) 0)))
       (λ x. gives (two_words x.value (word_at x.behind.variables (Shared v) 1)) x.behind)
       (word_read_agrees k v 0 a m w kept (sym (first_address k.z.p v)) first)
       (λ x s kept.
       let u = with_stack (x.value ∷ w.stack) s in
-      then_program k single stacked u (one (load (high_address a))) joins (by_answers x.behind (gives (word_at x.behind.variables (Shared v) 1)))
+      then_program k single stacked w.stack u (one (load (high_address a))) joins (by_answers x.behind (gives (word_at x.behind.variables (Shared v) 1)))
       (λ y. gives (two_words x.value y.value) y.behind)
       (word_read_agrees k v 1 (high_address a) x.behind u kept (high_is k.z.p k.z.room v k.z.apart is) is)
       (λ y t kept.
@@ -235,7 +235,7 @@ lowering_agrees k (t.element x index) m w kept fits admits =
     let agrees = of_one_word k (type_of index) fits.3 w l o (lowering_agrees k index m w kept fits.1 admits) in
     as_one_word k x.word_type (array_word k.z.shared x.word_type x.variable fits.0 fits.2) w _ _
     (by_word k w (joined (word_program l) last) _
-    (then_program k single single w (word_program l) last o
+    (then_program k single single w.stack w (word_program l) last o
     (λ i. gives (word_at i.behind.variables x.variable i.value) i.behind) agrees.word
     (λ i s kept. element_agrees k w.stack i.behind s kept x.variable i.value (array_known k.z.shared k.z.p k.z.declared x.variable fits.0))))
 lowering_agrees k t.sense m w kept fits admits = by_word k w (one sense) _ (sense_agrees k m w (spared_behind k t.sense m w kept))
@@ -327,12 +327,12 @@ LeaveValues words program value = (k : Keeping) (e : CheckedExpression) (m : Att
 
 values_agree : (words : ℕ → List ℕ) (program : Places → CheckedExpression → Program) (value : CheckedExpression → Option Evaluated → Option Evaluated)
     → LeaveValues words program value → ValuesAgree words program value
-values_agree words program value leave z e m listed w number fits stands emits lists =
+values_agree words program value leave z e m listed w ver fits stands emits lists =
     let k : Keeping = record { z = z; most = λ v. listed_of v listed + expression_count [] e; within = lists; free = none_spare } in
     agrees_with k words w (behaviour (program z.p e) w) (by_answers m (λ s. value e (value_of [] e s))) (leave k e m w (record {
       listed = listed;
       stands = record { variables = stands.variables; emitted = stands.emitted; list = stands.list; readings = stands.readings };
-      number = number;
+      number = ver;
       emits = omega (arith, emits);
       lists = λ v. omega arith;
     }) fits)

@@ -166,7 +166,7 @@ module _ (k : Keeping) where
   widened_agrees Long is w q o h = absurd is
   widened_agrees Int is w q o h = step_leaves k single stacked (long with_longs.Widen) (converted Int Long) w q o h (λ x s. refl)
   widened_agrees Unsigned is w q o h =
-      then_program k single stacked w q (widening Unsigned) o (λ x. gives x.value x.behind) h
+      then_program k single stacked w.stack w q (widening Unsigned) o (λ x. gives x.value x.behind) h
       (λ x s kept.
       let same : x.value + 65536 * 0 ≡ x.value = omega arith in
       is_left k stacked w.stack x.value x.behind (with_stack (stacked (x.value + 65536 * 0) ++ w.stack) s) kept (ap (λ n. stacked n ++ w.stack) same))
@@ -202,7 +202,7 @@ module _ (k : Keeping) where
       → (let u = pushed 0 (pushed 0 w) in LeavesLong k u (behaviour q u) o)
       → LeavesLong k w (behaviour (joined (joined long_zero q) (one (long (with_longs.Calculate plain.Subtract)))) w) (made_by (long_difference 0) o)
   negated w q o h =
-      then_program k stacked stacked (pushed 0 (pushed 0 w)) q (one (long (with_longs.Calculate plain.Subtract))) o
+      then_program k stacked stacked w.stack (pushed 0 (pushed 0 w)) q (one (long (with_longs.Calculate plain.Subtract))) o
       (λ x. gives (long_difference 0 x.value) x.behind) h
       (λ x s kept.
       let n = x.value % 65536 + 65536 * (x.value / 65536) in

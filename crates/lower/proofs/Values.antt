@@ -258,7 +258,8 @@ module _ (k : Keeping) where
     where
       by : (rs : List ℕ) → LeavesWord k w (then_on (reading_pushed rs w) (behaviour nothing)) (by_answers m (reading_of rs))
       by [] others = plain_did k.z.p k.z.written k.z.room k.z.ver [] w.fram tt
-      by (r ∷ rs) = comes_alone (as_value k single w.stack) w.fram (reading_pushed (r ∷ rs) w) (by_answers m (reading_of (r ∷ rs))) (taken r rs m w kept)
+      by (r ∷ rs) others =
+          comes_alone (as_value k single w.stack) w.fram (reading_pushed (r ∷ rs) w) (by_answers m (reading_of (r ∷ rs))) (taken r rs m w kept) others
 
   -- stores behind the end of programs, and looks, change nothing of what is kept
   still_kept : (m : Attempt) (w : WordState) (f : ℕ → ℕ) (looks : List Look) → Keeps k m w → ((a : ℕ) → a < program_end → f a ≡ w.fram a)
@@ -455,15 +456,15 @@ module _ (k : Keeping) where
       → LeavesWords k to u (then_on b next) (λ answers. o answers >>? more)
   agrees_behind from to u b o next more h f = words_then k.free from to u b o next more h f
 
-  -- a program behind that of a value
-  pub then_program : (from to : ℕ → List ℕ) (w : WordState) (q next : Program) (o : Answering) (more : Evaluated → Option Evaluated)
+  -- a program behind that of a value: what it leaves stands on top of these
+  pub then_program : (from to : ℕ → List ℕ) (below : List ℕ) (w : WordState) (q next : Program) (o : Answering) (more : Evaluated → Option Evaluated)
       → LeavesWords k from w (behaviour q w) o
       → ((x : Evaluated) (s : WordState) → Keeps k x.behind s
-      → LeavesWords k to (with_stack w.stack s) (behaviour next (with_stack (from x.value ++ w.stack) s)) (from_value x more))
-      → LeavesWords k to w (behaviour (joined q next) w) (λ answers. o answers >>? more)
-  then_program from to w q next o more h f =
-      subst (λ b. LeavesWords k to w b (λ answers. o answers >>? more)) (sym (joined_go_on q next w))
-      (agrees_behind from to w (behaviour q w) o (behaviour next) more h f)
+      → LeavesWords k to (with_stack below s) (behaviour next (with_stack (from x.value ++ w.stack) s)) (from_value x more))
+      → LeavesWords k to (with_stack below w) (behaviour (joined q next) w) (λ answers. o answers >>? more)
+  then_program from to below w q next o more h f =
+      subst (λ b. LeavesWords k to (with_stack below w) b (λ answers. o answers >>? more)) (sym (joined_go_on q next w))
+      (value_then k (as_value k to below) from w (behaviour q w) o (behaviour next) more h f)
 
   -- what is done with both values
   pub sides_then : (middle : Spare) (from to : ℕ → List ℕ) (w : WordState) (a b : Program) (next : WordState → Behaviour)
@@ -486,7 +487,7 @@ module _ (k : Keeping) where
       → ((x : ℕ) (s : WordState) → step_behaviour last (with_stack (from x ++ w.stack) s) ≡ goes_on [] (with_stack (to (f x) ++ w.stack) s))
       → LeavesWords k to w (behaviour (behind q last) w) (made_by f o)
   step_leaves from to last f w q o h does =
-      then_program from to w q (one last) o (λ x. gives (f x.value) x.behind) h
+      then_program from to w.stack w q (one last) o (λ x. gives (f x.value) x.behind) h
       (λ x s kept. subst
       (λ b. LeavesWords k to (with_stack w.stack s) (then_on b (behaviour nothing)) (by_answers x.behind (gives (f x.value)))) (sym (does x.value s))
       (is_left to w.stack (f x.value) x.behind (with_stack (to (f x.value) ++ w.stack) s) kept refl))
