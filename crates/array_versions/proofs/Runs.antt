@@ -12,7 +12,8 @@ use Rattle.array_versions.specs.Program.{Step, Test, Program, number, load, keep
 use Rattle.array_versions.specs.Program.{emit_word, list_entry, versioned_read, versioned_write, versioned_update, logged_write, logged_update, sense}
 use Rattle.array_versions.specs.Program.{next_event, freeze_events, truth, choose, repeat, store_number}
 use Rattle.array_versions.specs.Program.{move_word, jump, call, give, holds, compares, both, either, fails, nothing, step}
-use Rattle.array_versions.specs.Behaviour.{WordState, End, GoesOn, Jumps, Gives, Short, Strays, Broken, Behaviour, behaves, goes_on, strays, broken, then_on, is_place}
+use Rattle.array_versions.specs.Behaviour.{WordState, End, GoesOn, Jumps, Gives, Short, Strays, Broken, Behaviour, behaves, goes_on, strays, broken, then_on}
+use Rattle.array_versions.specs.Behaviour.{is_place}
 use Rattle.array_versions.specs.Behaviour.{called, called_behind}
 use Rattle.array_versions.specs.Behaviour.{with_top, with_two, with_words, with_stack, pushed, stored, with_local, local_pushed, local_updated, reading_pushed}
 use Rattle.array_versions.specs.Behaviour.{event_index, none_answered, word_answered, event_answered, with_looks, event_pushed}
@@ -206,21 +207,25 @@ module _ (W : Type 0) where
     step_does spared (local n) s h d i = local_does W spared (s.locals n) s i (λ v e x. (i x).locals n v e)
     step_does spared (set_local n) s h d i = popped W spared s (λ v t. goes_on [] (with_local n v t)) i (λ v l t j. assigns n v d l stays)
     step_does spared (update_local op n) s h d i =
-        popped W spared s (λ v t. local_updated op n v (s.locals n) t) i (λ v l t j. updated_does W spared op n v (s.locals n) t d l (λ u e x. (i x).locals n u e))
+        popped W spared s (λ v t. local_updated op n v (s.locals n) t) i
+          (λ v l t j. updated_does W spared op n v (s.locals n) t d l (λ u e x. (i x).locals n u e))
     step_does spared (unary op) s h d i =
         popped W spared s (λ v t. goes_on [] (pushed (unary_word op v) t)) i (λ v l t j. push W spared t (unary_word op v) j (λ x. unary_small op v (l x)))
     step_does spared (binary op) s h d i = two_popped W spared s (λ u v t. goes_on [] (pushed (binary_word op u v) t)) i (λ u v k l t j.
         push W spared t (binary_word op u v) j (λ x. binary_small op u v (k x) (l x)))
     step_does spared (shift op n) s h d i =
-        popped W spared s (λ v t. goes_on [] (pushed (shift_word op v n) t)) i (λ v l t j. push W spared t (shift_word op v n) j (λ x. shift_small op v n (l x)))
+        popped W spared s (λ v t. goes_on [] (pushed (shift_word op v n) t)) i
+          (λ v l t j. push W spared t (shift_word op v n) j (λ x. shift_small op v n (l x)))
     step_does spared (long op) s h d i = words_do W spared (long_pops op) s s.stack _ (λ x. (i x).stack) (λ ws vs k m.
         stacks (long_result op ws ++ vs) (λ x. on_words (long_result op ws) vs (long_words op ws (k x)) (m x)) stays)
-    step_does spared (element base length) s h d i = popped W spared s (element_pushed base length) i (λ v l t j. part_pushes W spared j (element_pushes W base length v t j))
+    step_does spared (element base length) s h d i =
+      popped W spared s (element_pushed base length) i (λ v l t j. part_pushes W spared j (element_pushes W base length v t j))
     step_does spared (emit_word count buffer) s h d i =
         popped W spared s (word_emitted count buffer) i (λ v l t j. part_writes W spared (emitted_writes W count buffer v t l))
     step_does spared (list_entry count list home copy words) s h d i =
         part_writes W spared (entry_writes W count list home copy words s (λ x. (h x).2) (λ x. (h x).3) (λ x. (h x).4))
-    step_does spared (versioned_read place list) s h d i = popped W spared s (versioned_pushed place list) i (λ v l t j. part_pushes W spared j (versioned_pushes W place list v t j))
+    step_does spared (versioned_read place list) s h d i =
+      popped W spared s (versioned_pushed place list) i (λ v l t j. part_pushes W spared j (versioned_pushes W place list v t j))
     step_does spared (versioned_write place list) s h d i =
         two_popped W spared s (versioned_stored place list) i (λ u v k l t j. part_writes W spared (versioned_writes W place list u v t l j))
     step_does spared (versioned_update op place list) s h d i =
@@ -253,7 +258,8 @@ module _ (W : Type 0) where
         (program_does (λ n. ⊥) body (called first ws t) (λ x. (h x).4) (λ n y. absurd y) (λ x. called_words t first ws (j x) (k x)))))
     step_does spared give s h d i = popped W spared s (λ v t. behaves [] (Gives v t)) i (λ v l t j. (l, stays))
 
-    test_does : (spared : ℕ → Type 0) (t : Test) (s : WordState) (held failed : WordState → Behaviour) → (W → TestOfWords t) → ((m : ℕ) → spared m → TestSpares m t) → Known W s
+    test_does : (spared : ℕ → Type 0) (t : Test) (s : WordState) (held failed : WordState → Behaviour) → (W → TestOfWords t)
+        → ((m : ℕ) → spared m → TestSpares m t) → Known W s
         → Leads W spared held → Leads W spared failed → Does W spared s (tested t held failed s)
     test_does spared (holds p) s held failed h d i f g =
         let b = behaviour p s in
@@ -272,7 +278,8 @@ module _ (W : Type 0) where
         (λ v j. test_does spared u v held failed (λ x. (h x).1) (λ m y. (d m y).1) j f g)
     test_does spared (fails t) s held failed h d i f g = test_does spared t s failed held h d i g f
 
-    program_does : (spared : ℕ → Type 0) (p : Program) (s : WordState) → (W → OfWords p) → ((m : ℕ) → spared m → Spares m p) → Known W s → Does W spared s (behaviour p s)
+    program_does : (spared : ℕ → Type 0) (p : Program) (s : WordState) → (W → OfWords p) → ((m : ℕ) → spared m → Spares m p) → Known W s
+        → Does W spared s (behaviour p s)
     program_does spared nothing s h d i = stays
     program_does spared (step first more) s h d i =
         let b = step_behaviour first s in

@@ -8,7 +8,8 @@ use Rattle.array_versions.specs.Program.{compares}
 use Rattle.array_versions.specs.Program.{both, either, fails, nothing, step, joined}
 use Rattle.array_versions.specs.Behaviour.{WordState, End, GoesOn, Jumps, Gives, Short, Strays, Broken, Behaviour, on_end, with_stack, with_local, called}
 use Rattle.array_versions.specs.Behaviour.{step_behaviour, behaviour}
-use Rattle.array_versions.specs.Cost.{step_cycles, test_cycles, cycles_of, spent_on, top_spent, words_spent, spent_by_top, spent_by_two, turns_spent, step_spent}
+use Rattle.array_versions.specs.Cost.{step_cycles, test_cycles, cycles_of, spent_on, top_spent, words_spent, spent_by_top, spent_by_two, turns_spent}
+use Rattle.array_versions.specs.Cost.{step_spent}
 use Rattle.array_versions.specs.Cost.{test_spent}
 use Rattle.array_versions.specs.Cost.{spent}
 use Rattle.array_versions.specs.Laws.{JoinedSpend, WaysKeepToCycles}
@@ -68,7 +69,8 @@ mutual
   step_most (repeat n from below body) s =
       omega (arith, turns_most (below - from) n from (cycles_of body) (behaviour body) (spent body) s (λ t. ways_keep_to_cycles body t))
   step_most (call entry frame first count body) s =
-      omega (arith, words_most count s.stack (cycles_of body) (λ words. spent body (called first words s)) (λ words. ways_keep_to_cycles body (called first words s)))
+      omega (arith, words_most count s.stack (cycles_of body) (λ words. spent body (called first words s))
+        (λ words. ways_keep_to_cycles body (called first words s)))
   -- of each other step alike: the first clause makes it a proof by cases
   step_most (number w) s = omega arith
   step_most _ s = omega arith

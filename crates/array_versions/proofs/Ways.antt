@@ -129,7 +129,8 @@ module _ (gives : Bool) where
       top_well next vs _ (omega arith)
       (λ v us e. words_well next n us _ (omega arith) (λ ws rest size f. h (v ∷ ws) rest (omega (arith, size)) (omega arith)))
 
-  same_well : (next : Place → Type 0) (q : Place) (s t : WordState) → next q → Matches q s → t.stack ≡ s.stack → t.locals ≡ s.locals → GoesWell gives next (GoesOn t)
+  same_well : (next : Place → Type 0) (q : Place) (s t : WordState) → next q → Matches q s → t.stack ≡ s.stack → t.locals ≡ s.locals
+      → GoesWell gives next (GoesOn t)
   same_well next q s t h m e f =
       (q, h, record { depth = ap (length {A = ℕ}) e ∙ m.depth; assigned = λ n k. subst (λ l. HasWord (l n)) (sym f) (m.assigned n k) })
 
@@ -166,7 +167,8 @@ module _ (gives : Bool) where
   reading_well room (r ∷ rs) next q s h m = moved_well room 0 1 next q s _ h m (omega arith) refl
 
   -- one of two ways
-  either_well : (c : Bool) (next : Place → Type 0) (a b : Behaviour) → GoesWell gives next a.end → GoesWell gives next b.end → GoesWell gives next (if c then a else b).end
+  either_well : (c : Bool) (next : Place → Type 0) (a b : Behaviour) → GoesWell gives next a.end → GoesWell gives next b.end
+      → GoesWell gives next (if c then a else b).end
   either_well true next a b h k = h
   either_well false next a b h k = k
 
@@ -239,7 +241,8 @@ mutual
       → (next : Place → Type 0) (q : Place) (s : WordState) → EachStepWay room first next q → Matches q s
       → GoesWell gives next (step_behaviour first s).end
   step_well bounds gives room (number w) formed next q s h m = moved_well gives room 0 1 next q s _ h m (omega arith) refl
-  step_well bounds gives room (load a) formed next q s h m = pushed_well gives next (loads ⊥ a s (unknown s)) (λ v. moved_well gives room 0 1 next q s _ h m (omega arith) refl)
+  step_well bounds gives room (load a) formed next q s h m =
+      pushed_well gives next (loads ⊥ a s (unknown s)) (λ v. moved_well gives room 0 1 next q s _ h m (omega arith) refl)
   step_well bounds gives room (keep a) formed next q s h m =
       top_well gives next s.stack _ (omega (arith, h.0, m.depth))
       (λ v vs e. written_well gives next (word_writes ⊥ a v (with_stack vs s) (λ x. absurd x))
@@ -278,7 +281,8 @@ mutual
       (λ v vs e. written_well gives next (emitted_writes ⊥ count buffer v (with_stack vs s) (λ x. absurd x))
       (λ f. moved_well gives room 1 0 next q s _ h m (omega arith) refl))
   step_well bounds gives room (list_entry count list home copy words) formed next q s h m =
-      written_well gives next (entry_writes ⊥ count list home copy words s (λ x. absurd x) (λ x. absurd x) (λ x. absurd x)) (λ f. same_well gives next q s _ h m refl refl)
+      written_well gives next (entry_writes ⊥ count list home copy words s (λ x. absurd x) (λ x. absurd x) (λ x. absurd x))
+        (λ f. same_well gives next q s _ h m refl refl)
   step_well bounds gives room (versioned_read place list) formed next q s h m =
       top_well gives next s.stack _ (omega (arith, h.0, m.depth)) (λ i vs e.
       let t = with_stack vs s in
@@ -286,11 +290,13 @@ mutual
   step_well bounds gives room (versioned_write place list) formed next q s h m =
       two_well gives next s.stack _ (omega (arith, h.0, m.depth)) (λ i v vs e.
       let t = with_stack vs s in
-      written_well gives next (versioned_writes ⊥ place list i v t (λ x. absurd x) (unknown t)) (λ f. moved_well gives room 2 0 next q s _ h m (omega arith) refl))
+      written_well gives next (versioned_writes ⊥ place list i v t (λ x. absurd x) (unknown t))
+        (λ f. moved_well gives room 2 0 next q s _ h m (omega arith) refl))
   step_well bounds gives room (versioned_update op place list) formed next q s h m =
       two_well gives next s.stack _ (omega (arith, h.0, m.depth)) (λ i v vs e.
       let t = with_stack vs s in
-      written_well gives next (updated_writes ⊥ op place list i v t (λ x. absurd x) (unknown t)) (λ f. moved_well gives room 2 0 next q s _ h m (omega arith) refl))
+      written_well gives next (updated_writes ⊥ op place list i v t (λ x. absurd x) (unknown t))
+        (λ f. moved_well gives room 2 0 next q s _ h m (omega arith) refl))
   step_well bounds gives room (logged_write place list) formed next q s h m =
       two_well gives next s.stack _ (omega (arith, h.0, m.depth)) (λ i v vs e.
       let t = with_stack vs s in
@@ -316,7 +322,8 @@ mutual
   step_well bounds gives room (store_number a w) formed next q s h m =
       written_well gives next (word_writes ⊥ a w s (λ x. absurd x)) (λ f. same_well gives next q s _ h m refl refl)
   step_well bounds gives room (move_word from to) formed next q s h m =
-      guarded gives next (is_place from) _ (written_well gives next (word_writes ⊥ to (s.fram from) s (λ x. absurd x)) (λ f. same_well gives next q s _ h m refl refl))
+      guarded gives next (is_place from) _ (written_well gives next (word_writes ⊥ to (s.fram from) s (λ x. absurd x))
+        (λ f. same_well gives next q s _ h m refl refl))
   step_well bounds gives room (jump to) formed next q s h m = jump_well gives (to % 2 == 0) to next s formed (eq-eqb (to % 2) 0 h)
   step_well bounds gives room (call entry frame first count body) formed next q s h m =
       words_well gives next count s.stack _ (omega (arith, h.0, m.depth)) (λ ws vs few e.
@@ -331,13 +338,16 @@ mutual
 
   -- a test along each way
   pub test_well : (bounds : CallBounds) (gives : Bool) (room : ℕ) (t : Test) → TestIsFormed bounds gives t
-      → (next : Place → Type 0) (held failed : Answer gives next) (q : Place) (s : WordState) → EachTestWay room t held.fit failed.fit q → Matches q s → GoesWell gives next (tested t held.go failed.go s).end
+      → (next : Place → Type 0) (held failed : Answer gives next) (q : Place) (s : WordState) → EachTestWay room t held.fit failed.fit q → Matches q s
+      → GoesWell gives next (tested t held.go failed.go s).end
   test_well bounds gives room (holds p) formed next held failed q s h m =
-      then_well gives (Moves room 1 0 (λ r. held.fit r × failed.fit r)) next (behaviour p s) (way_by_top held.go failed.go) (well bounds gives room p formed _ q s h m)
+      then_well gives (Moves room 1 0 (λ r. held.fit r × failed.fit r)) next (behaviour p s) (way_by_top held.go failed.go)
+        (well bounds gives room p formed _ q s h m)
       (λ r u k n. top_well gives next u.stack _ (omega (arith, k.0, n.depth)) (λ v vs e.
       popped_well gives (is_true v) (r.depth - 1 + 0) vs next held failed r u k.2 n (omega (arith, n.depth))))
   test_well bounds gives room (compares op p) formed next held failed q s h m =
-      then_well gives (Moves room 2 0 (λ r. held.fit r × failed.fit r)) next (behaviour p s) (way_by_two op held.go failed.go) (well bounds gives room p formed _ q s h m)
+      then_well gives (Moves room 2 0 (λ r. held.fit r × failed.fit r)) next (behaviour p s) (way_by_two op held.go failed.go)
+        (well bounds gives room p formed _ q s h m)
       (λ r u k n. two_well gives next u.stack _ (omega (arith, k.0, n.depth)) (λ x y vs e.
       popped_well gives (compare_words op x y) (r.depth - 2 + 0) vs next held failed r u k.2 n (omega (arith, n.depth))))
   test_well bounds gives room (both t u) formed next held failed q s h m =

@@ -19,7 +19,8 @@ use Rattle.array_versions.specs.Program.{store_number}
 use Rattle.array_versions.specs.Program.{move_word, jump, call, give, holds}
 use Rattle.array_versions.specs.Program.{compares}
 use Rattle.array_versions.specs.Program.{both, either, fails, nothing, step}
-use Rattle.array_versions.specs.Behaviour.{WordState, End, GoesOn, Jumps, Gives, Short, Strays, Broken, Behaviour, with_stack, with_local, called, step_behaviour}
+use Rattle.array_versions.specs.Behaviour.{WordState, End, GoesOn, Jumps, Gives, Short, Strays, Broken, Behaviour, with_stack, with_local, called}
+use Rattle.array_versions.specs.Behaviour.{step_behaviour}
 use Rattle.array_versions.specs.Behaviour.{behaviour}
 
 -- the cycles of an operation on the top of the stack

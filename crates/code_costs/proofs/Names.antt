@@ -29,7 +29,8 @@ pub use Rattle.word_code.specs.array_versions.declared.operations.UnaryOperation
 pub use Rattle.word_code.specs.array_versions.declared.operations.BinaryOperation.{BinaryOperation}
 pub use Rattle.word_code.specs.array_versions.declared.operations.BinaryOperation.TheVariants.{Multiply, Divide, Remainder, Plain}
 pub use Rattle.word_code.specs.array_versions.declared.operations.LongOperation.{LongOperation}
-pub use Rattle.word_code.specs.array_versions.Behaviour.{WordState, End, GoesOn, Jumps, Gives, Short, Strays, Broken, Behaviour, behind_effects, on_end, started}
+pub use Rattle.word_code.specs.array_versions.Behaviour.{WordState, End, GoesOn, Jumps, Gives, Short, Strays, Broken, Behaviour, behind_effects, on_end}
+pub use Rattle.word_code.specs.array_versions.Behaviour.{started}
 pub use Rattle.word_code.specs.array_versions.Behaviour.{turns, called, called_behind}
 pub use Rattle.word_code.specs.array_versions.Behaviour.{step_behaviour, behaviour, then_on, tested, with_stack, with_local, with_top, with_two, way_by_top}
 pub use Rattle.word_code.specs.array_versions.Behaviour.{way_by_two, number_pushed, behaves, broken}

@@ -24,7 +24,8 @@ use Rattle.code_costs.proofs.Names.{Multiply}
 use Rattle.code_costs.proofs.Names.{Divide, Remainder, Plain, LongOperation, any_most}
 use Rattle.word_code.specs.array_versions.declared.operations.LongOperation.TheVariants as with_longs
 use Rattle.code_costs.proofs.Names.{begun, EachLocal, FitsEvents, IsEntry, Owns, bounds_of, at_start, at_base, uncalled, uncalled_owns, IsFormed}
-use Rattle.code_costs.proofs.Names.{RoutinesStand, StepRoutinesStand, Code, length, with_stack, with_top, dearer_stall, Gives, call, give, called, called_behind}
+use Rattle.code_costs.proofs.Names.{RoutinesStand, StepRoutinesStand, Code, length, with_stack, with_top, dearer_stall, Gives, call, give, called}
+use Rattle.code_costs.proofs.Names.{called_behind}
 use Rattle.code_costs.proofs.Names.{popped, callee, light_reaches, framed_reaches, give_part, call_room, call_ready, routine_code, light_call, framed_call}
 use Rattle.code_costs.proofs.Names.{give_code, call_most, give_most}
 use Rattle.code_costs.proofs.Names.{behaves, broken, FollowsEnd, ◌==◌, ◌%◌}
@@ -264,7 +265,8 @@ mutual
             (λ hs. steps_reach z bs otherwise fits [] middle v y q other_known hs (dressed z middle v y j) (flush_most (waiting_after [] otherwise) + next));
       } in
       let test_spares = spared_so bs (λ m. StepSpares m (choose t taken otherwise)) (λ m. TestSpares m t) (λ m q. q.0) known.spares in
-      let test_known : KnownTest z bs t = record { of_words = known.of_words.0; owned = known.owned.0; formed = known.formed.0; routines = known.routines.0; spares = test_spares } in
+      let test_known : KnownTest z bs t = record { of_words = known.of_words.0; owned = known.owned.0; formed = known.formed.0; routines = known.routines.0;
+        spares = test_spares } in
       let there : end ≡ at + forms_bytes (a ++ (first ++ other)) = omega (arith, forms_bytes-append a (first ++ other), forms_bytes-append first other) in
       subst (λ p. Reaches z next (StandsFor z p) most x done.effects done.end) there
       (test_reach z bs next Q t false (size first) at ways w x r test_known
@@ -346,7 +348,8 @@ mutual
   step_reach z bs (long op) fits os pc w u r known h d next = leaf z bs (long op) fits os pc w u (omega (arith, long_few op)) (λ c. tt) r known h d next
   step_reach z bs first fits os pc w u r known h d next = leaf z bs first fits os pc w u (omega arith) (λ c. tt) r known h d next
 
-  test_reach : (z : Setting) (bs : List Bound) (next : ℕ) (Q : WordState → Core → Type 0) (t : Test) (when : Bool) (d pc : ℕ) (ways : Ways z bs next Q) (w : WordState)
+  test_reach : (z : Setting) (bs : List Bound) (next : ℕ) (Q : WordState → Core → Type 0) (t : Test) (when : Bool) (d pc : ℕ) (ways : Ways z bs next Q)
+      (w : WordState)
       (u : Core)
       → Ready bs (EachTestWay z.room t ways.held.fits ways.failed.fits) w
       → KnownTest z bs t → Forked z when d pc (test_code bs t when d) ways.held.at ways.failed.at → StandsFor z pc w u
@@ -360,7 +363,8 @@ mutual
       let fits = Moves z.room 1 0 (λ s. ways.held.fits s × ways.failed.fits s) in
       leaf_reach z bs p fits c next pc Q (way_by_top ways.held.does ways.failed.does) w u (steps_most bs [] p c)
       (steps_reach z bs p fits [] pc w u r known (stands_front z.code pc a last k.stands) (dressed z pc w u i) c)
-      (ready_on z.gives bs fits (behaviour p w).end (well (bounds_of z) z.gives z.room p known.formed fits r.place w r.fit r.matches) (words p w known.of_words r.words_in)
+      (ready_on z.gives bs fits (behaviour p w).end (well (bounds_of z) z.gives z.room p known.formed fits r.place w r.fit r.matches)
+        (words p w known.of_words r.words_in)
       (bounded_on bs p w known.spares r.bounded))
       (λ x v q j. by_top z bs next Q ways when d os (pc + forms_bytes a) v x v.stack
       (forked_behind z when d pc a last ways.held.at ways.failed.at k) q refl j)
@@ -372,7 +376,8 @@ mutual
       let fits = Moves z.room 2 0 (λ s. ways.held.fits s × ways.failed.fits s) in
       leaf_reach z bs p fits c next pc Q (way_by_two e ways.held.does ways.failed.does) w u (steps_most bs [] p c)
       (steps_reach z bs p fits [] pc w u r known (stands_front z.code pc a last k.stands) (dressed z pc w u i) c)
-      (ready_on z.gives bs fits (behaviour p w).end (well (bounds_of z) z.gives z.room p known.formed fits r.place w r.fit r.matches) (words p w known.of_words r.words_in)
+      (ready_on z.gives bs fits (behaviour p w).end (well (bounds_of z) z.gives z.room p known.formed fits r.place w r.fit r.matches)
+        (words p w known.of_words r.words_in)
       (bounded_on bs p w known.spares r.bounded))
       (λ x v q j. by_two z bs next Q ways when d e os (pc + forms_bytes a) v x v.stack
       (forked_behind z when d pc a last ways.held.at ways.failed.at k) q refl j)
@@ -459,7 +464,8 @@ mutual
       (on_way z c next (step_most bs os first c) u (Ready bs (EachWay z.room more fits)) (λ v. Describes z mid pc' v) (λ v. Describes z after end v)
       b.effects b.end (behaviour more)
       (step_reach z bs first (EachWay z.room more fits) os pc w u r first_known (stands_front z.code pc a rest h) d c)
-      (ready_on z.gives bs (EachWay z.room more fits) b.end (step_well (bounds_of z) z.gives z.room first first_known.formed (EachWay z.room more fits) r.place w r.fit r.matches)
+      (ready_on z.gives bs (EachWay z.room more fits) b.end
+        (step_well (bounds_of z) z.gives z.room first first_known.formed (EachWay z.room more fits) r.place w r.fit r.matches)
       (words_step first w first_known.of_words r.words_in) (step_bounded bs first w first_known.spares r.bounded))
       (λ t v q j. steps_reach z bs more fits mid pc' v t q more_known (stands_back z.code pc a rest h) j next))
 

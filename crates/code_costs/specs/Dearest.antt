@@ -33,7 +33,8 @@ abbrev pub product_most : List Waiting → ℕ
 product_most (waiting.Number n ∷ os) = by_number_most (power n) n
 product_most os = 152
 
--- a step that is no test, no choice, no loop, no jump, no call and no return, whatever its code is: products and quotients, which go by the bits of a word, have the most
+-- a step that is no test, no choice, no loop, no jump, no call and no return, whatever its code is: products and quotients, which go by the bits of a word,
+-- have the most
 abbrev pub any_most : List Waiting → Step → ℕ
 any_most os (binary Multiply) = product_most os
 any_most os _ = 202

@@ -10,7 +10,8 @@ use Rattle.word_code.specs.Code.{code_of}
 use Rattle.word_code.specs.Laws.{IsEntry, ComesTo, RoutinesStand}
 use Rattle.code_costs.specs.Dearest.{most_spent}
 
--- code in which the code of a whole program stands, and that of what it calls, does what the program does, within the cycles of its dearest way; with events its stack has room
+-- code in which the code of a whole program stands, and that of what it calls, does what the program does, within the cycles of its dearest way; with events
+-- its stack has room
 -- where that of such code begins
 abbrev pub CodeKeepsToItsWays : Type 0
 CodeKeepsToItsWays = (code : Code) (at : ℕ) (p : Program) (u : Core) → IsTidy code → Stands code at (code_of code.events p) → RoutinesStand code p

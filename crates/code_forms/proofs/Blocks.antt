@@ -13,7 +13,8 @@ use Rattle.machine_effects.proofs.Interface.{stay, one_step, join, join_stall, s
 use Rattle.code_forms.specs.Forms.{WorkRegister, Core, CoreOutcome, CoreStretch, board_of, outcome_of_core, source_read, Target, ToRegister, ToFram, ToRam}
 use Rattle.code_forms.specs.Forms.{source_effects, behind_source}
 use Rattle.code_forms.specs.Forms.{ToIndexed, ToPointed, ToOutnum, ToOutdata, target_written, Form, Move, Calculate, Compare, Update, Push, Modify, SetStack}
-use Rattle.code_forms.specs.Forms.{EnableInterrupts, Sense, Jump, Skip, Branch, BranchIndexed, SkipBy, Call, Return, KeepStack, RestoreStack, instruction_of, form_bytes}
+use Rattle.code_forms.specs.Forms.{EnableInterrupts, Sense, Jump, Skip, Branch, BranchIndexed, SkipBy, Call, Return, KeepStack, RestoreStack, instruction_of}
+use Rattle.code_forms.specs.Forms.{form_bytes}
 use Rattle.code_forms.specs.Forms.{sensed, form_step, FormNeeds}
 use Rattle.code_forms.specs.Code.{Stands, forms_bytes, IsStraight, AreStraight, forms_run, OfNext, FormsNeed, IsTidy, IsAtForm, OfState, StepsAreForms}
 use Rattle.code_forms.specs.Code.{Comes, Runs, Starves}

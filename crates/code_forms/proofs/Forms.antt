@@ -23,7 +23,8 @@ use Rattle.machine_effects.specs.msp_step.declared.operand.Location.TheVariants 
 use Rattle.machine_effects.specs.msp_step.Registers.{Registers, with_register}
 use Rattle.machine_effects.specs.msp_step.Access.{Access, Completed, then_do, read_at}
 use Rattle.machine_effects.specs.msp_step.Effect.{written_back, store, read_modify_write, shifted, rotated, exchanged, sign_extended}
-use Rattle.machine_effects.specs.msp_step.Effect.{push_effect, pushed, call_effect, called, reads_destination, writes_destination, with_flags, Operated, finish, word_sum, source}
+use Rattle.machine_effects.specs.msp_step.Effect.{push_effect, pushed, call_effect, called, reads_destination, writes_destination, with_flags, Operated}
+use Rattle.machine_effects.specs.msp_step.Effect.{finish, word_sum, source}
 use Rattle.machine_effects.specs.msp_step.Effect.{after_source, two_operand_effect, destination_location, Written, distance, is_met, operated}
 use Rattle.machine_effects.specs.msp_step.Step.{effect}
 use Rattle.machine_effects.specs.event_places.Places.{handler_place, head_place, ring_place, is_ring}
@@ -648,7 +649,8 @@ skips_by b u c h =
 
 -- CALL, behind its operand
 call_half : (a : ℕ) (u : Core) → IsCodeAddress u.pc
-    → call_effect machine_bus (source_operand (Number a)) (regs_in u u.pc) (begun (Number a) u) ≡ called machine_bus a (regs_in u (u.pc + 4)) (inside u.sp None u)
+    → call_effect machine_bus (source_operand (Number a)) (regs_in u u.pc) (begun (Number a) u)
+      ≡ called machine_bus a (regs_in u (u.pc + 4)) (inside u.sp None u)
 call_half a u c =
     let even = c.even in let high = c.high in
     let l = from_length (Number a) in

@@ -18,7 +18,8 @@ use Rattle.machine_effects.specs.Machine.{MachineBoard, MachineOutcome, machine_
 use Rattle.machine_effects.specs.Machine.{code_executed}
 use Rattle.machine_effects.specs.Machine.{IsLookingStep, NoInstruction, Executes, Code, step_with, exec, is_exposed, undisturbed, astray, word_address}
 use Rattle.code_forms.specs.Forms.{Form, Move, Calculate, Compare, Update, Push, Modify, SetStack, Sense, Jump, Skip, Branch, BranchIndexed}
-use Rattle.code_forms.specs.Forms.{EnableInterrupts, SkipBy, Call, Return, KeepStack, RestoreStack, source_operand, Target, ToRegister, target_operand, target_bytes}
+use Rattle.code_forms.specs.Forms.{EnableInterrupts, SkipBy, Call, Return, KeepStack, RestoreStack, source_operand, Target, ToRegister, target_operand}
+use Rattle.code_forms.specs.Forms.{target_bytes}
 use Rattle.code_forms.specs.Forms.{instruction_of, form_bytes}
 use Rattle.code_forms.specs.Forms.{Core}
 use Rattle.code_forms.specs.Code.{Stands, forms_bytes}

@@ -8,7 +8,8 @@ use Rattle.machine_effects.specs.fram_board.Effects.{Effect}
 use Rattle.machine_effects.specs.Going.{Goes, Stops, Status, At, Halted, stretch, continued, going, Leads, Stalls}
 use Rattle.machine_effects.specs.Machine.{Code, MachineBoard, exec}
 use Rattle.code_forms.specs.Forms.{Core, CoreOutcome, CoreStretch, board_of, Form, Move, Calculate, Compare, Update, Push, Modify, SetStack, Sense, Jump, Skip}
-use Rattle.code_forms.specs.Forms.{EnableInterrupts, Branch, BranchIndexed, SkipBy, Call, Return, KeepStack, RestoreStack, instruction_of, form_bytes, form_step, FormNeeds}
+use Rattle.code_forms.specs.Forms.{EnableInterrupts, Branch, BranchIndexed, SkipBy, Call, Return, KeepStack, RestoreStack, instruction_of, form_bytes}
+use Rattle.code_forms.specs.Forms.{form_step, FormNeeds}
 use Rattle.code_forms.specs.Forms.{IsCodeAddress}
 
 -- the forms stand in the code from this address on

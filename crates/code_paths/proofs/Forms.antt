@@ -11,7 +11,8 @@ use Rattle.instruction_forms.specs.declared.kinds.Modification.TheVariants as ch
 use Rattle.machine_effects.specs.msp_step.Effect.{distance}
 use Rattle.machine_effects.specs.Going.{Goes, Stops}
 use Rattle.code_forms.specs.Forms.{Core, CoreOutcome, Form, Move, Calculate, Compare, Update, Push, Modify, SetStack, Sense, Jump, Skip, Branch, BranchIndexed}
-use Rattle.code_forms.specs.Forms.{SkipBy, EnableInterrupts, Call, Return, KeepStack, RestoreStack, WorkRegister, Target, ToRegister, ToFram, ToRam, ToIndexed, ToPointed, ToOutnum, ToOutdata}
+use Rattle.code_forms.specs.Forms.{SkipBy, EnableInterrupts, Call, Return, KeepStack, RestoreStack, WorkRegister, Target, ToRegister, ToFram, ToRam}
+use Rattle.code_forms.specs.Forms.{ToIndexed, ToPointed, ToOutnum, ToOutdata}
 use Rattle.code_forms.specs.Forms.{source_read}
 use Rattle.machine_effects.specs.fram_board.Effects.{Effect}
 use Rattle.code_forms.specs.Forms.{behind_source, source_effects, target_written, sensed, form_step, instruction_of, form_bytes}

@@ -16,7 +16,8 @@ use Rattle.machine_effects.specs.Going.{Goes, Stops, Halted, stretch, continued,
 use Rattle.machine_effects.specs.Machine.{MachineBoard, MachineOutcome, Code, exec}
 use Rattle.code_forms.specs.Forms.{Core, CoreOutcome, board_of, outcome_of_core, Form, Move, Calculate, Compare, Update, Push, Modify, SetStack, Sense}
 use Rattle.code_forms.specs.Forms.{Jump, Skip}
-use Rattle.code_forms.specs.Forms.{Branch, BranchIndexed, SkipBy, Call, Return, KeepStack, RestoreStack, EnableInterrupts, instruction_of, form_bytes, form_step}
+use Rattle.code_forms.specs.Forms.{Branch, BranchIndexed, SkipBy, Call, Return, KeepStack, RestoreStack, EnableInterrupts, instruction_of, form_bytes}
+use Rattle.code_forms.specs.Forms.{form_step}
 use Rattle.code_forms.specs.Code.{forms_bytes, IsStraight, OfNext, IsTidy, Runs, Starves}
 use Rattle.code_forms.specs.Placed.{placed, placed_at, instructions}
 use Rattle.code_forms.proofs.Interface.{bytes_are, does}

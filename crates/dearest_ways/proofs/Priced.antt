@@ -23,6 +23,10 @@ most_cut ms most = by (is_forward ms)
     by true = refl
     by false = capped_twice most
 
+-- a sum of which a part was cut off before
+pub cut_sum : (a b : ℕ) → capped (a + capped b) ≡ capped (a + b)
+cut_sum a b = omega arith
+
 -- the words of a test's code, at most
 pub test_size : (bs : List Bound) (t : Test) (when : Bool) (d : ℕ) (own : List Form) → own ≡ test_code bs t when d → size own ≤ test_words t
 test_size bs t when d own e = omega (arith, ap size e, (test_takes bs t when d).bytes)

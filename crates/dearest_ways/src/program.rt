@@ -434,8 +434,7 @@ fn loop_ways(
 
 // The cycles of a call beside those of what it calls.
 fn call_cycles(frame: Option<u16>, count: u16) -> u64
-    ensures value { result ≡ call_cycles frame count }
-    ensures low { result ≤ 0x100000 }
+    ensures { result ≡ call_cycles frame count }
 {
     match frame {
         None => 8 + 2 * count as u64,
@@ -444,6 +443,7 @@ fn call_cycles(frame: Option<u16>, count: u16) -> u64
 }
 
 // A call, whose function's body isn't a part of the step; its word waits behind it.
+#[tactic(auto, using(crate::proofs::Priced::cut_sum))]
 fn call_ways(
     frame: Option<u16>,
     count: u16,
@@ -459,6 +459,7 @@ fn call_ways(
 }
 
 // A return, behind which nothing waits.
+#[tactic(auto, using(crate::proofs::Priced::cut_sum))]
 fn give_ways(waiting: &mut Vec<Waiting>) -> Ways
     ensures ways { ways_of result ≡ leaving_ways (capped (give_most waiting.old.items)) }
     ensures waiting { waiting.new.items ≡ [] }

@@ -22,7 +22,8 @@ use Rattle.msp_isa.specs.declared.instructions.Instr.TheVariants as instr
 use Rattle.instruction_forms.specs.declared.kinds.WorkRegister.{WorkRegister}
 use Rattle.instruction_forms.specs.declared.kinds.WorkRegister.TheVariants.{R4, R5, R6, R7, R8, R9, R10, R11, R12, R13, R14, R15}
 use Rattle.instruction_forms.specs.declared.kinds.Source.{Source}
-use Rattle.instruction_forms.specs.declared.kinds.Source.TheVariants.{Register, Number, Constant, Fram, Ram, Pointed, PointedNext, Indexed, Popped, StackNext, Head, Slot}
+use Rattle.instruction_forms.specs.declared.kinds.Source.TheVariants.{Register, Number, Constant, Fram, Ram, Pointed, PointedNext, Indexed, Popped, StackNext}
+use Rattle.instruction_forms.specs.declared.kinds.Source.TheVariants.{Head, Slot}
 use Rattle.instruction_forms.specs.declared.kinds.Target.{Target}
 use Rattle.instruction_forms.specs.declared.kinds.Target.TheVariants.{ToRegister, ToFram, ToRam, ToIndexed, ToPointed, ToOutnum, ToOutdata}
 use Rattle.instruction_forms.specs.declared.kinds.Modification.{Modification}

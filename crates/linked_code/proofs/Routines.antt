@@ -1,7 +1,8 @@
 -- Programs that call nothing want no code but their own.
 use Rattle.std.proofs.Common.{◌≡◌, ◌+◌, ◌*◌, ◌≤◌, ℕ, Bool, false, Option, Some, None, arith}
 use Rattle.boot_runtime.specs.machine_effects.Machine.{Code}
-use Rattle.word_code.specs.array_versions.Program.{Step, Test, Program, number, truth, choose, repeat, call, holds, compares, both, either, fails, nothing, step}
+use Rattle.word_code.specs.array_versions.Program.{Step, Test, Program, number, truth, choose, repeat, call, holds, compares, both, either, fails, nothing}
+use Rattle.word_code.specs.array_versions.Program.{step}
 use Rattle.word_code.specs.array_versions.Form.{no_calls, FrameFits, StepIsFormed, TestIsFormed, IsFormed}
 use Rattle.word_code.specs.Laws.{StepRoutinesStand, TestRoutinesStand, RoutinesStand}
 

@@ -110,7 +110,8 @@ module _ (l : MemoryMap) (programs : List Program) (fits : CodeFits l programs) 
   body_there v k g inputs h named words ready =
       let fit = whole.whole k named in
       let a : DoesBody v k v.fram v.inputs = code_does_as_program code (entry_at tasks k).code (program k) v is_linked.tidy
-      (task_stands k named) (routines_stand code false (program k) fit.alone) fit.whole (λ e. fit.fits) (whole.of_words k named) (entry_there v k g inputs h words ready) in
+      (task_stands k named) (routines_stand code false (program k) fit.alone) fit.whole (λ e. fit.fits) (whole.of_words k named)
+        (entry_there v k g inputs h words ready) in
       subst (λ q. DoesBody v k g q) h.inputs (subst (λ f. DoesBody v k f v.inputs) h.fram a)
 
   -- ---- under redo

@@ -81,7 +81,8 @@ pub use Rattle.task_check.specs.Occurrences.{is_refused}
 -- word programs
 pub use Rattle.array_versions.proofs.Interface.{behaves_by_effects, decided_by_truth, joined_assoc, joined_cycles, joined_go_on, joined_nothing, joined_spend}
 pub use Rattle.array_versions.proofs.Interface.{steps_keep_to_words, then_on_assoc, ways_keep_to_cycles}
-pub use Rattle.array_versions.specs.Behaviour.{Behaviour, Broken, End, GoesOn, Gives, Jumps, Short, Strays, WordState, at_place, behaves, behaviour, behind_effects}
+pub use Rattle.array_versions.specs.Behaviour.{Behaviour, Broken, End, GoesOn, Gives, Jumps, Short, Strays, WordState, at_place, behaves, behaviour}
+pub use Rattle.array_versions.specs.Behaviour.{behind_effects}
 pub use Rattle.array_versions.specs.Behaviour.{event_index, event_pushed, events_frozen, none_answered, with_looks, word_answered}
 pub use Rattle.array_versions.specs.Behaviour.{broken, ends_before, entry_stored, first_stored, goes_on as going_on, is_place, jumped, listed_behind}
 pub use Rattle.array_versions.specs.Behaviour.{local_pushed, local_updated, number_pushed, on_end, own_kept, own_place, own_stored, own_updated, pushed}

@@ -20,7 +20,8 @@ use Rattle.array_versions.specs.Behaviour.{versioned_stored, logged_stored, logg
 use Rattle.array_versions.specs.Behaviour.{versioned_updated, number_pushed, way_by_top, way_by_two, turns, step_behaviour, tested, behaviour}
 use Rattle.event_rules.specs.Taking.{Ended, Next, Blind}
 use Rattle.task_attempts.proofs.Asks.{Takes, Looks, Sees, AnswersNone, AnswersWord, Counts, Freezes, AsksFrom, Reaches, Does, Leads, does_behind, then_does}
-use Rattle.task_attempts.proofs.Asks.{called_does, still, one_does, loads, element_pushes, versioned_pushes, word_stores, emitted_stores, entry_stores, versioned_stores}
+use Rattle.task_attempts.proofs.Asks.{called_does, still, one_does, loads, element_pushes, versioned_pushes, word_stores, emitted_stores, entry_stores}
+use Rattle.task_attempts.proofs.Asks.{versioned_stores}
 use Rattle.task_attempts.proofs.Asks.{versioned_updates, logged_stores, logged_updates}
 
 -- ---- an answer
