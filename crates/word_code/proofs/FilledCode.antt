@@ -1,7 +1,8 @@
 -- The code of a program doesn't look at the bodies of what it calls.
 use Rattle.word_code.proofs.Names.{◌≡◌, ℕ, ◌+◌, ◌∷◌, List, [], ◌++◌, refl, ap, ap₂, ◌∙◌, Bool, true, false, not, nat_lt, if◌then◌else◌, flushed, Step, Test}
 use Rattle.word_code.proofs.Names.{Program, truth, choose, repeat, call, holds, compares, both, either, fails, nothing, step, size, Bound, Waiting, pass_over}
-use Rattle.word_code.proofs.Names.{truth_code, number_code, turns_code, holds_code, compares_code, bound_of, waiting_behind, waiting_after, step_code, test_code}
+use Rattle.word_code.proofs.Names.{truth_code, number_code, turns_code, holds_code, compares_code, bound_of, waiting_behind, waiting_after, step_code}
+use Rattle.word_code.proofs.Names.{test_code}
 use Rattle.word_code.proofs.Names.{steps_code, block_code, stack_set, code_of, routine_code}
 use Rattle.array_versions.specs.Program.{step_filled, test_filled, filled}
 use Rattle.array_versions.proofs.Interface.{filled_locals}
@@ -28,10 +29,12 @@ mutual
   step_code_filled b bs os (choose t p q) =
       let other = block_code bs q in
       let first = block_code bs p ++ pass_over (size other) in
-      ap₂ (λ a o. let ms = a ++ pass_over (size o) in flushed os ++ (test_code bs (test_filled b t) false (size ms) ++ (ms ++ o))) (block_by b bs p (steps_code_filled b bs [] p))
+      ap₂ (λ a o. let ms = a ++ pass_over (size o) in flushed os ++ (test_code bs (test_filled b t) false (size ms) ++ (ms ++ o)))
+      (block_by b bs p (steps_code_filled b bs [] p))
       (block_by b bs q (steps_code_filled b bs [] q)) ∙ ap (λ ms. flushed os ++ (ms ++ (first ++ other))) (test_code_filled b bs t false (size first))
   step_code_filled b bs os (repeat n from below p) =
-      ap (λ ms. flushed os ++ (number_code n from ++ (if nat_lt from below then turns_code n below ms else []))) (block_by b (bound_of n below ∷ bs) p (steps_code_filled b (bound_of n below ∷ bs) [] p))
+      ap (λ ms. flushed os ++ (number_code n from ++ (if nat_lt from below then turns_code n below ms else [])))
+      (block_by b (bound_of n below ∷ bs) p (steps_code_filled b (bound_of n below ∷ bs) [] p))
   step_code_filled b bs os (call entry frame first count body) = refl
   step_code_filled b bs os _ = refl
 

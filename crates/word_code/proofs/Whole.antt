@@ -10,7 +10,8 @@ use Rattle.word_code.proofs.Names.{fails, nothing, step, WordState}
 use Rattle.word_code.proofs.Names.{started, End, GoesOn, Jumps, Short, Strays, Broken, Behaviour, with_stack, with_local, with_top, with_two, is_place}
 use Rattle.word_code.proofs.Names.{local_pushed, local_updated, number_pushed, way_by_top, way_by_two, step_behaviour, then_on, tested, behaviour, Place, start}
 use Rattle.word_code.proofs.Names.{assigning, Moves, EachTurn, EachStepWay, EachTestWay, EachWay, StepSpares, TestSpares}
-use Rattle.word_code.proofs.Names.{Spares, StepEachLocal, TestEachLocal, EachLocal, StepIsFormed, TestIsFormed, IsFormed, StepOfWords, TestOfWords, OfWords, top_spent, spent_by_top}
+use Rattle.word_code.proofs.Names.{Spares, StepEachLocal, TestEachLocal, EachLocal, StepIsFormed, TestIsFormed, IsFormed, StepOfWords, TestOfWords, OfWords}
+use Rattle.word_code.proofs.Names.{top_spent, spent_by_top}
 use Rattle.word_code.proofs.Names.{spent_by_two, step_spent, spent_on, test_spent, spent, Matches, GoesWell, matches_local, start_matches, step_well, well}
 use Rattle.word_code.proofs.Names.{whole_ends_soundly, local_words, words_step, words, Leaves, leaves, Bound, Waiting, number_source, flushed, below_top, kept}
 use Rattle.word_code.proofs.Names.{top_to_four, entry_code, compare_form, holding, failing, size, pass_over, decision, holds_code, compares_code, truth_code}
@@ -55,13 +56,15 @@ pub record Ready (bs : List Bound) (next : Place → Type 0) (w : WordState) : T
   pub words_in : IsStateOfWords w
   pub bounded : Bounded bs w.locals
 
-pub ready_on : (gives : Bool) (bs : List Bound) (next : Place → Type 0) (e : End) → GoesWell gives next e → EndsInWords e → OnGoesOn (λ v. Bounded bs v.locals) e
+pub ready_on : (gives : Bool) (bs : List Bound) (next : Place → Type 0) (e : End) → GoesWell gives next e → EndsInWords e
+    → OnGoesOn (λ v. Bounded bs v.locals) e
     → OnGoesOn (Ready bs next) e
 ready_on gives bs next (GoesOn w) g h b = record { place = g.0; fit = g.1; matches = g.2; words_in = h; bounded = b }
 ready_on gives bs next _ g h b = tt
 
 -- the same with the word of a local
-pub ready_with : (gives : Bool) (bs : List Bound) (next : Place → Type 0) (n k : ℕ) (e : End) → GoesWell gives next e → EndsInWords e → OnGoesOn (λ v. Bounded bs v.locals) e
+pub ready_with : (gives : Bool) (bs : List Bound) (next : Place → Type 0) (n k : ℕ) (e : End) → GoesWell gives next e → EndsInWords e
+    → OnGoesOn (λ v. Bounded bs v.locals) e
     → Leaves n (Some k) e → OnGoesOn (λ v. Ready bs next v × (v.locals n ≡ Some k)) e
 ready_with gives bs next n k (GoesOn w) g h b l = (record { place = g.0; fit = g.1; matches = g.2; words_in = h; bounded = b }, l)
 ready_with gives bs next n k _ g h b l = tt
@@ -500,7 +503,8 @@ mutual
       let next = Moves z.room 1 0 (λ s. ways.held.fits s × ways.failed.fits s) in
       leaf_follows z bs p next pc ways.end (λ v. 8 + spent_by_top ways.held.cost ways.failed.cost v) (way_by_top ways.held.does ways.failed.does) w u
       (steps_follow z bs p next [] pc w u r known (stands_front z.code pc a last k.stands) (dressed z pc w u i))
-      (ready_on z.gives bs next (behaviour p w).end (well (bounds_of z) z.gives z.room p known.formed next r.place w r.fit r.matches) (words p w known.of_words r.words_in)
+      (ready_on z.gives bs next (behaviour p w).end (well (bounds_of z) z.gives z.room p known.formed next r.place w r.fit r.matches)
+      (words p w known.of_words r.words_in)
       (bounded_on bs p w known.spares r.bounded))
       (λ x v q j. by_top z bs when d ways os (pc + forms_bytes a) v x v.stack (forked_behind z when d pc a last ways.held.at ways.failed.at k) q refl j)
   test_follows z bs (compares e p) when d pc ways w u r known k i =
@@ -510,7 +514,8 @@ mutual
       let next = Moves z.room 2 0 (λ s. ways.held.fits s × ways.failed.fits s) in
       leaf_follows z bs p next pc ways.end (λ v. 10 + spent_by_two e ways.held.cost ways.failed.cost v) (way_by_two e ways.held.does ways.failed.does) w u
       (steps_follow z bs p next [] pc w u r known (stands_front z.code pc a last k.stands) (dressed z pc w u i))
-      (ready_on z.gives bs next (behaviour p w).end (well (bounds_of z) z.gives z.room p known.formed next r.place w r.fit r.matches) (words p w known.of_words r.words_in)
+      (ready_on z.gives bs next (behaviour p w).end (well (bounds_of z) z.gives z.room p known.formed next r.place w r.fit r.matches)
+      (words p w known.of_words r.words_in)
       (bounded_on bs p w known.spares r.bounded))
       (λ x v q j. by_two z bs when d ways os e (pc + forms_bytes a) v x v.stack (forked_behind z when d pc a last ways.held.at ways.failed.at k) q refl j)
   test_follows z bs (both t e) when d pc ways w u r known k i =
@@ -600,7 +605,8 @@ mutual
       (reach_way z (owed mid) (owed after) (Describes z mid pc') (Describes z after end) (step_spent first w + owed os) (spent more) u
       (Ready bs (EachWay z.room more next)) b.effects b.end (behaviour more)
       (step_follows z bs first (EachWay z.room more next) os pc w u r first_known (stands_front z.code pc a rest h) d)
-      (ready_on z.gives bs (EachWay z.room more next) b.end (step_well (bounds_of z) z.gives z.room first first_known.formed (EachWay z.room more next) r.place w r.fit r.matches)
+      (ready_on z.gives bs (EachWay z.room more next) b.end
+      (step_well (bounds_of z) z.gives z.room first first_known.formed (EachWay z.room more next) r.place w r.fit r.matches)
       (words_step first w first_known.of_words r.words_in) (step_bounded bs first w first_known.spares r.bounded))
       (λ t v q j. reach_more z (owed after) (Describes z after end) (spent more v + owed mid) (owed mid + spent more v) t (behaviour more v).effects
       (behaviour more v).end (omega arith)
