@@ -207,7 +207,7 @@ module _ (z : Setting) where
       pub deep : x.lowest + 2 * x.room ≤ top
       pub back : t.ram top % 2 ≡ 0
 
-    callee_start : (top : ℕ) → top + 2 ≤ z.top → z.code.events ≡ true → top + 2 ≤ stack_start
+    pub callee_start : (top : ℕ) → top + 2 ≤ z.top → z.code.events ≡ true → top + 2 ≤ stack_start
     callee_start top h k = let s = z.start k in omega (arith, h)
 
     abbrev pub callee : (top : ℕ) (t : Core) → Enters top t → Setting

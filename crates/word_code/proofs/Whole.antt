@@ -102,11 +102,11 @@ record Way : Type 1 where
 
 -- what is known beforehand of a part of a program: its numbers are words, its locals are its own, its loops count and what it calls may be called, the code of
 -- that stands, and it spares the numbers of the loops around
-pub record Known (words locals forms routines spared : Type 0) : Type 0 where
+pub record Known (words locals forms code spared : Type 0) : Type 0 where
   pub of_words : words
   pub owned : locals
   pub formed : forms
-  pub routines : routines
+  pub routines : code
   pub spares : spared
 
 -- of one part, and of the other, where it is known of both
@@ -293,9 +293,9 @@ module _ (z : Setting) where
       Known (OfWords p) (EachLocal (Owns z) p) (IsFormed (bounds_of z) z.gives p) (RoutinesStand z.code p) (Spared bs (λ n. Spares n p))
 
 -- the word that is given has room
-pub call_room : (z : Setting) {q : Place} (count : ℕ) (w : WordState) (p : Popped count w.stack)
-    → (q.depth ≡ length w.stack) × (q.depth - count + 1 ≤ z.room) → length p.rest < z.room
-call_room z count w p h = omega (arith, h.0, h.1, ap (length {A = ℕ}) p.is, length-append p.words p.rest, p.count)
+pub call_room : (z : Setting) (q : Place) (count : ℕ) (w : WordState) (p : Popped count w.stack)
+    → (length w.stack ≡ q.depth) × (q.depth - count + 1 ≤ z.room) → length p.rest < z.room
+call_room z q count w p h = omega (arith, h.0, h.1, ap (length {A = ℕ}) p.is, length-append p.words p.rest, p.count)
 
 -- the body of a function that is called begins with its parameters
 pub call_ready : (first count room : ℕ) (body : Program) (w : WordState) (p : Popped count w.stack) → EachWay room body (λ q. ⊥) (entry_place first count)
@@ -466,7 +466,7 @@ mutual
       (ap (λ c. 8 + 2 * count + c + owed os) (sym (p.spends (λ words. spent body (called first words w)))))
       (subst (λ a. Does z (waiting.R4 ∷ []) end (8 + 2 * count + spent body s + owed os) u a)
       (sym (p.does (λ words vs. called_behind (with_stack vs w) (behaviour body (called first words w)))))
-      (light_reaches z first count body x entry last (spent body s) pc os w b u p known.routines.0 (call_room z count w p (r.matches.depth, r.fit.1))
+      (light_reaches z first count body x entry last (spent body s) pc os w b u p known.routines.0 (call_room z r.place count w p (r.matches.depth, r.fit.1))
       (λ top t e i. let y = callee z None first count body x top t e in
       block_follows y [] body entry s t known.routines.1 (λ hs. steps_follow y [] body (λ q. ⊥) [] entry s t
       (call_ready first count x.room body w p x.ways r.words_in)
@@ -483,7 +483,7 @@ mutual
       (ap (λ c. 16 + 5 * count + c + owed os) (sym (p.spends (λ words. spent body (called first words w)))))
       (subst (λ a. Does z (waiting.R4 ∷ []) end (16 + 5 * count + spent body s + owed os) u a)
       (sym (p.does (λ words vs. called_behind (with_stack vs w) (behaviour body (called first words w)))))
-      (framed_reaches z f first count body x entry last (spent body s) pc os w b u p known.routines.0 (call_room z count w p (r.matches.depth, r.fit.1))
+      (framed_reaches z f first count body x entry last (spent body s) pc os w b u p known.routines.0 (call_room z r.place count w p (r.matches.depth, r.fit.1))
       (λ top t e i. let y = callee z (Some f) first count body x top t e in
       block_follows y [] body entry s t known.routines.1 (λ hs. steps_follow y [] body (λ q. ⊥) [] entry s t
       (call_ready first count x.room body w p x.ways r.words_in)
