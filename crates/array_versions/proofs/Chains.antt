@@ -37,7 +37,7 @@ pub data Run (W : Type 0) (spared : ℕ → Type 0) : WordState → List Effect 
       → Run W spared (record s { inputs = left }) es t → Run W spared s (Outside (Looked look) ∷ es) t
 
 -- one chain behind another
-run_behind : {W : Type 0} {spared : ℕ → Type 0} {s t u : WordState} {es fs : List Effect} → Run W spared s es t → Run W spared t fs u
+pub run_behind : {W : Type 0} {spared : ℕ → Type 0} {s t u : WordState} {es fs : List Effect} → Run W spared s es t → Run W spared t fs u
     → Run W spared s (es ++ fs) u
 run_behind stays r = r
 run_behind (stacks vs l q) r = stacks vs l (run_behind q r)
@@ -67,6 +67,7 @@ module _ {W : Type 0} {spared : ℕ → Type 0} where
   run_stores (stores a v l q) x = (l x, run_stores q x)
   run_stores (takes r left e q) x = (tt, run_stores q x)
   run_stores (sees look left e q) x = (tt, run_stores q x)
+  run_stores (works {es = es} {fs = fs} w q) x = each_store-append (λ a v. v < 0x10000) es fs (w.stores x) (run_stores q x)
 
   -- a local that is spared has its word on
   pub run_leaves : {s t : WordState} {es : List Effect} → Run W spared s es t → (n : ℕ) → spared n → t.locals n ≡ s.locals n

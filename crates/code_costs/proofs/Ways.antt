@@ -314,7 +314,7 @@ mutual
       subst (λ a. Reaches z next Q (call_most None count os + cost + next) u a.effects a.end)
       (sym (p.does (λ words vs. called_behind (with_stack vs w) (behaviour body (called first words w)))))
       (reach_past z 3 next (8 + 2 * count + cost + owed os) (call_most None count os + cost + next) u Q all.effects all.end (omega arith)
-      (light_reaches z first count body x entry last cost pc os w b u p known.routines.0 (call_room z count w p (r.matches.depth, r.fit.1))
+      (light_reaches z first count body x entry last cost pc os w b u p known.routines.0 (call_room z r.place count w p (r.matches.depth, r.fit.1))
       (λ top t e i. let y = callee z None first count body x top t e in
       follows_so y last cost t b.effects b.end (block_reach y [] body entry 0 s t known.routines.1 (λ hs. steps_reach y [] body (λ q. ⊥) [] entry s t
       (call_ready first count x.room body w p x.ways r.words_in)
@@ -333,7 +333,7 @@ mutual
       subst (λ a. Reaches z next Q (call_most (Some f) count os + cost + next) u a.effects a.end)
       (sym (p.does (λ words vs. called_behind (with_stack vs w) (behaviour body (called first words w)))))
       (reach_past z 3 next (16 + 5 * count + cost + owed os) (call_most (Some f) count os + cost + next) u Q all.effects all.end (omega arith)
-      (framed_reaches z f first count body x entry last cost pc os w b u p known.routines.0 (call_room z count w p (r.matches.depth, r.fit.1))
+      (framed_reaches z f first count body x entry last cost pc os w b u p known.routines.0 (call_room z r.place count w p (r.matches.depth, r.fit.1))
       (λ top t e i. let y = callee z (Some f) first count body x top t e in
       follows_so y last cost t b.effects b.end (block_reach y [] body entry 0 s t known.routines.1 (λ hs. steps_reach y [] body (λ q. ⊥) [] entry s t
       (call_ready first count x.room body w p x.ways r.words_in)

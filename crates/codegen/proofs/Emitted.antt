@@ -6,7 +6,8 @@ use Rattle.codegen.proofs.Names.{slice_index_or, on_ok_weaker, Condition, Source
 use Rattle.codegen.proofs.Names.{Comparison, PlainOperation, ArrayPlace, ListPlace, LoggedPlace, Step, Test, Program}
 use Rattle.codegen.proofs.Names.{versioned_read, versioned_write, versioned_update, logged_write, logged_update, choose, holds, compares, both, either, step}
 use Rattle.codegen.proofs.Names.{step_of, steps_of, test_of, Bound, Waiting, waiting_source, flushed, top_of}
-use Rattle.codegen.proofs.Names.{R4, WorkRegister, Target, Move, ToRegister, StackNext, source_from, local_register, local_target, values_code, below_words, frame_code}
+use Rattle.codegen.proofs.Names.{R4, WorkRegister, Target, Move, ToRegister, StackNext, source_from, local_register, local_target, values_code, below_words}
+use Rattle.codegen.proofs.Names.{frame_code}
 use Rattle.codegen.proofs.Names.{below_top, repeated, size, waiting_behind, step_code, steps_code}
 use Rattle.word_code.specs.array_versions.declared.program.WordStep.{WordStep, the_lemmas}
 use Rattle.word_code.specs.array_versions.declared.program.WordStep.TheVariants.{VersionedRead, VersionedWrite, VersionedUpdate}

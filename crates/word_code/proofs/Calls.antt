@@ -117,7 +117,8 @@ pub record ArePassed (first : ℕ) (words : List ℕ) (g f : ℕ → ℕ) : Type
   pub others : (n : ℕ) → first + length words ≤ n → n < 8 → get_or (local_words f) n 0 ≡ get_or (local_words g) n 0
 
 module _ (z : Setting) where
-  restacked : (os : List Waiting) (pc : ℕ) (w : WordState) (vs : List ℕ) (u : Core) → w.stack ≡ vs → Describes z os pc w u → Describes z os pc (with_stack vs w) u
+  restacked : (os : List Waiting) (pc : ℕ) (w : WordState) (vs : List ℕ) (u : Core) → w.stack ≡ vs → Describes z os pc w u
+      → Describes z os pc (with_stack vs w) u
   restacked os pc w vs u e d =
       record { rest = d.rest; is = d.is; stack = sym e ∙ d.stack; there = d.there; fits = subst (λ l. length l ≤ z.room) e d.fits }
 
@@ -206,7 +207,7 @@ module _ (z : Setting) where
       pub deep : x.lowest + 2 * x.room ≤ top
       pub back : t.ram top % 2 ≡ 0
 
-    callee_start : (top : ℕ) → top + 2 ≤ z.top → z.code.events ≡ true → top + 2 ≤ stack_start
+    pub callee_start : (top : ℕ) → top + 2 ≤ z.top → z.code.events ≡ true → top + 2 ≤ stack_start
     callee_start top h k = let s = z.start k in omega (arith, h)
 
     abbrev pub callee : (top : ℕ) (t : Core) → Enters top t → Setting

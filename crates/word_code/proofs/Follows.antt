@@ -1,6 +1,7 @@
 -- What it is that a stretch of code follows a word program.
 use Rattle.word_code.proofs.Names.{◌≡◌, ℕ, ◌+◌, ◌≤◌, List, [], ◌++◌, refl, sym, ◌∙◌, subst, arith, append-nil, Bool, true, false, if◌then◌else◌, Effect, Core}
-use Rattle.word_code.proofs.Names.{Runs, Starves, WordState, End, GoesOn, Jumps, Gives, Short, Strays, Broken, Behaviour, behind_effects, on_end, strays, spent_on}
+use Rattle.word_code.proofs.Names.{Runs, Starves, WordState, End, GoesOn, Jumps, Gives, Short, Strays, Broken, Behaviour, behind_effects, on_end, strays}
+use Rattle.word_code.proofs.Names.{spent_on}
 use Rattle.word_code.proofs.Names.{HasJumped}
 use Rattle.word_code.proofs.Stretches.{Setting, runs_on, starves_on, dearer, dearer_stall, so_runs}
 use Rattle.word_code.proofs.Memory.{local_words, Keeps, Memory}

@@ -183,11 +183,11 @@ module _ (z : Setting) where
         let form = Move (StackNext R4) (local_target m) in
         let rest = frame_code first n in
         let mid = pc + form_bytes form in
-        let end : mid + forms_bytes rest ≡ pc + forms_bytes (form ∷ rest) = omega arith in
+        let there : mid + forms_bytes rest ≡ pc + forms_bytes (form ∷ rest) = omega arith in
         let cycles : 5 + 5 * n ≡ 5 * length (v ∷ words) = omega arith in
         let is : Own own end frame m = owns n (omega arith) in
         subst (λ c. Runs z.code [] c t (Filled own end frame u behind (pc + forms_bytes (form ∷ rest)) first (v ∷ words) t)) cycles
-        (subst (λ p. Runs z.code [] (5 + 5 * n) t (Filled own end frame u behind p first (v ∷ words) t)) end
+        (subst (λ p. Runs z.code [] (5 + 5 * n) t (Filled own end frame u behind p first (v ∷ words) t)) there
         (runs_on z (move_by (nat_lt m 8) u behind pc m v words t refl is (h.0, tt) k) (λ q j.
         so_runs (fill_part u behind mid first words q (λ i l. owns i (omega (arith, l))) h.1 j.filling) (λ r i. record {
           filling = i.filling;

@@ -17,7 +17,8 @@ use Rattle.word_code.proofs.Names.{read_code, stored_code, write_code, compare_f
 use Rattle.word_code.proofs.Names.{truth_code, number_source, turn_end, ram_turn_end, turns_code, waiting_behind, waiting_after, step_code, test_code}
 use Rattle.word_code.proofs.Names.{steps_code, top_number, element_at, bound_of, is_inside, block_code, code_of, rests, rest_source, indexed_update}
 use Rattle.word_code.proofs.Names.{known_update, known_index, update_at, CodeHasItsBytes, CodeHasItsWords, made_code, first_update, by_version, inside_update}
-use Rattle.word_code.proofs.Names.{max, stack_base, stack_set, step_locals, test_locals, locals_of, call, give, zero, suc, Call, Return, KeepStack, RestoreStack}
+use Rattle.word_code.proofs.Names.{max, stack_base, stack_set, step_locals, test_locals, locals_of, call, give, zero, suc, Call, Return, KeepStack}
+use Rattle.word_code.proofs.Names.{RestoreStack}
 use Rattle.word_code.proofs.Names.{StackNext, below_words, values_code, light_call, frame_code, framed_call, give_code, routine_code}
 use Rattle.word_code.specs.TaskForms.{call_named, step_named, test_named, named_of}
 use Rattle.array_versions.specs.msp_step.msp_isa.Encoding.{encoding}

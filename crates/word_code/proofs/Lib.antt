@@ -38,8 +38,8 @@ mod Lengths
 mod Calls
 mod Frames
 mod Whole
-mod Filled
 mod TaskForms
+mod FilledCode
 pub mod Interface
 pub use Rattle.array_versions.proofs as array_versions
 pub use Rattle.code_forms.proofs as code_forms

@@ -1,5 +1,6 @@
 -- The stack and the locals: the first eight in registers, the others in RAM, above the stack.
-use Rattle.word_code.proofs.Names.{◌≡◌, ℕ, zero, suc, ◌+◌, ◌-◌, ◌*◌, ◌<◌, ◌≤◌, List, [], ◌∷◌, length, ◌++◌, get_or, Option, Some, refl, sym, ap, ◌∙◌, subst, arith}
+use Rattle.word_code.proofs.Names.{◌≡◌, ℕ, zero, suc, ◌+◌, ◌-◌, ◌*◌, ◌<◌, ◌≤◌, List, [], ◌∷◌, length, ◌++◌, get_or, Option, Some, refl, sym, ap, ◌∙◌, subst}
+use Rattle.word_code.proofs.Names.{arith}
 use Rattle.word_code.proofs.Names.{Bool, true, false, nat_eq, nat_lt, eq-eqb, ne_eqb, if◌then◌else◌, nat_tests, same_Some, put, IsPlace, IsRam}
 use Rattle.word_code.proofs.Names.{stack_start, put_same, put_other, work_number, HasPushRoom, is_place, assigned, local_register, local_address, eqb-true}
 use Rattle.word_code.proofs.Names.{IsOwn, inl, inr}

@@ -79,7 +79,8 @@ lies true (Some o) = stays (Some o)
 lies false (Some o) = rests (Some o)
 
 -- a word that stays is the same where FRAM, R6 where this is said and the locals are
-word_same : (six : Bool) (owns : ℕ → Type 0) (locals : ℕ → Option ℕ) (o : Waiting) (s t : Core) → lies six (Some o) ≡ true → IsThere owns locals o → s.fram ≡ t.fram
+word_same : (six : Bool) (owns : ℕ → Type 0) (locals : ℕ → Option ℕ) (o : Waiting) (s t : Core) → lies six (Some o) ≡ true → IsThere owns locals o
+    → s.fram ≡ t.fram
     → (if six then s.work 6 else 0) ≡ (if six then t.work 6 else 0) → local_words s.work ≡ local_words t.work
     → source_value (waiting_source o) s ≡ source_value (waiting_source o) t
 word_same six owns locals (waiting.Number n) s t b h f k l = number_cases (λ x. source_value x s ≡ source_value x t) n refl (λ c e. refl)
@@ -93,7 +94,8 @@ word_same true owns locals waiting.R4 s t b h f k l = absurd (let q = b in (cc))
 word_same false owns locals waiting.R4 s t b h f k l = absurd (let q = b in (cc))
 
 -- it gives its word wherever those that are looked at tell R6 and the locals
-pub waiting_gives : (keeps : (ℕ → ℕ) → List ℕ) (six : Bool) (owns : ℕ → Type 0) (locals : ℕ → Option ℕ) (o : Waiting) (v : ℕ) (t : Core) → lies six (Some o) ≡ true
+pub waiting_gives : (keeps : (ℕ → ℕ) → List ℕ) (six : Bool) (owns : ℕ → Type 0) (locals : ℕ → Option ℕ) (o : Waiting) (v : ℕ) (t : Core)
+    → lies six (Some o) ≡ true
     → IsThere owns locals o → source_value (waiting_source o) t ≡ v
     → ((s : Core) → keeps s.work ≡ keeps t.work → ((if six then s.work 6 else 0) ≡ (if six then t.work 6 else 0)) × (local_words s.work ≡ local_words t.work))
     → Gives keeps (waiting_source o) v t.fram (keeps t.work)

@@ -10,7 +10,8 @@ use Rattle.word_code.proofs.Names.{fails, nothing, step, WordState}
 use Rattle.word_code.proofs.Names.{started, End, GoesOn, Jumps, Short, Strays, Broken, Behaviour, with_stack, with_local, with_top, with_two, is_place}
 use Rattle.word_code.proofs.Names.{local_pushed, local_updated, number_pushed, way_by_top, way_by_two, step_behaviour, then_on, tested, behaviour, Place, start}
 use Rattle.word_code.proofs.Names.{assigning, Moves, EachTurn, EachStepWay, EachTestWay, EachWay, StepSpares, TestSpares}
-use Rattle.word_code.proofs.Names.{Spares, StepEachLocal, TestEachLocal, EachLocal, StepIsFormed, TestIsFormed, IsFormed, StepOfWords, TestOfWords, OfWords, top_spent, spent_by_top}
+use Rattle.word_code.proofs.Names.{Spares, StepEachLocal, TestEachLocal, EachLocal, StepIsFormed, TestIsFormed, IsFormed, StepOfWords, TestOfWords, OfWords}
+use Rattle.word_code.proofs.Names.{top_spent, spent_by_top}
 use Rattle.word_code.proofs.Names.{spent_by_two, step_spent, spent_on, test_spent, spent, Matches, GoesWell, matches_local, start_matches, step_well, well}
 use Rattle.word_code.proofs.Names.{whole_ends_soundly, local_words, words_step, words, Leaves, leaves, Bound, Waiting, number_source, flushed, below_top, kept}
 use Rattle.word_code.proofs.Names.{top_to_four, entry_code, compare_form, holding, failing, size, pass_over, decision, holds_code, compares_code, truth_code}
@@ -55,13 +56,15 @@ pub record Ready (bs : List Bound) (next : Place → Type 0) (w : WordState) : T
   pub words_in : IsStateOfWords w
   pub bounded : Bounded bs w.locals
 
-pub ready_on : (gives : Bool) (bs : List Bound) (next : Place → Type 0) (e : End) → GoesWell gives next e → EndsInWords e → OnGoesOn (λ v. Bounded bs v.locals) e
+pub ready_on : (gives : Bool) (bs : List Bound) (next : Place → Type 0) (e : End) → GoesWell gives next e → EndsInWords e
+    → OnGoesOn (λ v. Bounded bs v.locals) e
     → OnGoesOn (Ready bs next) e
 ready_on gives bs next (GoesOn w) g h b = record { place = g.0; fit = g.1; matches = g.2; words_in = h; bounded = b }
 ready_on gives bs next _ g h b = tt
 
 -- the same with the word of a local
-pub ready_with : (gives : Bool) (bs : List Bound) (next : Place → Type 0) (n k : ℕ) (e : End) → GoesWell gives next e → EndsInWords e → OnGoesOn (λ v. Bounded bs v.locals) e
+pub ready_with : (gives : Bool) (bs : List Bound) (next : Place → Type 0) (n k : ℕ) (e : End) → GoesWell gives next e → EndsInWords e
+    → OnGoesOn (λ v. Bounded bs v.locals) e
     → Leaves n (Some k) e → OnGoesOn (λ v. Ready bs next v × (v.locals n ≡ Some k)) e
 ready_with gives bs next n k (GoesOn w) g h b l = (record { place = g.0; fit = g.1; matches = g.2; words_in = h; bounded = b }, l)
 ready_with gives bs next n k _ g h b l = tt
@@ -99,11 +102,11 @@ record Way : Type 1 where
 
 -- what is known beforehand of a part of a program: its numbers are words, its locals are its own, its loops count and what it calls may be called, the code of
 -- that stands, and it spares the numbers of the loops around
-pub record Known (words locals forms routines spared : Type 0) : Type 0 where
+pub record Known (words locals forms code spared : Type 0) : Type 0 where
   pub of_words : words
   pub owned : locals
   pub formed : forms
-  pub routines : routines
+  pub routines : code
   pub spares : spared
 
 -- of one part, and of the other, where it is known of both
@@ -290,9 +293,9 @@ module _ (z : Setting) where
       Known (OfWords p) (EachLocal (Owns z) p) (IsFormed (bounds_of z) z.gives p) (RoutinesStand z.code p) (Spared bs (λ n. Spares n p))
 
 -- the word that is given has room
-pub call_room : (z : Setting) {q : Place} (count : ℕ) (w : WordState) (p : Popped count w.stack)
-    → (q.depth ≡ length w.stack) × (q.depth - count + 1 ≤ z.room) → length p.rest < z.room
-call_room z count w p h = omega (arith, h.0, h.1, ap (length {A = ℕ}) p.is, length-append p.words p.rest, p.count)
+pub call_room : (z : Setting) (q : Place) (count : ℕ) (w : WordState) (p : Popped count w.stack)
+    → (length w.stack ≡ q.depth) × (q.depth - count + 1 ≤ z.room) → length p.rest < z.room
+call_room z q count w p h = omega (arith, h.0, h.1, ap (length {A = ℕ}) p.is, length-append p.words p.rest, p.count)
 
 -- the body of a function that is called begins with its parameters
 pub call_ready : (first count room : ℕ) (body : Program) (w : WordState) (p : Popped count w.stack) → EachWay room body (λ q. ⊥) (entry_place first count)
@@ -463,7 +466,7 @@ mutual
       (ap (λ c. 8 + 2 * count + c + owed os) (sym (p.spends (λ words. spent body (called first words w)))))
       (subst (λ a. Does z (waiting.R4 ∷ []) end (8 + 2 * count + spent body s + owed os) u a)
       (sym (p.does (λ words vs. called_behind (with_stack vs w) (behaviour body (called first words w)))))
-      (light_reaches z first count body x entry last (spent body s) pc os w b u p known.routines.0 (call_room z count w p (r.matches.depth, r.fit.1))
+      (light_reaches z first count body x entry last (spent body s) pc os w b u p known.routines.0 (call_room z r.place count w p (r.matches.depth, r.fit.1))
       (λ top t e i. let y = callee z None first count body x top t e in
       block_follows y [] body entry s t known.routines.1 (λ hs. steps_follow y [] body (λ q. ⊥) [] entry s t
       (call_ready first count x.room body w p x.ways r.words_in)
@@ -480,7 +483,7 @@ mutual
       (ap (λ c. 16 + 5 * count + c + owed os) (sym (p.spends (λ words. spent body (called first words w)))))
       (subst (λ a. Does z (waiting.R4 ∷ []) end (16 + 5 * count + spent body s + owed os) u a)
       (sym (p.does (λ words vs. called_behind (with_stack vs w) (behaviour body (called first words w)))))
-      (framed_reaches z f first count body x entry last (spent body s) pc os w b u p known.routines.0 (call_room z count w p (r.matches.depth, r.fit.1))
+      (framed_reaches z f first count body x entry last (spent body s) pc os w b u p known.routines.0 (call_room z r.place count w p (r.matches.depth, r.fit.1))
       (λ top t e i. let y = callee z (Some f) first count body x top t e in
       block_follows y [] body entry s t known.routines.1 (λ hs. steps_follow y [] body (λ q. ⊥) [] entry s t
       (call_ready first count x.room body w p x.ways r.words_in)
@@ -500,7 +503,8 @@ mutual
       let next = Moves z.room 1 0 (λ s. ways.held.fits s × ways.failed.fits s) in
       leaf_follows z bs p next pc ways.end (λ v. 8 + spent_by_top ways.held.cost ways.failed.cost v) (way_by_top ways.held.does ways.failed.does) w u
       (steps_follow z bs p next [] pc w u r known (stands_front z.code pc a last k.stands) (dressed z pc w u i))
-      (ready_on z.gives bs next (behaviour p w).end (well (bounds_of z) z.gives z.room p known.formed next r.place w r.fit r.matches) (words p w known.of_words r.words_in)
+      (ready_on z.gives bs next (behaviour p w).end (well (bounds_of z) z.gives z.room p known.formed next r.place w r.fit r.matches)
+      (words p w known.of_words r.words_in)
       (bounded_on bs p w known.spares r.bounded))
       (λ x v q j. by_top z bs when d ways os (pc + forms_bytes a) v x v.stack (forked_behind z when d pc a last ways.held.at ways.failed.at k) q refl j)
   test_follows z bs (compares e p) when d pc ways w u r known k i =
@@ -510,7 +514,8 @@ mutual
       let next = Moves z.room 2 0 (λ s. ways.held.fits s × ways.failed.fits s) in
       leaf_follows z bs p next pc ways.end (λ v. 10 + spent_by_two e ways.held.cost ways.failed.cost v) (way_by_two e ways.held.does ways.failed.does) w u
       (steps_follow z bs p next [] pc w u r known (stands_front z.code pc a last k.stands) (dressed z pc w u i))
-      (ready_on z.gives bs next (behaviour p w).end (well (bounds_of z) z.gives z.room p known.formed next r.place w r.fit r.matches) (words p w known.of_words r.words_in)
+      (ready_on z.gives bs next (behaviour p w).end (well (bounds_of z) z.gives z.room p known.formed next r.place w r.fit r.matches)
+      (words p w known.of_words r.words_in)
       (bounded_on bs p w known.spares r.bounded))
       (λ x v q j. by_two z bs when d ways os e (pc + forms_bytes a) v x v.stack (forked_behind z when d pc a last ways.held.at ways.failed.at k) q refl j)
   test_follows z bs (both t e) when d pc ways w u r known k i =
@@ -600,7 +605,8 @@ mutual
       (reach_way z (owed mid) (owed after) (Describes z mid pc') (Describes z after end) (step_spent first w + owed os) (spent more) u
       (Ready bs (EachWay z.room more next)) b.effects b.end (behaviour more)
       (step_follows z bs first (EachWay z.room more next) os pc w u r first_known (stands_front z.code pc a rest h) d)
-      (ready_on z.gives bs (EachWay z.room more next) b.end (step_well (bounds_of z) z.gives z.room first first_known.formed (EachWay z.room more next) r.place w r.fit r.matches)
+      (ready_on z.gives bs (EachWay z.room more next) b.end
+      (step_well (bounds_of z) z.gives z.room first first_known.formed (EachWay z.room more next) r.place w r.fit r.matches)
       (words_step first w first_known.of_words r.words_in) (step_bounded bs first w first_known.spares r.bounded))
       (λ t v q j. reach_more z (owed after) (Describes z after end) (spent more v + owed mid) (owed mid + spent more v) t (behaviour more v).effects
       (behaviour more v).end (omega arith)

@@ -60,8 +60,8 @@ abbrev mutual
   RoutinesStand code nothing = Unit {0}
   RoutinesStand code (step first more) = StepRoutinesStand code first × RoutinesStand code more
 
--- code in which the code of a whole program stands, and that of what it calls, does what the program does, within its cycles on the way that it takes; with events its
--- stack has room where that of such code begins
+-- code in which the code of a whole program stands, and that of what it calls, does what the program does, within its cycles on the way that it takes;
+-- with events its stack has room where that of such code begins
 abbrev pub CodeDoesAsProgram : Type 0
 CodeDoesAsProgram = (code : Code) (at : ℕ) (p : Program) (u : Core) → IsTidy code → Stands code at (code_of code.events p) → RoutinesStand code p
     → (whole : IsWhole p) → (code.events ≡ true → FitsEvents p whole) → OfWords p → IsEntry code.events at u

@@ -4,8 +4,8 @@ ghost use Rattle.word_code.specs.Laws.{CodeDoesAsProgram, RunsStayWithin, Starvi
 ghost use Rattle.word_code.specs.Laws.{CodeHasItsWords, CodeIsInstructions};
 ghost use Rattle.word_code.specs.TaskForms.{CodeIsOfTaskForms, CodeNamesRamFrom};
 
-/// The code of a whole program makes the program's effects within the cycles of the way that it takes, and comes to the program's end: behind its
-/// jump, or to an instruction that wants a reading where none is left.
+/// The code of a whole program, where that of what it calls stands too, makes the program's effects within the cycles of the way that it takes, and
+/// comes to the program's end: behind its jump, or to an instruction that wants a reading where none is left.
 pub fn code_does_as_its_program()
     ensures { CodeDoesAsProgram }
 {}
@@ -22,7 +22,7 @@ pub fn runs_read_from_sp()
     ensures starves { StarvingReadsFromSp }
 {}
 
-/// The code of a program is no longer than the program's words say, and each of its instructions has its words.
+/// The code of a program, and of a function's body, is no longer than the program's words say, and each of its instructions has its words.
 #[tactic(auto, using(crate::proofs::Lengths::code_has_its_bytes, crate::proofs::Lengths::code_has_its_words, crate::proofs::TaskForms::code_is_instructions))]
 pub fn code_has_its_words()
     ensures bytes { CodeHasItsBytes }
@@ -30,7 +30,8 @@ pub fn code_has_its_words()
     ensures instructions { CodeIsInstructions }
 {}
 
-/// The code of a program names no word of RAM below the place of its stack, sets SP there alone, and reads and writes RAM else at SP.
+/// The code of a program, and of a function's body, names no word of RAM below the lowest of its locals and of the frames of what it calls, sets SP no
+/// lower, and reads and writes RAM else on the stack.
 #[tactic(auto, using(crate::proofs::TaskForms::code_is_of_task_forms, crate::proofs::TaskForms::code_names_ram_from))]
 pub fn code_keeps_above_its_stack()
     ensures forms { CodeIsOfTaskForms }
