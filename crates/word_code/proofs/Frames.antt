@@ -300,7 +300,7 @@ module _ (z : Setting) where
         let reached = call_ends z (Some f) first count body x top t2 e last cost 2 (pc + 8) w b.effects b.end (runs top t2 e starts) (λ v v' q r.
         let there : q.sp ≡ saved = omega (arith, r.sp, sp) in
         let word : q.ram q.sp ≡ behind = ap q.ram there ∙ r.keeps.ram_words saved (omega (arith, sp)) (λ l. omega (arith, l, sp)) ∙ kept ∙ four in
-        let from : q.pc ≡ pc + 6 = r.pc ∙ back ∙ omega (arith, at1) in
+        let from : q.pc ≡ pc + 2 + 4 = r.pc ∙ back ∙ omega (arith, at1) in
         let q' : Core = record q { pc = q.pc + 2; sp = q.ram q.sp } in
         hop z RestoreStack 2 q q' [] 2 (Describes z (waiting.R4 ∷ []) (pc + 8) (record v' { stack = v ∷ w.stack; locals = w.locals }))
         (ap z.code.at from ∙ h.1.1.0) (

@@ -3,7 +3,7 @@ use Rattle.word_code.proofs.Names.{◌≡◌, ℕ, ◌+◌, ◌≤◌, Bool, tru
 use Rattle.word_code.proofs.Names.{local, set_local, update_local, truth, choose, repeat, holds, compares, both, either, fails, nothing, step, StepLocalsBelow}
 use Rattle.word_code.proofs.Names.{TestLocalsBelow, LocalsBelow, step_locals, test_locals, locals_of, Core, Form, SetStack, forms_bytes, Stands, Runs}
 use Rattle.word_code.proofs.Names.{stack_top, stack_base, stack_set, stack_cycles, stack_start, HasStackRoom, Code, IsTidy, IsWhole, FitsEvents, ◌<◌, ◌*◌, ◌%◌}
-use Rattle.word_code.proofs.Names.{StepEachLocal, TestEachLocal, EachLocal, inl, inr, local_address}
+use Rattle.word_code.proofs.Names.{StepEachLocal, TestEachLocal, EachLocal, inl, inr, local_address, both_ways}
 use Rattle.word_code.proofs.Memory.{Owns, below_eight, from_eight}
 use Rattle.word_code.proofs.Stretches.{Setting, hop, nothing_run, dearer}
 
@@ -115,11 +115,11 @@ at_base code p whole none =
       locals = locals_of p;
       top = stack_base (locals_of p);
       even = omega arith;
-      start = λ k. absurd (cc (k, none));
+      start = λ k. absurd (both_ways code.events none k);
       low = omega arith;
       deep = omega (arith, lowest, least);
       roomy = record { fits = omega (arith, room, least) };
-      light = λ k. absurd (cc (k, none));
+      light = λ k. absurd (both_ways code.events none k);
       named = program_below (locals_of p) p (omega arith);
     }
 
@@ -148,7 +148,7 @@ module _ (code : Code) (tidy : IsTidy code) (u : Core) (p : Program) (whole : Is
     deep = b.deep;
     roomy = b.roomy;
     light = b.light;
-    returns = λ e. absurd (let q = e in (cc));
+    returns = λ e. absurd (both_ways false refl e);
   }
 
   owns : (n : ℕ) → n < b.locals → whole.bounds.first ≤ n → Owns uncalled n
