@@ -1,6 +1,12 @@
 -- Whether tasks fit doesn't look at what 64 bits don't keep of functions.
-use Rattle.std.proofs.Common.{◌≡◌, ℕ, ◌+◌, ◌≤◌, Bool, ◌&&◌, nat_le, List, [], ◌∷◌, length, refl, ap, ◌∙◌, arith}
-use Rattle.task_ast.specs.Paths.{CheckedTask}
+use Rattle.std.proofs.Common.{◌≡◌, ℕ, ◌+◌, ◌≤◌, Bool, true, false, not, ◌&&◌, ◌||◌, ◌==◌, nat_le, List, [], ◌∷◌, length, map, refl, sym, ap, ◌∙◌, arith}
+use Rattle.std.proofs.lemmas.Bool.Decides.{nat_tests}
+use Rattle.task_ast.specs.View.{function_of}
+use Rattle.task_ast.specs.declared.FunctionDeclaration.{FunctionDeclaration}
+use Rattle.task_ast.specs.declared.names.FunctionName.{FunctionName}
+use Rattle.task_ast.specs.declared.names.TaskName.{TaskName}
+use Rattle.task_ast.specs.declared.names.VariableName.{VariableName}
+use Rattle.task_ast.specs.Paths.{CheckedTask, CheckedProgram}
 use Rattle.cost_bound.specs.Summary.{Summary}
 use Rattle.cost_bound.specs.Counts.{CheckedBlock}
 use Rattle.cost_bound.specs.Frames.{block_locals, stack_of}
@@ -8,7 +14,7 @@ use Rattle.cost_bound.specs.Machine.{AreSame}
 use Rattle.cost_bound.proofs.Interface.{stack_same}
 use Rattle.function_locals.specs.declared.locals.FunctionLocals.{FunctionLocals}
 use Rattle.function_locals.specs.Locals.{base_of}
-use Rattle.function_locals.specs.Events.{task_fits, tasks_fit}
+use Rattle.function_locals.specs.Events.{all_light, has_none, task_fits, tasks_fit, fits_events}
 
 module _ (as' bs : List Summary) (few : length as' ≤ 64) (same : AreSame as' bs) (locals : List FunctionLocals) where
   task_fits_same : (b : CheckedBlock) → task_fits as' locals b ≡ task_fits bs locals b
@@ -21,3 +27,19 @@ module _ (as' bs : List Summary) (few : length as' ≤ 64) (same : AreSame as' b
   tasks_fit_same [] = refl
   tasks_fit_same (t ∷ ts) =
       ap (λ c. c && tasks_fit as' locals ts) (task_fits_same t.body) ∙ ap (λ c. task_fits bs locals t.body && c) (tasks_fit_same ts)
+
+-- ---- of a source
+
+pub no_functions : (fs : List (FunctionDeclaration VariableName TaskName FunctionName)) → (length fs == 0) ≡ has_none (map function_of fs)
+no_functions [] = refl
+no_functions (f ∷ fs) = refl
+
+fit_anyway : (none : Bool) (rest : Bool) (used : Bool) → (none || not used) ≡ true → true ≡ (none || (not used || rest))
+fit_anyway true rest used h = refl
+fit_anyway false rest true h = absurd (let clash : ⊥ = cc in clash)
+fit_anyway false rest false h = refl
+
+must_fit : (none : Bool) (rest : Bool) (used : Bool) → (none || not used) ≡ false → rest ≡ (none || (not used || rest))
+must_fit true rest used h = absurd (let clash : ⊥ = cc in clash)
+must_fit false rest true h = refl
+must_fit false rest false h = absurd (let clash : ⊥ = cc in clash)
