@@ -208,24 +208,24 @@ module _ (W : Type 0) where
     step_does spared (set_local n) s h d i = popped W spared s (λ v t. goes_on [] (with_local n v t)) i (λ v l t j. assigns n v d l stays)
     step_does spared (update_local op n) s h d i =
         popped W spared s (λ v t. local_updated op n v (s.locals n) t) i
-          (λ v l t j. updated_does W spared op n v (s.locals n) t d l (λ u e x. (i x).locals n u e))
+        (λ v l t j. updated_does W spared op n v (s.locals n) t d l (λ u e x. (i x).locals n u e))
     step_does spared (unary op) s h d i =
         popped W spared s (λ v t. goes_on [] (pushed (unary_word op v) t)) i (λ v l t j. push W spared t (unary_word op v) j (λ x. unary_small op v (l x)))
     step_does spared (binary op) s h d i = two_popped W spared s (λ u v t. goes_on [] (pushed (binary_word op u v) t)) i (λ u v k l t j.
         push W spared t (binary_word op u v) j (λ x. binary_small op u v (k x) (l x)))
     step_does spared (shift op n) s h d i =
         popped W spared s (λ v t. goes_on [] (pushed (shift_word op v n) t)) i
-          (λ v l t j. push W spared t (shift_word op v n) j (λ x. shift_small op v n (l x)))
+        (λ v l t j. push W spared t (shift_word op v n) j (λ x. shift_small op v n (l x)))
     step_does spared (long op) s h d i = words_do W spared (long_pops op) s s.stack _ (λ x. (i x).stack) (λ ws vs k m.
         stacks (long_result op ws ++ vs) (λ x. on_words (long_result op ws) vs (long_words op ws (k x)) (m x)) stays)
     step_does spared (element base length) s h d i =
-      popped W spared s (element_pushed base length) i (λ v l t j. part_pushes W spared j (element_pushes W base length v t j))
+        popped W spared s (element_pushed base length) i (λ v l t j. part_pushes W spared j (element_pushes W base length v t j))
     step_does spared (emit_word count buffer) s h d i =
         popped W spared s (word_emitted count buffer) i (λ v l t j. part_writes W spared (emitted_writes W count buffer v t l))
     step_does spared (list_entry count list home copy words) s h d i =
         part_writes W spared (entry_writes W count list home copy words s (λ x. (h x).2) (λ x. (h x).3) (λ x. (h x).4))
     step_does spared (versioned_read place list) s h d i =
-      popped W spared s (versioned_pushed place list) i (λ v l t j. part_pushes W spared j (versioned_pushes W place list v t j))
+        popped W spared s (versioned_pushed place list) i (λ v l t j. part_pushes W spared j (versioned_pushes W place list v t j))
     step_does spared (versioned_write place list) s h d i =
         two_popped W spared s (versioned_stored place list) i (λ u v k l t j. part_writes W spared (versioned_writes W place list u v t l j))
     step_does spared (versioned_update op place list) s h d i =

@@ -69,8 +69,11 @@ mutual
   step_most (repeat n from below body) s =
       omega (arith, turns_most (below - from) n from (cycles_of body) (behaviour body) (spent body) s (λ t. ways_keep_to_cycles body t))
   step_most (call entry frame first count body) s =
-      omega (arith, words_most count s.stack (cycles_of body) (λ words. spent body (called first words s))
-        (λ words. ways_keep_to_cycles body (called first words s)))
+      omega (
+        arith,
+        words_most count s.stack (cycles_of body) (λ words. spent body (called first words s))
+            (λ words. ways_keep_to_cycles body (called first words s)),
+      )
   -- of each other step alike: the first clause makes it a proof by cases
   step_most (number w) s = omega arith
   step_most _ s = omega arith

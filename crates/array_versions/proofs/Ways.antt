@@ -282,7 +282,7 @@ mutual
       (λ f. moved_well gives room 1 0 next q s _ h m (omega arith) refl))
   step_well bounds gives room (list_entry count list home copy words) formed next q s h m =
       written_well gives next (entry_writes ⊥ count list home copy words s (λ x. absurd x) (λ x. absurd x) (λ x. absurd x))
-        (λ f. same_well gives next q s _ h m refl refl)
+      (λ f. same_well gives next q s _ h m refl refl)
   step_well bounds gives room (versioned_read place list) formed next q s h m =
       top_well gives next s.stack _ (omega (arith, h.0, m.depth)) (λ i vs e.
       let t = with_stack vs s in
@@ -291,12 +291,12 @@ mutual
       two_well gives next s.stack _ (omega (arith, h.0, m.depth)) (λ i v vs e.
       let t = with_stack vs s in
       written_well gives next (versioned_writes ⊥ place list i v t (λ x. absurd x) (unknown t))
-        (λ f. moved_well gives room 2 0 next q s _ h m (omega arith) refl))
+      (λ f. moved_well gives room 2 0 next q s _ h m (omega arith) refl))
   step_well bounds gives room (versioned_update op place list) formed next q s h m =
       two_well gives next s.stack _ (omega (arith, h.0, m.depth)) (λ i v vs e.
       let t = with_stack vs s in
       written_well gives next (updated_writes ⊥ op place list i v t (λ x. absurd x) (unknown t))
-        (λ f. moved_well gives room 2 0 next q s _ h m (omega arith) refl))
+      (λ f. moved_well gives room 2 0 next q s _ h m (omega arith) refl))
   step_well bounds gives room (logged_write place list) formed next q s h m =
       two_well gives next s.stack _ (omega (arith, h.0, m.depth)) (λ i v vs e.
       let t = with_stack vs s in
@@ -323,7 +323,7 @@ mutual
       written_well gives next (word_writes ⊥ a w s (λ x. absurd x)) (λ f. same_well gives next q s _ h m refl refl)
   step_well bounds gives room (move_word from to) formed next q s h m =
       guarded gives next (is_place from) _ (written_well gives next (word_writes ⊥ to (s.fram from) s (λ x. absurd x))
-        (λ f. same_well gives next q s _ h m refl refl))
+      (λ f. same_well gives next q s _ h m refl refl))
   step_well bounds gives room (jump to) formed next q s h m = jump_well gives (to % 2 == 0) to next s formed (eq-eqb (to % 2) 0 h)
   step_well bounds gives room (call entry frame first count body) formed next q s h m =
       words_well gives next count s.stack _ (omega (arith, h.0, m.depth)) (λ ws vs few e.
@@ -342,12 +342,12 @@ mutual
       → GoesWell gives next (tested t held.go failed.go s).end
   test_well bounds gives room (holds p) formed next held failed q s h m =
       then_well gives (Moves room 1 0 (λ r. held.fit r × failed.fit r)) next (behaviour p s) (way_by_top held.go failed.go)
-        (well bounds gives room p formed _ q s h m)
+      (well bounds gives room p formed _ q s h m)
       (λ r u k n. top_well gives next u.stack _ (omega (arith, k.0, n.depth)) (λ v vs e.
       popped_well gives (is_true v) (r.depth - 1 + 0) vs next held failed r u k.2 n (omega (arith, n.depth))))
   test_well bounds gives room (compares op p) formed next held failed q s h m =
       then_well gives (Moves room 2 0 (λ r. held.fit r × failed.fit r)) next (behaviour p s) (way_by_two op held.go failed.go)
-        (well bounds gives room p formed _ q s h m)
+      (well bounds gives room p formed _ q s h m)
       (λ r u k n. two_well gives next u.stack _ (omega (arith, k.0, n.depth)) (λ x y vs e.
       popped_well gives (compare_words op x y) (r.depth - 2 + 0) vs next held failed r u k.2 n (omega (arith, n.depth))))
   test_well bounds gives room (both t u) formed next held failed q s h m =

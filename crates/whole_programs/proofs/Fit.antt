@@ -114,7 +114,7 @@ module _ (functions : List CheckedFunction) (n : ℕ) (P : OfCalls) where
     each_of_expression t.next_event counts low h = tt
     each_of_expression (t.call f values) counts low h = (
       h f.function (values_in values) counts.0 low.0
-      (or_first (f.function == f.function) (values_call f.function values) (eq-eqb f.function f.function refl)),
+          (or_first (f.function == f.function) (values_call f.function values) (eq-eqb f.function f.function refl)),
       each_of_values values counts.1 low.1 (second_holds (λ k. f.function == k) (λ k. values_call k values) h),
     )
     each_of_expression (t.unary op e) counts low h = each_of_expression e counts low h

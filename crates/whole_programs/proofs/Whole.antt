@@ -142,7 +142,7 @@ module _ (text : List ℕ) (program : CheckedProgram) (allow : Allow) (plans : L
       let even = (even_of l laid.layout.rules).commit in
       let events : uses_events program ≡ l.runtime.events = sym (ap (λ r. r.events) laid.layout.runtime) in (
         subst (λ b. FitsTheStack b (lowered_task program.functions l t task.body).own) events
-        (fits_the_stack program task.body p is_task has_ground formed first even),
+            (fits_the_stack program task.body p is_task has_ground formed first even),
         (sound program task.body p is_task has_ground formed first even).2,
       )
 
@@ -171,7 +171,7 @@ all_lowered P fs l (task ∷ tasks) (t ∷ layouts) h =
 pub programs_are_whole : ProgramsAreWhole
 programs_are_whole text program allow plans l laid = (
   all_lowered (λ q. IsWhole q.own) program.functions l program.tasks l.tasks
-  (λ k task t e f. (task_is_whole text program allow plans l laid k task t e f).0.whole),
+      (λ k task t e f. (task_is_whole text program allow plans l laid k task t e f).0.whole),
   all_lowered (λ q. OfWords q.own) program.functions l program.tasks l.tasks
-  (λ k task t e f. (task_is_whole text program allow plans l laid k task t e f).1),
+      (λ k task t e f. (task_is_whole text program allow plans l laid k task t e f).1),
 )
