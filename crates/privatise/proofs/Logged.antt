@@ -20,7 +20,7 @@ logged_rules l h = record {
 
 pub layouts_are_logged : LayoutsAreLogged
 layouts_are_logged p allow plans l h = record {
-  plain = h.plain;
+  fits = h.fits;
   calls = h.calls;
   runtime = ap (λ (r : Runtime). record r { logging = Undo }) h.runtime;
   rules = logged_rules l h.rules;

@@ -9,7 +9,8 @@ use Rattle.task_ast.specs.declared.TaskDeclaration.{TaskDeclaration}
 use Rattle.task_ast.specs.declared.names.VariableName.{VariableName}
 use Rattle.task_ast.specs.declared.names.TaskName.{TaskName}
 use Rattle.task_ast.specs.declared.names.FunctionName.{FunctionName}
-use Rattle.task_ast.specs.Calls.{BlockCallsBelow}
+use Rattle.task_ast.specs.Calls.{CallsAreKnown}
+use Rattle.function_locals.specs.Events.{fits_events}
 use Rattle.task_ast.specs.Paths.{CheckedFunction}
 use Rattle.task_ast.specs.declared.Extent.{Extent}
 use Rattle.task_ast.specs.declared.Extent.TheVariants as extent
@@ -313,8 +314,8 @@ words_end a w n m e f = omega (arith, e, f)
 -- the sizes, the regions, the places of variables and the layouts of tasks as they are made for a source
 pub record IsPlaced (p : CheckedProgram) (allow : Allow) (plans : List TaskPlanValue) (s : Sizes) (r : Regions) (written : List Bool)
     (places : List VariablePlace) (layouts : List TaskPlace) : Type 0 where
-  pub plain : p.functions ≡ []
-  pub calls : All (λ task. BlockCallsBelow 0 task.body) p.tasks
+  pub fits : fits_events p ≡ true
+  pub calls : CallsAreKnown p
   pub few : length p.shared ≤ 256
   pub written_so : AreWritten p written
   pub allowed : IsAllowed p allow
@@ -356,7 +357,7 @@ whole p allow plans s r written places layouts made =
     let k = made.sizes in
     let g = made.regions in
     record {
-      plain = made.plain;
+      fits = made.fits;
       calls = made.calls;
       runtime = refl;
       rules = laid_out (runtime_for Redo p) p allow plans s r written places layouts made;

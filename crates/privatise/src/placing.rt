@@ -1,10 +1,11 @@
 //! The layout of a source.
-ghost use Rattle.std.specs.Prelude.{◌≡◌, ◌+◌, ◌*◌, ◌≤◌, [], IfOk, All, length};
+ghost use Rattle.std.specs.Prelude.{◌≡◌, ◌+◌, ◌*◌, ◌≤◌, IfOk, length, true};
 ghost use Rattle.task_ast.specs.View.{program_of};
-ghost use Rattle.task_ast.specs.Calls.{BlockCallsBelow};
+ghost use Rattle.task_ast.specs.Calls.{CallsAreKnown};
 ghost use Rattle.cost_bound.specs.Allowance.{IsAllowed};
 ghost use Rattle.cost_bound.specs.Machine.{known_of, AreSame};
 ghost use Rattle.cost_bound.specs.Summaries.{summaries};
+ghost use Rattle.function_locals.specs.Events.{fits_events};
 ghost use Rattle.function_locals.specs.Locals.{all_locals};
 ghost use Rattle.war_analysis.specs.Plans.{IsPlan};
 ghost use Rattle.memory_map.specs.address_space.Limits.{fram_first, program_end};
@@ -83,8 +84,8 @@ fn layout_with(
     requires few { length source.now.shared.items ≤ 256 }
     requires few_functions { length functions.summaries.now ≤ 64 }
     requires few_tasks { length source.now.tasks.items ≤ 64 }
-    requires plain { (program_of source.now).functions ≡ [] }
-    requires calls { All (λ task. BlockCallsBelow 0 task.body) (program_of source.now).tasks }
+    requires fits { fits_events (program_of source.now) ≡ true }
+    requires calls { CallsAreKnown (program_of source.now) }
     requires same { AreSame (known_of functions.summaries.now) (summaries (program_of source.now)) }
     requires locals { functions.locals.now ≡ all_locals (program_of source.now).functions }
     requires allowed { IsAllowed (program_of source.now) allow.now }
@@ -127,8 +128,8 @@ fn layout_of(
     requires few { length source.now.shared.items ≤ 256 }
     requires few_functions { length source.now.functions.items ≤ 64 }
     requires few_tasks { length source.now.tasks.items ≤ 64 }
-    requires plain { (program_of source.now).functions ≡ [] }
-    requires calls { All (λ task. BlockCallsBelow 0 task.body) (program_of source.now).tasks }
+    requires fits { fits_events (program_of source.now) ≡ true }
+    requires calls { CallsAreKnown (program_of source.now) }
     requires allowed { IsAllowed (program_of source.now) allow.now }
     requires planned { IsPlan (program_of source.now) plan.now }
     ensures { IfOk result (IsLayout (program_of source.now) allow.now plan.now) }
@@ -142,7 +143,8 @@ fn layout_of(
     layout_with(alloc, functions, source, allow, plan)
 }
 
-/// Where the data and the code of a source without functions stand; or no memory is left. The allowance and the plan are those of the source.
+/// Where the data and the code of a source stand, of which the functions fit where it takes events; or no memory is left. The allowance and the plan
+/// are those of the source.
 ///
 /// It takes no more than the words of the allowance, from 0x4400 up, but for the last of them, which is the word at 0xFFFE.
 pub fn layout(
@@ -151,7 +153,7 @@ pub fn layout(
     allow: &Allow,
     plan: &Plan,
 ) -> Result<Layout, AllocError>
-    requires plain { (program_of checked.now.source).functions ≡ [] }
+    requires fits { fits_events (program_of checked.now.source) ≡ true }
     requires allowed { IsAllowed (program_of checked.now.source) allow.now }
     requires planned { IsPlan (program_of checked.now.source) plan.now }
     ensures { IfOk result (IsLayout (program_of checked.now.source) allow.now plan.now) }

@@ -104,7 +104,7 @@ new-requires c =
     laid_out _ p c.args.allow.now c.args.plan.now c.sizes_of.result c.regions_of-regions.result c.written_variables-written.result
     c.in_ok-variables.variables.items c.in_ok-layouts.layouts.items
     (record {
-      plain = c.requires.plain;
+      fits = c.requires.fits;
       calls = c.requires.calls;
       few = c.requires.few;
       written_so = marks;
@@ -134,7 +134,7 @@ returns c =
     c.written_variables-written.result
     c.in_ok-variables.variables.items c.in_ok-layouts.layouts.items
     (record {
-      plain = c.requires.plain;
+      fits = c.requires.fits;
       calls = c.requires.calls;
       few = c.requires.few;
       written_so = marks;
