@@ -1,11 +1,12 @@
 -- A boot and the commit of a full list and a full buffer keep to the bound: it has 40 cycles for each entry of the greatest list, and 100
 -- for each word of the most that are emitted.
-use Rattle.std.proofs.Common.{◌≡◌, ℕ, zero, suc, ◌+◌, ◌-◌, ◌*◌, ◌<◌, ◌≤◌, ⊎_elim, arith, Bool, List, [], ◌∷◌, length, Some, None, sym, subst, slice_index}
+use Rattle.std.proofs.Common.{◌≡◌, ℕ, zero, suc, ◌+◌, ◌-◌, ◌*◌, ◌<◌, ◌≤◌, ⊎_elim, arith, Bool, List, [], ◌∷◌, ◌++◌, length, Some, None, slice_index}
 use Rattle.std.proofs.lemmas.Bool.{cases_lt}
 use Rattle.task_ast.specs.Tree as t
-use Rattle.task_ast.specs.Paths.{CheckedExpression, CheckedValues, CheckedStatement, CheckedChoice}
+use Rattle.task_ast.specs.Paths.{CheckedExpression, CheckedValues, CheckedStatement, CheckedChoice, CheckedFunction}
+use Rattle.task_ast.proofs.Interface.{along_answers}
 use Rattle.cost_bound.specs.Summary.{Summary}
-use Rattle.cost_bound.specs.Summaries.{summaries, function_summaries}
+use Rattle.cost_bound.specs.Summaries.{function_summary, summaries}
 use Rattle.cost_bound.specs.Table.{cycles_column, called_price, expression_price, values_price, statement_price, conditions_price, blocks_price, block_price}
 use Rattle.cost_bound.specs.Counts.{CheckedBlock, is_emit, called_emits, expression_count, values_count, statement_count, conditions_count, choice_count}
 use Rattle.cost_bound.specs.Counts.{block_count, emits_of}
@@ -75,9 +76,19 @@ module _ (known : List Summary) (functions_pay : Pay known) where
   unfolding emits_of
   emits_pay b = block_pays b
 
--- a source without functions has none that doesn't pay
-functions_pay : (p : CheckedProgram) → p.functions ≡ [] → Pay (summaries p)
-functions_pay p plain = subst (λ fs. Pay (function_summaries fs)) (sym plain) (λ k. omega arith)
+-- one function more, that pays
+pays_more : (known : List Summary) (s : Summary) → 60 * s.emits ≤ s.cycles → Pay known → Pay (known ++ s ∷ [])
+pays_more [] s paid h zero = paid
+pays_more [] s paid h (suc k) = omega arith
+pays_more (x ∷ known) s paid h zero = h zero
+pays_more (x ∷ known) s paid h (suc k) = pays_more known s paid (λ n. h (suc n)) k
+
+-- each function of a source pays
+functions_pay : (p : CheckedProgram) → Pay (summaries p)
+functions_pay p = along_answers function_summary (λ front known. Pay known) (λ k. omega arith) step p.functions
+  where
+    step : (front : List CheckedFunction) (known : List Summary) (f : CheckedFunction) → Pay known → Pay (known ++ function_summary known f ∷ [])
+    step front known f h = pays_more known (function_summary known f) (emits_pay known h f.body) h
 
 -- a task has the greatest of one count, and its other count is within the greatest
 record HasGreatest (f g : CheckedBlock → ℕ) (ts : List CheckedTask) : Type 0 where
@@ -96,15 +107,15 @@ has_greatest f g (t ∷ u ∷ ts) h =
     (λ less. record { code = t.body; is = omega (arith, less); within = omega arith })
     (cases_lt (f t.body) (greatest f (u ∷ ts)))
 
-pub commit_within_bound : (p : CheckedProgram) (events : Bool) (entries emits : ℕ) → p.functions ≡ [] → 0 < length p.tasks
+pub commit_within_bound : (p : CheckedProgram) (events : Bool) (entries emits : ℕ) → 0 < length p.tasks
     → entries ≡ greatest (list_of (summaries p) p.shared) p.tasks
     → emits ≡ greatest (emits_of (summaries p)) p.tasks → with_events events 3 + 9 + commit_cycles events entries entries emits ≤ bound_of p
-commit_within_bound p events entries emits plain some list_is emits_are =
+commit_within_bound p events entries emits some list_is emits_are =
     let price = task_bound (summaries p) (uses_events p) (versions_of p) p.shared in
     let a = has_greatest (list_of (summaries p) p.shared) price p.tasks some in
     let b = has_greatest (emits_of (summaries p)) price p.tasks some in
     let a_is = a.is in let a_within = a.within in let b_is = b.is in let b_within = b.within in
-    let paid = emits_pay (summaries p) (functions_pay p plain) b.code in let boot = with_events_most events 3 in let more = with_events_most events 6 in
+    let paid = emits_pay (summaries p) (functions_pay p) b.code in let boot = with_events_most events 3 in let more = with_events_most events 6 in
     let list_begins = if_any_most entries 2 in let sends_begin = if_any_most emits 2 in
     omega (arith, list_is, emits_are, a_is, a_within, b_is, b_within, paid, list_begins, sends_begin, boot, more)
 

@@ -155,6 +155,6 @@ tasks_keep_to_the_bound p allow plans l allowed few layout = record {
       let own = element l.tasks t (omega (arith, below, count)) in
       within Redo p allow plans l allowed few layout t fram inputs task.0 own.0 task.1 own.1;
   commits = λ t below. subst (λ n. boot_cycles l + commit_cycles l.runtime.events l.entries l.entries l.emits.words ≤ n) (sym (bound_is_the_sources p l))
-      (commit_within_bound p l.runtime.events l.entries l.emits.words layout.plain (omega (arith, below)) (layout.list ∙ allowed.list)
+      (commit_within_bound p l.runtime.events l.entries l.emits.words (omega (arith, below)) (layout.list ∙ allowed.list)
       (layout.emits ∙ allowed.emits));
 }

@@ -1,5 +1,5 @@
 -- The word programs of an accepted source are whole.
-use Rattle.std.proofs.Common.{◌≡◌, ◌%◌, ◌<◌, ◌≤◌, ℕ, suc, length, ◌&&◌, ◌||◌, not, true, List, [], ◌∷◌, Some, refl, sym, ap, subst, ◌∙◌, arith, slice_get}
+use Rattle.std.proofs.Common.{◌≡◌, ◌%◌, ◌<◌, ◌≤◌, ℕ, suc, length, true, List, [], ◌∷◌, Some, refl, sym, ap, subst, ◌∙◌, arith, slice_get}
 use Rattle.std.specs.Prelude.{All}
 use Rattle.std.proofs.lemmas.List.Elements.{All-nil, All-cons}
 use Rattle.std.proofs.lemmas.Option.{slice_get_within}
@@ -9,7 +9,6 @@ use Rattle.cost_bound.specs.declared.allowance.Allow.{Allow}
 use Rattle.cost_bound.specs.Allowance.{uses_events}
 use Rattle.cost_bound.specs.Frames.{stack_of}
 use Rattle.cost_bound.specs.Summaries.{summaries}
-use Rattle.function_locals.specs.Events.{all_light, tasks_fit, has_none, fits_events}
 use Rattle.function_locals.specs.Locals.{base_of, all_locals}
 use Rattle.function_locals.proofs.Interface.{locals_stand}
 use Rattle.war_analysis.specs.PlanValue.{TaskPlanValue}
@@ -37,13 +36,6 @@ use Rattle.whole_programs.proofs.Steps.{Sound}
 use Rattle.whole_programs.proofs.Among.{task_among}
 use Rattle.whole_programs.proofs.Placed.{PlacesOfWords, HasCodeOfWords, places_are_words, routines_of_words}
 use Rattle.checked_trees.proofs.Interface.{all_at, task_checked, function_checked}
-
--- a source without functions fits where it takes events
-text_fits : (program : CheckedProgram) → program.functions ≡ [] → fits_events program ≡ true
-text_fits program is =
-    let none : has_none program.functions ≡ true = ap has_none is in
-    ap (λ b. b || (not (uses_events program) || (all_light (all_locals program.functions)
-    && tasks_fit (summaries program) (all_locals program.functions) program.tasks))) none
 
 -- what a layout says of a task's place: its locals are behind the registers of all that it calls, and the functions that it reaches have their places
 record IsStanding (program : CheckedProgram) (body : CheckedBlock) (t : TaskPlace) : Type 0 where
@@ -132,7 +124,7 @@ module _ (text : List ℕ) (program : CheckedProgram) (allow : Allow) (plans : L
       }
 
   has_ground : Ground program task.body
-  has_ground = ground program (text_fits program laid.layout.plain) laid.accepted.allowed.within_stack k task e
+  has_ground = ground program laid.layout.fits laid.accepted.allowed.within_stack k task e
 
   pub task_is_whole : FitsTheStack l.runtime.events (lowered_task program.functions l t task.body).own
       × OfWords (lowered_task program.functions l t task.body).own
