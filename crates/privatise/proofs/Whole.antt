@@ -9,7 +9,7 @@ use Rattle.task_ast.specs.declared.TaskDeclaration.{TaskDeclaration}
 use Rattle.task_ast.specs.declared.names.VariableName.{VariableName}
 use Rattle.task_ast.specs.declared.names.TaskName.{TaskName}
 use Rattle.task_ast.specs.declared.names.FunctionName.{FunctionName}
-use Rattle.task_ast.specs.Calls.{CallsAreKnown}
+use Rattle.task_check.specs.Placed.{IsPlaced as StandsWhereItMay}
 use Rattle.function_locals.specs.Events.{fits_events}
 use Rattle.task_ast.specs.Paths.{CheckedFunction}
 use Rattle.task_ast.specs.declared.Extent.{Extent}
@@ -315,7 +315,7 @@ words_end a w n m e f = omega (arith, e, f)
 pub record IsPlaced (p : CheckedProgram) (allow : Allow) (plans : List TaskPlanValue) (s : Sizes) (r : Regions) (written : List Bool)
     (places : List VariablePlace) (layouts : List TaskPlace) : Type 0 where
   pub fits : fits_events p ≡ true
-  pub calls : CallsAreKnown p
+  pub placed : StandsWhereItMay p
   pub few : length p.shared ≤ 256
   pub written_so : AreWritten p written
   pub allowed : IsAllowed p allow
@@ -358,7 +358,7 @@ whole p allow plans s r written places layouts made =
     let g = made.regions in
     record {
       fits = made.fits;
-      calls = made.calls;
+      placed = made.placed;
       runtime = refl;
       rules = laid_out (runtime_for Redo p) p allow plans s r written places layouts made;
       list = g.entries;

@@ -1,9 +1,9 @@
 -- The layout of a source.
 use Rattle.std.specs.Prelude.{◌≡◌, ℕ, ◌+◌, ◌*◌, ◌≤◌, Bool, true, List, length, map, Some, is_some, slice_get}
-use Rattle.task_ast.specs.Calls.{CallsAreKnown}
 use Rattle.task_ast.specs.declared.Extent.{Extent}
 use Rattle.task_ast.specs.declared.Extent.TheVariants as extent
 use Rattle.task_ast.specs.declared.SharedDeclaration.{SharedDeclaration}
+use Rattle.task_check.specs.Placed.{IsPlaced}
 use Rattle.cost_bound.specs.declared.allowance.Allow.{Allow}
 use Rattle.cost_bound.specs.Counts.{CheckedBlock}
 use Rattle.cost_bound.specs.Summaries.{summaries}
@@ -62,7 +62,7 @@ runtime_for logging p = record lone_redo { logging = logging; events = uses_even
 -- the source has without what events need, of which the last is the one at FFFE. The places are the same for each runtime.
 pub record IsLayoutFor (logging : Logging) (p : CheckedProgram) (allow : Allow) (plans : List TaskPlanValue) (l : MemoryMap) : Type 0 where
   pub fits : fits_events p ≡ true
-  pub calls : CallsAreKnown p
+  pub placed : IsPlaced p
   pub runtime : l.runtime ≡ runtime_for logging p
   pub rules : IsLaidOut l
   pub list : l.entries ≡ allow.list

@@ -1,7 +1,7 @@
 //! The layout of a source.
 ghost use Rattle.std.specs.Prelude.{◌≡◌, ◌+◌, ◌*◌, ◌≤◌, IfOk, length, true};
 ghost use Rattle.task_ast.specs.View.{program_of};
-ghost use Rattle.task_ast.specs.Calls.{CallsAreKnown};
+ghost use Rattle.task_check.specs.Placed.{IsPlaced};
 ghost use Rattle.cost_bound.specs.Allowance.{IsAllowed};
 ghost use Rattle.cost_bound.specs.Machine.{known_of, AreSame};
 ghost use Rattle.cost_bound.specs.Summaries.{summaries};
@@ -85,7 +85,7 @@ fn layout_with(
     requires few_functions { length functions.summaries.now ≤ 64 }
     requires few_tasks { length source.now.tasks.items ≤ 64 }
     requires fits { fits_events (program_of source.now) ≡ true }
-    requires calls { CallsAreKnown (program_of source.now) }
+    requires placed { IsPlaced (program_of source.now) }
     requires same { AreSame (known_of functions.summaries.now) (summaries (program_of source.now)) }
     requires locals { functions.locals.now ≡ all_locals (program_of source.now).functions }
     requires allowed { IsAllowed (program_of source.now) allow.now }
@@ -129,7 +129,7 @@ fn layout_of(
     requires few_functions { length source.now.functions.items ≤ 64 }
     requires few_tasks { length source.now.tasks.items ≤ 64 }
     requires fits { fits_events (program_of source.now) ≡ true }
-    requires calls { CallsAreKnown (program_of source.now) }
+    requires placed { IsPlaced (program_of source.now) }
     requires allowed { IsAllowed (program_of source.now) allow.now }
     requires planned { IsPlan (program_of source.now) plan.now }
     ensures { IfOk result (IsLayout (program_of source.now) allow.now plan.now) }

@@ -105,7 +105,7 @@ new-requires c =
     c.in_ok-variables.variables.items c.in_ok-layouts.layouts.items
     (record {
       fits = c.requires.fits;
-      calls = c.requires.calls;
+      placed = c.requires.placed;
       few = c.requires.few;
       written_so = marks;
       allowed = c.requires.allowed;
@@ -135,7 +135,7 @@ returns c =
     c.in_ok-variables.variables.items c.in_ok-layouts.layouts.items
     (record {
       fits = c.requires.fits;
-      calls = c.requires.calls;
+      placed = c.requires.placed;
       few = c.requires.few;
       written_so = marks;
       allowed = c.requires.allowed;
