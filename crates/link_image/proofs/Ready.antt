@@ -8,7 +8,7 @@ use Rattle.privatise.specs.Layouts.{IsLayoutFor}
 use Rattle.source_values.specs.Running.{IsRunnable}
 use Rattle.source_meaning.specs.Acceptance.{IsAcceptedText}
 use Rattle.whole_programs.specs.Laws.{IsLaidOutText, ProgramsAreWhole}
-use Rattle.whole_programs.proofs.Interface.{privates_are_few}
+use Rattle.whole_programs.proofs.Interface.{privates_are_few, calls_are_theirs}
 use Rattle.source_maps.proofs.Interface.{names_are_names, maps_are_of_sources}
 use Rattle.compiled_runs.proofs.Interface.{sources_have_room}
 use Rattle.std.specs.Prelude.{slice_get}
@@ -41,7 +41,8 @@ ready whole logging text p allow plans l accepted runnable planned laid =
     let programs = whole text p allow plans l text_is in
     let names = names_are_names text p accepted.checks in
     let entry = runnable.entry in
-    let fits = sources_have_room logging p allow plans l accepted.allowed laid planned.count (privates_are_few text p allow plans l text_is) in
+    let fits = sources_have_room logging p allow plans l accepted.allowed laid planned.count (privates_are_few text p allow plans l text_is)
+    (calls_are_theirs text p allow plans l text_is) in
     let own = own_places logging p allow plans l planned laid in
     let high = fits.high in
     record {
