@@ -8,21 +8,18 @@ use Rattle.std.proofs.lemmas.Bool.Decides.{nat_tests}
 use Rattle.std.proofs.lemmas.List.{take-take, length-take-le}
 use Rattle.std.proofs.lemmas.Option.{same_Some, slice_get_within}
 use Rattle.alp_words.specs.Words.{IsWord}
-use Rattle.address_space.specs.Limits.{stack_top, HasStackRoom}
-use Rattle.task_ast.specs.Answers.{answers}
 use Rattle.task_ast.specs.Calls.{BlockCallsBelow, FunctionsCallBelow}
-use Rattle.task_ast.specs.Paths.{CheckedProgram, CheckedFunction, CheckedBlock, Access, End, goes_on, BlockPath}
+use Rattle.task_ast.specs.Paths.{CheckedProgram, CheckedFunction, CheckedBlock}
 use Rattle.task_ast.proofs.Interface.{answer_of, answers_length}
-use Rattle.cost_bound.specs.path_sums.Reaches.{at_once}
 use Rattle.cost_bound.specs.Counts.{block_calls, some_called_from, reaches_of}
-use Rattle.cost_bound.specs.Frames.{block_locals, block_nodes, frame_of, stack_of}
+use Rattle.cost_bound.specs.Frames.{block_locals, frame_of, stack_of}
 use Rattle.cost_bound.specs.Summaries.{function_summary, function_summaries, summaries}
 use Rattle.function_locals.specs.declared.locals.FunctionLocals.{FunctionLocals}
-use Rattle.function_locals.specs.Locals.{is_light, register_end, base_of, own_locals, function_locals, all_locals}
+use Rattle.function_locals.specs.Locals.{is_light, register_end, base_of, function_locals, all_locals}
 use Rattle.function_locals.proofs.Interface.{locals_stand, reaches_go_on}
 use Rattle.memory_map.specs.declared.place.RoutinePlace.{RoutinePlace}
 use Rattle.memory_map.specs.Spots.{Places, routine_of, routine_places}
-use Rattle.privatise.specs.Routines.{Known, IsFunction, IsRoutineOf, frame_words, floor_words, words_above, first_local, frame_address, frame_of_locals}
+use Rattle.privatise.specs.Routines.{Known, IsFunction, frame_words, words_above, first_local, frame_address, frame_of_locals}
 use Rattle.function_locals.specs.Laws.{LocalsStand}
 use Rattle.privatise.specs.Laws.{RoutinesStand, FramesStand}
 use Rattle.privatise.proofs.Interface.{frames_stand}
