@@ -48,7 +48,7 @@ module _ (text : List ℕ) (p : CheckedProgram) (allow : Allow) (plans : List Ta
       let count = t.layout.tasks.count in
       let own = element l.tasks k (omega (arith, below, count)) in
       let P : Program → Type 0 = λ q. FitsTheStack l.runtime.events q × OfWords q in
-      subst P (sym (program_at l p.tasks l.tasks k task.0 own.0 task.1 own.1)) (tasks_are_whole text p allow plans l t k task.0 own.0 task.1 own.1)
+      subst P (sym (ap (λ q. q.own) (program_at p.functions l p.tasks l.tasks k task.0 own.0 task.1 own.1))) (tasks_are_whole text p allow plans l t k task.0 own.0 task.1 own.1)
 
   few : PrivatesAreCounted p l
   few = privates_are_few text p allow plans l t
