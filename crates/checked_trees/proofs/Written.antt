@@ -450,7 +450,6 @@ module _ (v : ℕ) (shared : List SharedDeclaration) where
   block_assigned fs formed b own w =
       text_assigned (call_sums (summary (Shared v)) fs) (function_summaries fs) (all_assign [] [] tt fs formed) b own w
 
-
 -- of no functions
 pub no_bodies : (shared : List SharedDeclaration) → All (λ (f : CheckedFunction). WellFormedBlock shared f.body) []
 no_bodies shared = All-nil (λ (f : CheckedFunction). WellFormedBlock shared f.body)

@@ -48,9 +48,10 @@ module _ (fs : List CheckedFunction) (code body : CheckedBlock) (n : ℕ) (writt
 
   pub where_written : written ≡ true → IsTrue (not private) ↔ IsInPlace fs code n
   where_written known =
-      subst (λ b. IsTrue (not private) ↔ IsInPlace fs b n) same
-      (λ h. record { written = writes_it.0 known; not_private = λ p. not_both private (is_private.1 p) h },
-      λ i. not_true private (λ h. i.not_private (is_private.0 h)))
+      subst (λ b. IsTrue (not private) ↔ IsInPlace fs b n) same (
+        λ h. record { written = writes_it.0 known; not_private = λ p. not_both private (is_private.1 p) h },
+        λ i. not_true private (λ h. i.not_private (is_private.0 h)),
+      )
 
   pub where_not_written : written ≡ false → IsTrue written ↔ IsInPlace fs code n
   where_not_written known =
