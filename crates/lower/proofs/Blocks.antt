@@ -15,7 +15,7 @@ use Rattle.lower.proofs.Names.{listed_of, IsLocal, WellFormedExpression, WellFor
 use Rattle.lower.proofs.Names.{assignment_writes, store_writes, loop_writes, taken_writes, passed_writes, first_writes, others_write, statement_sum}
 use Rattle.lower.proofs.Names.{choice_sum, block_sum, summary, IsWrittenArray, StandsFor, Scene, converted_to}
 use Rattle.lower.proofs.Names.{truth_of, BlocksAgree, MemoryMap, TaskPlace, word_place, ListLength, EmitCount, Version, VariablePlace, word_even}
-use Rattle.lower.proofs.Names.{first_word, privates_few, address_of, scalar_address, IsScalarWord, scalar, Inputs}
+use Rattle.lower.proofs.Names.{first_word, privates_few, address_of, scalar_address, IsScalarWord, scalar}
 use Rattle.std.specs.Prelude.{slice_get, get_or}
 use Rattle.source_values.specs.Values.{Attempt}
 use Rattle.source_values.specs.Statements.{goes_on}
@@ -39,7 +39,7 @@ use Rattle.lower.proofs.Ends.{Does, does_then, does_alone, does_behind, settles}
 use Rattle.lower.proofs.Names.{Logging, Redo, Undo, own_write, own_update, array_place, to_variable, to_buffer, to_emit_count}
 use Rattle.lower.proofs.Acts.{plain_did}
 use Rattle.lower.proofs.Logged.{logged_does, logged_update_does}
-use Rattle.lower.proofs.Elements.{Start, DoesFrom, few_emitted, few_listed, list_fits, store_does, element_update_does, spot_stands}
+use Rattle.lower.proofs.Elements.{Start, DoesFrom, few_listed, list_fits, store_does, element_update_does, spot_stands}
 use Rattle.task_ast.specs.Tree as t
 use Rattle.source_values.specs.Statements as source
 use Rattle.task_ast.proofs.Interface as one_word

@@ -8,7 +8,7 @@ use Rattle.lower.proofs.Names.{scalar_address, IsScalarWord, scalar, binary_mean
 use Rattle.lower.proofs.Names.{read_step, read_long, element_step, Lowering, word_program, value_test, long_words, long_program, name_lowering}
 use Rattle.lower.proofs.Names.{operand_lowering, binary_lowering, sides_lowering, shift_lowering, sides_test, widened_type, lowering, lowered_long}
 use Rattle.lower.proofs.Names.{lowered_test, lowered_expression, Room, AreApart, WellFormedExpression, array_word, converted_to, truth_of, ValuesAgree}
-use Rattle.lower.proofs.Names.{ExpressionsAgree, LongsAgree, TestsAgree, listed_of, ◌>>?◌, ◌<◌, Answering, by_answers, made_by, IsFit, AdmitsExpression}
+use Rattle.lower.proofs.Names.{ExpressionsAgree, LongsAgree, TestsAgree, listed_of, ◌>>?◌, Answering, by_answers, made_by, IsFit, AdmitsExpression}
 use Rattle.lower.proofs.Names.{next_event, stacked}
 use Rattle.source_values.specs.Values.{Attempt, by_width, type_of, joined_type}
 use Rattle.array_versions.specs.Behaviour.{goes_on}

@@ -1,5 +1,5 @@
 -- What a sum says of the paths of a text that calls no function.
-use Rattle.lower.proofs.Names.{◌≡◌, Bool, true, List, [], CheckedBlock, Variable, block_sum, summary}
+use Rattle.lower.proofs.Names.{◌≡◌, true, [], CheckedBlock, Variable, block_sum, summary}
 use Rattle.task_ast.specs.Calls.{BlockCallsBelow}
 use Rattle.path_sums.specs.Access.{SomePath, IsPrivate, writes, private_of}
 use Rattle.path_sums.proofs.Interface as sums

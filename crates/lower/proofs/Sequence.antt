@@ -1,14 +1,13 @@
 -- What a program leaves with a value, and what goes on behind it: another value, or statements.
 use Rattle.lower.proofs.Names.{◌≡◌, ℕ, ◌+◌, ◌≤◌, List, [], ◌∷◌, ◌++◌, length, Option, Some, None, refl, sym, ap, ◌∙◌, subst, arith, append-nil, word_place, Version}
-use Rattle.lower.proofs.Names.{EmitCount, Effect, Looked, Outside, fram_after, fram_after-append, CheckedExpression, Evaluated, Outcome, if_value, ◌>>?◌}
+use Rattle.lower.proofs.Names.{Effect, fram_after, fram_after-append, CheckedExpression, Evaluated, Outcome, if_value, ◌>>?◌}
 use Rattle.lower.proofs.Names.{expression_emits, expression_count, Look, look_effects, nothing, WordState, End, GoesOn, Jumps, Short, Strays, Broken}
-use Rattle.lower.proofs.Names.{Behaviour, behaves, behind_effects, on_end, then_on, behaviour, with_stack, Places, Element, listed_of, Answering}
-use Rattle.lower.proofs.Names.{answered_by, answers_told, StandsFor, Scene, bounds, EndsWith, WentOn, AgreesWith}
+use Rattle.lower.proofs.Names.{Behaviour, behaves, behind_effects, on_end, then_on, behaviour, with_stack, Element, listed_of, Answering}
+use Rattle.lower.proofs.Names.{answered_by, answers_told, StandsFor, Scene, bounds, EndsWith, AgreesWith}
 use Rattle.source_values.specs.Values.{Attempt, evaluated}
 use Rattle.lower.proofs.Effects.{told_behind}
 use Rattle.lower.proofs.Acts.{plain_did}
 use Rattle.lower.proofs.Ends.{DidFrom, Ends, ends_behind, did_append}
-use Rattle.array_versions.specs.Behaviour.{goes_on}
 
 -- ---- what is to spare
 
