@@ -1,5 +1,5 @@
 -- The layout of a source has room for the code of its programs.
-use Rattle.std.proofs.Common.{◌≡◌, ◌∙◌, ◌+◌, ◌≤◌, ◌<◌, ℕ, zero, suc, false, true, List, [], ◌∷◌, length, map, take, get_or, Some, slice_get, refl, sym, ap, subst}
+use Rattle.std.proofs.Common.{◌≡◌, ◌∙◌, ◌≤◌, ℕ, suc, false, true, List, [], ◌∷◌, length, map, take, Some, slice_get, refl, sym, ap, subst}
 use Rattle.std.proofs.Common.{arith}
 use Rattle.std.specs.Prelude.{All, slice_index_or}
 use Rattle.std.proofs.lemmas.List.{length-take-le}
@@ -13,26 +13,24 @@ use Rattle.cost_bound.specs.Summary.{Summary}
 use Rattle.cost_bound.specs.Summaries.{function_summary, function_summaries, summaries}
 use Rattle.cost_bound.specs.Table.{words_column, block_price}
 use Rattle.cost_bound.specs.Allowance.{CheckedTask, scalars_of}
-use Rattle.war_analysis.specs.PlanValue.{TaskPlanValue}
 use Rattle.war_analysis.proofs.Interface.{element}
 use Rattle.memory_map.specs.declared.place.RoutinePlace.{RoutinePlace}
 use Rattle.memory_map.specs.MemoryMap.{MemoryMap, TaskPlace}
 use Rattle.memory_map.specs.Places.{end_of}
 use Rattle.memory_map.specs.Spots.{Places, private_words, routine_of, routine_places}
 use Rattle.privatise.specs.Laws.{RoutinesStand}
-use Rattle.privatise.specs.Layouts.{IsLayoutFor, IsTaskLayout}
-use Rattle.privatise.specs.Routines.{IsRoutineOf, known_functions, task_routines}
+use Rattle.privatise.specs.Layouts.{IsTaskLayout}
+use Rattle.privatise.specs.Routines.{known_functions}
 use Rattle.privatise.proofs.Interface.{routines_stand}
 use Rattle.array_versions.specs.Program.{Program, nothing}
 use Rattle.array_versions.specs.Cost.{words_of}
-use Rattle.lower.specs.Seen.{task_seen}
 use Rattle.lower.specs.Sizes.{BodiesKeep}
 use Rattle.lower.specs.Lowered.{body_at, lowered_block, lowered_task, lowered_tasks, routine_body, routine_bodies, task_places}
 use Rattle.lower.proofs.Interface.{blocks_keep_to_words, routines_keep, routines_seen, seen_words}
 use Rattle.linked_code.specs.Linked.{RoutinesFit}
 use Rattle.linked_code.specs.Rooms.{ProgramsKeep, TaskKeeps}
 use Rattle.linked_code.proofs.Interface.{layouts_have_room}
-use Rattle.compiled_runs.specs.Laws.{CallsAreAmong, SourcesHaveRoom}
+use Rattle.compiled_runs.specs.Laws.{SourcesHaveRoom}
 use Rattle.compiled_runs.proofs.Words.{block_same}
 
 -- ---- the functions of a task

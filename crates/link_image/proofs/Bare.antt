@@ -1,5 +1,5 @@
 -- The code of a source is the same, whether what it calls stands in its calls or not.
-use Rattle.std.proofs.Common.{◌≡◌, ℕ, zero, suc, ◌≤◌, Bool, List, [], ◌∷◌, ◌++◌, length, map, take, Option, Some, None, get_or, refl, sym, ap, ap₂, ◌∙◌, subst, arith}
+use Rattle.std.proofs.Common.{◌≡◌, ℕ, zero, suc, ◌≤◌, Bool, List, [], ◌∷◌, ◌++◌, length, map, take, Option, Some, None, get_or, refl, sym, ap, ap₂, ◌∙◌, arith}
 use Rattle.std.specs.Prelude.{slice_get, slice_index_or, All}
 use Rattle.std.specs.Option.{option_map}
 use Rattle.std.proofs.lemmas.List.Elements.{All-head, All-tail}
@@ -13,9 +13,8 @@ use Rattle.memory_map.specs.declared.runtime.Logging.TheVariants.{Redo, Undo}
 use Rattle.memory_map.specs.MemoryMap.{MemoryMap, TaskPlace}
 use Rattle.memory_map.specs.Spots.{Places, routine_among, routine_of, routine_places}
 use Rattle.array_versions.specs.Program.{Program, nothing, filled}
-use Rattle.array_versions.specs.Form.{LocalsBelow, locals_of}
+use Rattle.array_versions.specs.Form.{LocalsBelow}
 use Rattle.array_versions.specs.Cost.{words_of}
-use Rattle.array_versions.specs.TaskPrograms.{TaskPrograms}
 use Rattle.array_versions.proofs.Interface.{filled_locals, filled_words}
 use Rattle.word_code.specs.Code.{code_of, routine_code}
 use Rattle.word_code.proofs.Interface.{code_filled, program_below, program_least, routine_filled}
@@ -23,7 +22,7 @@ use Rattle.lower.specs.Seen.{task_seen}
 use Rattle.lower.specs.Lowered.{lowered_block, body_at, routine_body, routine_bodies, task_places, lowered_task, lowered_tasks, lowered}
 use Rattle.lower.specs.Lowered.{bare_body, bare_routine, bare_task, bare_tasks, bare_programs}
 use Rattle.lower.proofs.Interface.{FillsIn, block_filled}
-use Rattle.linked_code.specs.Linked.{boot_part, commit_part, routine_part, routine_parts, task_part, parts_of_task, task_parts, code_parts}
+use Rattle.linked_code.specs.Linked.{boot_part, commit_part, routine_part, routine_parts, parts_of_task, task_parts, code_parts}
 use Rattle.linked_code.specs.Parts.{CodePart}
 use Rattle.link_image.specs.Needs.{HasOwnPlaces}
 

@@ -1,9 +1,9 @@
 -- The words of the code, written part by part.
 use Rattle.link_image.proofs.Names.{◌≡◌, ◌∙◌, ℕ, zero, suc, ◌+◌, ◌-◌, ◌*◌, ◌/◌, ◌%◌, ◌<◌, ◌≤◌, List, [], ◌∷◌, ◌++◌, map, length, drop, refl, sym, ap, ap₂}
-use Rattle.link_image.proofs.Names.{subst, arith, append_assoc, length-append, get_or, All, at_drop_more, instructions, words_of, program_of, All-nil, All-cons}
-use Rattle.link_image.proofs.Names.{All-head, All-tail, reset_vector, repeated, MemoryMap, TaskPlace, end_of, AreInOrder, apart_of, even_of, in_order_end}
-use Rattle.link_image.proofs.Names.{filler, CodePart, part_end, chained, PartsInOrder, boot_part, commit_part, task_part, task_parts, linked, ProgramsFit}
-use Rattle.link_image.proofs.Names.{IsShort, Bool}
+use Rattle.link_image.proofs.Names.{subst, arith, append_assoc, length-append, get_or, All, at_drop_more, instructions, words_of, program_of}
+use Rattle.link_image.proofs.Names.{All-head, All-tail, reset_vector, repeated, MemoryMap, TaskPlace, end_of, apart_of, even_of}
+use Rattle.link_image.proofs.Names.{filler, CodePart, part_end, chained, PartsInOrder, boot_part, commit_part, task_parts, linked}
+use Rattle.link_image.proofs.Names.{Bool}
 use Rattle.msp_isa.specs.declared.instructions.Instr.{Instr}
 use Rattle.msp_isa.specs.Encoding.{encoding}
 use Rattle.code_forms.specs.Forms.{Form}
@@ -14,12 +14,9 @@ use Rattle.array_versions.specs.TaskPrograms.{TaskPrograms}
 use Rattle.array_versions.specs.View.{programs_of}
 use Rattle.array_versions.specs.declared.program.WordProgram.{WordProgram}
 use Rattle.array_versions.specs.declared.tasks.TaskPrograms.{TaskPrograms as Programs}
-use Rattle.std.specs.List.{flat_map}
-use Rattle.memory_map.specs.declared.place.Region.{Region}
 use Rattle.memory_map.specs.declared.place.RoutinePlace.{RoutinePlace}
-use Rattle.memory_map.specs.Places.{code_regions}
-use Rattle.linked_code.specs.Linked.{routine_part, routine_parts, parts_of_task, RoutinesFit}
-use Rattle.link_image.specs.Needs.{HasPlaces, TaskHasFewLocals, TaskIsEmitted, TasksAreEmitted}
+use Rattle.linked_code.specs.Linked.{routine_part, routine_parts, parts_of_task}
+use Rattle.link_image.specs.Needs.{HasPlaces, TaskIsEmitted, TasksAreEmitted}
 
 -- the words of forms
 abbrev pub words_in : List Form → List ℕ

@@ -1,5 +1,5 @@
 -- Each function that a task calls stands where the call says.
-use Rattle.std.proofs.Common.{◌≡◌, ◌%◌, ℕ, zero, suc, List, [], ◌∷◌, ◌++◌, map, Some, None, slice_get, subst, sym, ap, ◌∙◌}
+use Rattle.std.proofs.Common.{◌≡◌, ◌%◌, ℕ, zero, suc, List, [], ◌∷◌, ◌++◌, map, Some, slice_get, subst, sym, ap, ◌∙◌}
 use Rattle.std.specs.List.{flat_map}
 use Rattle.boot_runtime.specs.machine_effects.Machine.{Code}
 use Rattle.boot_runtime.specs.code_forms.Code.{Stands}

@@ -1,6 +1,6 @@
 -- The stretches of linked code under undo: from the boot through the recovery to the start of an attempt, and to the commit; from the start to a task's
 -- code; the commit.
-use Rattle.std.proofs.Common.{◌≡◌, ◌<◌, ◌≤◌, ◌+◌, ◌*◌, ℕ, zero, suc, List, [], ◌∷◌, length, map, get_or, refl, sym, ap, ◌∙◌, subst, arith}
+use Rattle.std.proofs.Common.{◌≡◌, ◌<◌, ◌≤◌, ◌+◌, ◌*◌, ℕ, zero, suc, List, [], ◌∷◌, length, map, refl, sym, subst, arith}
 use Rattle.std.specs.Prelude.{All}
 use Rattle.boot_runtime.specs.fram_board.Effects.{Effect}
 use Rattle.boot_runtime.specs.machine_effects.World.{fram_after}
@@ -27,7 +27,7 @@ use Rattle.undo_runtime.specs.Needs.{CanRecover, CanClose}
 use Rattle.undo_runtime.specs.Laws.{IsUndoBoot}
 use Rattle.undo_runtime.proofs.Interface.{undo_commit_is_found, recovery_is_made, undo_start_is_made, undo_commit_is_made}
 use Rattle.linked_code.specs.Linked.{boot_code, bytes_of_boot, start_by, attempt_start, commit_code, bytes_of_commit, StartsFit}
-use Rattle.linked_code.specs.Linked.{linked_code, CodeFits, ProgramsAreWhole}
+use Rattle.linked_code.specs.Linked.{CodeFits, ProgramsAreWhole}
 use Rattle.linked_code.proofs.Stretches.{programs_count, code, parts, is_linked}
 use Rattle.linked_code.proofs.Reached.{list_stands, tasks_are_reached}
 

@@ -1,5 +1,5 @@
 -- Programs that call nothing want no code but their own.
-use Rattle.std.proofs.Common.{◌≡◌, ◌+◌, ◌*◌, ◌≤◌, ℕ, Bool, false, Option, Some, None, arith}
+use Rattle.std.proofs.Common.{ℕ, Bool, Option, Some, None, arith}
 use Rattle.boot_runtime.specs.machine_effects.Machine.{Code}
 use Rattle.word_code.specs.array_versions.Program.{Step, Test, Program, number, truth, choose, repeat, call, holds, compares, both, either, fails, nothing}
 use Rattle.word_code.specs.array_versions.Program.{step}

@@ -8,9 +8,8 @@ use Rattle.boot_runtime.specs.machine_effects.Inputs.{Inputs, InputsAreWords}
 use Rattle.boot_runtime.specs.machine_effects.Machine.{Code}
 use Rattle.boot_runtime.specs.code_forms.Forms.{Core}
 use Rattle.boot_runtime.specs.code_forms.Code.{Stands}
-use Rattle.word_code.specs.array_versions.Program.{Step, Test, Program, truth, choose, repeat, call, holds, compares, both, either, fails, nothing, step}
+use Rattle.word_code.specs.array_versions.Program.{Program}
 use Rattle.word_code.specs.array_versions.TaskPrograms.{TaskPrograms, no_programs, program_at}
-use Rattle.boot_runtime.specs.memory_map.declared.place.RoutinePlace.{RoutinePlace}
 use Rattle.word_code.specs.array_versions.Behaviour.{behaviour, started}
 use Rattle.word_code.specs.Code.{entry_stack, code_of, code_spent}
 use Rattle.word_code.specs.Laws.{IsEntry, ComesTo, RoutinesStand}

@@ -1,5 +1,5 @@
 -- What holds of the code of a compiled source.
-use Rattle.std.specs.Prelude.{◌≡◌, ℕ, ◌+◌, ◌*◌, ◌≤◌, List, length, Some, slice_get}
+use Rattle.std.specs.Prelude.{◌≡◌, Bool, ℕ, ◌+◌, ◌*◌, ◌≤◌, List, length, Some, slice_get}
 use Rattle.boot_runtime.specs.machine_effects.Machine.{Code}
 use Rattle.boot_runtime.specs.code_forms.Code.{Stands, IsTidy}
 use Rattle.boot_runtime.specs.code_forms.Placed.{words_of, AreInstructions}

@@ -6,7 +6,6 @@ use Rattle.boot_runtime.specs.cost_bound.Summary.{Summary}
 use Rattle.boot_runtime.specs.cost_bound.Summaries.{summaries}
 use Rattle.boot_runtime.specs.cost_bound.Allowance.{CheckedProgram, CheckedTask, IsAllowed, own_words, scalars_of}
 use Rattle.boot_runtime.specs.war_analysis.PlanValue.{TaskPlanValue}
-use Rattle.word_code.specs.array_versions.Program.{Program}
 use Rattle.word_code.specs.array_versions.TaskPrograms.{TaskPrograms}
 use Rattle.word_code.specs.array_versions.Cost.{words_of}
 use Rattle.boot_runtime.specs.memory_map.declared.runtime.Logging.{Logging}

@@ -1,14 +1,9 @@
 -- The whole layout from its parts.
-use Rattle.std.proofs.Common.{◌≡◌, ℕ, ◌+◌, ◌*◌, ◌%◌, ◌<◌, ◌≤◌, Bool, true, false, List, [], length, map, refl, sym, ◌∙◌, ap, subst, arith, Option, Some, None}
+use Rattle.std.proofs.Common.{◌≡◌, ℕ, ◌+◌, ◌*◌, ◌%◌, ◌<◌, ◌≤◌, Bool, true, false, List, length, map, refl, sym, ◌∙◌, ap, subst, arith, Option, Some, None}
 use Rattle.std.specs.Prelude.{slice_get, slice_index_or, All, IsSomeAnd}
 use Rattle.std.specs.List.{flat_map}
 use Rattle.std.proofs.lemmas.List.Elements.{All-weaker}
 use Rattle.std.proofs.lemmas.Option.{slice_get_within}
-use Rattle.task_ast.specs.View.{task_of}
-use Rattle.task_ast.specs.declared.TaskDeclaration.{TaskDeclaration}
-use Rattle.task_ast.specs.declared.names.VariableName.{VariableName}
-use Rattle.task_ast.specs.declared.names.TaskName.{TaskName}
-use Rattle.task_ast.specs.declared.names.FunctionName.{FunctionName}
 use Rattle.task_check.specs.Placed.{IsPlaced as StandsWhereItMay}
 use Rattle.function_locals.specs.Events.{fits_events}
 use Rattle.task_ast.specs.Paths.{CheckedFunction}
