@@ -34,12 +34,12 @@ pub no_functions : (fs : List (FunctionDeclaration VariableName TaskName Functio
 no_functions [] = refl
 no_functions (f ∷ fs) = refl
 
-fit_anyway : (none : Bool) (rest : Bool) (used : Bool) → (none || not used) ≡ true → true ≡ (none || (not used || rest))
+pub fit_anyway : (none : Bool) (rest : Bool) (used : Bool) → (none || not used) ≡ true → true ≡ (none || (not used || rest))
 fit_anyway true rest used h = refl
 fit_anyway false rest true h = absurd (let clash : ⊥ = cc in clash)
 fit_anyway false rest false h = refl
 
-must_fit : (none : Bool) (rest : Bool) (used : Bool) → (none || not used) ≡ false → rest ≡ (none || (not used || rest))
+pub must_fit : (none : Bool) (rest : Bool) (used : Bool) → (none || not used) ≡ false → rest ≡ (none || (not used || rest))
 must_fit true rest used h = absurd (let clash : ⊥ = cc in clash)
 must_fit false rest true h = refl
 must_fit false rest false h = absurd (let clash : ⊥ = cc in clash)

@@ -1,26 +1,23 @@
 -- A task has a place for each function that it reaches, and the frames of these are within its stack.
-use Rattle.std.proofs.Common.{◌≡◌, ℕ, zero, suc, ◌+◌, ◌-◌, ◌*◌, ◌≤◌, ◌==◌, Bool, true, false, if◌then◌else◌, List, [], ◌∷◌, length, Some, None, refl, sym, ap}
+use Rattle.std.proofs.Common.{◌≡◌, ℕ, zero, suc, ◌+◌, ◌-◌, ◌*◌, ◌≤◌, ◌==◌, Bool, true, false, if◌then◌else◌, List, [], ◌∷◌, Some, None, refl, sym, ap}
 use Rattle.std.proofs.Common.{◌∙◌, subst, arith, eq-eqb}
 use Rattle.std.proofs.lemmas.Bool.{ne_eqb}
 use Rattle.std.specs.Prelude.{slice_get}
 use Rattle.std.proofs.lemmas.Bool.Decides.{nat_tests}
 use Rattle.std.proofs.lemmas.Option.{same_Some}
-use Rattle.task_ast.specs.Calls.{BlockCallsBelow, FunctionsCallBelow}
-use Rattle.task_ast.specs.Paths.{CheckedFunction}
-use Rattle.task_ast.proofs.Interface.{answer_of}
 use Rattle.cost_bound.specs.Summary.{Summary}
-use Rattle.cost_bound.specs.Summaries.{function_summary, function_summaries, summaries}
-use Rattle.cost_bound.specs.Counts.{CheckedBlock, block_calls, reaches_of}
+use Rattle.cost_bound.specs.Summaries.{summaries}
+use Rattle.cost_bound.specs.Counts.{CheckedBlock, reaches_of}
 use Rattle.cost_bound.specs.Frames.{frame_of, deepest, stack_of}
 use Rattle.cost_bound.specs.Allowance.{CheckedProgram}
 use Rattle.function_locals.specs.declared.locals.FunctionLocals.{FunctionLocals}
 use Rattle.function_locals.specs.Locals.{all_locals}
-use Rattle.function_locals.proofs.Interface.{depths_stand, locals_at, functions_at}
+use Rattle.function_locals.proofs.Interface.{depths_stand, functions_at}
 use Rattle.memory_map.specs.declared.place.RoutinePlace.{RoutinePlace}
 use Rattle.memory_map.specs.Spots.{routine_among}
-use Rattle.privatise.specs.Routines.{words_above, first_local, frame_of_locals, routine_room, routine_at, routines_from, task_routines, known_functions}
-use Rattle.privatise.specs.Routines.{Known, IsFunction, IsRoutineOf, frame_words, floor_words}
-use Rattle.privatise.specs.Laws.{IsPlacedIn, RoutinesStand, AllRoutinesStand, FramesStand, AllFramesStand}
+use Rattle.privatise.specs.Routines.{routine_room, routine_at, routines_from, task_routines, known_functions}
+use Rattle.privatise.specs.Routines.{Known, IsFunction, IsRoutineOf, frame_words}
+use Rattle.privatise.specs.Laws.{IsPlacedIn, AllRoutinesStand, AllFramesStand}
 use Rattle.privatise.proofs.Routines.{if_marked}
 
 module _ (stack : ℕ) (marks : ℕ → Bool) where

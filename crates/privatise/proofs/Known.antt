@@ -1,5 +1,5 @@
 -- A layout doesn't look at what 64 bits don't keep of functions.
-use Rattle.std.proofs.Common.{◌≡◌, ℕ, zero, suc, ◌+◌, ◌*◌, ◌≤◌, List, [], ◌∷◌, length, get_or, refl, sym, ap, ◌∙◌, map, subst, arith, Some, None}
+use Rattle.std.proofs.Common.{◌≡◌, ℕ, zero, suc, ◌+◌, ◌*◌, ◌≤◌, List, [], ◌∷◌, length, get_or, refl, ap, ◌∙◌, map, subst, arith, Some, None}
 use Rattle.std.specs.Prelude.{slice_get, All}
 use Rattle.std.proofs.lemmas.Option.{same_Some}
 use Rattle.std.proofs.lemmas.List.Elements.{All-nil, All-cons, All-head, All-tail}
@@ -7,11 +7,11 @@ use Rattle.std.specs.List.{flat_map}
 use Rattle.task_ast.specs.declared.SharedDeclaration.{SharedDeclaration}
 use Rattle.cost_bound.specs.Table.{capped}
 use Rattle.cost_bound.specs.Summary.{Summary}
-use Rattle.cost_bound.specs.Counts.{CheckedBlock, routine_words}
+use Rattle.cost_bound.specs.Counts.{CheckedBlock}
 use Rattle.cost_bound.specs.Frames.{stack_of}
 use Rattle.cost_bound.specs.Machine.{known_of, AreSame}
 use Rattle.cost_bound.specs.Summaries.{function_summary, summaries}
-use Rattle.cost_bound.specs.Allowance.{CheckedProgram, CheckedTask, greatest, own_words, stack_words, total}
+use Rattle.cost_bound.specs.Allowance.{CheckedProgram, CheckedTask, greatest, stack_words, total}
 use Rattle.cost_bound.proofs.Interface.{known_length, own_same, routines_same, scalars_same, stack_same, total_same}
 use Rattle.function_locals.specs.declared.locals.FunctionLocals.{FunctionLocals}
 use Rattle.function_locals.specs.Locals.{function_locals, all_locals}

@@ -9,13 +9,13 @@ use Rattle.cost_bound.specs.Counts.{CheckedBlock, all_called_from, reaches_of, r
 use Rattle.cost_bound.specs.Frames.{stack_of}
 use Rattle.cost_bound.specs.Machine.{summary_of, known_of, IsSame, AreSame}
 use Rattle.cost_bound.specs.declared.function_summaries.FunctionSummary.{FunctionSummary}
-use Rattle.cost_bound.proofs.Interface.{all_same, first_same, known_length, reaches_same, rest_same, routines_same, stack_same}
+use Rattle.cost_bound.proofs.Interface.{all_same, first_same, known_length, reaches_same, rest_same, stack_same}
 use Rattle.function_locals.specs.declared.locals.FunctionLocals.{FunctionLocals}
 use Rattle.function_locals.specs.Locals.{is_light}
 use Rattle.memory_map.specs.declared.place.RoutinePlace.{RoutinePlace}
 use Rattle.memory_map.specs.Places.{AreInOrder}
 use Rattle.memory_map.specs.address_space.Limits.{program_end}
-use Rattle.privatise.specs.Routines.{words_above, first_local, frame_address, frame_of_locals, routine_room, routine_at, routines_from, task_routines}
+use Rattle.privatise.specs.Routines.{words_above, frame_address, routine_room, routine_at, routines_from, task_routines}
 
 -- ---- as they are placed, one after another
 

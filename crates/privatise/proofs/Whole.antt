@@ -4,11 +4,6 @@ use Rattle.std.specs.Prelude.{slice_get, slice_index_or, All, IsSomeAnd}
 use Rattle.std.specs.List.{flat_map}
 use Rattle.std.proofs.lemmas.List.Elements.{All-weaker}
 use Rattle.std.proofs.lemmas.Option.{slice_get_within}
-use Rattle.task_ast.specs.View.{task_of}
-use Rattle.task_ast.specs.declared.TaskDeclaration.{TaskDeclaration}
-use Rattle.task_ast.specs.declared.names.VariableName.{VariableName}
-use Rattle.task_ast.specs.declared.names.TaskName.{TaskName}
-use Rattle.task_ast.specs.declared.names.FunctionName.{FunctionName}
 use Rattle.task_ast.specs.Calls.{BlockCallsBelow}
 use Rattle.task_ast.specs.Paths.{CheckedFunction}
 use Rattle.task_ast.specs.declared.Extent.{Extent}
