@@ -1,9 +1,8 @@
 -- The frames of all that a function calls are within its depth.
-use Rattle.std.proofs.Common.{◌≡◌, ℕ, zero, suc, ◌+◌, ◌<◌, ◌≤◌, ◌||◌, ◌==◌, Bool, true, false, List, [], ◌∷◌, ◌++◌, length, take, max, get_or, refl, sym, ap}
+use Rattle.std.proofs.Common.{◌≡◌, ℕ, zero, suc, ◌+◌, ◌<◌, ◌≤◌, ◌||◌, ◌==◌, Bool, true, false, List, [], ◌∷◌, length, take, refl, sym, ap}
 use Rattle.std.proofs.Common.{◌∙◌}
 use Rattle.std.proofs.Common.{subst, arith, if◌then◌else◌, Some, None, eqb-true}
 use Rattle.std.specs.Prelude.{slice_get}
-use Rattle.std.proofs.lemmas.List.{length_push}
 use Rattle.std.proofs.lemmas.Option.{same_Some, slice_get_within}
 use Rattle.task_ast.specs.Tree as t
 use Rattle.task_ast.specs.Paths.{CheckedExpression, CheckedValues, CheckedStatement, CheckedChoice, CheckedBlock, CheckedFunction}
@@ -13,7 +12,7 @@ use Rattle.cost_bound.specs.Summaries.{function_summary, function_summaries}
 use Rattle.cost_bound.specs.Counts.{expression_calls, values_call, statement_calls, choice_calls, block_calls, some_called_from, most_called_from, reaches_of}
 use Rattle.cost_bound.specs.Frames.{frame_of, deepest}
 use Rattle.task_ast.proofs.Interface.{answer_of, answers_length, answers_take}
-use Rattle.function_locals.specs.Laws.{DepthsStand, AllDepthsStand, ReachesGoOn}
+use Rattle.function_locals.specs.Laws.{AllDepthsStand, ReachesGoOn}
 
 -- ---- what a text calls is in front of it
 

@@ -1,16 +1,16 @@
 -- Each function has its locals behind those of all that it calls.
-use Rattle.std.proofs.Common.{◌≡◌, ℕ, zero, suc, ◌+◌, ◌<◌, ◌≤◌, Bool, true, false, List, [], ◌∷◌, ◌++◌, length, take, max, nat_le, get_or, refl, sym, ap, ◌∙◌}
+use Rattle.std.proofs.Common.{◌≡◌, ℕ, zero, suc, ◌+◌, ◌<◌, ◌≤◌, Bool, true, false, List, [], ◌∷◌, ◌++◌, take, refl, sym, ap, ◌∙◌}
 use Rattle.std.proofs.Common.{subst, arith, if◌then◌else◌, Some, None}
 use Rattle.std.specs.Prelude.{slice_get, All}
 use Rattle.std.proofs.lemmas.Bool.Decides.{nat_tests}
 use Rattle.std.proofs.lemmas.List.Elements.{All-nil, All-push, All-head, All-tail}
 use Rattle.std.proofs.lemmas.Option.{same_Some}
 use Rattle.task_ast.specs.Paths.{CheckedFunction}
-use Rattle.cost_bound.specs.Counts.{CheckedBlock, block_calls}
+use Rattle.cost_bound.specs.Counts.{block_calls}
 use Rattle.task_ast.proofs.Interface.{answer_of, answers_take, along_answers}
 use Rattle.function_locals.specs.declared.locals.FunctionLocals.{FunctionLocals}
-use Rattle.function_locals.specs.Locals.{is_light, register_end, greatest_end, base_of, function_locals, all_locals}
-use Rattle.function_locals.specs.Laws.{RegistersAreFew, LocalsStand, AllLocalsStand}
+use Rattle.function_locals.specs.Locals.{is_light, register_end, greatest_end, function_locals, all_locals}
+use Rattle.function_locals.specs.Laws.{RegistersAreFew, AllLocalsStand}
 
 -- ---- the greatest end
 

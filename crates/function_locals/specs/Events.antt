@@ -1,5 +1,5 @@
 -- Which sources fit where events are taken: there SP goes down by pushes alone while interrupts are open, from one place in each task on.
-use Rattle.std.specs.Prelude.{ℕ, ◌+◌, Bool, true, false, not, ◌&&◌, ◌||◌, nat_le, List, [], ◌∷◌}
+use Rattle.std.specs.Prelude.{◌+◌, Bool, true, false, not, ◌&&◌, ◌||◌, nat_le, List, [], ◌∷◌}
 use Rattle.task_ast.specs.Paths.{CheckedFunction, CheckedTask, CheckedProgram}
 use Rattle.cost_bound.specs.Summary.{Summary}
 use Rattle.cost_bound.specs.Summaries.{summaries}

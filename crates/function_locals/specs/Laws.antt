@@ -1,5 +1,5 @@
 -- What holds of the locals of functions and of their frames.
-use Rattle.std.specs.Prelude.{◌≡◌, ℕ, ◌+◌, ◌<◌, ◌≤◌, true, List, Some, slice_get}
+use Rattle.std.specs.Prelude.{◌≡◌, ℕ, ◌+◌, ◌<◌, ◌≤◌, true, List, length, Some, slice_get}
 use Rattle.task_ast.specs.Paths.{CheckedFunction}
 use Rattle.task_ast.specs.Calls.{BlockCallsBelow, FunctionsCallBelow}
 use Rattle.cost_bound.specs.Summary.{Summary}

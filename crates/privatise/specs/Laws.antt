@@ -6,7 +6,7 @@ use Rattle.cost_bound.specs.Summaries.{summaries}
 use Rattle.cost_bound.specs.Frames.{frame_of, stack_of}
 use Rattle.memory_map.specs.declared.place.RoutinePlace.{RoutinePlace}
 use Rattle.memory_map.specs.Spots.{routine_among}
-use Rattle.privatise.specs.Routines.{Known, IsFunction, IsRoutineOf, known_functions, frame_words, floor_words, words_above, task_routines}
+use Rattle.privatise.specs.Routines.{Known, IsFunction, IsRoutineOf, known_functions, floor_words, words_above, task_routines}
 use Rattle.cost_bound.specs.declared.allowance.Allow.{Allow}
 use Rattle.cost_bound.specs.Allowance.{CheckedProgram}
 use Rattle.war_analysis.specs.PlanValue.{TaskPlanValue}

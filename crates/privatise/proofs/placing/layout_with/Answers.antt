@@ -1,4 +1,4 @@
-use Rattle.std.proofs.Common.{◌≤◌, ◌+◌, ◌*◌, ◌∙◌, Bool, ap, arith, length, map, refl, subst, sym}
+use Rattle.std.proofs.Common.{◌≤◌, ◌∙◌, Bool, ap, arith, length, map, refl, subst, sym}
 use Rattle.std.proofs.lemmas.List.{length-map}
 use Rattle.task_ast.specs.View.{task_of, program_of}
 use Rattle.cost_bound.specs.Machine.{known_of}
@@ -11,7 +11,7 @@ use Rattle.memory_map.specs.View.{map_with}
 use Rattle.privatise.specs.Layouts.{IsLayout}
 use Rattle.privatise.proofs.Sums.{plain_small}
 use Rattle.privatise.proofs.Known.{greatest_all, locals_count, moved_tasks, stacks_low, total_room, total_small}
-use Rattle.privatise.proofs.Whole.{AreWritten, IsPlaced, even_starts, sizes_fit, room, code_small, code_room, scalars_placed, laid_out, whole}
+use Rattle.privatise.proofs.Whole.{AreWritten, even_starts, sizes_fit, room, code_small, code_room, scalars_placed, laid_out, whole}
 use Rattle.privatise.proofs.placing.layout_with.Goals as goal
 
 pub sizes_of-requires-clause-written : goal.sizes_of-requires-clause-written

@@ -1,6 +1,5 @@
-use Rattle.std.proofs.Common.{◌≤◌, ◌+◌, ◌*◌, ap, arith, subst, sym}
+use Rattle.std.proofs.Common.{arith}
 use Rattle.task_ast.specs.View.{block_view}
-use Rattle.memory_map.specs.address_space.Limits.{program_end}
 use Rattle.privatise.proofs.Routines.{marked_words, routines_are}
 use Rattle.privatise.proofs.routines.place_routines.Goals as goal
 

@@ -1,4 +1,4 @@
-use Rattle.std.proofs.Common.{◌≡◌, ◌≤◌, ◌∙◌, [], ap, arith, length, map}
+use Rattle.std.proofs.Common.{◌≤◌, ◌∙◌, [], ap, arith, length, map}
 use Rattle.task_ast.specs.View.{task_of, program_of}
 use Rattle.cost_bound.specs.Machine.{known_of}
 use Rattle.cost_bound.specs.Summaries.{summaries}
