@@ -345,17 +345,25 @@ module _ (v : ℕ) (known : List AccessSummary) (shared : List SharedDeclaration
         ⊎_elim (λ g. inr (expression_called e g)) (λ g. inl (written_is n g))
         (front_or_later (expression_sum known (summary (Shared v)) e).writes _ _ h)
     statement_reason (t.store n index e) u h =
+        let place = expression_sum known (summary (Shared v)) index in
+        let value = expression_sum known (summary (Shared v)) e in
+        let own : AccessSummary = if is_same (Shared v) n.variable then summary_write else summary_unit in
         ⊎_elim (λ g. inr (in_left (marks_of index) (marks_of e) (expression_called index g)))
         (λ g. ⊎_elim (λ i. inr (in_right (marks_of index) (marks_of e) (expression_called e i))) (λ i. inl (written_is n i))
-        (front_or_later (expression_sum known (summary (Shared v)) e).writes _ _ g))
-        (front_or_later (expression_sum known (summary (Shared v)) index).writes _ _ h)
+        (front_or_later value.writes value.falls_through own.writes g))
+        (front_or_later place.writes place.falls_through (value.writes || (value.falls_through && own.writes)) h)
     statement_reason (t.choose c) u h = choice_reason c u h
     statement_reason (t.loop n from tested below stepped body) u h =
         let Why : Type 0 = Reason (block_assigns v body) (marks_of_block body) in
+        let inner = block_sum known (summary (Shared v)) body in
+        let own : AccessSummary = if is_same (Shared v) n.variable then summary_write else summary_unit in
+        let turn : AccessSummary = summary_seq inner own in
+        let none = below - from == 0 in
+        let one = below - from == 1 in
         ⊎_elim (local_writes_none Why n u.0)
         (λ g. ⊎_elim (block_reason body u.1) (local_writes_none Why n u.0)
-        (front_or_later (block_sum known (summary (Shared v)) body).writes _ _ (one_turn (below - from == 0) (below - from == 1) _ g)))
-        (front_or_later (if is_same (Shared v) n.variable then summary_write else summary_unit).writes _ _ h)
+        (front_or_later inner.writes inner.falls_through own.writes (one_turn none one turn g)))
+        (front_or_later own.writes own.falls_through (if none then summary_unit else (if one then turn else summary_seq turn turn)).writes h)
     statement_reason (t.emit e) u h = inr (expression_called e h)
     statement_reason (t.give at e) u h =
         ⊎_elim (λ g. inr (expression_called e g)) (never (Reason false (marks_of e)))
