@@ -1,12 +1,12 @@
 -- Whether tasks fit doesn't look at what 64 bits don't keep of functions.
-use Rattle.std.proofs.Common.{◌≡◌, ℕ, ◌+◌, ◌≤◌, Bool, true, false, not, ◌&&◌, ◌||◌, ◌==◌, nat_le, List, [], ◌∷◌, length, map, refl, sym, ap, ◌∙◌, arith}
+use Rattle.std.proofs.Common.{◌≡◌, ◌+◌, ◌≤◌, Bool, ◌&&◌, ◌==◌, nat_le, List, [], ◌∷◌, length, map, refl, ap, ◌∙◌, arith}
 use Rattle.std.proofs.lemmas.Bool.Decides.{nat_tests}
 use Rattle.task_ast.specs.View.{function_of}
 use Rattle.task_ast.specs.declared.FunctionDeclaration.{FunctionDeclaration}
 use Rattle.task_ast.specs.declared.names.FunctionName.{FunctionName}
 use Rattle.task_ast.specs.declared.names.TaskName.{TaskName}
 use Rattle.task_ast.specs.declared.names.VariableName.{VariableName}
-use Rattle.task_ast.specs.Paths.{CheckedTask, CheckedProgram}
+use Rattle.task_ast.specs.Paths.{CheckedTask}
 use Rattle.cost_bound.specs.Summary.{Summary}
 use Rattle.cost_bound.specs.Counts.{CheckedBlock}
 use Rattle.cost_bound.specs.Frames.{block_locals, stack_of}
@@ -14,7 +14,7 @@ use Rattle.cost_bound.specs.Machine.{AreSame}
 use Rattle.cost_bound.proofs.Interface.{stack_same}
 use Rattle.function_locals.specs.declared.locals.FunctionLocals.{FunctionLocals}
 use Rattle.function_locals.specs.Locals.{base_of}
-use Rattle.function_locals.specs.Events.{all_light, has_none, task_fits, tasks_fit, fits_events}
+use Rattle.function_locals.specs.Events.{all_light, has_none, task_fits, tasks_fit}
 
 module _ (as' bs : List Summary) (few : length as' ≤ 64) (same : AreSame as' bs) (locals : List FunctionLocals) where
   task_fits_same : (b : CheckedBlock) → task_fits as' locals b ≡ task_fits bs locals b
@@ -34,12 +34,9 @@ pub no_functions : (fs : List (FunctionDeclaration VariableName TaskName Functio
 no_functions [] = refl
 no_functions (f ∷ fs) = refl
 
-pub fit_anyway : (none : Bool) (rest : Bool) (used : Bool) → (none || not used) ≡ true → true ≡ (none || (not used || rest))
-fit_anyway true rest used h = refl
-fit_anyway false rest true h = absurd (let clash : ⊥ = cc in clash)
-fit_anyway false rest false h = refl
-
-pub must_fit : (none : Bool) (rest : Bool) (used : Bool) → (none || not used) ≡ false → rest ≡ (none || (not used || rest))
-must_fit true rest used h = absurd (let clash : ⊥ = cc in clash)
-must_fit false rest true h = refl
-must_fit false rest false h = absurd (let clash : ⊥ = cc in clash)
+module _ (as' bs : List Summary) (few : length as' ≤ 64) (same : AreSame as' bs) where
+  pub all_fit : (ls kept : List FunctionLocals) (ts : List CheckedTask) (light fit : Bool) → kept ≡ ls → light ≡ all_light kept
+      → fit ≡ tasks_fit as' kept ts → (light && fit) ≡ (all_light ls && tasks_fit bs ls ts)
+  all_fit ls kept ts light fit e a b =
+      ap (λ c. c && fit) (a ∙ ap all_light e)
+      ∙ ap (λ c. all_light ls && c) (b ∙ tasks_fit_same as' bs few same kept ts ∙ ap (λ k. tasks_fit bs k ts) e)

@@ -28,7 +28,10 @@ abbrev pub has_none : List CheckedFunction → Bool
 has_none [] = true
 has_none (f ∷ fs) = false
 
+-- the functions and tasks of a source fit there
+abbrev pub fits_there : CheckedProgram → Bool
+fits_there p = all_light (all_locals p.functions) && tasks_fit (summaries p) (all_locals p.functions) p.tasks
+
 -- whether a source can be compiled as far as its stacks go: it has no functions, or takes no events, or its functions and tasks fit there
 abbrev pub fits_events : CheckedProgram → Bool
-fits_events p = has_none p.functions
-    || (not (uses_events p) || (all_light (all_locals p.functions) && tasks_fit (summaries p) (all_locals p.functions) p.tasks))
+fits_events p = has_none p.functions || (not (uses_events p) || fits_there p)

@@ -2,7 +2,7 @@
 ghost use Rattle.std.specs.Prelude.{◌≡◌, ◌≤◌, length, map};
 ghost use Rattle.task_ast.specs.View.{block_view, program_of, task_of};
 ghost use Rattle.cost_bound.specs.Machine.{known_of};
-ghost use Rattle.function_locals.specs.Events.{all_light, task_fits, tasks_fit, fits_events};
+ghost use Rattle.function_locals.specs.Events.{all_light, task_fits, tasks_fit, fits_there, fits_events};
 
 use crate::locals::{FunctionLocals, all_locals, base, is_light};
 use cost_bound::{FunctionSummary, block_locals, stack, summaries, uses_events};
@@ -58,16 +58,24 @@ fn tasks_fit(
     true
 }
 
+// Whether its functions and tasks fit where it takes events.
+fn fits_there(source: &CheckedSource) -> bool
+    requires few { length source.now.functions.items ≤ 64 }
+    ensures { result ≡ fits_there (program_of source.now) }
+{
+    let locals = all_locals(&source.functions);
+    let functions = summaries(&source.functions);
+    let light = all_light(&locals);
+    let fit = tasks_fit(&functions, &locals, &source.tasks);
+    light && fit
+}
+
 /// Whether a source can be compiled as far as its stacks go. One with functions that takes events can where no function has locals in RAM, and
 /// each task has its own above where its stack begins, and room below for the stacks of all that it calls.
+#[tactic(auto, using(crate::proofs::Fits::no_functions))]
 pub fn fits_events(source: &CheckedSource) -> bool
     requires few { length source.now.functions.items ≤ 64 }
     ensures { result ≡ fits_events (program_of source.now) }
 {
-    if source.functions.is_empty() || !uses_events(source) {
-        return true;
-    }
-    let locals = all_locals(&source.functions);
-    let functions = summaries(&source.functions);
-    all_light(&locals) && tasks_fit(&functions, &locals, &source.tasks)
+    source.functions.is_empty() || !uses_events(source) || fits_there(source)
 }
