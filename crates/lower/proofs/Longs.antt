@@ -1,6 +1,6 @@
 -- The programs of longs leave both words of their values, the high one on top.
 use Rattle.lower.proofs.Names.{◌≡◌, ℕ, ◌+◌, ◌-◌, ◌*◌, ◌/◌, ◌%◌, ◌==◌, Option, Some, None, Bool, true, false, not, nat_lt, refl, sym, ap, ◌∙◌, subst, arith}
-use Rattle.lower.proofs.Names.{ne_eqb, ⊎_elim, bit_or, bit_xor, List, [], ◌∷◌, ◌++◌, cases_eq, le_or_l, le_or_r, xor_self, xor_assoc, xor_zero_r, bit}
+use Rattle.lower.proofs.Names.{ne_eqb, ⊎_elim, bit_or, bit_xor, [], ◌∷◌, ◌++◌, cases_eq, le_or_l, le_or_r, xor_self, xor_assoc, xor_zero_r, bit}
 use Rattle.lower.proofs.Names.{WordType, Unsigned, Int, Long, BinaryOperator, ShiftOperator, IsOneWord, Evaluated, gives, made_of, holds, converted}
 use Rattle.lower.proofs.Names.{long_difference, long_binary_value, long_shift_value, truth_word, PlainOperation, Plain, plain_long, all_bits, stacked, Test}
 use Rattle.lower.proofs.Names.{Program, binary, long, holds_test, fails, joined, behind, WordState, Behaviour, pushed, behaviour, step_behaviour, with_stack}
