@@ -18,6 +18,7 @@ use Rattle.layout_facts.specs.Facts.{HasLayout}
 use Rattle.layout_facts.proofs.Interface.{places_are_apart, tasks_have_room, privates_are_theirs, privates_are_logged, tasks_match}
 use Rattle.whole_programs.specs.Laws.{IsLaidOutText}
 use Rattle.whole_programs.proofs.Interface.{tasks_are_whole, privates_are_few}
+use Rattle.war_analysis.proofs.Interface.{each_returns}
 use Rattle.task_attempts.proofs.Interface.{compiled_laws, stores_below_code, tasks_leave, tasks_list_few}
 use Rattle.compiled_model.specs.Parts.{task_program}
 use Rattle.privatise.specs.Layouts.{IsLayoutFor}
@@ -39,6 +40,7 @@ module _ (text : List ℕ) (p : CheckedProgram) (allow : Allow) (plans : List Ta
     logging = t.logging;
     layout = t.layout;
     few = privates_are_few text p allow plans l t;
+    returning = (let c = t.accepted.checks.checks in each_returns p c.named.placed c.paths.returns);
   }
 
   -- the program of a task is whole, and of words

@@ -19,6 +19,7 @@ use Rattle.array_versions.specs.Form.{IsWhole, OfWords}
 use Rattle.whole_programs.specs.Laws.{IsLaidOutText}
 use Rattle.checked_trees.proofs.Interface.{task_checked}
 use Rattle.whole_programs.proofs.Interface.{tasks_are_whole, privates_are_few}
+use Rattle.war_analysis.proofs.Interface.{each_returns}
 use Rattle.task_attempts.proofs.Names.{redo_seen, Redo, Undo, subst, arith, ◌∙◌, emits_of, body_of, scalar_seen, slice_get_within, State, private_words}
 use Rattle.std.proofs.lemmas.List.Elements.{All-weaker}
 use Rattle.std.specs.Prelude.{All}
@@ -142,6 +143,7 @@ module _ (text : List ℕ) (p : CheckedProgram) (allow : Allow) (plans : List Ta
     logging = laid.logging;
     layout = laid.layout;
     few = privates_are_few text p allow plans l laid;
+    returning = (let c = laid.accepted.checks.checks in each_returns p c.named.placed c.paths.returns);
   }
 
   -- ---- a task
