@@ -7,6 +7,7 @@ use Rattle.source_values.specs.Running.{IsRunnable}
 use Rattle.source_meaning.proofs.Interface.{accepted_texts_run}
 use Rattle.war_analysis.specs.PlanValue.{TaskPlanValue}
 use Rattle.array_versions.specs.Program.{Program}
+use Rattle.array_versions.specs.TaskPrograms.{TaskPrograms}
 use Rattle.array_versions.specs.Form.{FitsTheStack, OfWords}
 use Rattle.memory_map.specs.declared.runtime.Logging.{Logging}
 use Rattle.memory_map.specs.declared.runtime.Logging.TheVariants.{Redo, Undo}
@@ -50,7 +51,8 @@ module _ (text : List ℕ) (p : CheckedProgram) (allow : Allow) (plans : List Ta
       let count = t.layout.tasks.count in
       let own = element l.tasks k (omega (arith, below, count)) in
       let P : Program → Type 0 = λ q. FitsTheStack l.runtime.events q × OfWords q in
-      subst P (sym (program_at l p.tasks l.tasks k task.0 own.0 task.1 own.1)) (tasks_are_whole text p allow plans l t k task.0 own.0 task.1 own.1)
+      subst P (ap (λ (q : TaskPrograms). q.own) (sym (program_at p.functions l p.tasks l.tasks k task.0 own.0 task.1 own.1)))
+      (tasks_are_whole text p allow plans l t k task.0 own.0 task.1 own.1)
 
   few : PrivatesAreCounted p l
   few = privates_are_few text p allow plans l t

@@ -3,6 +3,7 @@ use Rattle.std.specs.Prelude.{◌≡◌, ◌↔◌, ℕ, ◌+◌, ◌*◌, ◌<�
 use Rattle.std.specs.Prelude.{slice_index, slice_index_or}
 use Rattle.task_ast.specs.declared.Extent.TheVariants as extent
 use Rattle.task_ast.specs.declared.SharedDeclaration.{SharedDeclaration}
+use Rattle.memory_map.specs.declared.place.RoutinePlace.{RoutinePlace}
 use Rattle.cost_bound.specs.Summaries.{summaries}
 use Rattle.cost_bound.specs.declared.allowance.Allow.{Allow}
 use Rattle.cost_bound.specs.Counts.{stores_of, assigns_of}
@@ -202,6 +203,14 @@ abbrev pub WrittenArraysHaveCopies : Type 0
 WrittenArraysHaveCopies = OfTasks (λ p l task layout.
     WellFormedBlock p.shared task.body → All (λ f. WellFormedBlock p.shared f.body) p.functions
     → HasCopies p.shared (task_places p l task layout) (some_path_writes p.functions task.body))
+
+-- the numbers of its locals, and of those of each function that it reaches, are words
+pub record LowLocals (layout : TaskPlace) : Type 0 where
+  pub own : layout.first + 256 ≤ 65536
+  pub routines : All (λ (r : RoutinePlace). r.first + 256 ≤ 65536) layout.routines
+
+abbrev pub LocalsAreLow : Type 0
+LocalsAreLow = OfTasks (λ p l task layout. LowLocals layout)
 
 -- a task writes the words of a scalar in place exactly where some path of it writes it, and it isn't private there
 abbrev pub InPlaceByPaths : Type 0
