@@ -1,6 +1,5 @@
 -- The numbers of the locals of a task, and of the functions that it reaches, are words.
-use Rattle.layout_facts.proofs.Names.{◌≡◌, ℕ, ◌+◌, ◌≤◌, Bool, true, false, if◌then◌else◌, All, Some, slice_get, arith, ap, subst, sym, Allow, CheckedProgram, CheckedTask}
-use Rattle.layout_facts.proofs.Names.{TaskPlanValue, MemoryMap, TaskPlace, HasLayout, IsTaskAt}
+use Rattle.layout_facts.proofs.Names.{◌≡◌, ℕ, ◌+◌, ◌≤◌, Bool, true, false, if◌then◌else◌, All, Some, slice_get, arith, subst, sym, TaskPlanValue}
 use Rattle.layout_facts.specs.Laws.{LocalsAreLow}
 use Rattle.cost_bound.specs.Summaries.{summaries}
 use Rattle.cost_bound.specs.Frames.{stack_of}

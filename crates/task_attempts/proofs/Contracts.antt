@@ -225,7 +225,7 @@ module _ (logging : Logging) (role : Role) (run : Attempting) (keeps_to : Keeps 
   -- ---- the program
 
   abbrev program : Program
-  program = lowered_block here code
+  program = own_program p l i.task own
 
   -- the answers that it tells
   abbrev told : List ℕ

@@ -1,5 +1,5 @@
 -- A started attempt of a task, under each runtime, and what the laws on it speak of.
-use Rattle.task_attempts.proofs.Names.{◌≡◌, ℕ, ◌+◌, ◌*◌, ◌<◌, [], length, World, Inputs, CheckedBlock, CheckedProgram, State, task_entries, privates_in}
+use Rattle.task_attempts.proofs.Names.{◌≡◌, ℕ, ◌+◌, ◌*◌, ◌<◌, length, World, Inputs, CheckedBlock, CheckedProgram, State, task_entries, privates_in}
 use Rattle.task_attempts.proofs.Names.{ProgramPlaces, StateView, StartedAt, UndecidedAt, Room, program_places, state_view, Version, EmitCount, MemoryMap}
 use Rattle.task_attempts.proofs.Names.{TaskPlace}
 use Rattle.task_attempts.proofs.Names.{word_place, Places, task_places, task_room, stores_of, arith, ap, redo_seen, Undo}

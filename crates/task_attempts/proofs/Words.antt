@@ -1,5 +1,6 @@
 -- The words of the variables as a task has them.
 use Rattle.task_attempts.proofs.Names.{◌≡◌, ℕ, ◌+◌, ◌*◌, ◌==◌, ◌<◌, length, Option, Some, None, Bool, true, false, refl, sym, ap, ◌∙◌, subst, ⊎_elim, eq-eqb}
+use Rattle.std.specs.Prelude.{List}
 use Rattle.task_ast.specs.Paths.{CheckedFunction}
 use Rattle.task_attempts.proofs.Names.{ne_eqb, if◌then◌else◌, cases_eq, cases_Bool, Contains, slice_get, CheckedBlock, some_path_writes, map_seen, scalar_seen}
 use Rattle.task_attempts.proofs.Names.{array_seen, array_read, is_private_in, word_of_seen, own_word, own_by, IsRedo, IsUndo, Logging, Redo, Undo, Version}
