@@ -10,7 +10,7 @@ use Rattle.task_ast.specs.declared.names.Variable.{Variable}
 use Rattle.task_ast.specs.declared.names.Variable.TheVariants.{Shared, Local}
 use Rattle.task_ast.specs.declared.names.VariableName.{VariableName}
 use Rattle.task_ast.specs.Tree as t
-use Rattle.task_ast.specs.Tree.{Expression, Values}
+use Rattle.task_ast.specs.Tree.{Expression}
 use Rattle.task_ast.specs.Paths.{CheckedFunction, CheckedProgram, CheckedTask, CheckedExpression, CheckedValues, CheckedStatement, CheckedChoice}
 use Rattle.task_ast.specs.Paths.{CheckedBlock, CheckedParameter}
 use Rattle.path_checks.specs.Firsts.{SomeFunction, SomeTask}
@@ -44,7 +44,7 @@ use Rattle.checked_trees.proofs.Declared.{Functions, program_declared}
 use Rattle.checked_trees.proofs.Grammar.{ProgramFits, program_fits, program_typed}
 use Rattle.checked_trees.proofs.Fits.{IsOfWords, AreOfWords, StatementFits, ChoiceFits, BlockFits, FunctionFits}
 use Rattle.checked_trees.proofs.Scopes.{program_closed}
-use Rattle.checked_trees.proofs.Walk.{array, named, called, operands, use_of, locals_from, uses_from, AreUsed, AreClean, names_used}
+use Rattle.checked_trees.proofs.Walk.{array, named, operands, use_of, locals_from, uses_from, AreUsed, AreClean, names_used}
 use Rattle.checked_trees.proofs.Widths.{IsAsWide, word_is_as_wide, one_word_of, joined_as_wide, unary_as_wide, binary_as_wide, not_refused}
 
 locals_append : (n : ℕ) (xs ys : List Occurrence) → locals_from n (xs ++ ys) ≡ locals_from (locals_from n ys) xs

@@ -1,6 +1,6 @@
 -- Paths: each part of a task or a function has one, where the functions that it calls are taken as ones that return at once; and what a path leaves
 -- unassigned.
-use Rattle.std.proofs.Common.{◌≡◌, ◌<◌, ◌≤◌, ℕ, zero, suc, ◌-◌, Bool, true, false, not, nat_lt, List, [], ◌∷◌, ◌++◌, length, map, Some, None, refl, sym, ap}
+use Rattle.std.proofs.Common.{◌≡◌, ◌≤◌, ℕ, zero, suc, ◌-◌, Bool, true, false, not, nat_lt, List, [], ◌∷◌, ◌++◌, length, map, Some, None, refl, sym, ap}
 use Rattle.std.proofs.Common.{subst, ◌∙◌, if◌then◌else◌}
 use Rattle.std.proofs.lemmas.List.{append-nil}
 use Rattle.alp_text.specs.declared.lines.Span.{Span}

@@ -5,14 +5,14 @@ use Rattle.std.proofs.Common.{⊎_elim, inl, inr, subst, eq-eqb, arith, if◌the
 use Rattle.std.specs.Prelude.{All, slice_index_or, ◌⊎◌}
 use Rattle.std.proofs.lemmas.List.Elements.{All-nil, All-head, All-tail}
 use Rattle.std.proofs.lemmas.Bool.{or_cases, or_left, or_right, and_parts, and_from, eqb-true}
-use Rattle.task_ast.specs.Answers.{answers_from, answers}
+use Rattle.task_ast.specs.Answers.{answers_from}
 use Rattle.task_ast.specs.declared.SharedDeclaration.{SharedDeclaration}
 use Rattle.task_ast.specs.declared.names.Variable.{Variable}
 use Rattle.task_ast.specs.declared.names.Variable.TheVariants.{Shared, Local}
 use Rattle.task_ast.specs.declared.names.VariableName.{VariableName}
 use Rattle.task_ast.specs.Tree as t
 use Rattle.task_ast.specs.Paths.{CheckedExpression, CheckedValues, CheckedStatement, CheckedChoice, CheckedBlock, CheckedFunction}
-use Rattle.path_sums.specs.Sums.{expression_sum, values_sum, call_sum, statement_sum, choice_sum, block_sum, function_sum, call_sums}
+use Rattle.path_sums.specs.Sums.{expression_sum, values_sum, statement_sum, choice_sum, block_sum, function_sum, call_sums}
 use Rattle.path_sums.specs.Access.{is_same, summary, summary_unit, summary_read, summary_write, summary_seq}
 use Rattle.path_sums.specs.Reaches.{statement_falls_through, choice_falls_through, block_falls_through}
 use Rattle.path_sums.specs.declared.access.AccessSummary.{AccessSummary}
@@ -449,7 +449,6 @@ module _ (v : ℕ) (shared : List SharedDeclaration) where
       → (block_sum (call_sums (summary (Shared v)) fs) (summary (Shared v)) b).writes ≡ true → assigns_of (function_summaries fs) v b ≡ true
   block_assigned fs formed b own w =
       text_assigned (call_sums (summary (Shared v)) fs) (function_summaries fs) (all_assign [] [] tt fs formed) b own w
-
 
 -- of no functions
 pub no_bodies : (shared : List SharedDeclaration) → All (λ (f : CheckedFunction). WellFormedBlock shared f.body) []

@@ -265,8 +265,13 @@ mutual
             (λ hs. steps_reach z bs otherwise fits [] middle v y q other_known hs (dressed z middle v y j) (flush_most (waiting_after [] otherwise) + next));
       } in
       let test_spares = spared_so bs (λ m. StepSpares m (choose t taken otherwise)) (λ m. TestSpares m t) (λ m q. q.0) known.spares in
-      let test_known : KnownTest z bs t = record { of_words = known.of_words.0; owned = known.owned.0; formed = known.formed.0; routines = known.routines.0;
-        spares = test_spares } in
+      let test_known : KnownTest z bs t = record {
+        of_words = known.of_words.0;
+        owned = known.owned.0;
+        formed = known.formed.0;
+        routines = known.routines.0;
+        spares = test_spares;
+      } in
       let there : end ≡ at + forms_bytes (a ++ (first ++ other)) = omega (arith, forms_bytes-append a (first ++ other), forms_bytes-append first other) in
       subst (λ p. Reaches z next (StandsFor z p) most x done.effects done.end) there
       (test_reach z bs next Q t false (size first) at ways w x r test_known
@@ -364,7 +369,7 @@ mutual
       leaf_reach z bs p fits c next pc Q (way_by_top ways.held.does ways.failed.does) w u (steps_most bs [] p c)
       (steps_reach z bs p fits [] pc w u r known (stands_front z.code pc a last k.stands) (dressed z pc w u i) c)
       (ready_on z.gives bs fits (behaviour p w).end (well (bounds_of z) z.gives z.room p known.formed fits r.place w r.fit r.matches)
-        (words p w known.of_words r.words_in)
+      (words p w known.of_words r.words_in)
       (bounded_on bs p w known.spares r.bounded))
       (λ x v q j. by_top z bs next Q ways when d os (pc + forms_bytes a) v x v.stack
       (forked_behind z when d pc a last ways.held.at ways.failed.at k) q refl j)
@@ -377,7 +382,7 @@ mutual
       leaf_reach z bs p fits c next pc Q (way_by_two e ways.held.does ways.failed.does) w u (steps_most bs [] p c)
       (steps_reach z bs p fits [] pc w u r known (stands_front z.code pc a last k.stands) (dressed z pc w u i) c)
       (ready_on z.gives bs fits (behaviour p w).end (well (bounds_of z) z.gives z.room p known.formed fits r.place w r.fit r.matches)
-        (words p w known.of_words r.words_in)
+      (words p w known.of_words r.words_in)
       (bounded_on bs p w known.spares r.bounded))
       (λ x v q j. by_two z bs next Q ways when d e os (pc + forms_bytes a) v x v.stack
       (forked_behind z when d pc a last ways.held.at ways.failed.at k) q refl j)
@@ -465,7 +470,7 @@ mutual
       b.effects b.end (behaviour more)
       (step_reach z bs first (EachWay z.room more fits) os pc w u r first_known (stands_front z.code pc a rest h) d c)
       (ready_on z.gives bs (EachWay z.room more fits) b.end
-        (step_well (bounds_of z) z.gives z.room first first_known.formed (EachWay z.room more fits) r.place w r.fit r.matches)
+      (step_well (bounds_of z) z.gives z.room first first_known.formed (EachWay z.room more fits) r.place w r.fit r.matches)
       (words_step first w first_known.of_words r.words_in) (step_bounded bs first w first_known.spares r.bounded))
       (λ t v q j. steps_reach z bs more fits mid pc' v t q more_known (stands_back z.code pc a rest h) j next))
 

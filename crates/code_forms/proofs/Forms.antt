@@ -650,7 +650,7 @@ skips_by b u c h =
 -- CALL, behind its operand
 call_half : (a : ℕ) (u : Core) → IsCodeAddress u.pc
     → call_effect machine_bus (source_operand (Number a)) (regs_in u u.pc) (begun (Number a) u)
-      ≡ called machine_bus a (regs_in u (u.pc + 4)) (inside u.sp None u)
+    ≡ called machine_bus a (regs_in u (u.pc + 4)) (inside u.sp None u)
 call_half a u c =
     let even = c.even in let high = c.high in
     let l = from_length (Number a) in

@@ -90,10 +90,10 @@ SaysSource text = (program : CheckedProgram) × IsSourceText text program
 abbrev pub SaysSourceWithoutEvents : List ℕ → Type 0
 SaysSourceWithoutEvents text = SaysSource text × HasNoEvent text
 
--- the text is accepted as this program without functions: one that is compiled
+-- the text is accepted as this program, which is compiled
 abbrev pub IsPlainText : List ℕ → CheckedProgram → Type 0
 IsPlainText text program = IsSourceText text program × IsPlain program
 
--- a text is a source without functions
+-- a text is a source that is compiled
 abbrev pub SaysPlainSource : List ℕ → Type 0
 SaysPlainSource text = (program : CheckedProgram) × IsPlainText text program

@@ -18,14 +18,14 @@ use Rattle.array_versions.specs.Behaviour.{WordState, End, GoesOn, Jumps, Gives,
 use Rattle.array_versions.specs.Cost.{spent}
 use Rattle.word_code.specs.Code.{stack_cycles}
 use Rattle.privatise.specs.Layouts.{IsLayoutFor}
-use Rattle.lower.proofs.Interface.{program_at, blocks_keep_to_cycles}
+use Rattle.lower.proofs.Interface.{program_at, blocks_keep_to_cycles, routines_keep}
 use Rattle.runtime_effects.proofs.Interface.{scalar_pairs_count}
 use Rattle.memory_map.proofs.Interface.{privates_few}
 use Rattle.boot_runtime.specs.Entries.{entry_of, task_entries}
 use Rattle.boot_runtime.specs.Listing.{privates_in, entry_at, start_cycles}
 use Rattle.lower.specs.Seen.{map_seen, task_seen}
 use Rattle.lower.proofs.Interface.{seen_count}
-use Rattle.lower.specs.Lowered.{lowered_task}
+use Rattle.lower.specs.Lowered.{lowered_task, routine_bodies, task_places}
 use Rattle.lower.specs.Sizes.{entry_cycles}
 use Rattle.commit_runtime.specs.Listing.{commit_cycles}
 use Rattle.runtime_code.proofs.Interface.{if_any_most, with_events_most}
@@ -76,8 +76,8 @@ module _ (logging : Logging) (p : CheckedProgram) (allow : Allow) (plans : List 
   body_is : task_body p t ≡ task.body
   body_is = ap body_of at_task
 
-  program_is : task_program p l t ≡ lowered_task l own task.body
-  program_is = program_at l p.tasks l.tasks t task own at_task at_own
+  program_is : task_program p l t ≡ (lowered_task p.functions l own task.body).own
+  program_is = ap (λ q. q.own) (program_at p.functions l p.tasks l.tasks t task own at_task at_own)
 
   mine : entry_at (task_entries l) t ≡ entry_of own
   mine =
@@ -98,10 +98,12 @@ module _ (logging : Logging) (p : CheckedProgram) (allow : Allow) (plans : List 
       ≤ block_price (summaries p) cycles_column (task_body p t) + 26 * length (privates_in (task_entries l) t)
   body_costs =
       let w : WordState = started fram inputs in
-      let q : Program = lowered_task l own task.body in
+      let q : Program = (lowered_task p.functions l own task.body).own in
       let seen = task_seen l.runtime.logging own in
-      let a = blocks_keep_to_cycles (summaries p) (places_of (map_seen task.body l) seen) task.body w in
-      let b = entries_cost (map_seen task.body l) seen (behaviour q w).end in
+      let places = task_places p.functions l own task.body in
+      let cheap = routines_keep places p.functions layout.placed.functions in
+      let a = blocks_keep_to_cycles (summaries p) (routine_bodies places p.functions) cheap places task.body w in
+      let b = entries_cost (map_seen p.functions task.body l) seen (behaviour q w).end in
       let no_more = seen_count l.runtime.logging own in
       let c : spent (task_program p l t) w ≡ spent q w = ap (λ y. spent y w) program_is in
       let d : block_price (summaries p) cycles_column (task_body p t) ≡ block_price (summaries p) cycles_column task.body =

@@ -18,7 +18,7 @@ use Rattle.lower.proofs.Interface.{program_at}
 use Rattle.layout_facts.specs.Facts.{HasLayout}
 use Rattle.layout_facts.proofs.Interface.{places_are_apart, tasks_have_room, privates_are_theirs, privates_are_logged, tasks_match}
 use Rattle.whole_programs.specs.Laws.{IsLaidOutText}
-use Rattle.whole_programs.proofs.Interface.{tasks_are_whole, privates_are_few}
+use Rattle.whole_programs.proofs.Interface.{tasks_are_whole, privates_are_few, calls_are_theirs}
 use Rattle.war_analysis.proofs.Interface.{each_returns}
 use Rattle.task_attempts.proofs.Interface.{compiled_laws, stores_below_code, tasks_leave, tasks_list_few}
 use Rattle.compiled_model.specs.Parts.{task_program}
@@ -78,7 +78,8 @@ module _ (text : List ℕ) (p : CheckedProgram) (allow : Allow) (plans : List Ta
   code : CanRun p l
   code = record {
     fits = sources_have_room t.logging p allow plans l t.accepted.allowed t.layout t.plan.count
-        (λ k task own at own_at. (tasks_match p allow plans l laid k task own (record { is_task = at; is_layout = own_at })).count);
+        (λ k task own at own_at. (tasks_match p allow plans l laid k task own (record { is_task = at; is_layout = own_at })).count)
+        (calls_are_theirs text p allow plans l t);
     count = t.layout.tasks.count;
     apart = places_are_apart p allow plans l laid;
     room = tasks_have_room p allow plans l laid;

@@ -8,5 +8,6 @@ mod NeedsModel
 mod Needs
 mod Raises
 mod Leaves
+mod Words
 mod Fits
 pub mod Interface

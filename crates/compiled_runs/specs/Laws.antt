@@ -1,21 +1,21 @@
 -- What the code of a compiled source owes the crash theorem, and the board's runs.
-use Rattle.std.specs.Prelude.{◌≡◌, ◌<◌, ◌+◌, ℕ, List, length}
+use Rattle.std.specs.Prelude.{◌≡◌, ◌<◌, ◌+◌, ℕ, List, Some, length, slice_get}
 use Rattle.machine_effects.specs.World.{World}
 use Rattle.machine_effects.specs.Going.{At, going}
 use Rattle.machine_effects.specs.Machine.{MachineBoard}
 use Rattle.code_forms.specs.Placed.{words_of}
 use Rattle.cost_bound.specs.declared.allowance.Allow.{Allow}
-use Rattle.cost_bound.specs.Allowance.{IsAllowed}
+use Rattle.cost_bound.specs.Allowance.{CheckedTask, IsAllowed}
 use Rattle.war_analysis.specs.PlanValue.{TaskPlanValue}
 use Rattle.source_values.specs.Runs.{CheckedProgram, State}
 use Rattle.memory_map.specs.declared.runtime.Logging.{Logging}
 use Rattle.memory_map.specs.declared.runtime.Logging.TheVariants.{Redo, Undo}
 use Rattle.memory_map.specs.declared.words.RuntimeWord.TheVariants.{Gate, Version}
-use Rattle.memory_map.specs.MemoryMap.{MemoryMap, word_place, with_events}
+use Rattle.memory_map.specs.MemoryMap.{MemoryMap, TaskPlace, word_place, with_events}
 use Rattle.privatise.specs.Layouts.{IsLayoutFor}
 use Rattle.boot_runtime.specs.Entries.{task_entries}
 use Rattle.boot_runtime.specs.Listing.{privates_in}
-use Rattle.lower.specs.Lowered.{lowered}
+use Rattle.lower.specs.Lowered.{lowered, lowered_task}
 use Rattle.crash_rules.specs.Model.{ModelLaws}
 use Rattle.crash_rules.specs.History.{first_history}
 use Rattle.crash_rules.specs.Runs.{ProgramLaws}
@@ -23,7 +23,7 @@ use Rattle.crash_rules.specs.Laws.{Origin, Begins}
 use Rattle.run_charges.specs.Fronts.{IsPlacedProgram, AlwaysLeaves}
 use Rattle.memory_map.specs.Laws.{AreApart}
 use Rattle.stands_for.specs.Layout.{HaveRoom, ArePrivate}
-use Rattle.linked_code.specs.Linked.{CodeFits}
+use Rattle.linked_code.specs.Linked.{CallsAmong, CodeFits}
 use Rattle.linked_code.specs.Rooms.{PrivatesAreCounted}
 use Rattle.compiled_model.specs.Places.{program_places}
 use Rattle.undo_states.specs.States.{AreLogged}
@@ -90,8 +90,13 @@ RunsLeaveTheCode = (p : CheckedProgram) (l : MemoryMap) → CanRun p l → Model
     → AlwaysLeaves (compiled_program p l) l.boot.address (length (words_of (source_code p l))) (compiled_model p l).marks s
     (first_history (compiled_model p l).marks x)
 
+-- each call of a task, and of what it calls, is of the code of one of the functions that it reaches, and has its program
+abbrev pub CallsAreAmong : CheckedProgram → MemoryMap → Type 0
+CallsAreAmong p l = (k : ℕ) (task : CheckedTask) (t : TaskPlace) → slice_get p.tasks k ≡ Some task → slice_get l.tasks k ≡ Some t
+    → CallsAmong t.routines (lowered_task p.functions l t task.body).routines (lowered_task p.functions l t task.body).own
+
 -- the layout of a source that costs no more than it may has room for its code, whichever its runtime is
 abbrev pub SourcesHaveRoom : Type 0
 SourcesHaveRoom = (logging : Logging) (p : CheckedProgram) (allow : Allow) (plans : List TaskPlanValue) (l : MemoryMap) → IsAllowed p allow
     → IsLayoutFor logging p allow plans l
-    → length plans ≡ length p.tasks → PrivatesAreCounted p l → CodeFits l (lowered l p)
+    → length plans ≡ length p.tasks → PrivatesAreCounted p l → CallsAreAmong p l → CodeFits l (lowered l p)

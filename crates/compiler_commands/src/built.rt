@@ -34,7 +34,7 @@ fn image_is_told(logging: Logging, source: &Accepted, image: &Image)
     images_answer_in_order();
 }
 
-/// The image of a source without functions for a runtime that logs so, and its text; `Memory` where memory was refused.
+/// The image of a source that is compiled for a runtime that logs so, and its text; `Memory` where memory was refused.
 pub fn built_of<'t>(
     alloc: Global,
     logging: Logging,

@@ -444,11 +444,7 @@ fn call_cycles(frame: Option<u16>, count: u16) -> u64
 
 // A call, whose function's body isn't a part of the step; its word waits behind it.
 #[tactic(auto, using(crate::proofs::Priced::cut_sum))]
-fn call_ways(
-    frame: Option<u16>,
-    count: u16,
-    waiting: &mut Vec<Waiting>,
-) -> Result<Ways, AllocError>
+fn call_ways(frame: Option<u16>, count: u16, waiting: &mut Vec<Waiting>) -> Result<Ways, AllocError>
     ensures ways { IfOk result (λ w. ways_of w ≡ straight_cost (call_most frame count waiting.old.items)) }
     ensures waiting { OnOk result (waiting.new.items ≡ R4 ∷ []) }
 {

@@ -1,7 +1,7 @@
 -- Answers about migrations exclude one another; and what an answer is made of.
 use Rattle.std.proofs.Common.{◌≡◌, ◌<◌, ◌≤◌, ◌+◌, ◌⊎◌, inl, inr, ◌∙◌, ℕ, zero, suc, Bool, true, false, List, [], ◌∷◌, length, map, Option, Some, None, refl}
 use Rattle.std.proofs.Common.{sym, ap, subst, arith, true≢false}
-use Rattle.std.specs.Prelude.{All, IsTrue, ◌↔◌, nat_lt, slice_get}
+use Rattle.std.specs.Prelude.{IsTrue, ◌↔◌, nat_lt, slice_get}
 use Rattle.std.proofs.lemmas.Bool.{cases_lt, ltb-true}
 use Rattle.std.proofs.lemmas.List.{length-map}
 use Rattle.std.proofs.lemmas.Option.{get_or_from_slice_get, slice_get_within}
@@ -31,7 +31,7 @@ use Rattle.fram_state.specs.Runtime.{word_in}
 use Rattle.fram_state.specs.Sound.{keeps}
 use Rattle.fram_state.specs.Suits.{line_of, declared_line, HasLinesOf, Suits}
 use Rattle.fram_state.specs.Kept.{number_of}
-use Rattle.fram_state.specs.Migrated.{EditionValue, IsStateOf, current, current_task, next_edition_of, GoesOnAt, IsUnsettled, HasNoTask, IsFirstUnsettled}
+use Rattle.fram_state.specs.Migrated.{EditionValue, IsStateOf, current, current_task, next_edition_of, IsUnsettled}
 use Rattle.fram_state.specs.Migrated.{CanMigrate, IsFault, edition_with}
 use Rattle.fram_state.specs.Editions.{IsEdition, CallsReturn}
 use Rattle.fram_state.proofs.Declared.{planned_count, same_count}

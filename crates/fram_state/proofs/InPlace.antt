@@ -1,5 +1,5 @@
 -- What a task writes in place, by what is found of its body.
-use Rattle.std.proofs.Common.{◌≡◌, ◌<◌, ◌↔◌, ◌&&◌, IsTrue, ℕ, Bool, true, false, not, List, length, map, Some, refl, sym, ap, ◌∙◌, subst, true≢false}
+use Rattle.std.proofs.Common.{◌≡◌, ◌<◌, ◌↔◌, IsTrue, ℕ, Bool, true, false, not, List, length, map, Some, refl, sym, ap, ◌∙◌, subst, true≢false}
 use Rattle.std.specs.Prelude.{slice_get, get_or}
 use Rattle.std.specs.Option.{option_map}
 use Rattle.std.proofs.lemmas.Option.{slice_get-map, slice_get_read}
@@ -14,7 +14,7 @@ use Rattle.task_ast.specs.Calls.{BlockCallsBelow}
 use Rattle.task_ast.specs.Paths.{CheckedBlock, CheckedFunction}
 use Rattle.task_ast.specs.View.{block_view, task_of, program_of}
 use Rattle.war_analysis.specs.path_sums.Access.{writes, SomePath, IsPrivate}
-use Rattle.source_report.specs.source_values.Runs.{CheckedProgram, body_of, task_body}
+use Rattle.source_report.specs.source_values.Runs.{body_of, task_body}
 use Rattle.fram_state.specs.Editions.{CallsReturn}
 use Rattle.fram_state.specs.Kept.{IsInPlace}
 use Rattle.fram_state.proofs.Answered.{calls_known_at}
@@ -48,9 +48,10 @@ module _ (fs : List CheckedFunction) (code body : CheckedBlock) (n : ℕ) (writt
 
   pub where_written : written ≡ true → IsTrue (not private) ↔ IsInPlace fs code n
   where_written known =
-      subst (λ b. IsTrue (not private) ↔ IsInPlace fs b n) same
-      (λ h. record { written = writes_it.0 known; not_private = λ p. not_both private (is_private.1 p) h },
-      λ i. not_true private (λ h. i.not_private (is_private.0 h)))
+      subst (λ b. IsTrue (not private) ↔ IsInPlace fs b n) same (
+        λ h. record { written = writes_it.0 known; not_private = λ p. not_both private (is_private.1 p) h },
+        λ i. not_true private (λ h. i.not_private (is_private.0 h)),
+      )
 
   pub where_not_written : written ≡ false → IsTrue written ↔ IsInPlace fs code n
   where_not_written known =

@@ -2,6 +2,7 @@
 use Rattle.image_laws.proofs.Names.{◌≡◌, ◌≢◌, ℕ, ◌+◌, ◌-◌, ◌*◌, ◌/◌, ◌%◌, ◌<◌, ◌≤◌, ◌==◌, ◌&&◌, if◌then◌else◌, cond, ne_eqb, refl, sym, ap, ◌∙◌, subst, arith}
 use Rattle.image_laws.proofs.Names.{true, false, List, length, All, slice_index, Allow, CheckedProgram, State, first_state, initial_rows}
 use Rattle.image_laws.proofs.Names.{IsAcceptedText, ImageValue, place_of, is_fram, IsFram, fram_of, IsSharedWord, HoldsWords, RestsAt, privates_are_few}
+use Rattle.image_laws.proofs.Names.{calls_are_theirs}
 use Rattle.image_laws.proofs.Names.{HasLayout, tasks_match, program_places, is_within, shared_word, state_view, Model, is_redo, code_words, code_region}
 use Rattle.image_laws.proofs.Names.{data_word, IsCompiledFor, fresh_world, IsFreshImage, reset_vector, CurrentTask, Gate, ListLength, Base, MemoryMap}
 use Rattle.image_laws.proofs.Names.{word_place, end_of, IsLaidOut, Bool, eq-eqb, leb-true, ltb-true, ⊎_elim, ◌⊎◌, nat_le, nat_lt, event_vector}
@@ -81,6 +82,7 @@ module _ {logging : Logging} (text : List ℕ) (p : CheckedProgram) (allow : All
   fits : CodeFits l (lowered l p)
   fits = sources_have_room logging p allow c.plans l ok.allowed c.is_layout c.is_plan.count
       (λ k task own at own_at. (tasks_match p allow c.plans l laid k task own (record { is_task = at; is_layout = own_at })).count)
+      (calls_are_theirs text p allow c.plans l (laid_out text p allow image ok c))
 
   pub code_end : l.boot.address + 2 * length (code_words p l) ≤ end_of l.code
   code_end = (linked_is_code l (lowered l p) fits).end

@@ -35,7 +35,7 @@ pub use Rattle.source_runs.specs.Transitions.{HasWordsOf, rows_in, words_at}
 pub use Rattle.source_maps.proofs.Interface.{of_kind, one_word}
 pub use Rattle.source_maps.specs.Maps.{map_of, value_type_of, variables_of}
 -- word programs and their code
-pub use Rattle.whole_programs.proofs.Interface.{privates_are_few}
+pub use Rattle.whole_programs.proofs.Interface.{privates_are_few, calls_are_theirs}
 -- compiled sources
 pub use Rattle.compiled_model.proofs.Interface.{either_logging, is_logged, is_redo}
 pub use Rattle.compiled_model.specs.Parts.{compiled_model}

@@ -72,7 +72,7 @@ fn image_of(alloc: Global, accepted: &Accepted, layout: &Layout) -> Result<Image
     Ok(image)
 }
 
-/// The image of an accepted source without functions for a runtime that logs so, with a map; or no memory is left.
+/// The image of an accepted source that is compiled, for a runtime that logs so, with a map; or no memory is left.
 pub fn link_for(alloc: Global, logging: Logging, accepted: &Accepted) -> Result<Image, AllocError>
     requires accepted { IsAcceptedText accepted.now.text.items (program_of accepted.now.checked.source) accepted.now.allow }
     requires plain { IsPlain (program_of accepted.now.checked.source) }
@@ -111,8 +111,8 @@ fn compile_for(alloc: Global, logging: Logging, text: &[u8]) -> Result<Image, So
 /// The image of a source text, with a map.
 ///
 /// # Errors
-/// The refusal of the first pass that refuses the text; behind all of them `NotYet` at the line of the name of an accepted source's first
-/// function; `Memory` where memory was refused.
+/// The refusal of the first pass that refuses the text; behind all of them, where an accepted source isn't compiled yet, `NotYet` at the line of
+/// the name of its first function; `Memory` where memory was refused.
 pub fn compile(alloc: Global, text: &[u8]) -> Result<Image, SourceFault>
     requires { length text.now < 2 ^ 32 - 1 }
     ensures image { IfOk result (IsImageOf text.now) }

@@ -13,7 +13,7 @@ use plain_commands::texts::Accepted;
 use source_needs::needs_of;
 use std::alloc::Global;
 
-/// The lines of the tasks of a source without functions; `Memory` where memory was refused.
+/// The lines of the tasks of a source that is compiled; `Memory` where memory was refused.
 pub fn needs_text<'t>(alloc: Global, source: &Accepted) -> Result<Vec<u8>, Failure<'t>>
     requires accepted { IsAcceptedText source.now.text.items (program_of source.now.checked.source) source.now.allow }
     requires plain { IsPlain (program_of source.now.checked.source) }

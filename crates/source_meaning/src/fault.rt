@@ -23,7 +23,7 @@ pub enum SourceFault {
     #[error("{0}")]
     Over(Over),
     /// An accepted source that isn't compiled yet; the line of its first function's name, counted from 1.
-    #[error("line {line}: functions aren't compiled yet")]
+    #[error("line {line}: functions that take so much room aren't compiled with events yet")]
     NotYet { line: u32 },
     #[error("out of memory")]
     Memory,

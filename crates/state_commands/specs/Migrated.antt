@@ -32,7 +32,7 @@ abbrev pub editions : (source image state new_source new_image : List ℕ) → E
 editions source image state new_source new_image =
     record { source = source; image = image; state = state; new_source = new_source; new_image = new_image }
 
--- what they say: two sources without functions, each with its image
+-- what they say: two sources that are compiled, each with its image
 pub record AreSaid (t : Editions) : Type 0 where
   pub program : CheckedProgram
   pub image : ImageValue

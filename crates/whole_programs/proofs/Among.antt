@@ -1,10 +1,9 @@
 -- Each call of a task, and of what it calls, is of the code of one of the functions that the task reaches.
-use Rattle.std.proofs.Common.{◌≡◌, ℕ, zero, suc, ◌%◌, ◌<◌, ◌≤◌, true, List, [], length, map, take, Option, Some, refl, sym, ap, subst, ◌∙◌, arith, slice_get}
+use Rattle.std.proofs.Common.{◌≡◌, ℕ, zero, suc, ◌%◌, ◌<◌, ◌≤◌, true, false, List, length, map, take, Some, refl, sym, ap, subst, ◌∙◌, arith, slice_get}
 use Rattle.std.proofs.Common.{slice_index_or}
 use Rattle.std.specs.Option.{option_map}
 use Rattle.std.proofs.lemmas.Option.{slice_get-map}
 use Rattle.task_ast.specs.Paths.{CheckedProgram, CheckedBlock}
-use Rattle.cost_bound.specs.Counts.{block_calls}
 use Rattle.memory_map.specs.declared.place.RoutinePlace.{RoutinePlace}
 use Rattle.memory_map.specs.Spots.{Places, routine_of, routine_places}
 use Rattle.array_versions.specs.Program.{Step, Program, nothing, step, joined}

@@ -1,7 +1,7 @@
 -- The fold over lowered programs: a fact that holds of steps, and of what is put together of what has it, holds of expressions and statements.
 use Rattle.std.proofs.Common.{◌≡◌, ℕ, suc, ◌+◌, ◌/◌, ◌%◌, ◌<◌, ◌≤◌, ◌||◌, Bool, true, false, List, [], ◌∷◌, Option, Some, None, arith}
 use Rattle.std.proofs.Common.{if◌then◌else◌, subst, slice_get}
-use Rattle.std.proofs.lemmas.Bool.{or_parts, and_parts, not-true}
+use Rattle.std.proofs.lemmas.Bool.{or_parts, not-true}
 use Rattle.std.specs.List.{AllByRecursion}
 use Rattle.alp_words.specs.Words.{IsWord}
 use Rattle.task_ast.specs.Tree as t

@@ -8,27 +8,25 @@ use Rattle.std.proofs.lemmas.Bool.Decides.{nat_tests}
 use Rattle.std.proofs.lemmas.List.{take-take, length-take-le}
 use Rattle.std.proofs.lemmas.Option.{same_Some, slice_get_within}
 use Rattle.alp_words.specs.Words.{IsWord}
-use Rattle.address_space.specs.Limits.{stack_top, HasStackRoom}
-use Rattle.task_ast.specs.Answers.{answers}
 use Rattle.task_ast.specs.Calls.{BlockCallsBelow, FunctionsCallBelow}
-use Rattle.task_ast.specs.Paths.{CheckedProgram, CheckedFunction, CheckedBlock, Access, End, goes_on, BlockPath}
+use Rattle.task_ast.specs.Paths.{CheckedProgram, CheckedFunction, CheckedBlock}
 use Rattle.task_ast.proofs.Interface.{answer_of, answers_length}
-use Rattle.cost_bound.specs.path_sums.Reaches.{at_once}
 use Rattle.cost_bound.specs.Counts.{block_calls, some_called_from, reaches_of}
-use Rattle.cost_bound.specs.Frames.{block_locals, block_nodes, frame_of, stack_of}
+use Rattle.cost_bound.specs.Frames.{block_locals, frame_of, stack_of}
 use Rattle.cost_bound.specs.Summaries.{function_summary, function_summaries, summaries}
 use Rattle.function_locals.specs.declared.locals.FunctionLocals.{FunctionLocals}
-use Rattle.function_locals.specs.Locals.{is_light, register_end, base_of, own_locals, function_locals, all_locals}
+use Rattle.function_locals.specs.Locals.{is_light, register_end, base_of, function_locals, all_locals}
 use Rattle.function_locals.proofs.Interface.{locals_stand, reaches_go_on}
 use Rattle.memory_map.specs.declared.place.RoutinePlace.{RoutinePlace}
 use Rattle.memory_map.specs.Spots.{Places, routine_of, routine_places}
-use Rattle.privatise.specs.Routines.{Known, IsFunction, IsRoutineOf, frame_words, floor_words, words_above, first_local, frame_address, frame_of_locals}
+use Rattle.privatise.specs.Routines.{Known, IsFunction, frame_words, words_above, first_local, frame_address, frame_of_locals}
 use Rattle.function_locals.specs.Laws.{LocalsStand}
 use Rattle.privatise.specs.Laws.{RoutinesStand, FramesStand}
 use Rattle.privatise.proofs.Interface.{frames_stand}
 use Rattle.array_versions.specs.Program.{Program, nothing, call}
 use Rattle.array_versions.specs.Form.{start, assigning, entry_place, EachWay, IsOwn, CallBounds, frame_begin, FrameFits, IsCalled, IsFormed}
-use Rattle.array_versions.specs.Form.{FrameOfWords}
+use Rattle.array_versions.specs.Form.{FrameOfWords, LocalsBelow, local_address}
+use Rattle.array_versions.proofs.Interface.{each_local_as}
 use Rattle.lower.specs.Lowered.{local_number, call_at, call_step, lowered_block, body_at, routine_body, routine_bodies}
 use Rattle.checked_trees.specs.WellFormed.{HasParameters, IsWellFormed, IsWellFormedFunction}
 use Rattle.checked_trees.proofs.Interface.{not_given, safe_paths}
@@ -55,6 +53,12 @@ frame_fits : (light : Bool) (bounds : CallBounds) (top words frame own room : �
 frame_fits true bounds top words frame own room fits few high low h = omega (arith, fits, high, low)
 frame_fits false bounds top words frame own room fits few high low h =
     let whole = (h refl).1 in ((h refl).0, omega (arith, few), omega (arith, fits, few, low, whole), omega (arith, fits, few, whole))
+
+-- a local of its own that stands in RAM isn't the last word there
+begin_low : (light : Bool) (words own low n : ℕ) → words + own ≤ 984
+    → frame_begin (if light then None else Some (frame_address (8 + words) own)) low ≤ local_address n → local_address n < low → n < 1016
+begin_low true words own low n few from upto = absurd (omega (arith, from, upto))
+begin_low false words own low n few from upto = omega (arith, few, from)
 
 first_low : (light : Bool) (base words : ℕ) → base ≤ 8 → words ≤ 984 → (if light then base else 8 + words) ≤ 992
 first_low true base words l few = omega (arith, l)
@@ -466,6 +470,28 @@ module _ (program : CheckedProgram) (body : CheckedBlock) (p : Places) (task : T
   sound_below zero k lt h low high = absurd (let none : ⊥ = omega (arith, lt) in none)
   sound_below (suc m) k lt h low high =
       body_sound k h low high (λ j in_front callee at below. sound_below m j (omega (arith, lt, in_front)) callee at below)
+
+  -- the locals of each stand in registers and in RAM
+  pub routine_low : (k : ℕ) (h : Here k) → LocalsBelow 1016 (program_of k h)
+  routine_low k h =
+      each_local_as (code_of k h (ceiling k h)).locals (λ n. n < 1016) low (program_of k h) (sound_below (suc k) k (omega arith) h (ceiling k h) (omega arith)).0
+    where
+      few : words_above words_of_stack h.known.summary.depth + h.known.locals.own ≤ 984
+      few = let inside = within k h in let is = own_is k h in omega (arith, inside, is)
+
+      low : (n : ℕ) → (code_of k h (ceiling k h)).locals n → n < 1016
+      low n (inl (own, below)) = let end = (locals_of.few k (l k h) h.is.locals).end in omega (arith, end, below)
+      low n (inr (past, from, upto)) =
+          begin_low (is_light (l k h)) (words_above words_of_stack h.known.summary.depth) h.known.locals.own (ceiling k h) n few
+          (subst (λ o. frame_begin o (ceiling k h) ≤ local_address n) h.frame from) upto
+
+  -- that of a place
+  pub place_low_locals : (j : ℕ) (r : RoutinePlace) → slice_get p.routines j ≡ Some r
+      → LocalsBelow 1016 (slice_index_or (routine_bodies p functions) r.function nothing)
+  place_low_locals j r at =
+      let of = task.routines.each j r at in
+      let h : Here r.function = here r.function of.known.function of.is.function of.reached in
+      subst (LocalsBelow 1016) (sym (body_among r.function h functions h.is.function refl)) (routine_low r.function h)
 
   -- ---- the task itself
 

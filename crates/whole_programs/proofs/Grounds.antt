@@ -1,5 +1,5 @@
 -- Where the stacks of a task begin: at the end of RAM, or where events are taken below the room for the most locals that a task has.
-use Rattle.std.proofs.Common.{◌≡◌, ℕ, zero, suc, ◌+◌, ◌-◌, ◌*◌, ◌<◌, ◌≤◌, ◌&&◌, ◌||◌, Bool, true, false, not, nat_le, List, [], ◌∷◌, Option, Some, None}
+use Rattle.std.proofs.Common.{◌≡◌, ℕ, zero, suc, ◌+◌, ◌-◌, ◌*◌, ◌<◌, ◌≤◌, ◌&&◌, ◌||◌, Bool, true, false, not, nat_le, List, [], ◌∷◌, Some, None}
 use Rattle.std.proofs.Common.{slice_get, refl, sym, ap, subst, ◌∙◌, arith, leb-true}
 use Rattle.std.proofs.lemmas.Bool.{and_parts}
 use Rattle.std.proofs.lemmas.Option.{same_Some}
@@ -20,7 +20,7 @@ use Rattle.whole_programs.proofs.Called.{Stack}
 -- ---- lists
 
 -- a task has no more than the greatest
-below_greatest : (f : CheckedBlock → ℕ) (ts : List CheckedTask) (k : ℕ) (task : CheckedTask) → slice_get ts k ≡ Some task → f task.body ≤ greatest f ts
+pub below_greatest : (f : CheckedBlock → ℕ) (ts : List CheckedTask) (k : ℕ) (task : CheckedTask) → slice_get ts k ≡ Some task → f task.body ≤ greatest f ts
 below_greatest f [] k task e = absurd (let none : None ≡ Some task = e in cc)
 below_greatest f (t ∷ ts) zero task e = let same = ap (λ u. f u.body) (same_Some t task e) in omega (arith, same)
 below_greatest f (t ∷ ts) (suc k) task e = let rest = below_greatest f ts k task e in omega (arith, rest)

@@ -1,6 +1,6 @@
 -- The room that a body's expressions need on the stack: two words for each node of its largest statement, and no more than is enough for the tokens
 -- of a row.
-use Rattle.std.proofs.Common.{◌≡◌, ℕ, ◌+◌, ◌*◌, ◌≤◌, max, Some, None, List, [], refl, arith}
+use Rattle.std.proofs.Common.{◌≡◌, ℕ, ◌+◌, ◌*◌, ◌≤◌, Some, None, List, [], refl, arith}
 use Rattle.std.specs.Prelude.{min}
 use Rattle.task_ast.specs.Tree as t
 use Rattle.task_ast.specs.declared.SharedDeclaration.{SharedDeclaration}

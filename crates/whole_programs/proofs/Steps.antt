@@ -1,6 +1,6 @@
 -- Each step of a body's program: its locals are its own, its loops count, its calls are within their bounds, it leaves as it may, and its numbers are
 -- words.
-use Rattle.std.proofs.Common.{◌≡◌, ℕ, ◌%◌, ◌<◌, ◌≤◌, Bool, true, false, not, List, refl, ap, ◌∙◌, arith}
+use Rattle.std.proofs.Common.{◌≡◌, ℕ, ◌%◌, ◌<◌, ◌≤◌, Bool, not, List, ap, ◌∙◌, arith}
 use Rattle.alp_words.specs.Words.{IsWord}
 use Rattle.task_ast.specs.Paths.{CheckedBlock}
 use Rattle.array_versions.specs.Program.{Step, Test, Program, nothing, step, joined}

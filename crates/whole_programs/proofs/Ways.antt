@@ -411,7 +411,7 @@ module _ (p : Places) (rs : List Program) (words : PlacesOfWords p) (functions :
   frozen_way true next o h = h
   frozen_way false next o h = h
 
-  transition_way : (task : ℕ) (next : Place → Type 0) (o : Place) → in_task ≡ true → EachWay room (lowered_transition p task) next o
+  transition_way : (task : ℕ) (next : Place → Type 0) (o : Place) → g.in_task ≡ true → EachWay room (lowered_transition p task) next o
   transition_way task next o ends =
       let gated : Program = step (store_number (word_place p.map Gate) 1) (one (jump p.map.commit.address)) in
       let close : Program = step (move_word (word_place p.map Base) (word_place p.map SentBase)) (joined (freezing p) gated) in

@@ -1,5 +1,5 @@
 -- The word programs of an accepted source are whole.
-use Rattle.std.proofs.Common.{◌≡◌, ◌%◌, ◌<◌, ◌≤◌, ℕ, suc, length, true, List, [], ◌∷◌, Some, refl, sym, ap, subst, ◌∙◌, arith, slice_get}
+use Rattle.std.proofs.Common.{◌≡◌, ◌%◌, ◌<◌, ◌≤◌, ℕ, suc, length, map, true, List, [], ◌∷◌, Some, refl, sym, ap, subst, ◌∙◌, arith, slice_get, slice_index_or}
 use Rattle.std.specs.Prelude.{All}
 use Rattle.std.proofs.lemmas.List.Elements.{All-nil, All-cons}
 use Rattle.std.proofs.lemmas.Option.{slice_get_within}
@@ -13,6 +13,7 @@ use Rattle.function_locals.specs.Locals.{base_of, all_locals}
 use Rattle.function_locals.proofs.Interface.{locals_stand}
 use Rattle.war_analysis.specs.PlanValue.{TaskPlanValue}
 use Rattle.war_analysis.proofs.Interface.{element}
+use Rattle.memory_map.specs.declared.place.RoutinePlace.{RoutinePlace}
 use Rattle.memory_map.specs.MemoryMap.{MemoryMap, TaskPlace}
 use Rattle.memory_map.specs.Places.{end_of, HasItsPlace}
 use Rattle.memory_map.proofs.Interface.{even_of}
@@ -20,17 +21,18 @@ use Rattle.privatise.specs.Laws.{RoutinesStand}
 use Rattle.privatise.specs.Routines.{known_functions, task_routines}
 use Rattle.privatise.proofs.Interface.{routines_stand}
 use Rattle.array_versions.specs.TaskPrograms.{TaskPrograms}
-use Rattle.array_versions.specs.Form.{IsWhole, FitsTheStack, OfWords}
+use Rattle.array_versions.specs.Program.{Program, nothing}
+use Rattle.array_versions.specs.Form.{IsWhole, FitsTheStack, LocalsBelow, OfWords}
 use Rattle.array_versions.proofs.Interface.{each_local_as}
 use Rattle.memory_map.specs.Spots.{Places}
 use Rattle.linked_code.specs.Linked.{CallsAmong}
 use Rattle.lower.specs.Seen.{some_path_writes, map_seen, task_seen}
-use Rattle.lower.specs.Lowered.{task_places, lowered_task, lowered_tasks}
+use Rattle.lower.specs.Lowered.{routine_bodies, task_places, lowered_task, lowered_tasks}
 use Rattle.lower.proofs.Interface.{privates_seen, seen_all, seen_laid_out, first_seen, routines_seen}
 use Rattle.checked_trees.specs.WellFormed.{IsWellFormed}
-use Rattle.whole_programs.specs.Laws.{IsLaidOutText, TasksAreWhole, ProgramsAreWhole, CallsAreTheirs}
+use Rattle.whole_programs.specs.Laws.{IsLaidOutText, TasksAreWhole, ProgramsAreWhole, CallsAreTheirs, RoutinesAreLow}
 use Rattle.whole_programs.proofs.Rooms.{room_of}
-use Rattle.whole_programs.proofs.Called.{Task, task_code, task_program, task_sound, way_of_task}
+use Rattle.whole_programs.proofs.Called.{Task, place_low_locals, task_code, task_program, task_sound, way_of_task}
 use Rattle.whole_programs.proofs.Grounds.{below_greatest, Ground, ground}
 use Rattle.whole_programs.proofs.Steps.{Sound}
 use Rattle.whole_programs.proofs.Among.{task_among}
@@ -75,6 +77,12 @@ module _ (program : CheckedProgram) (body : CheckedBlock) (p : Places) (task : T
         let room = ground.events e in
         record { low = room.high; room = room.room_is; lowest = room.lowest; light = room.light };
   }
+
+-- what holds of the program of each function holds of all
+all_map : (g : RoutinePlace → Program) (rs : List RoutinePlace) → ((j : ℕ) (r : RoutinePlace) → slice_get rs j ≡ Some r → LocalsBelow 1016 (g r))
+    → All (LocalsBelow 1016) (map g rs)
+all_map g [] h = All-nil (LocalsBelow 1016)
+all_map g (r ∷ rs) h = All-cons (LocalsBelow 1016) (g r) (map g rs) (h 0 r refl) (all_map g rs (λ j x e. h (suc j) x e))
 
 -- a task of a laid out text
 module _ (text : List ℕ) (program : CheckedProgram) (allow : Allow) (plans : List TaskPlanValue) (l : MemoryMap)
@@ -143,6 +151,14 @@ module _ (text : List ℕ) (program : CheckedProgram) (allow : Allow) (plans : L
       subst (λ rs. CallsAmong rs (lowered_task program.functions l t task.body).routines (lowered_task program.functions l t task.body).own)
       (routines_seen l.runtime.logging t)
       (task_among program task.body p is_task has_ground.stack (task_checked text program laid.accepted.checks k task e))
+
+  pub routines_of_task : All (LocalsBelow 1016) (lowered_task program.functions l t task.body).routines
+  routines_of_task =
+      all_map (λ r. slice_index_or (routine_bodies p program.functions) r.function nothing) p.routines
+      (place_low_locals program task.body p is_task has_ground.stack)
+
+pub routines_are_low : RoutinesAreLow
+routines_are_low text program allow plans l laid k task t e f = routines_of_task text program allow plans l laid k task t e f
 
 pub calls_are_theirs : CallsAreTheirs
 calls_are_theirs text program allow plans l laid k task t e f = calls_of_task text program allow plans l laid k task t e f

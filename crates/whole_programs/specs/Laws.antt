@@ -11,7 +11,7 @@ use Rattle.memory_map.specs.declared.runtime.Logging.{Logging}
 use Rattle.memory_map.specs.MemoryMap.{MemoryMap, TaskPlace}
 use Rattle.memory_map.specs.Spots.{private_words}
 use Rattle.privatise.specs.Layouts.{IsLayoutFor}
-use Rattle.array_versions.specs.Form.{IsWhole, FitsTheStack, OfWords}
+use Rattle.array_versions.specs.Form.{IsWhole, FitsTheStack, LocalsBelow, OfWords}
 use Rattle.linked_code.specs.Linked.{CallsAmong}
 use Rattle.lower.specs.Lowered.{lowered_task, lowered}
 
@@ -46,6 +46,10 @@ ProgramsAreWhole = OfTexts (λ program l. All (λ q. IsWhole q.own) (lowered l p
 abbrev pub CallsAreTheirs : Type 0
 CallsAreTheirs = OfTasks (λ program task l t. CallsAmong t.routines (lowered_task program.functions l t task.body).routines
     (lowered_task program.functions l t task.body).own)
+
+-- the locals of the functions that a task reaches stand in registers and in RAM
+abbrev pub RoutinesAreLow : Type 0
+RoutinesAreLow = OfTasks (λ program task l t. All (LocalsBelow 1016) (lowered_task program.functions l t task.body).routines)
 
 -- the private scalars of each task have at most as many words as its allowance counts, which counts those on the left of an assignment in it or in what
 -- it calls

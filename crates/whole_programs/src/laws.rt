@@ -1,6 +1,6 @@
 //! Laws of the word programs of accepted sources. The functions do nothing: their contracts are the laws.
 
-ghost use Rattle.whole_programs.specs.Laws.{TasksAreWhole, ProgramsAreWhole, CallsAreTheirs, PrivatesAreFew};
+ghost use Rattle.whole_programs.specs.Laws.{TasksAreWhole, ProgramsAreWhole, CallsAreTheirs, RoutinesAreLow, PrivatesAreFew};
 
 /// The word program of each task of an accepted source is whole, and its numbers are words: whatever its layout, there is
 /// room for its locals and its stack, it reads no local before it has assigned it, and each way through it ends in the jump
@@ -17,6 +17,11 @@ pub fn programs_are_whole()
 /// Each call of a task, and of what it calls, is of the code of one of the functions that it reaches.
 pub fn calls_are_theirs()
     ensures { CallsAreTheirs }
+{}
+
+/// The locals of each function that a task reaches stand in registers and in RAM.
+pub fn routines_are_low()
+    ensures { RoutinesAreLow }
 {}
 
 /// The private scalars of each task have at most as many words as its allowance counts.
