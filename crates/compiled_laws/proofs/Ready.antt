@@ -7,6 +7,7 @@ use Rattle.source_values.specs.Running.{IsRunnable}
 use Rattle.source_meaning.proofs.Interface.{accepted_texts_run}
 use Rattle.war_analysis.specs.PlanValue.{TaskPlanValue}
 use Rattle.array_versions.specs.Program.{Program}
+use Rattle.array_versions.specs.TaskPrograms.{TaskPrograms}
 use Rattle.array_versions.specs.Form.{FitsTheStack, OfWords}
 use Rattle.memory_map.specs.declared.runtime.Logging.{Logging}
 use Rattle.memory_map.specs.declared.runtime.Logging.TheVariants.{Redo, Undo}
@@ -18,6 +19,7 @@ use Rattle.layout_facts.specs.Facts.{HasLayout}
 use Rattle.layout_facts.proofs.Interface.{places_are_apart, tasks_have_room, privates_are_theirs, privates_are_logged, tasks_match}
 use Rattle.whole_programs.specs.Laws.{IsLaidOutText}
 use Rattle.whole_programs.proofs.Interface.{tasks_are_whole, privates_are_few, calls_are_theirs}
+use Rattle.war_analysis.proofs.Interface.{each_returns}
 use Rattle.task_attempts.proofs.Interface.{compiled_laws, stores_below_code, tasks_leave, tasks_list_few}
 use Rattle.compiled_model.specs.Parts.{task_program}
 use Rattle.privatise.specs.Layouts.{IsLayoutFor}
@@ -39,6 +41,7 @@ module _ (text : List ℕ) (p : CheckedProgram) (allow : Allow) (plans : List Ta
     logging = t.logging;
     layout = t.layout;
     few = privates_are_few text p allow plans l t;
+    returning = (let c = t.accepted.checks.checks in each_returns p c.named.placed c.paths.returns);
   }
 
   -- the program of a task is whole, and of words
@@ -48,7 +51,8 @@ module _ (text : List ℕ) (p : CheckedProgram) (allow : Allow) (plans : List Ta
       let count = t.layout.tasks.count in
       let own = element l.tasks k (omega (arith, below, count)) in
       let P : Program → Type 0 = λ q. FitsTheStack l.runtime.events q × OfWords q in
-      subst P (sym (ap (λ q. q.own) (program_at p.functions l p.tasks l.tasks k task.0 own.0 task.1 own.1))) (tasks_are_whole text p allow plans l t k task.0 own.0 task.1 own.1)
+      subst P (ap (λ (q : TaskPrograms). q.own) (sym (program_at p.functions l p.tasks l.tasks k task.0 own.0 task.1 own.1)))
+      (tasks_are_whole text p allow plans l t k task.0 own.0 task.1 own.1)
 
   few : PrivatesAreCounted p l
   few = privates_are_few text p allow plans l t

@@ -1,8 +1,8 @@
 -- The places of a compiled source, by its layout, as the crash theorem takes them.
 use Rattle.std.specs.Prelude.{ℕ, ◌+◌, ◌==◌, ◌&&◌, ◌||◌, not, Bool, false, List, [], ◌∷◌, length}
-use Rattle.task_ast.specs.Paths.{CheckedBlock}
+use Rattle.task_ast.specs.Paths.{CheckedBlock, CheckedFunction}
 use Rattle.task_ast.specs.declared.names.Variable.TheVariants.{Shared}
-use Rattle.path_sums.specs.Sums.{block_sum}
+use Rattle.path_sums.specs.Sums.{block_sum, call_sums}
 use Rattle.path_sums.specs.Access.{summary, private_of}
 use Rattle.cost_bound.specs.Summaries.{summaries}
 use Rattle.cost_bound.specs.Allowance.{list_of}
@@ -16,12 +16,13 @@ use Rattle.memory_map.specs.declared.place.VariablePlace.TheVariants.{Scalar, Ar
 use Rattle.memory_map.specs.MemoryMap.{MemoryMap}
 use Rattle.stands_for.specs.Layout.{ProgramPlaces}
 
--- whether a shared variable is private in a task with these statements, and whether the task writes it and it isn't private
-abbrev pub is_private_in : CheckedBlock → ℕ → Bool
-is_private_in body v = private_of (block_sum [] (summary (Shared v)) body)
+-- whether a shared variable is private in a task with these statements, and whether the task writes it and it isn't private; what the task
+-- does may be done by one of these functions
+abbrev pub is_private_in : List CheckedFunction → CheckedBlock → ℕ → Bool
+is_private_in fs body v = private_of (block_sum (call_sums (summary (Shared v)) fs) (summary (Shared v)) body)
 
-abbrev pub stays_in_place : CheckedBlock → ℕ → Bool
-stays_in_place body v = some_path_writes body v && not (is_private_in body v)
+abbrev pub stays_in_place : List CheckedFunction → CheckedBlock → ℕ → Bool
+stays_in_place fs body v = some_path_writes fs body v && not (is_private_in fs body v)
 
 -- whether a scalar has a word at an address
 abbrev pub has_word_at : ℕ → ScalarWidth → ℕ → Bool
@@ -42,5 +43,5 @@ program_places p l = record {
   tasks = length p.tasks;
   list_capacity = λ t. list_of (summaries p) p.shared (task_body p t);
   emit_capacity = λ t. emits_of (summaries p) (task_body p t);
-  written_in_place = λ t a. some_scalar_at (stays_in_place (task_body p t)) 0 l.variables a;
+  written_in_place = λ t a. some_scalar_at (stays_in_place p.functions (task_body p t)) 0 l.variables a;
 }

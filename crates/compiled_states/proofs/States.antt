@@ -13,6 +13,7 @@ use Rattle.source_meaning.specs.Acceptance.{IsAcceptedText}
 use Rattle.fram_state.specs.OtherImage.{SameBut}
 use Rattle.fram_state.specs.Belongs.{Belongs}
 use Rattle.whole_programs.proofs.Interface.{privates_are_few}
+use Rattle.war_analysis.proofs.Interface.{each_returns}
 use Rattle.board_run.specs.Charges.{charges_of}
 use Rattle.board_run.specs.History.{start_of}
 use Rattle.board_run.specs.Report.{report_of}
@@ -62,6 +63,7 @@ module _ (text : List ℕ) (image : ImageValue) (of : IsImageOf text image) wher
       logging = Redo;
       layout = c.is_layout;
       few = privates_are_few text p allow c.plans l (laid_out text p allow image ok c);
+      returning = (let k = ok.checks.checks in each_returns p k.named.placed k.paths.returns);
     };
     redo = logs_so text p allow image c;
     kinds = source_map.places;

@@ -9,6 +9,7 @@ use Rattle.image_laws.proofs.Names.{word_place, end_of, IsLaidOut, Bool, eq-eqb,
 use Rattle.image_laws.proofs.Names.{program_end, handler_place, head_place, is_ring}
 use Rattle.image_laws.proofs.Names.{HasHandler, handler_length, handler_words, handler_region, with_handler}
 use Rattle.std.proofs.lemmas.Bool.{and_parts}
+use Rattle.war_analysis.proofs.Interface.{each_returns}
 use Rattle.source_values.specs.Running.{IsRunnable}
 use Rattle.source_meaning.proofs.Interface.{accepted_texts_run}
 use Rattle.machine_effects.proofs.Interface.{index_small}
@@ -72,6 +73,7 @@ module _ {logging : Logging} (text : List ℕ) (p : CheckedProgram) (allow : All
     logging = logging;
     layout = c.is_layout;
     few = privates_are_few text p allow c.plans l (laid_out text p allow image ok c);
+    returning = (let k = ok.checks.checks in each_returns p k.named.placed k.paths.returns);
   }
 
   abbrev rules : IsLaidOut l

@@ -5,6 +5,7 @@ use Rattle.image_laws.proofs.Names.{program_places, Model, state_view, state_in,
 use Rattle.image_laws.proofs.Names.{view_has_their_words, worlds_have_states, map_of, of_kind, ImageValue, IsAcceptedText, IsCompiledFor}
 use Rattle.image_laws.proofs.Names.{ImagesHaveStates}
 use Rattle.war_analysis.specs.PlanValue.{TaskPlanValue}
+use Rattle.war_analysis.proofs.Interface.{each_returns}
 use Rattle.memory_map.specs.declared.runtime.Logging.{Logging}
 use Rattle.image_laws.proofs.Names.{⊎_elim, compiled_model, either_logging, is_logged}
 use Rattle.memory_map.specs.Spots.{IsWordOf}
@@ -42,6 +43,7 @@ layout_of {logging} text p allow image ok c = record {
   logging = logging;
   layout = c.is_layout;
   few = privates_are_few text p allow c.plans c.layout (laid_out text p allow image ok c);
+  returning = (let k = ok.checks.checks in each_returns p k.named.placed k.paths.returns);
 }
 
 -- a world that rests at a state, under each runtime

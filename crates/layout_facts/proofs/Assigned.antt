@@ -1,7 +1,7 @@
 -- What a task assigns, and where it has that.
 use Rattle.layout_facts.proofs.Names.{◌≡◌, ℕ, zero, suc, ◌<◌, ◌⊎◌, inl, inr, Bool, true, false, ◌||◌, List, [], ◌∷◌, length, map, get_or, arith, ap, subst, sym}
 use Rattle.layout_facts.proofs.Names.{◌∙◌, Some, None, refl, Option, is_some, slice_get, Contains, ◌==◌, if◌then◌else◌, option_map, cases_Bool, eqb-true}
-use Rattle.layout_facts.proofs.Names.{eq-eqb, length-map, slice_get-map, slice_get_within, get_or_from_slice_get, Allow, block_assigns, CheckedProgram}
+use Rattle.layout_facts.proofs.Names.{eq-eqb, length-map, slice_get-map, slice_get_within, get_or_from_slice_get, Allow, CheckedProgram}
 use Rattle.layout_facts.proofs.Names.{CheckedTask, is_written, TaskPlanValue, IsPrivateIn, IsArrayAt, element, private_is, is_private_of, Shared}
 use Rattle.layout_facts.proofs.Names.{some_path_writes, places_seen, map_seen, scalar_seen, is_private_in, HasLayout, IsTaskAt, task_places, TasksMatch}
 use Rattle.layout_facts.proofs.Names.{TaskMatches, AddressesAre, AddressIs, ArrayCopies, ScalarWidth, Scalar, Array, PrivateScalar, MemoryMap, TaskPlace}
@@ -11,24 +11,19 @@ use Rattle.layout_facts.proofs.Privates.{Privates, privates_of, ascending_number
 use Rattle.layout_facts.proofs.Planned.{array_declared, array_extent, array_has_place, places_match}
 use Rattle.cost_bound.specs.Summaries.{summaries}
 use Rattle.cost_bound.specs.Summary.{Summary}
-use Rattle.cost_bound.specs.Counts.{assigns_of, some_called_from, block_calls}
+use Rattle.cost_bound.specs.Counts.{assigns_of}
 
--- what a task assigns is written by some task
+-- what a task assigns, itself or by a function, is written by some task
 or_true : (b : Bool) → (b || true) ≡ true
 or_true true = refl
 or_true false = refl
 
-assigned_so : (known : List Summary) (v : ℕ) (task : CheckedTask) → block_assigns v task.body ≡ true → assigns_of known v task.body ≡ true
-assigned_so known v task a =
-    ap (λ b. some_called_from (λ k. block_calls k task.body) (λ s. s.assigns v) 0 known || b) a
-    ∙ or_true (some_called_from (λ k. block_calls k task.body) (λ s. s.assigns v) 0 known)
-
 written_by : (known : List Summary) (ts : List CheckedTask) (t : ℕ) (task : CheckedTask) (v : ℕ) → slice_get ts t ≡ Some task
-    → block_assigns v task.body ≡ true → is_written known ts v ≡ true
+    → assigns_of known v task.body ≡ true → is_written known ts v ≡ true
 written_by known [] t task v e a = let no : None ≡ Some task = e in cc
 written_by known (x ∷ ts) zero task v e a =
     let same : x ≡ task = cc in
-    let here : assigns_of known v x.body ≡ true = ap (λ (y : CheckedTask). assigns_of known v y.body) same ∙ assigned_so known v task a in
+    let here : assigns_of known v x.body ≡ true = ap (λ (y : CheckedTask). assigns_of known v y.body) same ∙ a in
     rw here refl
 written_by known (x ∷ ts) (suc t) task v e a = rw (written_by known ts t task v e a) (or_true (assigns_of known v x.body))
 
@@ -72,19 +67,19 @@ module _ (p : CheckedProgram) (allow : Allow) (plans : List TaskPlanValue) (l : 
   mine = privates_of p allow plans l h t task layout k
 
   -- a private scalar is one that the paths make private
-  private_is_one : (i : ℕ) (s : PrivateScalar) → slice_get layout.privates i ≡ Some s → IsPrivateIn [] p.shared task.body s.number
+  private_is_one : (i : ℕ) (s : PrivateScalar) → slice_get layout.privates i ≡ Some s → IsPrivateIn p.functions p.shared task.body s.number
   private_is_one i s e =
       let numbers = mine.numbers in
       let lt : i < length mine.plan.private_scalars =
       omega (arith, slice_get_within layout.privates i s e, length-map layout.privates (λ (s : PrivateScalar). s.number), ap length numbers) in
       let at : get_or mine.plan.private_scalars i 0 ≡ s.number = ap (λ (xs : List ℕ). get_or xs i 0) (sym numbers) ∙ number_at layout.privates i s 0 e in
-      subst (IsPrivateIn [] p.shared task.body) at (mine.is_plan.private_scalars.only i 0 lt)
+      subst (IsPrivateIn p.functions p.shared task.body) at (mine.is_plan.private_scalars.only i 0 lt)
 
   place_is : (i : ℕ) (s : PrivateScalar) → slice_get layout.privates i ≡ Some s → HasItsPlace l.variables s
   place_is i s e = subst (HasItsPlace l.variables) (get_or_from_slice_get layout.privates i s s e) (mine.places i s (slice_get_within layout.privates i s e))
 
   -- and each of those is one
-  assigned_is : (v : ℕ) → IsPrivateIn [] p.shared task.body v → (i : ℕ) × (s : PrivateScalar) × (slice_get layout.privates i ≡ Some s) × (s.number ≡ v)
+  assigned_is : (v : ℕ) → IsPrivateIn p.functions p.shared task.body v → (i : ℕ) × (s : PrivateScalar) × (slice_get layout.privates i ≡ Some s) × (s.number ≡ v)
   assigned_is v a =
       let numbers = mine.numbers in
       let c = mine.is_plan.private_scalars.each v a in
@@ -94,7 +89,7 @@ module _ (p : CheckedProgram) (allow : Allow) (plans : List TaskPlanValue) (l : 
       (c.0, s.0, s.1, sym (number_at layout.privates c.0 s.0 v s.1) ∙ same)
 
   -- an array that the task stores to has copies
-  pub stored_has_copies : (v : ℕ) → IsArrayAt p.shared v → block_assigns v task.body ≡ true
+  pub stored_has_copies : (v : ℕ) → IsArrayAt p.shared v → assigns_of (summaries p) v task.body ≡ true
       → (elements n : ℕ) × (copies : ArrayCopies) × (slice_get l.variables v ≡ Some (Array elements n (Some copies)))
   stored_has_copies v a assigned =
       let d = array_declared p.shared v a in
@@ -114,19 +109,19 @@ module _ (p : CheckedProgram) (allow : Allow) (plans : List TaskPlanValue) (l : 
 
   -- a scalar that is private by the sums has an entry
   entry_of_private : (v home copy : ℕ) (width : ScalarWidth) → slice_get l.variables v ≡ Some (Scalar home copy width)
-      → is_private_in task.body v ≡ true
+      → is_private_in p.functions task.body v ≡ true
       → (i : ℕ) × (s : PrivateScalar) × (slice_get layout.privates i ≡ Some s) × (s.number ≡ v)
   entry_of_private v home copy width e a =
-      assigned_is v (record { scalar = (places_match p allow plans l h).is_scalar v home copy width e; owed = private_is (Shared v) task.body mine.calls a })
+      assigned_is v (record { scalar = (places_match p allow plans l h).is_scalar v home copy width e; owed = private_is (Shared v) p.functions mine.callable task.body mine.calls a })
 
   address_is : AddressIs p l task layout
   address_is = record { private = private; left = left; each = each }
     where
       seen : (v home copy : ℕ) (width : ScalarWidth) → slice_get l.variables v ≡ Some (Scalar home copy width)
-          → slice_get (places_seen (some_path_writes task.body) 0 l.variables) v ≡ Some (Scalar home copy width)
-      seen v home copy width e = scalar_seen (some_path_writes task.body) l.variables v home copy width e
+          → slice_get (places_seen (some_path_writes p.functions task.body) 0 l.variables) v ≡ Some (Scalar home copy width)
+      seen v home copy width e = scalar_seen (some_path_writes p.functions task.body) l.variables v home copy width e
 
-      each : (v home copy : ℕ) (width : ScalarWidth) → slice_get l.variables v ≡ Some (Scalar home copy width) → is_private_in task.body v ≡ true
+      each : (v home copy : ℕ) (width : ScalarWidth) → slice_get l.variables v ≡ Some (Scalar home copy width) → is_private_in p.functions task.body v ≡ true
           → Contains layout.privates (record { number = v; home = home; copy = copy; width = width })
       each v home copy width e a =
           let i = entry_of_private v home copy width e a in
@@ -141,25 +136,25 @@ module _ (p : CheckedProgram) (allow : Allow) (plans : List TaskPlanValue) (l : 
           λ j. record { number = number j; home = its_home j; copy = its_copy j; width = its_width j } in
           contains_at layout.privates i.0 _ (i.2 ∙ ap (λ (x : PrivateScalar). Some x) same)
 
-      private : (v home copy : ℕ) (width : ScalarWidth) → slice_get l.variables v ≡ Some (Scalar home copy width) → is_private_in task.body v ≡ true
-          → address_of (task_places l task layout) v ≡ copy
+      private : (v home copy : ℕ) (width : ScalarWidth) → slice_get l.variables v ≡ Some (Scalar home copy width) → is_private_in p.functions task.body v ≡ true
+          → address_of (task_places p l task layout) v ≡ copy
       private v home copy width e a =
           let i = entry_of_private v home copy width e a in
           let c = among_found layout.privates i.0 i.1 v i.2 i.3 in
           let its = among_is l.variables layout.privates v c.0 mine.places c.1 in
           let both : Some (Scalar its.0 c.0 its.1) ≡ Some (Scalar home copy width) = sym its.2 ∙ e in
           let same : c.0 ≡ copy = cc in
-          ap (λ o. copy_else o (home_of (map_seen task.body l).variables v)) c.1 ∙ same
+          ap (λ o. copy_else o (home_of (map_seen p.functions task.body l).variables v)) c.1 ∙ same
 
-      left : (v home copy : ℕ) (width : ScalarWidth) → slice_get l.variables v ≡ Some (Scalar home copy width) → is_private_in task.body v ≡ false
-          → address_of (task_places l task layout) v ≡ home
+      left : (v home copy : ℕ) (width : ScalarWidth) → slice_get l.variables v ≡ Some (Scalar home copy width) → is_private_in p.functions task.body v ≡ false
+          → address_of (task_places p l task layout) v ≡ home
       left v home copy width e a = by (copy_among layout.privates v) refl
         where
-          by : (o : Option ℕ) → copy_among layout.privates v ≡ o → copy_else o (home_of (map_seen task.body l).variables v) ≡ home
+          by : (o : Option ℕ) → copy_among layout.privates v ≡ o → copy_else o (home_of (map_seen p.functions task.body l).variables v) ≡ home
           by (Some c) f =
               let i = among_member layout.privates v c f in
-              let no : is_private_in task.body v ≡ true =
-              subst (λ x. is_private_in task.body x ≡ true) i.3 (is_private_of (Shared i.1.number) task.body mine.calls (private_is_one i.0 i.1 i.2).owed) in
+              let no : is_private_in p.functions task.body v ≡ true =
+              subst (λ x. is_private_in p.functions task.body x ≡ true) i.3 (is_private_of (Shared i.1.number) p.functions mine.callable task.body mine.calls (private_is_one i.0 i.1 i.2).owed) in
               let clash : true ≡ false = sym no ∙ a in cc
           by None f = ap home_in (seen v home copy width e)
 

@@ -4,7 +4,7 @@ use Rattle.layout_facts.proofs.Names.{subst, ⊎_elim, ◌⊎◌, arith, eq-eqb,
 use Rattle.layout_facts.proofs.Names.{cases_Bool, some_writes, writes_some, private_is, is_private_of, Shared, CheckedBlock, task_body, some_path_writes}
 use Rattle.layout_facts.proofs.Names.{scalar_home, InPlaceByPaths, is_private_in, stays_in_place, has_word_at, some_scalar_at, program_places, ScalarWidth}
 use Rattle.layout_facts.proofs.Names.{OneWord, TwoWords, MemoryMap, scalar_words, IsWordOf, VariablePlace, Scalar, Array}
-use Rattle.layout_facts.proofs.Names.{All, All-head, All-tail, body_of, Allow, CheckedProgram, CheckedTask, TaskPlanValue, HasLayout}
+use Rattle.layout_facts.proofs.Names.{AreCallable, All, All-head, All-tail, length, CheckedFunction, body_of, Allow, CheckedProgram, CheckedTask, TaskPlanValue, HasLayout}
 use Rattle.task_ast.specs.Calls.{BlockCallsBelow}
 use Rattle.path_sums.specs.Access.{writes, SomePath, IsPrivate}
 use Rattle.layout_facts.proofs.Homes.{each_is_one_word}
@@ -114,30 +114,34 @@ scalar_is holds k (Array a n c ∷ places) (suc v) home copy width i e l h =
     let same : k + suc v ≡ k + 1 + v = omega arith in
     scalar_is holds (k + 1) places v home copy width i e l (sym (ap holds same) ∙ h)
 
--- ---- what stays in place, by the paths of a task that calls no function
+-- ---- what stays in place, by the paths of a task
 
-tasks_call_none : (tasks : List CheckedTask) (t : ℕ) → All (λ (x : CheckedTask). BlockCallsBelow 0 x.body) tasks
-    → BlockCallsBelow 0 (body_of (slice_get tasks t))
-tasks_call_none [] t h = tt
-tasks_call_none (x ∷ tasks) zero h = All-head (λ (x : CheckedTask). BlockCallsBelow 0 x.body) x tasks h
-tasks_call_none (x ∷ tasks) (suc t) h = tasks_call_none tasks t (All-tail (λ (x : CheckedTask). BlockCallsBelow 0 x.body) x tasks h)
+tasks_call : (n : ℕ) (tasks : List CheckedTask) (t : ℕ) → All (λ (x : CheckedTask). BlockCallsBelow n x.body) tasks
+    → BlockCallsBelow n (body_of (slice_get tasks t))
+tasks_call n [] t h = tt
+tasks_call n (x ∷ tasks) zero h = All-head (λ (x : CheckedTask). BlockCallsBelow n x.body) x tasks h
+tasks_call n (x ∷ tasks) (suc t) h = tasks_call n tasks t (All-tail (λ (x : CheckedTask). BlockCallsBelow n x.body) x tasks h)
 
--- no task of a source with a layout calls a function
-pub calls_none : (p : CheckedProgram) (allow : Allow) (plans : List TaskPlanValue) (l : MemoryMap) → HasLayout p allow plans l → (t : ℕ)
-    → BlockCallsBelow 0 (task_body p t)
-calls_none p allow plans l h t = tasks_call_none p.tasks t h.layout.calls
+-- each task of a source with a layout calls functions of the source
+pub calls_known : (p : CheckedProgram) (allow : Allow) (plans : List TaskPlanValue) (l : MemoryMap) → HasLayout p allow plans l → (t : ℕ)
+    → BlockCallsBelow (length p.functions) (task_body p t)
+calls_known p allow plans l h t = tasks_call (length p.functions) p.tasks t h.layout.placed.calls.tasks
 
-pub in_place_written : (body : CheckedBlock) (v : ℕ) → BlockCallsBelow 0 body → stays_in_place body v ≡ true → SomePath [] body (writes (Shared v))
-in_place_written body v calls h = some_writes (Shared v) body calls (and_parts (some_path_writes body v) (not (is_private_in body v)) h).0
+-- and its functions call those in front of them, and come to a return
+pub callable : (p : CheckedProgram) (allow : Allow) (plans : List TaskPlanValue) (l : MemoryMap) → HasLayout p allow plans l → AreCallable p.functions
+callable p allow plans l h = record { calls = h.layout.placed.calls.functions; returning = h.returning }
 
-pub in_place_not_private : (body : CheckedBlock) (v : ℕ) → stays_in_place body v ≡ true → is_private_in body v ≡ false
-in_place_not_private body v h = not-true (is_private_in body v) (and_parts (some_path_writes body v) (not (is_private_in body v)) h).1
+module _ (fs : List CheckedFunction) (may : AreCallable fs) (body : CheckedBlock) (v : ℕ) (calls : BlockCallsBelow (length fs) body) where
+  pub in_place_written : stays_in_place fs body v ≡ true → SomePath fs body (writes (Shared v))
+  in_place_written h = some_writes (Shared v) fs may body calls (and_parts (some_path_writes fs body v) (not (is_private_in fs body v)) h).0
 
-pub stays_by_paths : (body : CheckedBlock) (v : ℕ) → BlockCallsBelow 0 body → SomePath [] body (writes (Shared v)) → (IsPrivate [] body (Shared v) → ⊥)
-    → stays_in_place body v ≡ true
-stays_by_paths body v calls w none =
-    and_from (some_path_writes body v) (not (is_private_in body v)) (writes_some (Shared v) body calls w)
-    (⊎_elim (λ e. absurd (none (private_is (Shared v) body calls e))) (λ e. ap not e) (cases_Bool (is_private_in body v)))
+  pub stays_by_paths : SomePath fs body (writes (Shared v)) → (IsPrivate fs body (Shared v) → ⊥) → stays_in_place fs body v ≡ true
+  stays_by_paths w none =
+      and_from (some_path_writes fs body v) (not (is_private_in fs body v)) (writes_some (Shared v) fs may body calls w)
+      (⊎_elim (λ e. absurd (none (private_is (Shared v) fs may body calls e))) (λ e. ap not e) (cases_Bool (is_private_in fs body v)))
+
+pub in_place_not_private : (fs : List CheckedFunction) (body : CheckedBlock) (v : ℕ) → stays_in_place fs body v ≡ true → is_private_in fs body v ≡ false
+in_place_not_private fs body v h = not-true (is_private_in fs body v) (and_parts (some_path_writes fs body v) (not (is_private_in fs body v)) h).1
 
 pub in_place_by_paths : InPlaceByPaths
 in_place_by_paths p allow plans l h t v home copy width i e below = (to, from)
@@ -145,25 +149,29 @@ in_place_by_paths p allow plans l h t v home copy width i e below = (to, from)
     a : ℕ
     a = 2 * i + home
 
-    calls : BlockCallsBelow 0 (task_body p t)
-    calls = calls_none p allow plans l h t
+    calls : BlockCallsBelow (length p.functions) (task_body p t)
+    calls = calls_known p allow plans l h t
+
+    may : AreCallable p.functions
+    may = callable p allow plans l h
 
     to : (program_places p l).written_in_place t a ≡ true
-        → SomePath [] (task_body p t) (writes (Shared v)) × (IsPrivate [] (task_body p t) (Shared v) → ⊥)
+        → SomePath p.functions (task_body p t) (writes (Shared v)) × (IsPrivate p.functions (task_body p t) (Shared v) → ⊥)
     to w =
-        let at = scalar_found (stays_in_place (task_body p t)) 0 l.variables a w in
-        let word = found_word (stays_in_place (task_body p t)) 0 l a at in
+        let at = scalar_found (stays_in_place p.functions (task_body p t)) 0 l.variables a w in
+        let word = found_word (stays_in_place p.functions (task_body p t)) 0 l a at in
         let same = each_is_one_word p allow plans l h at.behind v at.index i a word (scalar_home l v home copy width i e below) in
         let number : 0 + at.behind ≡ v = let e = same.0 in omega (arith, e) in
-        let stays : stays_in_place (task_body p t) v ≡ true = sym (ap (stays_in_place (task_body p t)) number) ∙ at.is_so in (
-          in_place_written (task_body p t) v calls stays,
+        let stays : stays_in_place p.functions (task_body p t) v ≡ true = sym (ap (stays_in_place p.functions (task_body p t)) number) ∙ at.is_so in (
+          in_place_written p.functions may (task_body p t) v calls stays,
           λ private.
-              let clash : true ≡ false = sym (is_private_of (Shared v) (task_body p t) calls private) ∙ in_place_not_private (task_body p t) v stays in
+              let clash : true ≡ false = sym (is_private_of (Shared v) p.functions may (task_body p t) calls private)
+              ∙ in_place_not_private p.functions (task_body p t) v stays in
               absurd (cc),
         )
 
-    from : SomePath [] (task_body p t) (writes (Shared v)) × (IsPrivate [] (task_body p t) (Shared v) → ⊥) → (program_places p l).written_in_place t a ≡ true
+    from : SomePath p.functions (task_body p t) (writes (Shared v)) × (IsPrivate p.functions (task_body p t) (Shared v) → ⊥) → (program_places p l).written_in_place t a ≡ true
     from w =
         let same : v ≡ 0 + v = omega arith in
-        scalar_is (stays_in_place (task_body p t)) 0 l.variables v home copy width i e below
-        (sym (ap (stays_in_place (task_body p t)) same) ∙ stays_by_paths (task_body p t) v calls w.0 w.1)
+        scalar_is (stays_in_place p.functions (task_body p t)) 0 l.variables v home copy width i e below
+        (sym (ap (stays_in_place p.functions (task_body p t)) same) ∙ stays_by_paths p.functions may (task_body p t) v calls w.0 w.1)

@@ -29,4 +29,6 @@ pub use Rattle.layout_facts.proofs.Declared.{places_are_as_declared, written_arr
 -- What a task sees of a memory map stands in the whole map.
 pub use Rattle.layout_facts.proofs.Seen.{word_of_seen, scalar_of_seen}
 -- The scalars that a task writes in place, by their addresses.
-pub use Rattle.layout_facts.proofs.InPlace.{ScalarAt, scalar_found, found_word, scalar_is, calls_none, in_place_written, in_place_not_private}
+pub use Rattle.layout_facts.proofs.InPlace.{ScalarAt, scalar_found, found_word, scalar_is, calls_known, callable, in_place_written, in_place_not_private}
+-- The numbers of a task's locals are words.
+pub use Rattle.layout_facts.proofs.Locals.{locals_are_low}

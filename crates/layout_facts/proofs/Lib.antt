@@ -14,5 +14,6 @@ mod Room
 mod Planned
 mod Assigned
 mod Listed
+mod Locals
 mod Declared
 pub mod Interface

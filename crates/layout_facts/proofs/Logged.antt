@@ -24,7 +24,7 @@ module _ (p : CheckedProgram) (allow : Allow) (plans : List TaskPlanValue) (l : 
   IsHome a = IsSharedWord (program_places p l) a × ((program_places p l).written_in_place t a ≡ false)
 
   abbrev IsPrivate : PrivateScalar → Type 0
-  IsPrivate s = is_private_in (task_body p t) s.number ≡ true
+  IsPrivate s = is_private_in p.functions (task_body p t) s.number ≡ true
 
   -- so many words of a private scalar, from one of them on
   words_are : (s : PrivateScalar) → HasItsPlace l.variables s → IsPrivate s → (n i : ℕ) → i + n ≡ scalar_words s.width
@@ -60,7 +60,7 @@ module _ (p : CheckedProgram) (allow : Allow) (plans : List TaskPlanValue) (l : 
       let same = ap (scalars_of (summaries p) p.shared) body in
       record {
         each = homes_are layout.privates k.places
-            (subst (λ b. All (λ s. is_private_in b s.number ≡ true) layout.privates) (sym body) (private_numbers p l task layout k));
+            (subst (λ b. All (λ s. is_private_in p.functions b s.number ≡ true) layout.privates) (sym body) (private_numbers p l task layout k));
         few = omega (arith, count, few, same);
       }
 

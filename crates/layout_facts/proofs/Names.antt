@@ -43,7 +43,7 @@ pub use Rattle.privatise.specs.Sizes.{home_part}
 pub use Rattle.source_values.specs.Runs.{State, body_of, initial_words, is_long_extent, task_body}
 -- word programs and their code
 pub use Rattle.lower.proofs.Interface.{SeenFrom, array, array_read, array_seen, is_private_of, private_is, privates_seen, read, scalar, scalar_seen}
-pub use Rattle.lower.proofs.Interface.{seen_from, seen_laid_out, some_writes, writes_some}
+pub use Rattle.lower.proofs.Interface.{AreCallable, seen_from, seen_laid_out, some_writes, writes_some}
 pub use Rattle.lower.specs.Agreement.{IsArray, place_length}
 pub use Rattle.lower.specs.Seen.{map_seen, places_seen, some_path_writes}
 pub use Rattle.lower.specs.Spots.{AreDifferent, AreListed, listed_of}
@@ -56,3 +56,4 @@ pub use Rattle.layout_facts.specs.Laws.{AddressIs, AddressesAre, EachIsOneWord, 
 pub use Rattle.layout_facts.specs.Laws.{PlacesAreAsDeclared, PlacesAreDeclared, PlacesMatch, PrivatesAreTheirs, RowsFitPlaces, ScalarsStand}
 pub use Rattle.layout_facts.specs.Laws.{SharedWordsAreOfVariables, TaskMatches, TaskPlacesAreApart, TaskPlacesAreEven, TasksHaveRoom, TasksMatch}
 pub use Rattle.layout_facts.specs.Laws.{ViewHasTheirWords, WordsOfVariablesAreShared, WorldsHaveStates, WrittenArraysHaveCopies}
+pub use Rattle.task_ast.specs.Paths.{CheckedFunction}

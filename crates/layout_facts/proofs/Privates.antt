@@ -3,7 +3,8 @@ use Rattle.layout_facts.proofs.Names.{◌≡◌, ℕ, zero, suc, ◌+◌, ◌*�
 use Rattle.layout_facts.proofs.Names.{refl, true, false, ⊎_elim, slice_get, All, AllPairs, get_or, flat_map, option_map, length-map, get_or-map, cases_lt}
 use Rattle.layout_facts.proofs.Names.{cases_Bool, All-head, All-tail, slice_get-map, slice_get_within, get_or_from_slice_get, Allow, CheckedProgram}
 use Rattle.layout_facts.proofs.Names.{CheckedTask, TaskPlanValue, IsTaskPlan, element, CopyPair, run_pairs, scalar_pairs, IsSharedWord, IsCopyWord, IsAmong}
-use Rattle.layout_facts.proofs.Names.{ArePrivate, Shared, body_of, task_body, is_private_of, is_private_in, stays_in_place, program_places, HasLayout, IsTaskAt}
+use Rattle.layout_facts.proofs.Names.{AreCallable, ArePrivate, Shared, body_of, task_body, is_private_of, is_private_in, stays_in_place, program_places}
+use Rattle.layout_facts.proofs.Names.{HasLayout, IsTaskAt}
 use Rattle.layout_facts.proofs.Names.{PrivatesAreTheirs, ScalarsStand, PrivateScalar, ScalarWidth, OneWord, TwoWords, MemoryMap, TaskPlace, scalar_words}
 use Rattle.layout_facts.proofs.Names.{HasItsPlace, copy_regions, IsLaidOut, IsIn, within, before, copies_row, scalar_copy, scalar_home}
 use Rattle.runtime_code.specs.LayoutPlaces.{pairs_of}
@@ -11,7 +12,7 @@ use Rattle.boot_runtime.specs.Entries.{entry_of, task_entries}
 use Rattle.boot_runtime.specs.Listing.{TaskEntry, privates_in}
 use Rattle.layout_facts.proofs.Homes.{words_of_variables_are_shared, each_is_one_word}
 use Rattle.task_ast.specs.Calls.{BlockCallsBelow}
-use Rattle.layout_facts.proofs.InPlace.{scalar_found, found_word, in_place_not_private, calls_none}
+use Rattle.layout_facts.proofs.InPlace.{scalar_found, found_word, in_place_not_private, calls_known, callable}
 use Rattle.layout_facts.proofs.Pairs.{among_scalars}
 
 -- ---- a scalar and its copy
@@ -60,7 +61,7 @@ copies_differ l h s q i j a b lt is js e =
 -- a private scalar isn't written in place
 pub not_in_place : (p : CheckedProgram) (allow : Allow) (plans : List TaskPlanValue) (l : MemoryMap) → HasLayout p allow plans l → (t : ℕ) (s : PrivateScalar)
     (i : ℕ)
-    → HasItsPlace l.variables s → i < scalar_words s.width → is_private_in (task_body p t) s.number ≡ true
+    → HasItsPlace l.variables s → i < scalar_words s.width → is_private_in p.functions (task_body p t) s.number ≡ true
     → (program_places p l).written_in_place t (2 * i + s.home) ≡ false
 not_in_place p allow plans l h t s i place below private = ⊎_elim written (λ e. e) (cases_Bool ((program_places p l).written_in_place t a))
   where
@@ -69,12 +70,12 @@ not_in_place p allow plans l h t s i place below private = ⊎_elim written (λ 
 
     written : (program_places p l).written_in_place t a ≡ true → (program_places p l).written_in_place t a ≡ false
     written w =
-        let at = scalar_found (stays_in_place (task_body p t)) 0 l.variables a w in
-        let word = found_word (stays_in_place (task_body p t)) 0 l a at in
+        let at = scalar_found (stays_in_place p.functions (task_body p t)) 0 l.variables a w in
+        let word = found_word (stays_in_place p.functions (task_body p t)) 0 l a at in
         let same = each_is_one_word p allow plans l h at.behind s.number at.index i a word
         (scalar_home l s.number s.home s.copy s.width i place.place below) in
         let number : 0 + at.behind ≡ s.number = let e = same.0 in omega (arith, e) in
-        let other = in_place_not_private (task_body p t) s.number (sym (ap (stays_in_place (task_body p t)) number) ∙ at.is_so) in
+        let other = in_place_not_private p.functions (task_body p t) s.number (sym (ap (stays_in_place p.functions (task_body p t)) number) ∙ at.is_so) in
         let clash : true ≡ false = sym private ∙ other in absurd (cc)
 
 -- a shared word that a task doesn't write in place, and a copy
@@ -85,12 +86,12 @@ record IsOwn (p : CheckedProgram) (l : MemoryMap) (t home copy : ℕ) : Type 0 w
 
 are_private : (p : CheckedProgram) (allow : Allow) (plans : List TaskPlanValue) (l : MemoryMap) → HasLayout p allow plans l
     → (t : ℕ) (xs : List PrivateScalar)
-    → AllPairs ◌<◌ (map (λ s. s.number) xs) → All (HasItsPlace l.variables) xs → All (λ s. is_private_in (task_body p t) s.number ≡ true) xs
+    → AllPairs ◌<◌ (map (λ s. s.number) xs) → All (HasItsPlace l.variables) xs → All (λ s. is_private_in p.functions (task_body p t) s.number ≡ true) xs
     → ArePrivate (program_places p l) t (flat_map scalar_pairs xs)
 are_private p allow plans l h t [] ascending places private = tt
 are_private p allow plans l h t (s ∷ xs) ascending places private =
     by s.width refl (are_private p allow plans l h t xs (others_ascend s xs ascending) behind
-    (All-tail (λ s. is_private_in (task_body p t) s.number ≡ true) s xs private))
+    (All-tail (λ s. is_private_in p.functions (task_body p t) s.number ≡ true) s xs private))
   where
     here : HasItsPlace l.variables s
     here = All-head (HasItsPlace l.variables) s xs places
@@ -103,7 +104,7 @@ are_private p allow plans l h t (s ∷ xs) ascending places private =
 
     own : (i home copy : ℕ) → i < scalar_words s.width → home ≡ 2 * i + s.home → copy ≡ 2 * i + s.copy → IsOwn p l t home copy
     own i home copy below e f =
-        let its = All-head (λ s. is_private_in (task_body p t) s.number ≡ true) s xs private in
+        let its = All-head (λ s. is_private_in p.functions (task_body p t) s.number ≡ true) s xs private in
         subst (λ a. IsOwn p l t a copy) (sym e) (subst (IsOwn p l t (2 * i + s.home)) (sym f) (record {
           word = words_of_variables_are_shared p allow plans l h s.number i (2 * i + s.home)
               (scalar_home l s.number s.home s.copy s.width i here.place below);
@@ -142,8 +143,9 @@ are_private p allow plans l h t (s ∷ xs) ascending places private =
 -- what the plan and the layout say of a task's private scalars
 pub record Privates (p : CheckedProgram) (l : MemoryMap) (task : CheckedTask) (layout : TaskPlace) : Type 0 where
   pub plan : TaskPlanValue
-  pub is_plan : IsTaskPlan [] p.shared task.body plan
-  pub calls : BlockCallsBelow 0 task.body
+  pub is_plan : IsTaskPlan p.functions p.shared task.body plan
+  pub callable : AreCallable p.functions
+  pub calls : BlockCallsBelow (length p.functions) task.body
   pub numbers : map (λ s. s.number) layout.privates ≡ plan.private_scalars
   pub places : All (HasItsPlace l.variables) layout.privates
 
@@ -154,8 +156,9 @@ privates_of p allow plans l h t task layout k =
     let is = get_or_from_slice_get l.tasks t layout layout k.is_layout in
     record {
       plan = plan.0;
-      is_plan = subst (λ fs. IsTaskPlan fs p.shared task.body plan.0) h.layout.plain (h.plan.each t task plan.0 k.is_task plan.1);
-      calls = subst (λ o. BlockCallsBelow 0 (body_of o)) k.is_task (calls_none p allow plans l h t);
+      is_plan = h.plan.each t task plan.0 k.is_task plan.1;
+      callable = callable p allow plans l h;
+      calls = subst (λ o. BlockCallsBelow (length p.functions) (body_of o)) k.is_task (calls_known p allow plans l h t);
       numbers = (h.layout.tasks.each t task plan.0 layout k.is_task plan.1 k.is_layout).privates;
       places =
           subst (λ (x : TaskPlace). All (HasItsPlace l.variables) x.privates) is
@@ -168,15 +171,15 @@ ascending_numbers p l task layout k = subst (AllPairs ◌<◌) (sym k.numbers) k
 
 -- they are those that the paths make private
 pub private_numbers : (p : CheckedProgram) (l : MemoryMap) (task : CheckedTask) (layout : TaskPlace) → Privates p l task layout
-    → All (λ (s : PrivateScalar). is_private_in task.body s.number ≡ true) layout.privates
+    → All (λ (s : PrivateScalar). is_private_in p.functions task.body s.number ≡ true) layout.privates
 private_numbers p l task layout k i d lt =
     let count = ap length k.numbers in
     let inside : i < length k.plan.private_scalars = omega (arith, lt, count, length-map layout.privates (λ (s : PrivateScalar). s.number)) in
     let numbers : get_or k.plan.private_scalars i 0 ≡ (get_or layout.privates i d).number =
     ap (λ xs. get_or xs i 0) (sym k.numbers) ∙ get_or-map (λ (s : PrivateScalar). s.number) layout.privates i d 0 lt in
     let only = k.is_plan.private_scalars.only i 0 inside in
-    subst (λ n. is_private_in task.body n ≡ true) numbers
-    (is_private_of (Shared (get_or k.plan.private_scalars i 0)) task.body k.calls only.owed)
+    subst (λ n. is_private_in p.functions task.body n ≡ true) numbers
+    (is_private_of (Shared (get_or k.plan.private_scalars i 0)) p.functions k.callable task.body k.calls only.owed)
 
 -- the entry of a number, and that there is none beyond
 entry_is : (l : MemoryMap) (t : ℕ) (layout : TaskPlace) → slice_get l.tasks t ≡ Some layout
@@ -201,7 +204,7 @@ privates_are_theirs p allow plans l h t = pick (cases_lt t (length l.tasks))
         let k = privates_of p allow plans l h t task.0 layout.0 (record { is_task = task.1; is_layout = layout.1 }) in
         subst (ArePrivate (program_places p l) t) (sym (entry_is l t layout.0 layout.1))
         (are_private p allow plans l h t layout.0.privates (ascending_numbers p l task.0 layout.0 k) k.places
-        (subst (λ b. All (λ s. is_private_in b s.number ≡ true) layout.0.privates) (sym (ap body_of task.1)) (private_numbers p l task.0 layout.0 k)))
+        (subst (λ b. All (λ s. is_private_in p.functions b s.number ≡ true) layout.0.privates) (sym (ap body_of task.1)) (private_numbers p l task.0 layout.0 k)))
 
     pick : (t < length l.tasks) ⊎ (length l.tasks ≤ t) → ArePrivate (program_places p l) t (privates_in (task_entries l) t)
     pick (inl lt) = there lt

@@ -11,8 +11,8 @@ use Rattle.cost_bound.specs.Summaries.{summaries}
 pub task_places_are_apart : TaskPlacesAreApart
 task_places_are_apart p allow plans l h t task layout k =
     let mine = privates_of p allow plans l h t task layout k in
-    let w = some_path_writes task.body in
-    let stand = spots_are_apart (map_seen task.body l) layout (seen_laid_out w l h.layout.rules) (privates_seen w l.variables layout.privates mine.places) in
+    let w = some_path_writes p.functions task.body in
+    let stand = spots_are_apart (map_seen p.functions task.body l) layout (seen_laid_out w l h.layout.rules) (privates_seen w l.variables layout.privates mine.places) in
     let a = apart_of l h.layout.rules in
     let emits = a.emits in let versions = a.versions in
     let most_list = at_most_greatest (list_of (summaries p) p.shared) p.tasks t task k.is_task in
@@ -35,8 +35,8 @@ pub task_places_are_even : TaskPlacesAreEven
 task_places_are_even p allow plans l h t task layout k =
     let mine = privates_of p allow plans l h t task layout k in
     let e = even_of l h.layout.rules in
-    let w = some_path_writes task.body in
-    let stand = spots_are_apart (map_seen task.body l) layout (seen_laid_out w l h.layout.rules) (privates_seen w l.variables layout.privates mine.places) in
+    let w = some_path_writes p.functions task.body in
+    let stand = spots_are_apart (map_seen p.functions task.body l) layout (seen_laid_out w l h.layout.rules) (privates_seen w l.variables layout.privates mine.places) in
     record {
       row = e.row;
       list = e.list;
@@ -51,10 +51,10 @@ counted from a capacity e f l k = ((a - from) / 2, omega arith, omega arith)
 
 pub elements_stand : ElementsStand
 elements_stand p allow plans l h t task layout k =
-    let m = map_seen task.body l in
-    let rules = seen_laid_out (some_path_writes task.body) l h.layout.rules in
+    let m = map_seen p.functions task.body l in
+    let rules = seen_laid_out (some_path_writes p.functions task.body) l h.layout.rules in
     record {
-      word = λ x e. word_of_seen task.body l x.array x.index (element_address (places_of m layout) x) (element_is m layout x e);
+      word = λ x e. word_of_seen p.functions task.body l x.array x.index (element_address (places_of m layout) x) (element_is m layout x e);
       copy = λ x c.
           let at = privates.copy_is p m rules x.array x.index (copy_address (places_of m layout) x) (copy_is m layout x c) in
           record { even = at.even; from = at.from; below = at.below };

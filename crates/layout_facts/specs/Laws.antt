@@ -1,11 +1,12 @@
 -- What the layout of a source gives to the layers above.
-use Rattle.std.specs.Prelude.{◌≡◌, ◌↔◌, ℕ, ◌+◌, ◌*◌, ◌<◌, ◌≤◌, true, false, Option, Some, is_some, List, [], length, map, AllPairs, Contains, slice_get}
+use Rattle.std.specs.Prelude.{◌≡◌, ◌↔◌, ℕ, ◌+◌, ◌*◌, ◌<◌, ◌≤◌, true, false, Option, Some, is_some, List, [], length, map, All, AllPairs, Contains, slice_get}
 use Rattle.std.specs.Prelude.{slice_index, slice_index_or}
 use Rattle.task_ast.specs.declared.Extent.TheVariants as extent
 use Rattle.task_ast.specs.declared.SharedDeclaration.{SharedDeclaration}
+use Rattle.memory_map.specs.declared.place.RoutinePlace.{RoutinePlace}
 use Rattle.cost_bound.specs.Summaries.{summaries}
 use Rattle.cost_bound.specs.declared.allowance.Allow.{Allow}
-use Rattle.cost_bound.specs.Counts.{stores_of, block_assigns}
+use Rattle.cost_bound.specs.Counts.{stores_of, assigns_of}
 use Rattle.cost_bound.specs.Allowance.{CheckedProgram, CheckedTask, is_written, list_of, scalars_of}
 use Rattle.war_analysis.specs.PlanValue.{TaskPlanValue}
 use Rattle.war_analysis.specs.Plans.{IsPrivateIn}
@@ -72,21 +73,21 @@ PrivatesAreLogged = OfLayouts (λ p l. (t : ℕ) → AreLogged (program_places p
 
 -- the words that a task works on stand apart, and behind what it lists and emits
 abbrev pub TaskPlacesAreApart : Type 0
-TaskPlacesAreApart = OfTasks (λ p l task layout. spots.AreApart (task_places l task layout) (task_room p task))
+TaskPlacesAreApart = OfTasks (λ p l task layout. spots.AreApart (task_places p l task layout) (task_room p task))
 
 -- all at even addresses
 abbrev pub TaskPlacesAreEven : Type 0
-TaskPlacesAreEven = OfTasks (λ p l task layout. spots.AreEven (task_places l task layout))
+TaskPlacesAreEven = OfTasks (λ p l task layout. spots.AreEven (task_places p l task layout))
 
 -- different elements, of each array no more than there are stores to it, are no more than a task's list has beside the scalars that it assigns
 abbrev pub ElementsAreStores : Type 0
-ElementsAreStores = OfTasks (λ p l task layout. (xs : List Element) → spots.AreListed (task_places l task layout) xs
+ElementsAreStores = OfTasks (λ p l task layout. (xs : List Element) → spots.AreListed (task_places p l task layout) xs
     → ((v : ℕ) → spots.listed_of v xs ≤ stores_of (summaries p) v task.body)
     → length xs + scalars_of (summaries p) p.shared task.body ≤ list_of (summaries p) p.shared task.body)
 
 -- the list has room for the private scalars and for as many different elements of each array as there are stores to it
 abbrev pub ListsHaveRoom : Type 0
-ListsHaveRoom = OfTasks (λ p l task layout. HasRoom (task_places l task layout) (λ v. stores_of (summaries p) v task.body) (task_room p task))
+ListsHaveRoom = OfTasks (λ p l task layout. HasRoom (task_places p l task layout) (λ v. stores_of (summaries p) v task.body) (task_room p task))
 
 -- ---- addresses and variables
 
@@ -133,7 +134,7 @@ pub record ElementStands (p : CheckedProgram) (l : MemoryMap) (places : Places) 
 
 -- so with each element that a task works on
 abbrev pub ElementsStand : Type 0
-ElementsStand = OfTasks (λ p l task layout. ElementStands p l (task_places l task layout))
+ElementsStand = OfTasks (λ p l task layout. ElementStands p l (task_places p l task layout))
 
 -- each word of a scalar is a word of the variable, its copy a copy
 pub record ScalarStands (p : CheckedProgram) (l : MemoryMap) (v home copy : ℕ) (width : ScalarWidth) : Type 0 where
@@ -170,10 +171,10 @@ PlacesAreDeclared = OfLayouts PlacesMatch
 -- allowance counts; the layout has copies of the arrays that stand on the left of an assignment in it
 pub record TaskMatches (p : CheckedProgram) (l : MemoryMap) (task : CheckedTask) (layout : TaskPlace) : Type 0 where
   pub ascending : AllPairs ◌<◌ (map (λ s. s.number) layout.privates)
-  pub only : (s : PrivateScalar) → Contains layout.privates s → IsPrivateIn [] p.shared task.body s.number × HasItsPlace l.variables s
-  pub each : (v : ℕ) → IsPrivateIn [] p.shared task.body v → (s : PrivateScalar) × Contains layout.privates s × (s.number ≡ v)
+  pub only : (s : PrivateScalar) → Contains layout.privates s → IsPrivateIn p.functions p.shared task.body s.number × HasItsPlace l.variables s
+  pub each : (v : ℕ) → IsPrivateIn p.functions p.shared task.body v → (s : PrivateScalar) × Contains layout.privates s × (s.number ≡ v)
   pub count : private_words layout.privates ≤ scalars_of (summaries p) p.shared task.body
-  pub stored : (v : ℕ) → plan.IsArrayAt p.shared v → block_assigns v task.body ≡ true
+  pub stored : (v : ℕ) → plan.IsArrayAt p.shared v → assigns_of (summaries p) v task.body ≡ true
       → (elements n : ℕ) × (copies : ArrayCopies) × (slice_get l.variables v ≡ Some (Array elements n (Some copies)))
 
 -- so with each task
@@ -182,11 +183,11 @@ TasksMatch = OfTasks TaskMatches
 
 -- a scalar's address in a task is that of its copy where it is private there, else that of its first word
 pub record AddressIs (p : CheckedProgram) (l : MemoryMap) (task : CheckedTask) (layout : TaskPlace) : Type 0 where
-  pub private : (v home copy : ℕ) (width : ScalarWidth) → slice_get l.variables v ≡ Some (Scalar home copy width) → is_private_in task.body v ≡ true
-      → address_of (task_places l task layout) v ≡ copy
-  pub left : (v home copy : ℕ) (width : ScalarWidth) → slice_get l.variables v ≡ Some (Scalar home copy width) → is_private_in task.body v ≡ false
-      → address_of (task_places l task layout) v ≡ home
-  pub each : (v home copy : ℕ) (width : ScalarWidth) → slice_get l.variables v ≡ Some (Scalar home copy width) → is_private_in task.body v ≡ true
+  pub private : (v home copy : ℕ) (width : ScalarWidth) → slice_get l.variables v ≡ Some (Scalar home copy width) → is_private_in p.functions task.body v ≡ true
+      → address_of (task_places p l task layout) v ≡ copy
+  pub left : (v home copy : ℕ) (width : ScalarWidth) → slice_get l.variables v ≡ Some (Scalar home copy width) → is_private_in p.functions task.body v ≡ false
+      → address_of (task_places p l task layout) v ≡ home
+  pub each : (v home copy : ℕ) (width : ScalarWidth) → slice_get l.variables v ≡ Some (Scalar home copy width) → is_private_in p.functions task.body v ≡ true
       → Contains layout.privates (record { number = v; home = home; copy = copy; width = width })
 
 -- so in each task
@@ -195,16 +196,25 @@ AddressesAre = OfTasks AddressIs
 
 -- the task's places have what the source declares
 abbrev pub PlacesAreAsDeclared : Type 0
-PlacesAreAsDeclared = OfTasks (λ p l task layout. AsDeclared p.shared (task_places l task layout))
+PlacesAreAsDeclared = OfTasks (λ p l task layout. AsDeclared p.shared (task_places p l task layout))
 
 -- of a well-formed task, each array that some path writes has copies
 abbrev pub WrittenArraysHaveCopies : Type 0
 WrittenArraysHaveCopies = OfTasks (λ p l task layout.
-    WellFormedBlock p.shared task.body → HasCopies p.shared (task_places l task layout) (some_path_writes task.body))
+    WellFormedBlock p.shared task.body → All (λ f. WellFormedBlock p.shared f.body) p.functions
+    → HasCopies p.shared (task_places p l task layout) (some_path_writes p.functions task.body))
 
--- a task, which calls no function, writes the words of a scalar in place exactly where some path of it writes it, and it isn't private there
+-- the numbers of its locals, and of those of each function that it reaches, are words
+pub record LowLocals (layout : TaskPlace) : Type 0 where
+  pub own : layout.first + 256 ≤ 65536
+  pub routines : All (λ (r : RoutinePlace). r.first + 256 ≤ 65536) layout.routines
+
+abbrev pub LocalsAreLow : Type 0
+LocalsAreLow = OfTasks (λ p l task layout. LowLocals layout)
+
+-- a task writes the words of a scalar in place exactly where some path of it writes it, and it isn't private there
 abbrev pub InPlaceByPaths : Type 0
 InPlaceByPaths = OfLayouts (λ p l. (t v home copy : ℕ) (width : ScalarWidth) (i : ℕ) → slice_get l.variables v ≡ Some (Scalar home copy width)
     → i < scalar_words width
     → ((program_places p l).written_in_place t (2 * i + home) ≡ true)
-    ↔ (SomePath [] (task_body p t) (writes (Shared v)) × (IsPrivate [] (task_body p t) (Shared v) → ⊥)))
+    ↔ (SomePath p.functions (task_body p t) (writes (Shared v)) × (IsPrivate p.functions (task_body p t) (Shared v) → ⊥)))

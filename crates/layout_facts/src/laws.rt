@@ -1,6 +1,6 @@
 //! What holds of the layout of a source, as contracts of functions that do nothing.
 ghost use Rattle.layout_facts.specs.Laws.{AddressesAre, EachIsOneWord, ElementsAreStores, ElementsStand, InPlaceByPaths, ListsHaveRoom, PlacesAreApart};
-ghost use Rattle.layout_facts.specs.Laws.{PlacesAreAsDeclared, PlacesAreDeclared, PrivatesAreLogged, PrivatesAreTheirs, RowsFitPlaces};
+ghost use Rattle.layout_facts.specs.Laws.{LocalsAreLow, PlacesAreAsDeclared, PlacesAreDeclared, PrivatesAreLogged, PrivatesAreTheirs, RowsFitPlaces};
 ghost use Rattle.layout_facts.specs.Laws.{ScalarsStand, SharedWordsAreOfVariables, TaskPlacesAreApart, TaskPlacesAreEven, TasksHaveRoom};
 ghost use Rattle.layout_facts.specs.Laws.{TasksMatch, ViewHasTheirWords, WordsOfVariablesAreShared, WorldsHaveStates, WrittenArraysHaveCopies};
 
@@ -112,4 +112,9 @@ pub fn written_arrays_have_copies()
 /// A task writes a scalar in place exactly where some path of it does, and the scalar isn't private there.
 pub fn in_place_by_paths()
     ensures { InPlaceByPaths }
+{}
+
+/// The numbers of a task's locals, and of those of the functions that it reaches, are words.
+pub fn locals_are_low()
+    ensures { LocalsAreLow }
 {}

@@ -9,13 +9,13 @@ use Rattle.task_attempts.proofs.Names.{WordState, End}
 use Rattle.task_attempts.proofs.Names.{GoesOn, Jumps, Broken, behaviour, started, behaves_by_effects, whole_ends_soundly, StoresWords, stores_words, Ends}
 use Rattle.task_attempts.proofs.Names.{program_effects, IsElsewhere, Model, AttemptContract, Comes, Lacks, Decides, RunsShort, TakesAndStores, EndsAs}
 use Rattle.task_attempts.proofs.Names.{BlocksAgree}
-use Rattle.task_attempts.proofs.Names.{lowered_block, task_program, outcome_of, whole_task, has_jumped, effects_of, program_parts, LeavesFor}
+use Rattle.task_attempts.proofs.Names.{task_program, outcome_of, whole_task, has_jumped, effects_of, program_parts, LeavesFor}
 use Rattle.task_attempts.proofs.Names.{inl, IsBelowCode, Gate, word_place}
 use Rattle.array_versions.specs.Program.{Program}
 use Rattle.array_versions.specs.Behaviour.{Short as Starves}
 use Rattle.machine_effects.specs.World.{fram_after}
 use Rattle.array_versions.specs.Laws.{EndsByEffects, IsSound}
-use Rattle.source_meaning.proofs.Interface.{emits_same}
+use Rattle.source_meaning.proofs.Interface.{emits_same, counts_same}
 use Rattle.task_attempts.proofs.Names.{◌%◌, ◌+◌, ◌<◌, NextTask, SentBase, Base, ListLength, sent_place, event_index, where_events, entry_effects, runs_of}
 use Rattle.task_attempts.proofs.Names.{transition_effects, each_store-front, at_variable, at_copy, at_element, at_version, in_list, at_list_length}
 use Rattle.task_attempts.proofs.Names.{at_emit_count}
@@ -29,7 +29,7 @@ use Rattle.event_rules.specs.Taking.{Taking, Before, Open, Advances, FollowsSeei
 use Rattle.task_attempts.proofs.Asks.{Asks, AsksFrom}
 use Rattle.task_attempts.proofs.Answered.{program_asks}
 use Rattle.task_attempts.proofs.InOrder.{IsNoClosing, statements_advance, closing, task_advances}
-use Rattle.task_attempts.proofs.Rows.{HasRows, block_rows}
+use Rattle.task_attempts.proofs.Rows.{HasRows, block_rows, functions_keep_rows}
 use Rattle.crash_rules.specs.Model.{HoldsThroughout}
 use Rattle.memory_map.specs.declared.runtime.Logging.{Logging}
 use Rattle.memory_map.specs.declared.runtime.Role.{Role}
@@ -37,15 +37,15 @@ use Rattle.memory_map.specs.Spots.{element}
 use Rattle.lower.specs.Agreement.{DidWithin}
 use Rattle.task_attempts.proofs.Names.{model_by, StandsFor, IsElement, Some}
 use Rattle.task_attempts.proofs.Quiet.{stores_each, stores_as, answers_seen}
-use Rattle.task_attempts.proofs.Tasks.{body_is, program_is}
+use Rattle.task_attempts.proofs.Tasks.{body_is, own_program, program_is}
 use Rattle.task_attempts.proofs.Tame.{Tame, task_tame, emits_fit}
 use Rattle.task_attempts.proofs.Starts.{held_attempt, held_runs, readings_and}
 use Rattle.task_attempts.proofs.Started.{Attempting, scene}
 use Rattle.task_attempts.proofs.Leaving.{StoresOf, setting, bounds, Transition, before, effects_are, tame_before, next, few, z, z_behind}
-use Rattle.cost_bound.specs.Counts.{called_emits}
 use Rattle.cost_bound.specs.Summaries.{summaries}
-use Rattle.source_values.specs.Statements.{meanings}
-use Rattle.task_attempts.proofs.Plain.{no_summaries, no_meanings}
+use Rattle.source_values.specs.Statements.{meanings, emit_counts, returns}
+use Rattle.lower.specs.Agreement.{AreFunctions}
+use Rattle.array_versions.specs.Behaviour.{Gives}
 
 -- what a runtime's model asks beside, of a started attempt: the state stands for the source's attempt; what statements do keeps the world undecided
 -- throughout, also up to a transition; and behind its last store the world is decided
@@ -192,6 +192,7 @@ module _ (logging : Logging) (role : Role) (run : Attempting) (keeps_to : Keeps 
   keeps es Broken o h = absurd h.sound
   keeps es (Jumps to end) (to_task task m) h = Comes (next run (t es to end task m h)) (decides es to end task m h)
   keeps es Starves short h = Lacks (runs_short es h)
+  keeps es (Gives w t) (returns v m) h = absurd h.well
   keeps es _ _ h = absurd h.agrees
 
   stores_before_code : (es : List Effect) (e : End) (o : Outcome) → Meets es e o → EachStore (IsBelowCode l) es
@@ -199,6 +200,7 @@ module _ (logging : Logging) (role : Role) (run : Attempting) (keeps_to : Keeps 
   stores_before_code es Broken o h = absurd h.sound
   stores_before_code es (Jumps to t) (to_task task m) h = stores_low es to t task m h
   stores_before_code es Starves short h = below_code es (safe_short es h)
+  stores_before_code es (Gives w t) (returns v m) h = absurd h.well
   stores_before_code es _ _ h = absurd h.agrees
 
   leaves : (es : List Effect) (e : End) (o : Outcome) → Meets es e o → LeavesFor l.commit.address e
@@ -206,6 +208,7 @@ module _ (logging : Logging) (role : Role) (run : Attempting) (keeps_to : Keeps 
   leaves es Broken o h = absurd h.sound
   leaves es (Jumps to t) (to_task task m) h = h.agrees.commits
   leaves es Starves o h = tt
+  leaves es (Gives w t) (returns v m) h = absurd h.well
   leaves es _ _ h = absurd h.agrees
 
   -- where a task leaves, what holds of FRAM behind each transition
@@ -216,12 +219,13 @@ module _ (logging : Logging) (role : Role) (run : Attempting) (keeps_to : Keeps 
   ends_with P left none es (Jumps to end) (to_task task m) h =
       let leaves = t es to end task m h in subst (λ f. P f (Jumps to end)) (z_behind run leaves) (left leaves)
   ends_with P left none es Starves o h = none es
+  ends_with P left none es (Gives w t) (returns v m) h = absurd h.well
   ends_with P left none es _ _ h = absurd h.agrees
 
   -- ---- the program
 
   abbrev program : Program
-  program = lowered_block here code
+  program = own_program p l i.task own
 
   -- the answers that it tells
   abbrev told : List ℕ
@@ -230,37 +234,39 @@ module _ (logging : Logging) (role : Role) (run : Attempting) (keeps_to : Keeps 
   abbrev attempt : Attempt
   attempt = fresh_attempt s.shared (readings_and run told)
 
-  few_emits : block_emits [] code ≤ emits_of (summaries p) code
+  few_emits : block_emits (emit_counts p) code ≤ emits_of (summaries p) code
   few_emits =
       let same = emits_same (summaries p) code in
-      let none = ap (λ known. block_emits (called_emits known) code) (no_summaries p given.plain) in
-      omega (arith, same, none)
+      let counts = ap (λ counts. block_emits counts code) (counts_same p) in
+      omega (arith, same, counts)
 
-  ends_well : EndsWell (length p.tasks) (run_block [] code attempt)
+  ends_well : EndsWell (length p.tasks) (run_block (meanings p) code attempt)
   ends_well =
-      subst (λ known. EndsWell (length p.tasks) (run_block known code attempt)) (no_meanings p given.plain)
-      (subst (TransitionComes p) (get_or_from_slice_get p.tasks s.task i.task i.task i.task_is)
-      (given.runnable.transition_comes s.task i.task undecided.is_open.is_task) attempt)
+      subst (TransitionComes p) (get_or_from_slice_get p.tasks s.task i.task i.task i.task_is)
+      (given.runnable.transition_comes s.task i.task undecided.is_open.is_task) attempt
+
+  -- the functions that it calls
+  functions : AreFunctions (setting run) p.functions
+  functions = record { are = refl; fits = facts.bodies; admits = facts.admitted; low = facts.low }
 
   meets : BlocksAgree → InputsAreWords inputs → Meets (behaviour program (started x.fram inputs)).effects (behaviour program (started x.fram inputs)).end
-      (run_block [] code attempt)
+      (run_block (meanings p) code attempt)
   meets agree small =
       let w = started x.fram inputs in
       let b = behaviour program w in
       record {
         -- the program agrees with the attempt from what FRAM has, which comes to what the source's attempt comes to
         agrees = subst (EndsAs here (bounds run) [] [] b.effects b.end)
-            (ap (λ l. run_block [] code (answered_by l (held_attempt run))) (append-nil told) ∙ held_runs run told)
-            (agree (setting run) code (held_attempt run) [] w refl facts.formed facts.admits (λ v h. h) keeps_to.stands
+            (ap (λ l. run_block (meanings p) code (answered_by l (held_attempt run))) (append-nil told) ∙ held_runs run told)
+            (agree (setting run) p.functions code (held_attempt run) [] w functions refl facts.formed facts.admits (λ v h. h) keeps_to.stands
             (let f = few_emits in omega (arith, f)) (λ v. omega arith) []);
         by_effects = behaves_by_effects program w;
         sound = whole_ends_soundly program x.fram inputs facts.whole;
         of_words = stores_words program w facts.of_words
             (record { stack = tt; locals = λ n v e. cc e; fram = undecided.is_open.words; inputs = small });
         well = ends_well;
-        rows = block_rows code attempt (length s.shared) refl;
-        source = ap (λ b. completion_of (run_block (meanings p) b attempt)) (body_is p l s.task i)
-            ∙ ap (λ known. completion_of (run_block known code attempt)) (no_meanings p given.plain);
+        rows = block_rows (meanings p) (functions_keep_rows p.functions) code attempt (length s.shared) refl;
+        source = ap (λ b. completion_of (run_block (meanings p) b attempt)) (body_is p l s.task i);
       }
 
   pub program_keeps : BlocksAgree → InputsAreWords inputs
@@ -268,19 +274,19 @@ module _ (logging : Logging) (role : Role) (run : Attempting) (keeps_to : Keeps 
   program_keeps agree small =
       let b = behaviour program (started x.fram inputs) in
       subst (λ q. AttemptContract model s inputs x (effects_of (behaviour q (started x.fram inputs)))) (sym (program_is p l s.task i own run.own_is))
-      (keeps b.effects b.end (run_block [] code attempt) (meets agree small))
+      (keeps b.effects b.end (run_block (meanings p) code attempt) (meets agree small))
 
   pub program_stores : BlocksAgree → InputsAreWords inputs → EachStore (IsBelowCode l) ((program_parts p l).body s.task x.fram inputs).effects
   program_stores agree small =
       let b = behaviour program (started x.fram inputs) in
       subst (λ q. EachStore (IsBelowCode l) (behaviour q (started x.fram inputs)).effects) (sym (program_is p l s.task i own run.own_is))
-      (stores_before_code b.effects b.end (run_block [] code attempt) (meets agree small))
+      (stores_before_code b.effects b.end (run_block (meanings p) code attempt) (meets agree small))
 
   pub program_leaves : BlocksAgree → InputsAreWords inputs → LeavesFor l.commit.address (behaviour (task_program p l s.task) (started x.fram inputs)).end
   program_leaves agree small =
       let b = behaviour program (started x.fram inputs) in
       subst (λ q. LeavesFor l.commit.address (behaviour q (started x.fram inputs)).end) (sym (program_is p l s.task i own run.own_is))
-      (leaves b.effects b.end (run_block [] code attempt) (meets agree small))
+      (leaves b.effects b.end (run_block (meanings p) code attempt) (meets agree small))
 
   pub program_ends : (P : (ℕ → ℕ) → End → Type 0) → ((t : Transition run) → P (z run t).fram (Jumps t.to t.end))
       → ((es : List Effect) → P (fram_after es x.fram) Starves) → BlocksAgree → InputsAreWords inputs
@@ -288,7 +294,7 @@ module _ (logging : Logging) (role : Role) (run : Attempting) (keeps_to : Keeps 
   program_ends P left none agree small =
       let b = behaviour program (started x.fram inputs) in
       subst (λ q. let done = behaviour q (started x.fram inputs) in P (fram_after done.effects x.fram) done.end)
-      (sym (program_is p l s.task i own run.own_is)) (ends_with P left none b.effects b.end (run_block [] code attempt) (meets agree small))
+      (sym (program_is p l s.task i own run.own_is)) (ends_with P left none b.effects b.end (run_block (meanings p) code attempt) (meets agree small))
 
   -- ---- words of the ring
 
@@ -401,6 +407,7 @@ module _ (logging : Logging) (role : Role) (run : Attempting) (keeps_to : Keeps 
       (subst (λ l. FollowsSeeing Asks x.fram inputs.looks Open l Open) whole k) (no_closing left.body left.did.stores words)
       (ap next_index left.arrived) gate_open in
       (Before, subst (λ l. InOrder l Before) (sym whole) made, λ e. refl)
+  task_in_order es (Gives w t) (returns v m) h on k = absurd h.well
   task_in_order es _ _ h on k = absurd h.agrees
 
   -- its effects take words of the ring in order, and freeze their count where it comes to a transition
@@ -411,4 +418,4 @@ module _ (logging : Logging) (role : Role) (run : Attempting) (keeps_to : Keeps 
       let b = behaviour program w in
       subst (λ q. let r = effects_of (behaviour q w) in (u : Taking) × InOrder r.effects u × (r.ends ≡ true → u ≡ Before))
       (sym (program_is p l s.task i own run.own_is))
-      (task_in_order b.effects b.end (run_block [] code attempt) (meets agree small) on (program_asks program w))
+      (task_in_order b.effects b.end (run_block (meanings p) code attempt) (meets agree small) on (program_asks program w))

@@ -89,7 +89,7 @@ module _ (st : Started) where
         let c = facts.privates in
         let o = c.only r h in
         let at : slice_get l.variables r.number ≡ Some (Scalar r.home r.copy r.width) = o.1.place in
-        let there = scalar_there l code i.layout r.number r.home r.copy r.width n at below in
+        let there = scalar_there p.functions l code i.layout r.number r.home r.copy r.width n at below in
         ap z.fram (sym (ap (λ a. 2 * n + a) (c.private r.number r.home r.copy r.width at o.0)))
         ∙ scalar_next run t r.number n there
         ∙ sym (next_word run t r.number n (2 * n + r.home) (scalar_home l r.number r.home r.copy r.width n at below))
@@ -203,11 +203,11 @@ module _ (st : Started) where
     element_not_in_place : (e : Element) → IsElement here e → sites.written_in_place s.task (element_address here e) ≡ false
     element_not_in_place e h =
         ⊎_elim {C = sites.written_in_place s.task (element_address here e) ≡ false} (λ w.
-        let at = scalar_found (stays_in_place (task_body p s.task)) 0 l.variables (element_address here e) w in
-        let word = element_word l code i.layout e h in
-        let its = found_word (stays_in_place (task_body p s.task)) 0 l (element_address here e) at in
+        let at = scalar_found (stays_in_place p.functions (task_body p s.task)) 0 l.variables (element_address here e) w in
+        let word = element_word p.functions l code i.layout e h in
+        let its = found_word (stays_in_place p.functions (task_body p s.task)) 0 l (element_address here e) at in
         let same = (given.source.words.one at.behind e.array at.index e.index (element_address here e) its word).0 in
-        let scalar = scalar_seen (some_path_writes code) l.variables e.array at.home at.copy at.width
+        let scalar = scalar_seen (some_path_writes p.functions code) l.variables e.array at.home at.copy at.width
         (sym (ap (slice_get l.variables) same) ∙ at.place) in
         let both : Some (Array h.elements h.length h.copies) ≡ Some (Scalar at.home at.copy at.width) = sym h.is_array.place ∙ scalar in
         absurd (cc))
@@ -223,7 +223,7 @@ module _ (st : Started) where
     is_home q (of_element e h home copied) =
         subst (IsSharedWord sites) (sym home)
         (given.source.words.is_shared e.array e.index (element_address here e)
-        (element_word l code i.layout e (of_copied e (listed_copied e h))))
+        (element_word p.functions l code i.layout e (of_copied e (listed_copied e h))))
     is_home q (of_private r n h below home copied) =
         let word = scalar_home l r.number r.home r.copy r.width n (facts.privates.only r h).1.place below in
         subst (IsSharedWord sites) (sym home) (given.source.words.is_shared r.number n (2 * n + r.home) word)
@@ -245,7 +245,7 @@ module _ (st : Started) where
     element_kept e h (marked c k is) none = let q = element_listed e (left.stands.list.only_marked e c k) in absurd (none q.0 q.1 q.2)
     element_kept e h (unmarked n is) none = spot_stays run t (element e) h ∙ sym is ∙ left.stands.variables.elements e h ∙ sym (word_of_element run t e h)
 
-    word_kept : (v n a : ℕ) → IsWordOf l v n a → IsTaskWord l code i.layout facts.privates v n a → Unlisted a
+    word_kept : (v n a : ℕ) → IsWordOf l v n a → IsTaskWord p.functions l code i.layout facts.privates v n a → Unlisted a
         → z.fram a ≡ view.word next a
     word_kept v n a h (left_there kind at) none = ap z.fram (sym at) ∙ scalar_next run t v n kind ∙ sym (next_word run t v n a h)
     word_kept v n a h (private r c below home) none = let q = private_listed r n c below in absurd (none q.0 q.1 (q.2 ∙ sym home))
@@ -256,7 +256,7 @@ module _ (st : Started) where
     others_kept : (a : ℕ) → IsSharedWord sites a → Unlisted a → z.fram a ≡ view.word next a
     others_kept a h none =
         let w = given.source.words.each a h in
-        word_kept w.0 w.1 a w.2 (task_word l code i.layout facts.privates w.0 w.1 a w.2) none
+        word_kept w.0 w.1 a w.2 (task_word p.functions l code i.layout facts.privates w.0 w.1 a w.2) none
 
     copies_home : CopiesHome sites view s next (listed sites.map z.fram) z
     copies_home =

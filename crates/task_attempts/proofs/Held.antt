@@ -4,7 +4,7 @@
 use Rattle.task_attempts.proofs.Names.{◌≡◌, ℕ, zero, suc, ◌==◌, ◌<◌, ◌≤◌, List, [], length, get_or, slice_set, Bool, true, false, Option, Some, None, refl, sym}
 use Rattle.task_attempts.proofs.Names.{ap, ◌∙◌, subst, ⊎_elim, arith, slice_get, IsSomeAnd, cases_eq, cases_Bool, eqb-true, get_or-set_other, length-set}
 use Rattle.task_attempts.proofs.Names.{CheckedStatement, CheckedChoice, CheckedBlock, SharedDeclaration, Extent, Variable, Shared, Local, WordType, Unsigned}
-use Rattle.task_attempts.proofs.Names.{Int, Long, Variables, word_at, with_word, by_width, word_same, word_other, row_length, Attempt, run_block}
+use Rattle.task_attempts.proofs.Names.{Int, Long, Variables, word_at, with_word, by_width, word_same, word_other, row_length, Attempt, Outcome, run_block}
 use Rattle.task_attempts.proofs.Names.{is_long_extent, IsArrayName, IsLocal, IsOfType, WellFormedStatement, WellFormedChoice, WellFormedBlock}
 use Rattle.task_attempts.proofs.Names.{IsScalarInStatement, IsScalarInChoice, IsScalarIn}
 use Rattle.task_ast.specs.Tree as t
@@ -14,7 +14,13 @@ use Rattle.task_ast.specs.Calls.{BlockCallsBelow}
 use Rattle.path_sums.specs.Access.{is_same, writes, SomePath, IsPrivate}
 use Rattle.war_analysis.specs.Plans.{is_scalar, IsScalarAt, IsArrayAt}
 use Rattle.privatise.specs.Sizes.{home_part}
-use Rattle.path_runs.proofs.Interface.{first_writes_forget, no_functions}
+use Rattle.path_runs.proofs.Interface.{first_writes_forget}
+use Rattle.path_runs.specs.Laws.{HaveScalar}
+use Rattle.lower.proofs.Interface.{AreCallable}
+use Rattle.task_ast.specs.Answers.{answers}
+use Rattle.task_ast.specs.Paths.{CheckedFunction}
+use Rattle.source_values.specs.Statements.{meaning_of}
+use Rattle.std.specs.Prelude.{All}
 
 -- ---- no element of a scalar is stored to, and each of its words is given
 
@@ -189,23 +195,29 @@ module _ (holds : ℕ → Bool) (words : ℕ → ℕ) (word : ℕ → ℕ → �
       (cases_eq v n)
 
   -- a block that writes it first comes to the same
-  words_run : (b : CheckedBlock) → BlockCallsBelow 0 b → (n : ℕ) → IsScalarIn n (words n) b → SomePath [] b (writes (Shared n))
-      → (IsPrivate [] b (Shared n) → ⊥)
-      → (j : ℕ) → j ≤ words n → (a : Attempt) → run_block [] b (record a { variables = with_words a.variables n j }) ≡ run_block [] b a
-  words_run b calls n k written in_place zero h a = refl
-  words_run b calls n k written in_place (suc j) h a =
-      first_writes_forget [] b calls n (words n) j (word n j) (record a { variables = with_words a.variables n j }) (no_functions n (words n)) k
-      (omega (arith, h)) written in_place
-      ∙ words_run b calls n k written in_place j (omega (arith, h)) a
+  module _ (fs : List CheckedFunction) (may : AreCallable fs) (b : CheckedBlock) (calls : BlockCallsBelow (length fs) b) where
+    abbrev Runs : Attempt → Outcome
+    Runs a = run_block (answers meaning_of fs) b a
 
-  -- and so one that writes each of them first
-  pub refreshed_runs : (b : CheckedBlock) → BlockCallsBelow 0 b
-      → ((v : ℕ) → holds v ≡ true → IsScalarIn v (words v) b × SomePath [] b (writes (Shared v)) × (IsPrivate [] b (Shared v) → ⊥))
-      → (n : ℕ) (a : Attempt) → run_block [] b (record a { variables = refreshed n a.variables }) ≡ run_block [] b a
-  refreshed_runs b calls f zero a = refl
-  refreshed_runs b calls f (suc n) a = by (holds n) refl ∙ refreshed_runs b calls f n a
-    where
-      by : (c : Bool) → holds n ≡ c
-          → run_block [] b (record a { variables = one c (refreshed n a.variables) n }) ≡ run_block [] b (record a { variables = refreshed n a.variables })
-      by true e = let k = f n e in words_run b calls n k.0 k.1 k.2 (words n) (omega arith) (record a { variables = refreshed n a.variables })
-      by false e = refl
+    -- a scalar that is written first, in the block and in the functions
+    abbrev IsWrittenFirst : ℕ → Type 0
+    IsWrittenFirst v = IsScalarIn v (words v) b × All (λ (f : CheckedFunction). IsScalarIn v (words v) f.body) fs × SomePath fs b (writes (Shared v))
+        × (IsPrivate fs b (Shared v) → ⊥)
+
+    words_run : (n : ℕ) → IsWrittenFirst n → (j : ℕ) → j ≤ words n → (a : Attempt) → Runs (record a { variables = with_words a.variables n j }) ≡ Runs a
+    words_run n k zero h a = refl
+    words_run n k (suc j) h a =
+        let scalar : HaveScalar n (words n) fs = record { calls = may.calls; returning = may.returning; scalars = k.1 } in
+        first_writes_forget fs b calls n (words n) j (word n j) (record a { variables = with_words a.variables n j }) scalar k.0 (omega (arith, h)) k.2 k.3
+        ∙ words_run n k j (omega (arith, h)) a
+
+    -- and so one that writes each of them first
+    pub refreshed_runs : ((v : ℕ) → holds v ≡ true → IsWrittenFirst v) → (n : ℕ) (a : Attempt)
+        → Runs (record a { variables = refreshed n a.variables }) ≡ Runs a
+    refreshed_runs f zero a = refl
+    refreshed_runs f (suc n) a = by (holds n) refl ∙ refreshed_runs f n a
+      where
+        by : (c : Bool) → holds n ≡ c
+            → Runs (record a { variables = one c (refreshed n a.variables) n }) ≡ Runs (record a { variables = refreshed n a.variables })
+        by true e = words_run n (f n e) (words n) (omega arith) (record a { variables = refreshed n a.variables })
+        by false e = refl

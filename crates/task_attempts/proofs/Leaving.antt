@@ -44,18 +44,21 @@ module _ (run : Attempting) where
 
   -- what its statements store
   abbrev pub StoresOf : ℕ → ℕ → Type 0
-  StoresOf = IsTaskStore here (some_path_writes code) space ver
+  StoresOf = IsTaskStore here (some_path_writes p.functions code) space ver
 
   -- what its statements stand in
   abbrev pub setting : agreement.Scene
   setting = record {
     shared = p.shared;
     p = here;
-    written = some_path_writes code;
+    own = here.first;
+    fs = agreement.functions_of here p.functions;
+    written = some_path_writes p.functions code;
     room = space;
-    stores = λ v. stores_of [] v code;
+    stores = λ v. stores_of (summaries p) v code;
     first = run.first;
     ver = x.fram (word_place here.map Version);
+    own_low = facts.own_low;
     apart = facts.apart;
     even = facts.even;
     has_room = run.has_room;
@@ -65,7 +68,7 @@ module _ (run : Attempting) where
 
   -- the bounds of the task's statements
   abbrev pub bounds : Bounds
-  bounds = agreement.bounds setting x.fram (λ v. listed_of v [] + stores_of [] v code)
+  bounds = agreement.bounds setting x.fram (λ v. listed_of v [] + stores_of (summaries p) v code)
 
   -- statements that came to a transition: their effects, where they jump and with which state, the task that they name, and the attempt behind them
   pub record Transition : Type 0 where
@@ -200,7 +203,7 @@ module _ (run : Attempting) where
         → view.word next (element_address here e) ≡ word_at m.variables (Shared e.array) e.index
     word_of_element e h =
         next_word e.array e.index (element_address here e)
-        (element_word l code own e h)
+        (element_word p.functions l code own e h)
 
     -- ---- the next state
 
@@ -216,23 +219,23 @@ module _ (run : Attempting) where
     row_of : (v n : ℕ) (place : VariablePlace) → slice_get l.variables v ≡ Some place → n < place_length place → get_or
         (get_or m.variables.shared v []) n 0 < 0x10000
     row_of v n (Scalar home copied width) e h =
-        let there = scalar_there l code own v home copied width n e h in
+        let there = scalar_there p.functions l code own v home copied width n e h in
         subst (λ w. w < 0x10000) (left.stands.variables.words v n there) (there_words (scalar_address here v n))
     row_of v n (Array elements len copies) e h =
         let x : Element = record { array = v; index = n } in
-        let is : IsElement here x = (element_there l code own v n elements len copies e h).0 in
+        let is : IsElement here x = (element_there p.functions l code own v n elements len copies e h).0 in
         subst (λ w. w < 0x10000) (left.stands.variables.elements x is)
-        (own_small here left.there.fram (slice_get (map_seen code l).variables v) n there_words)
+        (own_small here left.there.fram (slice_get (map_seen p.functions code l).variables v) n there_words)
 
     -- the lengths of the rows
     row_fits : (v : ℕ) (place : VariablePlace) → slice_get l.variables v ≡ Some place → length (get_or m.variables.shared v []) ≡ place_length place
     row_fits v (Scalar home copied width) e =
-        left.stands.variables.lengths v (Scalar home copied width) (scalar_seen (some_path_writes code) l.variables v home copied width e)
+        left.stands.variables.lengths v (Scalar home copied width) (scalar_seen (some_path_writes p.functions code) l.variables v home copied width e)
     row_fits v (Array elements len copies) e =
         ⊎_elim {C = length (get_or m.variables.shared v []) ≡ len}
-        (λ w. left.stands.variables.lengths v (Array elements len copies) (array_seen (some_path_writes code) l.variables v elements len copies e w))
-        (λ w. left.stands.variables.lengths v (Array elements len None) (array_read (some_path_writes code) l.variables v elements len copies e w))
-        (cases_Bool (some_path_writes code v))
+        (λ w. left.stands.variables.lengths v (Array elements len copies) (array_seen (some_path_writes p.functions code) l.variables v elements len copies e w))
+        (λ w. left.stands.variables.lengths v (Array elements len None) (array_read (some_path_writes p.functions code) l.variables v elements len copies e w))
+        (cases_Bool (some_path_writes p.functions code v))
 
     same_count : length m.variables.shared ≡ length l.variables
     same_count = rows ∙ rows_count p.shared s.shared undecided.is_open.is_state ∙ sym given.variables.count

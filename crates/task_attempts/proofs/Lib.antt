@@ -1,5 +1,4 @@
 mod Names
-mod Plain
 mod Held
 mod Tasks
 mod LoggedActs

@@ -39,9 +39,9 @@ pub record ActsFit (p : CheckedProgram) (l : MemoryMap) (s : State) (here : Plac
   pub list : space.list ≤ (program_places p l).list_capacity s.task
 
 module _ (p : CheckedProgram) (l : MemoryMap) (apart : AreApart l) (room : HaveRoom (program_places p l)) (s : State) (code : CheckedBlock) (own : TaskPlace)
-    (written : ℕ → Bool) (space : Room) (ver : ℕ) (Own : ℕ → Type 0) (fit : ActsFit p l s (places_of (map_seen code l) own) written space Own) where
+    (written : ℕ → Bool) (space : Room) (ver : ℕ) (Own : ℕ → Type 0) (fit : ActsFit p l s (places_of (map_seen p.functions code l) own) written space Own) where
   abbrev here : Places
-  here = places_of (map_seen code l) own
+  here = places_of (map_seen p.functions code l) own
 
   abbrev Going : World → Type 0
   Going = GoesOn (program_places p l) (state_view p l) s ver Own (IsPair here)

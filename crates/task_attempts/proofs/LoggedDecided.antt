@@ -27,7 +27,7 @@ module _ (st : Logged) where
   open st use {program as p, map as l, given, state as s, task as i, facts, world as x, start}
   open (scene run) use {here, code, space, sites, view, ver}
 
-  fit : ActsFit p l s here (some_path_writes code) space (IsOwn (private_homes l s.task))
+  fit : ActsFit p l s here (some_path_writes p.functions code) space (IsOwn (private_homes l s.task))
   fit = given.fits s i.task i.layout i.task_is i.layout_is
 
   -- the words that the start lists
@@ -58,7 +58,7 @@ module _ (st : Logged) where
   did_keeps es did words =
       let made = did.acts given.undo in
       subst (λ fs. KeptBy fs x) (sym made.is)
-      (acts_keep p l given.source.apart given.source.room s code (task_seen Undo i.layout) (some_path_writes code) space ver Own fit made.acts x
+      (acts_keep p l given.source.apart given.source.room s code (task_seen Undo i.layout) (some_path_writes p.functions code) space ver Own fit made.acts x
       (subst StoresWords made.is words) made.each begun)
 
   pub throughout : (es : List Effect) → DidWithin here (bounds run) es → StoresWords es → HoldsThroughout (UndoneAt sites view s) es x
@@ -177,12 +177,12 @@ module _ (st : Logged) where
     word_is : (v n a : ℕ) (place : VariablePlace) → IsWordOf l v n a → slice_get l.variables v ≡ Some place → n < (home_region place).words
         → a ≡ 2 * n + (home_region place).address → z.fram a ≡ view.word next a
     word_is v n a (Scalar home copy width) h at below is =
-        let there = scalar_there l code run.own v home copy width n at below in
+        let there = scalar_there p.functions l code run.own v home copy width n at below in
         let address : scalar_address here v n ≡ a = ap (λ b. 2 * n + b) (facts.home v home copy width at) ∙ sym is in
         ap z.fram (sym address) ∙ scalar_next run t v n there ∙ sym (next_word run t v n a h)
     word_is v n a (Array elements len copies) h at below is =
         let e : Element = record { array = v; index = n } in
-        let there = element_there l code run.own v n elements len copies at below in
+        let there = element_there p.functions l code run.own v n elements len copies at below in
         ap z.fram (is ∙ sym there.1) ∙ spot_stays run t (element e) there.0
         ∙ sym (own_in_place here left.there.fram e given.undo there.0) ∙ left.stands.variables.elements e there.0
         ∙ sym (next_word run t v n a h)

@@ -86,7 +86,7 @@ module _ (p : CheckedProgram) (allow : Allow) (plans : List TaskPlanValue) (l : 
 
   -- what it works on
   abbrev pub undo_places : Places
-  undo_places = places_of (map_seen code l) (task_seen Undo layout)
+  undo_places = places_of (map_seen p.functions code l) (task_seen Undo layout)
 
   abbrev here : Places
   here = undo_places
@@ -98,15 +98,15 @@ module _ (p : CheckedProgram) (allow : Allow) (plans : List TaskPlanValue) (l : 
   body_is = ap body_of at.is_task
 
   -- a word of a scalar
-  module _ (v i : ℕ) (word : IsScalarWord here v i) (written : some_path_writes code v ≡ true) where
-    its : IsPlaceOfScalar (slice_get (map_seen code l).variables v)
-    its = scalar_place (slice_get (map_seen code l).variables v) (words_scalar (slice_get (map_seen code l).variables v) i word)
+  module _ (v i : ℕ) (word : IsScalarWord here v i) (written : some_path_writes p.functions code v ≡ true) where
+    its : IsPlaceOfScalar (slice_get (map_seen p.functions code l).variables v)
+    its = scalar_place (slice_get (map_seen p.functions code l).variables v) (words_scalar (slice_get (map_seen p.functions code l).variables v) i word)
 
     below : i < scalar_words its.width
     below = subst (λ k. i < k) (ap words_at its.place) word
 
     in_map : slice_get l.variables v ≡ Some (Scalar its.home its.copy its.width)
-    in_map = scalar_of_seen code l v its.home its.copy its.width its.place
+    in_map = scalar_of_seen p.functions code l v its.home its.copy its.width its.place
 
     address_is : scalar_address here v i ≡ 2 * i + its.home
     address_is = ap (λ o. 2 * i + home_in o) its.place
@@ -115,37 +115,37 @@ module _ (p : CheckedProgram) (allow : Allow) (plans : List TaskPlanValue) (l : 
     is_shared =
         words_of_variables_are_shared p allow plans l h v i (2 * i + its.home) (scalar_home l v its.home its.copy its.width i in_map below)
 
-    listed : is_private_in code v ≡ true → Own (2 * i + its.home)
+    listed : is_private_in p.functions code v ≡ true → Own (2 * i + its.home)
     listed is =
         let a = addresses_are p allow plans l h s.task task layout at in
         let entry : PrivateScalar = record { number = v; home = its.home; copy = its.copy; width = its.width } in
         subst (λ xs. IsOwn xs (2 * i + its.home)) (sym (homes_at l s.task layout at.is_layout))
         (scalar_own layout.privates entry i (a.each v its.home its.copy its.width in_map is) below)
 
-    in_place : is_private_in code v ≡ false → (program_places p l).written_in_place s.task (2 * i + its.home) ≡ true
+    in_place : is_private_in p.functions code v ≡ false → (program_places p l).written_in_place s.task (2 * i + its.home) ≡ true
     in_place not_private =
-        let stays : stays_in_place code v ≡ true = and_from (some_path_writes code v) (not (is_private_in code v)) written (ap not not_private) in
+        let stays : stays_in_place p.functions code v ≡ true = and_from (some_path_writes p.functions code v) (not (is_private_in p.functions code v)) written (ap not not_private) in
         let number : v ≡ 0 + v = omega arith in
-        scalar_is (stays_in_place (task_body p s.task)) 0 l.variables v its.home its.copy its.width i in_map below
-        (sym (ap (stays_in_place (task_body p s.task)) number) ∙ ap (λ b. stays_in_place b v) body_is ∙ stays)
+        scalar_is (stays_in_place p.functions (task_body p s.task)) 0 l.variables v its.home its.copy its.width i in_map below
+        (sym (ap (stays_in_place p.functions (task_body p s.task)) number) ∙ ap (λ b. stays_in_place p.functions b v) body_is ∙ stays)
 
     scalar_fits : IsSharedWord (program_places p l) (scalar_address here v i)
         × (Own (scalar_address here v i) ⊎ ((program_places p l).written_in_place s.task (scalar_address here v i) ≡ true))
     scalar_fits =
         let Fits : ℕ → Type 0 = λ a. IsSharedWord (program_places p l) a × (Own a ⊎ ((program_places p l).written_in_place s.task a ≡ true)) in
-        subst Fits (sym address_is) (is_shared, ⊎_elim (λ is. inl (listed is)) (λ is. inr (in_place is)) (cases_Bool (is_private_in code v)))
+        subst Fits (sym address_is) (is_shared, ⊎_elim (λ is. inl (listed is)) (λ is. inr (in_place is)) (cases_Bool (is_private_in p.functions code v)))
 
   -- elements, as the task's places under redo have them
-  as_redo : (x : Element) → IsCopied here x → IsCopied (task_places l task layout) x
+  as_redo : (x : Element) → IsCopied here x → IsCopied (task_places p l task layout) x
   as_redo x c = record { elements = c.elements; length = c.length; copies = c.copies; is_array = record { place = c.is_array.place }; below = c.below }
 
-  an_element : (x : Element) → IsCopied here x → IsElement (task_places l task layout) x
+  an_element : (x : Element) → IsCopied here x → IsElement (task_places p l task layout) x
   an_element x c = record { elements = c.elements; length = c.length; copies = Some c.copies; is_array = record { place = c.is_array.place }; below = c.below }
 
   spots : SpotsStand here
   spots =
-      spots_are_apart (map_seen code l) (task_seen Undo layout) (seen_laid_out (some_path_writes code) l h.layout.rules)
-      (All-nil (HasItsPlace (map_seen code l).variables))
+      spots_are_apart (map_seen p.functions code l) (task_seen Undo layout) (seen_laid_out (some_path_writes p.functions code) l h.layout.rules)
+      (All-nil (HasItsPlace (map_seen p.functions code l).variables))
 
   same_element : (x y : Element) → IsCopied here x → IsCopied here y → version_address here x ≡ version_address here y → x ≡ y
   same_element x y c d e =
@@ -166,7 +166,7 @@ module _ (p : CheckedProgram) (allow : Allow) (plans : List TaskPlanValue) (l : 
             k.at ∙ ap (element_address here) same ∙ sym q.at;
       }
 
-  pub acts_fit : ActsFit p l s here (some_path_writes code) (task_room p task) Own
+  pub acts_fit : ActsFit p l s here (some_path_writes p.functions code) (task_room p task) Own
   acts_fit =
       let room = tasks_have_room p allow plans l h in
       let emits = ap (emits_of (summaries p)) body_is in let lists = ap (list_of (summaries p) p.shared) body_is in

@@ -8,15 +8,15 @@ module _ (st : Logged) where
   abbrev run : Attempting
   run = undo_run st
 
-  open st use {map as l, task as i, facts, world as x, inputs, start}
+  open st use {program as p, map as l, task as i, facts, world as x, inputs, start}
   open (scene run) use {here, code}
 
   scalar_home_by : (v n : ℕ) → IsScalarWord here v n → x.fram (scalar_address here v n) ≡ word_at (held run) (Shared v) n
   scalar_home_by v n h =
-      let o = slice_get (map_seen code l).variables v in
+      let o = slice_get (map_seen p.functions code l).variables v in
       let its = scalar_place o (words_scalar o n h) in
       let below : n < scalar_words its.width = subst (λ k. n < k) (ap words_at its.place) h in
-      let at = scalar_of_seen code l v its.home its.copy its.width its.place in
+      let at = scalar_of_seen p.functions code l v its.home its.copy its.width its.place in
       ap x.fram (ap (λ z. 2 * n + z) (facts.home v its.home its.copy its.width at))
       ∙ home_stands run v n (2 * n + its.home) (scalar_home l v its.home its.copy its.width n at below)
 

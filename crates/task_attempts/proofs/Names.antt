@@ -47,10 +47,11 @@ pub use Rattle.task_ast.specs.declared.WordType.TheVariants.{Int, Long, Unsigned
 pub use Rattle.task_ast.specs.declared.names.Variable.{Variable}
 pub use Rattle.task_ast.specs.declared.names.Variable.TheVariants.{Local, Shared}
 pub use Rattle.lower.proofs.Interface.{is_private_of}
+pub use Rattle.task_ast.specs.Paths.{CheckedFunction}
 pub use Rattle.cost_bound.specs.Allowance.{CheckedTask, is_written, list_of, scalars_of}
 pub use Rattle.cost_bound.specs.Counts.{CheckedBlock, emits_of, stores_of}
 pub use Rattle.privatise.specs.Layouts.{AreVariables, IsPlaceOf}
-pub use Rattle.source_values.proofs.Interface.{for_kept_value, readings_left_over_lem}
+pub use Rattle.source_values.proofs.Interface.{readings_left_over_lem}
 pub use Rattle.source_values.specs.Runs.{CheckedProgram, Completion, EndsWell, State, TransitionComes, attempt_of, body_of, completion_of, fresh_attempt}
 pub use Rattle.source_values.specs.Runs.{TaskInputs, initial_words, is_long_extent, task_body}
 pub use Rattle.source_values.specs.Statements.{Attempt, Outcome, and_then, assigned, assigned_to, assigned_value, block_emits, goes_on, run_block, run_choice}
@@ -73,7 +74,7 @@ pub use Rattle.lower.specs.Agreement.{AsDeclared, BlocksAgree, Bounds, EndsAs, H
 pub use Rattle.lower.specs.Agreement.{at_list_length, at_variable, at_version, element_pair, entry_effects, in_buffer, in_list, own_word, place_length}
 pub use Rattle.lower.specs.Agreement.{answered_by, answers_told, at_answer, freeze_effects, transition_effects}
 pub use Rattle.lower.specs.Events.{AdmitsBlock}
-pub use Rattle.lower.specs.Lowered.{lowered_block, lowered_task}
+pub use Rattle.lower.specs.Lowered.{lowered_block}
 pub use Rattle.lower.specs.Runs.{runs_of}
 pub use Rattle.lower.specs.Seen.{map_seen, some_path_writes}
 pub use Rattle.lower.specs.Spots.{AreApart, AreEven, AreListed, HasRoom, Room, listed_of}

@@ -15,11 +15,11 @@ module _ (st : Started) where
   open st use {program as p, map as l, given, state as s, task as i, facts, world as x, inputs, start}
   open (scene run) use {here, code}
 
-  private_unheld : (v : ℕ) → is_private_in code v ≡ true → is_held run v ≡ false
-  private_unheld v h = unheld_of (is_scalar_at (slice_get l.variables v)) (some_path_writes code v) (is_private_in code v) h
+  private_unheld : (v : ℕ) → is_private_in p.functions code v ≡ true → is_held run v ≡ false
+  private_unheld v h = unheld_of (is_scalar_at (slice_get l.variables v)) (some_path_writes p.functions code v) (is_private_in p.functions code v) h
 
   scalar_stands : (v n home copy : ℕ) (width : ScalarWidth) (b : Bool) → slice_get l.variables v ≡ Some (Scalar home copy width)
-      → n < scalar_words width → is_private_in code v ≡ b
+      → n < scalar_words width → is_private_in p.functions code v ≡ b
       → x.fram (scalar_address here v n) ≡ word_at (held run) (Shared v) n
   scalar_stands v n home copy width true e below private =
       let r = facts.privates in
@@ -36,10 +36,10 @@ module _ (st : Started) where
 
   scalar_by : (v n : ℕ) → IsScalarWord here v n → x.fram (scalar_address here v n) ≡ word_at (held run) (Shared v) n
   scalar_by v n h =
-      let o = slice_get (map_seen code l).variables v in
+      let o = slice_get (map_seen p.functions code l).variables v in
       let its = scalar_place o (words_scalar o n h) in
       let below : n < scalar_words its.width = subst (λ k. n < k) (ap words_at its.place) h in
-      scalar_stands v n its.home its.copy its.width (is_private_in code v) (scalar_of_seen code l v its.home its.copy its.width its.place) below refl
+      scalar_stands v n its.home its.copy its.width (is_private_in p.functions code v) (scalar_of_seen p.functions code l v its.home its.copy its.width its.place) below refl
 
   pub redo_stands : StandsFor here 0 (held_attempt run) [] (started x.fram inputs)
   redo_stands = attempt_stands run scalar_by (record {

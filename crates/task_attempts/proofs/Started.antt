@@ -1,5 +1,5 @@
 -- A started attempt of a task, under each runtime, and what the laws on it speak of.
-use Rattle.task_attempts.proofs.Names.{◌≡◌, ℕ, ◌+◌, ◌*◌, ◌<◌, [], length, World, Inputs, CheckedBlock, CheckedProgram, State, task_entries, privates_in}
+use Rattle.task_attempts.proofs.Names.{◌≡◌, ℕ, ◌+◌, ◌*◌, ◌<◌, length, World, Inputs, CheckedBlock, CheckedProgram, State, task_entries, privates_in}
 use Rattle.task_attempts.proofs.Names.{ProgramPlaces, StateView, StartedAt, UndecidedAt, Room, program_places, state_view, Version, EmitCount, MemoryMap}
 use Rattle.task_attempts.proofs.Names.{TaskPlace}
 use Rattle.task_attempts.proofs.Names.{word_place, Places, task_places, task_room, stores_of, arith, ap, redo_seen, Undo}
@@ -26,7 +26,7 @@ pub record Attempting : Type 0 where
   pub world : World
   pub inputs : Inputs
   pub first : ℕ
-  pub has_room : HasRoomBehind first (task_places map task.task own) (λ v. stores_of [] v task.task.body) (task_room program task.task)
+  pub has_room : HasRoomBehind first (task_places program map task.task own) (λ v. stores_of (summaries program) v task.task.body) (task_room program task.task)
   pub undecided : UndecidedAt (program_places program map) (state_view program map) state world
   pub emit_count : world.fram (word_place map EmitCount) ≡ 0
   pub versions : (i : ℕ) → i < map.versions.words → world.fram (map.versions.address + 2 * i) < world.fram (word_place map Version)
@@ -42,7 +42,7 @@ pub record Scene : Type 0 where
 
 abbrev pub scene : Attempting → Scene
 scene run = record {
-  here = task_places run.map run.task.task run.own;
+  here = task_places run.program run.map run.task.task run.own;
   code = run.task.task.body;
   space = task_room run.program run.task.task;
   sites = program_places run.program run.map;

@@ -9,6 +9,9 @@ use Rattle.task_attempts.proofs.Names.{found_word, in_place_written, in_place_no
 use Rattle.task_attempts.proofs.Names.{IsPlaceOfScalar, Version, VariablePlace, Scalar, Array}
 use Rattle.task_attempts.proofs.Names.{scalar_words, home_region, word_place, scalar_address, words_at, home_in, IsScalarWord, Element, IsElement, IsCopied}
 use Rattle.task_attempts.proofs.Names.{version_address, element_address, IsWordOf}
+use Rattle.source_values.specs.Statements.{meanings}
+use Rattle.task_ast.specs.Paths.{CheckedFunction}
+use Rattle.std.specs.Prelude.{All}
 use Rattle.lower.proofs.Interface.{scalar as seen_scalar, array as seen_array, read as seen_read}
 use Rattle.task_attempts.proofs.Tasks.{body_is}
 use Rattle.task_attempts.proofs.Names.{IsRedo, IsUndo, ListLength}
@@ -40,7 +43,7 @@ module _ (run : Attempting) where
 
   -- the scalars that the task writes in place, and their words in FRAM
   abbrev pub is_held : ℕ → Bool
-  is_held v = is_scalar_at (slice_get l.variables v) && stays_in_place code v
+  is_held v = is_scalar_at (slice_get l.variables v) && stays_in_place p.functions code v
 
   abbrev pub held_words : ℕ → ℕ
   held_words v = words_at (slice_get l.variables v)
@@ -65,35 +68,38 @@ module _ (run : Attempting) where
   count_is : length s.shared ≡ length l.variables
   count_is = rows_count p.shared s.shared undecided.is_open.is_state ∙ sym given.variables.count
 
-  held_scalar : (v : ℕ) → is_held v ≡ true → IsPlaceOfScalar (slice_get l.variables v) × (stays_in_place code v ≡ true)
+  held_scalar : (v : ℕ) → is_held v ≡ true → IsPlaceOfScalar (slice_get l.variables v) × (stays_in_place p.functions code v ≡ true)
   held_scalar v h =
-      let parts = and_parts (is_scalar_at (slice_get l.variables v)) (stays_in_place code v) h in
+      let parts = and_parts (is_scalar_at (slice_get l.variables v)) (stays_in_place p.functions code v) h in
       (scalar_at_is (slice_get l.variables v) parts.0, parts.1)
 
   -- the task comes to the same from what FRAM has as from the state
   pub held_runs : (answers : List ℕ)
-      → run_block [] code (answered_by answers held_attempt) ≡ run_block [] code (fresh_attempt s.shared (readings_and answers))
+      → run_block (meanings p) code (answered_by answers held_attempt) ≡ run_block (meanings p) code (fresh_attempt s.shared (readings_and answers))
   held_runs answers =
-      refreshed_runs is_held held_words held_word code facts.calls (λ v h.
+      refreshed_runs is_held held_words held_word p.functions facts.callable code facts.calls (λ v h.
       let at = held_scalar v h in
-      let place = at.0 in (
-        subst (λ n. IsScalarIn v n code) (sym (ap words_at place.place)) (facts.scalars v place.home place.copy place.width place.place),
-        in_place_written code v facts.calls at.1,
+      let place = at.0 in
+      let scalars = facts.scalars v place.home place.copy place.width place.place in (
+        subst (λ n. IsScalarIn v n code) (sym (ap words_at place.place)) scalars.0,
+        subst (λ n. All (λ (f : CheckedFunction). IsScalarIn v n f.body) p.functions) (sym (ap words_at place.place)) scalars.1,
+        in_place_written p.functions facts.callable code v facts.calls at.1,
         λ private.
-            let clash : true ≡ false = sym (is_private_of (Shared v) code facts.calls private) ∙ in_place_not_private code v at.1 in absurd (cc),
+            let clash : true ≡ false =
+            sym (is_private_of (Shared v) p.functions facts.callable code facts.calls private) ∙ in_place_not_private p.functions code v at.1 in absurd (cc),
       ))
       (length l.variables) (fresh_attempt s.shared (readings_and answers))
 
   -- a word that is written in place is one of a held scalar
   in_place_held : (v n a : ℕ) → IsWordOf l v n a → (program_places p l).written_in_place s.task a ≡ true → is_held v ≡ true
   in_place_held v n a h w =
-      let at = scalar_found (stays_in_place (task_body p s.task)) 0 l.variables a w in
-      let word = found_word (stays_in_place (task_body p s.task)) 0 l a at in
+      let at = scalar_found (stays_in_place p.functions (task_body p s.task)) 0 l.variables a w in
+      let word = found_word (stays_in_place p.functions (task_body p s.task)) 0 l a at in
       let same : at.behind ≡ v = (given.words.one at.behind v at.index n a word h).0 in
       let number : 0 + at.behind ≡ v = omega (arith, same) in
-      let stays : stays_in_place code v ≡ true =
-      sym (ap (λ b. stays_in_place b v) (body_is p l s.task i)) ∙ sym (ap (stays_in_place (task_body p s.task)) number) ∙ at.is_so in
-      and_from (is_scalar_at (slice_get l.variables v)) (stays_in_place code v)
+      let stays : stays_in_place p.functions code v ≡ true =
+      sym (ap (λ b. stays_in_place p.functions b v) (body_is p l s.task i)) ∙ sym (ap (stays_in_place p.functions (task_body p s.task)) number) ∙ at.is_so in
+      and_from (is_scalar_at (slice_get l.variables v)) (stays_in_place p.functions code v)
       (ap (λ o. is_scalar_at o) (sym (ap (slice_get l.variables) same) ∙ at.place)) stays
 
   -- a word that isn't held is the state's
@@ -137,20 +143,20 @@ module _ (run : Attempting) where
       omega (arith, h, below, at)
 
   element_stands : (e : Element) → IsElement here e
-      → own_word here x.fram (slice_get (map_seen code l).variables e.array) e.index ≡ word_at held (Shared e.array) e.index
+      → own_word here x.fram (slice_get (map_seen p.functions code l).variables e.array) e.index ≡ word_at held (Shared e.array) e.index
   element_stands e h =
-      own_unmarked here x.fram e h (none_marked e) ∙ home_stands e.array e.index (element_address here e) (element_word l code own_place e h)
+      own_unmarked here x.fram e h (none_marked e) ∙ home_stands e.array e.index (element_address here e) (element_word p.functions l code own_place e h)
 
   -- the lengths of the variables' rows
-  length_seen : (v : ℕ) (place : VariablePlace) → SeenFrom l.variables v (some_path_writes code v) place
+  length_seen : (v : ℕ) (place : VariablePlace) → SeenFrom l.variables v (some_path_writes p.functions code v) place
       → (v < length s.shared) × (length (slice_index_or s.shared v []) ≡ place_length place)
   length_seen v _ (seen_scalar home copy width at) = given.words.fit s.shared undecided.is_open.is_state v (Scalar home copy width) at
   length_seen v _ (seen_array elements n copies at written) = given.words.fit s.shared undecided.is_open.is_state v (Array elements n copies) at
   length_seen v _ (seen_read elements n copies at unwritten) = given.words.fit s.shared undecided.is_open.is_state v (Array elements n copies) at
 
-  lengths_are : (v : ℕ) (place : VariablePlace) → slice_get (map_seen code l).variables v ≡ Some place
+  lengths_are : (v : ℕ) (place : VariablePlace) → slice_get (map_seen p.functions code l).variables v ≡ Some place
       → (v < length s.shared) × (length (slice_index_or s.shared v []) ≡ place_length place)
-  lengths_are v place e = length_seen v place (seen_from (some_path_writes code) l.variables v place e)
+  lengths_are v place e = length_seen v place (seen_from (some_path_writes p.functions code) l.variables v place e)
 
   -- nothing is listed but what the start lists
   pub record ListsNone : Type 0 where

@@ -104,19 +104,19 @@ module _ (st : Started) where
       (given.source.room.list s.task st.start.undecided.is_open.is_task)
 
   -- a scalar that the task writes is private, and then the task has its copy, or is written in place
-  written_quiet : (v n w : ℕ) → IsScalarWord here v n → some_path_writes code v ≡ true → w < 0x10000 → Quiet (scalar_address here v n) w
-  written_quiet v n w h e small = ⊎_elim copied in_place (cases_Bool (is_private_in code v))
+  written_quiet : (v n w : ℕ) → IsScalarWord here v n → some_path_writes p.functions code v ≡ true → w < 0x10000 → Quiet (scalar_address here v n) w
+  written_quiet v n w h e small = ⊎_elim copied in_place (cases_Bool (is_private_in p.functions code v))
     where
-      its : IsPlaceOfScalar (slice_get (map_seen code l).variables v)
-      its = scalar_place (slice_get (map_seen code l).variables v) (words_scalar (slice_get (map_seen code l).variables v) n h)
+      its : IsPlaceOfScalar (slice_get (map_seen p.functions code l).variables v)
+      its = scalar_place (slice_get (map_seen p.functions code l).variables v) (words_scalar (slice_get (map_seen p.functions code l).variables v) n h)
 
       below : n < scalar_words its.width
       below = subst (λ k. n < k) (ap words_at its.place) h
 
       at : slice_get l.variables v ≡ Some (Scalar its.home its.copy its.width)
-      at = scalar_of_seen code l v its.home its.copy its.width its.place
+      at = scalar_of_seen p.functions code l v its.home its.copy its.width its.place
 
-      copied : is_private_in code v ≡ true → Quiet (scalar_address here v n) w
+      copied : is_private_in p.functions code v ≡ true → Quiet (scalar_address here v n) w
       copied is =
           let r = facts.privates in
           let entry : PrivateScalar = record { number = v; home = its.home; copy = its.copy; width = its.width } in
@@ -124,18 +124,18 @@ module _ (st : Started) where
           (subst (IsCopyWord sites) (sym (ap (λ z. 2 * n + z) (r.private v its.home its.copy its.width at is)))
           (private_copy p l given.privates s.task i entry n (r.each v its.home its.copy its.width at is) below))
 
-      in_place : is_private_in code v ≡ false → Quiet (scalar_address here v n) w
+      in_place : is_private_in p.functions code v ≡ false → Quiet (scalar_address here v n) w
       in_place not_private =
-          let stays : stays_in_place code v ≡ true = and_from (some_path_writes code v) (not (is_private_in code v)) e (ap not not_private) in
+          let stays : stays_in_place p.functions code v ≡ true = and_from (some_path_writes p.functions code v) (not (is_private_in p.functions code v)) e (ap not not_private) in
           let number : v ≡ 0 + v = omega arith in
           let is : sites.written_in_place s.task (2 * n + its.home) ≡ true =
-          scalar_is (stays_in_place (task_body p s.task)) 0 l.variables v its.home its.copy its.width n at below
-          (sym (ap (stays_in_place (task_body p s.task)) number) ∙ ap (λ b. stays_in_place b v) (body_is p l s.task i) ∙ stays) in
+          scalar_is (stays_in_place p.functions (task_body p s.task)) 0 l.variables v its.home its.copy its.width n at below
+          (sym (ap (stays_in_place p.functions (task_body p s.task)) number) ∙ ap (λ b. stays_in_place p.functions b v) (body_is p l s.task i) ∙ stays) in
           let word = scalar_home l v its.home its.copy its.width n at below in
           subst (λ z. Quiet z w) (sym (ap (λ z. 2 * n + z) (facts.privates.left v its.home its.copy its.width at not_private)))
           (home_quiet (2 * n + its.home) w small (given.source.words.is_shared v n (2 * n + its.home) word) is)
 
-  pub task_quiet : (a w : ℕ) → IsTaskStore here (some_path_writes code) space ver a w → w < 0x10000 → Quiet a w
+  pub task_quiet : (a w : ℕ) → IsTaskStore here (some_path_writes p.functions code) space ver a w → w < 0x10000 → Quiet a w
   task_quiet a w (at_variable v n h e is) small = subst (λ z. Quiet z w) (sym is) (written_quiet v n w h e small)
   task_quiet a w (at_copy x h is) small = subst (λ z. Quiet z w) (sym is) (copy_quiet _ w small (facts.seen.copies x h))
   task_quiet a w (at_element undo x h is) small = let redo = facts.redo in absurd (cc (redo, undo))

@@ -73,7 +73,7 @@ module _ (run : Attempting) where
   element_below x c =
       let h : IsElement here x =
       record { elements = c.elements; length = c.length; copies = Some c.copies; is_array = c.is_array; below = c.below } in
-      let word = given.words.is_shared x.array x.index (element_address here x) (element_word l code own x h) in
+      let word = given.words.is_shared x.array x.index (element_address here x) (element_word p.functions l code own x h) in
       let apart = given.apart in
       omega (arith, word, apart)
 
@@ -84,7 +84,7 @@ module _ (run : Attempting) where
       let apart = given.apart in
       omega (arith, is, below, apart)
 
-  pub task_tame : (a w : ℕ) → IsTaskStore here (some_path_writes code) space ver a w → Tame a w
+  pub task_tame : (a w : ℕ) → IsTaskStore here (some_path_writes p.functions code) space ver a w → Tame a w
   task_tame a w (at_variable v n h e is) = subst (λ z. Tame z w) (sym is) (spot_tame (scalar v n) w h (facts.variables v n h))
   task_tame a w (at_copy x h is) =
       let c = facts.copies x h in subst (λ z. Tame z w) (sym is) (spot_tame (copy x) w h (omega (arith, c)))

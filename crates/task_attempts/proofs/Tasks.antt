@@ -3,10 +3,17 @@ use Rattle.task_attempts.proofs.Names.{◌≡◌, ℕ, ◌+◌, ◌*◌, ◌<◌
 use Rattle.task_attempts.proofs.Names.{option_map, slice_get-map, get_or_from_slice_get, CheckedBlock, CheckedTask, CheckedProgram, body_of, task_body}
 use Rattle.task_attempts.proofs.Names.{CopyPair, program_at, privates_in, entry_of, task_entries, IsAmong, IsCopyWord, ArePrivate, lowered_block}
 use Rattle.task_attempts.proofs.Names.{program_places, task_program, task_places, word_pair, scalars_among, PrivateScalar, MemoryMap, TaskPlace}
-use Rattle.task_attempts.proofs.Names.{scalar_words, places_of, map_seen}
+use Rattle.task_attempts.proofs.Names.{scalar_words}
+use Rattle.lower.specs.Lowered.{routine_bodies}
 use Rattle.lower.specs.Seen.{task_seen}
+use Rattle.array_versions.specs.Program.{Program}
+use Rattle.array_versions.specs.TaskPrograms.{TaskPrograms}
 use Rattle.war_analysis.proofs.Interface.{element}
 use Rattle.runtime_code.specs.LayoutPlaces.{pairs_of}
+
+-- the program of a task by the place that is its own, with those of functions in its calls
+abbrev pub own_program : CheckedProgram → MemoryMap → CheckedTask → TaskPlace → Program
+own_program p l task own = let here = task_places p l task own in lowered_block here (routine_bodies here p.functions) task.body
 
 -- a task of a source by its number, with its layout
 pub record IsAt (p : CheckedProgram) (l : MemoryMap) (k : ℕ) : Type 0 where
@@ -29,10 +36,10 @@ module _ (p : CheckedProgram) (l : MemoryMap) (k : ℕ) (i : IsAt p l k) where
   body_is = ap body_of i.task_is
 
   -- its program, by the place that is its own
-  pub program_is : (own : TaskPlace) → task_seen l.runtime.logging i.layout ≡ own → task_program p l k ≡ lowered_block (task_places l i.task own) body
+  pub program_is : (own : TaskPlace) → task_seen l.runtime.logging i.layout ≡ own → task_program p l k ≡ own_program p l i.task own
   program_is own own_is =
-      program_at l p.tasks l.tasks k i.task i.layout i.task_is i.layout_is
-      ∙ ap (λ o. lowered_block (places_of (map_seen body l) o) body) own_is
+      ap (λ (q : TaskPrograms). q.own) (program_at p.functions l p.tasks l.tasks k i.task i.layout i.task_is i.layout_is)
+      ∙ ap (λ o. own_program p l i.task o) own_is
 
 -- under redo: its private scalars with their copies
 module _ (p : CheckedProgram) (l : MemoryMap) (privates : (k : ℕ) → ArePrivate (program_places p l) k (privates_in (task_entries l) k)) (k : ℕ)

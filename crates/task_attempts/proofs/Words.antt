@@ -1,5 +1,7 @@
 -- The words of the variables as a task has them.
 use Rattle.task_attempts.proofs.Names.{◌≡◌, ℕ, ◌+◌, ◌*◌, ◌==◌, ◌<◌, length, Option, Some, None, Bool, true, false, refl, sym, ap, ◌∙◌, subst, ⊎_elim, eq-eqb}
+use Rattle.std.specs.Prelude.{List}
+use Rattle.task_ast.specs.Paths.{CheckedFunction}
 use Rattle.task_attempts.proofs.Names.{ne_eqb, if◌then◌else◌, cases_eq, cases_Bool, Contains, slice_get, CheckedBlock, some_path_writes, map_seen, scalar_seen}
 use Rattle.task_attempts.proofs.Names.{array_seen, array_read, is_private_in, word_of_seen, own_word, own_by, IsRedo, IsUndo, Logging, Redo, Undo, Version}
 use Rattle.task_attempts.proofs.Names.{ScalarWidth}
@@ -101,36 +103,36 @@ own_small p f None i words = omega arith
 
 -- ---- words of variables
 
-module _ (l : MemoryMap) (body : CheckedBlock) (t : TaskPlace) where
+module _ (fs : List CheckedFunction) (l : MemoryMap) (body : CheckedBlock) (t : TaskPlace) where
   -- the places that the task works on
   abbrev seen : Places
-  seen = places_of (map_seen body l) t
+  seen = places_of (map_seen fs body l) t
 
   pub scalar_there : (v home copy : ℕ) (width : ScalarWidth) (i : ℕ) → slice_get l.variables v ≡ Some (Scalar home copy width) → i < scalar_words width
       → IsScalarWord seen v i
   scalar_there v home copy width i e below =
-      let at = scalar_seen (some_path_writes body) l.variables v home copy width e in subst (λ n. i < n) (sym (ap words_at at)) below
+      let at = scalar_seen (some_path_writes fs body) l.variables v home copy width e in subst (λ n. i < n) (sym (ap words_at at)) below
 
   -- an element of an array is one for the task
   pub element_there : (v i elements n : ℕ) (copies : Option ArrayCopies) → slice_get l.variables v ≡ Some (Array elements n copies) → i < n
       → IsElement seen (record { array = v; index = i }) × (element_address seen (record { array = v; index = i }) ≡ 2 * i + elements)
-  element_there v i elements n copies e h = ⊎_elim written unwritten (cases_Bool (some_path_writes body v))
+  element_there v i elements n copies e h = ⊎_elim written unwritten (cases_Bool (some_path_writes fs body v))
     where
-      written : some_path_writes body v ≡ true
+      written : some_path_writes fs body v ≡ true
           → IsElement seen (record { array = v; index = i }) × (element_address seen (record { array = v; index = i }) ≡ 2 * i + elements)
       written w =
-          let at = array_seen (some_path_writes body) l.variables v elements n copies e w in
+          let at = array_seen (some_path_writes fs body) l.variables v elements n copies e w in
           (record { elements = elements; length = n; copies = copies; is_array = record { place = at }; below = h }, ap (λ o. element_in o i) at)
 
-      unwritten : some_path_writes body v ≡ false
+      unwritten : some_path_writes fs body v ≡ false
           → IsElement seen (record { array = v; index = i }) × (element_address seen (record { array = v; index = i }) ≡ 2 * i + elements)
       unwritten w =
-          let at = array_read (some_path_writes body) l.variables v elements n copies e w in
+          let at = array_read (some_path_writes fs body) l.variables v elements n copies e w in
           (record { elements = elements; length = n; copies = None; is_array = record { place = at }; below = h }, ap (λ o. element_in o i) at)
 
   -- an element's address is that of its word
   pub element_word : (x : Element) → IsElement seen x → IsWordOf l x.array x.index (element_address seen x)
-  element_word x h = word_of_seen body l x.array x.index (element_address seen x) (record {
+  element_word x h = word_of_seen fs body l x.array x.index (element_address seen x) (record {
     place = Array h.elements h.length h.copies;
     at = h.is_array.place;
     below = h.below;
@@ -138,9 +140,9 @@ module _ (l : MemoryMap) (body : CheckedBlock) (t : TaskPlace) where
   })
 
 -- under redo: with the copies of private scalars
-module _ (l : MemoryMap) (body : CheckedBlock) (t : TaskPlace) (privates : ArePrivates l body t) where
+module _ (fs : List CheckedFunction) (l : MemoryMap) (body : CheckedBlock) (t : TaskPlace) (privates : ArePrivates fs l body t) where
   abbrev here : Places
-  here = places_of (map_seen body l) t
+  here = places_of (map_seen fs body l) t
 
   -- word i of variable v, at an address: one of a scalar that the task has there, one that it has in a copy, or an element
   pub data IsTaskWord (v i a : ℕ) : Type 0 where
@@ -150,13 +152,13 @@ module _ (l : MemoryMap) (body : CheckedBlock) (t : TaskPlace) (privates : ArePr
 
   word_by : (v i a : ℕ) (place : VariablePlace) → slice_get l.variables v ≡ Some place → i < (home_region place).words → a ≡ 2 * i +
       (home_region place).address → IsTaskWord v i a
-  word_by v i a (Scalar home copy width) e h at = by (is_private_in body v) refl
+  word_by v i a (Scalar home copy width) e h at = by (is_private_in fs body v) refl
     where
-      by : (b : Bool) → is_private_in body v ≡ b → IsTaskWord v i a
+      by : (b : Bool) → is_private_in fs body v ≡ b → IsTaskWord v i a
       by true is = private (record { number = v; home = home; copy = copy; width = width }) (privates.each v home copy width e is) h at
-      by false left = left_there (scalar_there l body t v home copy width i e h) (ap (λ z. 2 * i + z) (privates.left v home copy width e left) ∙ sym at)
+      by false left = left_there (scalar_there fs l body t v home copy width i e h) (ap (λ z. 2 * i + z) (privates.left v home copy width e left) ∙ sym at)
   word_by v i a (Array elements length copies) e h at =
-      let x = element_there l body t v i elements length copies e h in
+      let x = element_there fs l body t v i elements length copies e h in
       element (record { array = v; index = i }) x.0 refl refl (at ∙ sym x.1)
 
   pub task_word : (v i a : ℕ) → IsWordOf l v i a → IsTaskWord v i a
