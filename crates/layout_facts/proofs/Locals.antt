@@ -7,7 +7,7 @@ use Rattle.function_locals.specs.declared.locals.FunctionLocals.{FunctionLocals}
 use Rattle.function_locals.specs.Locals.{is_light}
 use Rattle.function_locals.proofs.Interface.{locals_stand}
 use Rattle.memory_map.specs.declared.place.RoutinePlace.{RoutinePlace}
-use Rattle.memory_map.specs.MemoryMap.{end_of}
+use Rattle.memory_map.specs.Places.{end_of}
 use Rattle.privatise.specs.Layouts.{IsTaskLayout}
 use Rattle.privatise.specs.Routines.{first_local, words_above, known_functions, task_routines}
 use Rattle.privatise.proofs.Interface.{routines_stand}
