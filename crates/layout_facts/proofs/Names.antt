@@ -33,7 +33,7 @@ pub use Rattle.task_ast.specs.declared.Extent.{Extent}
 pub use Rattle.task_ast.specs.declared.SharedDeclaration.{SharedDeclaration}
 pub use Rattle.task_ast.specs.declared.names.Variable.TheVariants.{Shared}
 pub use Rattle.cost_bound.specs.Allowance.{CheckedProgram, CheckedTask, greatest, is_written, list_of, list_part, shared_sum_from}
-pub use Rattle.cost_bound.specs.Counts.{CheckedBlock, block_assigns, emits_of, stores_of}
+pub use Rattle.cost_bound.specs.Counts.{CheckedBlock, emits_of, stores_of}
 pub use Rattle.cost_bound.specs.declared.allowance.Allow.{Allow}
 pub use Rattle.war_analysis.proofs.Interface.{element}
 pub use Rattle.war_analysis.specs.PlanValue.{TaskPlanValue}

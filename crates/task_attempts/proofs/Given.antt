@@ -173,7 +173,6 @@ module _ (text : List ℕ) (p : CheckedProgram) (allow : Allow) (plans : List Ta
     room : HasRoom (task_places p l task t) (λ v. stores_of (summaries p) v task.body) (task_room p task)
     room = lists_have_room p allow plans l has k task t at
 
-
     privates_of : ArePrivates p.functions l task.body t
     privates_of =
         let a = addresses_are p allow plans l has k task t at in

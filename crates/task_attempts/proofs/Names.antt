@@ -47,7 +47,6 @@ pub use Rattle.task_ast.specs.declared.WordType.TheVariants.{Int, Long, Unsigned
 pub use Rattle.task_ast.specs.declared.names.Variable.{Variable}
 pub use Rattle.task_ast.specs.declared.names.Variable.TheVariants.{Local, Shared}
 pub use Rattle.lower.proofs.Interface.{is_private_of}
-pub use Rattle.task_ast.specs.Paths.{CheckedFunction}
 pub use Rattle.cost_bound.specs.Allowance.{CheckedTask, is_written, list_of, scalars_of}
 pub use Rattle.cost_bound.specs.Counts.{CheckedBlock, emits_of, stores_of}
 pub use Rattle.privatise.specs.Layouts.{AreVariables, IsPlaceOf}
