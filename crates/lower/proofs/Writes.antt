@@ -2,7 +2,7 @@
 use Rattle.lower.proofs.Names.{◌≡◌, ℕ, ◌&&◌, ◌||◌, List, Bool, true, false, refl, Some, if◌then◌else◌, CheckedExpression, CheckedValues, CheckedChoice}
 use Rattle.lower.proofs.Names.{CheckedBlock}
 use Rattle.lower.proofs.Names.{PlacedOperator, ShortCircuitOperator, Shared, VariableName, FunctionName, WordType, summary, AccessSummary, is_same}
-use Rattle.alp_text.specs.declared.lines.Span.{Span}
+use Rattle.source_values.specs.alp_text.declared.lines.Span.{Span}
 use Rattle.path_sums.specs.Access.{summary_read, summary_unit}
 use Rattle.path_sums.specs.Sums.{call_sum, expression_sum, values_sum, statement_sum, choice_sum}
 use Rattle.std.proofs.lemmas.Bool.{and_from, or_left, or_right}
