@@ -4,7 +4,11 @@ use Rattle.lower.proofs.Names.{if◌then◌else◌, drop_all, statement_of, bloc
 use Rattle.lower.proofs.Names.{step, nothing}
 use Rattle.lower.proofs.Names.{joined, behind, step_of, steps_of, joined_assoc, joined_nothing, Run, run_at, is_followed_by, longer, runs_from, entries}
 use Rattle.lower.proofs.Names.{lowered_statement, lowered_block, PrivateScalar, Places}
-use Rattle.std.proofs.Common.{get_or}
+use Rattle.std.proofs.Common.{get_or, map, slice_get}
+use Rattle.std.specs.Option.{option_map}
+use Rattle.std.proofs.lemmas.Option.{slice_get-map}
+use Rattle.task_ast.specs.View.{function_of}
+use Rattle.task_ast.specs.declared.FunctionDeclaration.{FunctionDeclaration}
 
 pub steps_of_joined : (a b : List WordStep) → steps_of (a ++ b) ≡ joined (steps_of a) (steps_of b)
 steps_of_joined [] b = refl
@@ -41,6 +45,11 @@ entries_apart count list r privates i d p h e =
 pub entries_end : (count list : ℕ) (r : Run) (privates : List PrivateScalar) (i : ℕ) (p : Program) → length privates ≤ i
     → behind p (list_entry count list r.home r.copy r.words) ≡ joined p (entries count list (runs_from r (drop i privates)))
 entries_end count list r privates i p h = sym (ap (λ l. joined p (entries count list (runs_from r l))) (drop_all i privates h))
+
+-- a function by its number
+pub function_found : (fs : List (FunctionDeclaration VariableName TaskName FunctionName)) (k : ℕ)
+    → slice_get (map function_of fs) k ≡ option_map function_of (slice_get fs k)
+function_found fs k = slice_get-map function_of fs k
 
 -- a value more, with no overflow
 pub one_value_more : (n : ℕ) → (n % 65536 + 1) % 65536 ≡ suc n % 65536

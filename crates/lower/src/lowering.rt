@@ -68,7 +68,7 @@ fn privates_seen(logging: Logging, task: &TaskLayout) -> &[PrivateScalar]
 }
 
 // The program of a function that a task reaches.
-#[tactic(auto, using(array_versions::proofs::Interface::joined_nothing))]
+#[tactic(auto, using(array_versions::proofs::Interface::joined_nothing, crate::proofs::Chains::function_found))]
 fn lower_routine(
     alloc: Global,
     functions: &[FunctionDeclaration<VariableName, TaskName, FunctionName>],
