@@ -193,7 +193,7 @@ module _ (z : Scene) (known : KnownAgree z) where
   one_store x u = if is_shared u x then 1 else 0
 
   store_step_does : (x : Variable) (i v : ℕ) (here : Start z 0 (one_store x)) → IsWrittenArray z.p x
-      → DoesFrom here (behaviour (one (store_step z.p x)) (pushed v (pushed i here.w)))
+      → DoesFrom here (behaviour (one (store_step (code_places z) x)) (pushed v (pushed i here.w)))
       (λ m. goes_on (source.assigned m x i v))
   store_step_does (Local n) i v here k = absurd k
   store_step_does (Shared n) i v here k =
@@ -209,7 +209,7 @@ module _ (z : Scene) (known : KnownAgree z) where
       by Undo undo = logged_does z n i v k.0 k.1 k.2 k.3 here undo
 
   update_step_does : (op : PlainOperation) (x : Variable) (i v : ℕ) (here : Start z 0 (one_store x)) → IsWrittenArray z.p x
-      → DoesFrom here (behaviour (one (update_element_step z.p op x)) (pushed v (pushed i here.w)))
+      → DoesFrom here (behaviour (one (update_element_step (code_places z) op x)) (pushed v (pushed i here.w)))
       (λ m. goes_on (source.assigned m x i (plain_word op (word_at m.variables x i) v)))
   update_step_does op (Local n) i v here k = absurd k
   update_step_does op (Shared n) i v here k =
@@ -488,7 +488,7 @@ module _ (z : Scene) (known : KnownAgree z) where
       → HasStoreSpare x index e n count → Fits index → Fits e
       → AssignsElement x index e here (element_setting (code_places z) z.fs.bodies x index e)
   element_setting_does x index e here array room of_index of_e =
-      index_and_value_do index e (one (store_step z.p x)) (λ i v s. goes_on (source.assigned s x i v)) here (store_spare x) room of_index of_e
+      index_and_value_do index e (one (store_step (code_places z) x)) (λ i v s. goes_on (source.assigned s x i v)) here (store_spare x) room of_index of_e
       (λ i v there. store_step_does x i v (behind_value here (store_spare x) there) array)
 
   -- what is given of an index and of a value, as of expressions of one word
@@ -531,7 +531,7 @@ module _ (z : Scene) (known : KnownAgree z) where
       ∙ sym (element_update_goes_on z.fs.meanings x index op a b o m u (record { index = index_word; other = element.3; left = types.0; right = types.1 }))
       ∙ sym (as_values index (t.binary op a b) m given index_word whole) in
       subst (DoesFrom here (behaviour (element_sides_set (code_places z) z.fs.bodies x index op a b (Some o)) here.w)) (λ j. λ m. same m j)
-      (index_and_value_do index b (one (update_element_step z.p o x)) next here (store_spare x) (right_store_room x index op a b room)
+      (index_and_value_do index b (one (update_element_step (code_places z) o x)) next here (store_spare x) (right_store_room x index op a b room)
       of_index (right_fits op a b of_e)
       (λ i v there. update_step_does o x i v (behind_value here (store_spare x) there) array))
 

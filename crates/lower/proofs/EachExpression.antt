@@ -270,7 +270,7 @@ mutual
       (known_as k.z.shared k.z.p k.z.declared x.word_type x.variable fits.0 fits.1)
   lowering_agrees k known (t.element x index) m w kept fits admits writes =
       let l = lowered_in k index in
-      let last = one (element_step k.z.p x.variable) in
+      let last = one (element_step (code_places k.z) x.variable) in
       let o = by_answers m (value_in k index) in
       let agrees = of_one_word k (type_of index) fits.3 w l o
       (lowering_agrees k known index m w kept fits.1 admits (λ v h. writes v (index_writes v (k.z.fs.sums v) (known.go_on v) x index h))) in

@@ -366,7 +366,7 @@ module _ (k : Keeping) where
 
     -- the word of an array
     array_read : (v elements length i : ℕ) (copies : Option ArrayCopies) → IsArrayAt k.z.p v elements length copies
-        → LeavesWord k (with_stack below w) (behaviour (one (element_read k.z.p (Some (Array elements length copies)))) (with_stack (i ∷ below) w))
+        → LeavesWord k (with_stack below w) (behaviour (one (element_read (code_places k.z) (Some (Array elements length copies)))) (with_stack (i ∷ below) w))
         (by_answers m (gives (word_at m.variables (Shared v) i)))
     array_read v elements length i copies at = by copies at
       where
@@ -417,7 +417,7 @@ module _ (k : Keeping) where
             (past_end k.z.p v elements length i (Some c) m.variables w.fram (locals_from k.z.own w.locals) at held)
 
         by : (copies : Option ArrayCopies) → IsArrayAt k.z.p v elements length copies
-            → LeavesWord k (with_stack below w) (behaviour (one (element_read k.z.p (Some (Array elements length copies)))) (with_stack (i ∷ below) w))
+            → LeavesWord k (with_stack below w) (behaviour (one (element_read (code_places k.z) (Some (Array elements length copies)))) (with_stack (i ∷ below) w))
             (by_answers m (gives word))
         by None at =
             let e = 2 * i + elements in
@@ -432,11 +432,11 @@ module _ (k : Keeping) where
             (λ l. subst (λ o. own_word k.z.p w.fram o i ≡ word) at.place (held.elements x (has_element k.z.p x (copied c at l))))
 
     pub element_agrees : (x : Variable) (i : ℕ) → IsArray k.z.p x
-        → LeavesWord k (with_stack below w) (behaviour (one (element_step k.z.p x)) (with_stack (i ∷ below) w))
+        → LeavesWord k (with_stack below w) (behaviour (one (element_step (code_places k.z) x)) (with_stack (i ∷ below) w))
         (by_answers m (gives (word_at m.variables x i)))
     element_agrees (Shared v) i is =
         subst
-        (λ o. LeavesWord k (with_stack below w) (behaviour (one (element_read k.z.p o)) (with_stack (i ∷ below) w))
+        (λ o. LeavesWord k (with_stack below w) (behaviour (one (element_read (code_places k.z) o)) (with_stack (i ∷ below) w))
         (by_answers m (gives (word_at m.variables (Shared v) i))))
         (sym is.3.place) (array_read v is.0 is.1 i is.2 is.3)
     element_agrees (Local n) i is = absurd is
