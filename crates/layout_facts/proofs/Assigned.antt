@@ -112,7 +112,10 @@ module _ (p : CheckedProgram) (allow : Allow) (plans : List TaskPlanValue) (l : 
       → is_private_in p.functions task.body v ≡ true
       → (i : ℕ) × (s : PrivateScalar) × (slice_get layout.privates i ≡ Some s) × (s.number ≡ v)
   entry_of_private v home copy width e a =
-      assigned_is v (record { scalar = (places_match p allow plans l h).is_scalar v home copy width e; owed = private_is (Shared v) p.functions mine.callable task.body mine.calls a })
+      assigned_is v (record {
+        scalar = (places_match p allow plans l h).is_scalar v home copy width e;
+        owed = private_is (Shared v) p.functions mine.callable task.body mine.calls a;
+      })
 
   address_is : AddressIs p l task layout
   address_is = record { private = private; left = left; each = each }
@@ -154,7 +157,8 @@ module _ (p : CheckedProgram) (allow : Allow) (plans : List TaskPlanValue) (l : 
           by (Some c) f =
               let i = among_member layout.privates v c f in
               let no : is_private_in p.functions task.body v ≡ true =
-              subst (λ x. is_private_in p.functions task.body x ≡ true) i.3 (is_private_of (Shared i.1.number) p.functions mine.callable task.body mine.calls (private_is_one i.0 i.1 i.2).owed) in
+              subst (λ x. is_private_in p.functions task.body x ≡ true) i.3
+              (is_private_of (Shared i.1.number) p.functions mine.callable task.body mine.calls (private_is_one i.0 i.1 i.2).owed) in
               let clash : true ≡ false = sym no ∙ a in cc
           by None f = ap home_in (seen v home copy width e)
 

@@ -4,7 +4,8 @@ use Rattle.layout_facts.proofs.Names.{subst, ⊎_elim, ◌⊎◌, arith, eq-eqb,
 use Rattle.layout_facts.proofs.Names.{cases_Bool, some_writes, writes_some, private_is, is_private_of, Shared, CheckedBlock, task_body, some_path_writes}
 use Rattle.layout_facts.proofs.Names.{scalar_home, InPlaceByPaths, is_private_in, stays_in_place, has_word_at, some_scalar_at, program_places, ScalarWidth}
 use Rattle.layout_facts.proofs.Names.{OneWord, TwoWords, MemoryMap, scalar_words, IsWordOf, VariablePlace, Scalar, Array}
-use Rattle.layout_facts.proofs.Names.{AreCallable, All, All-head, All-tail, length, CheckedFunction, body_of, Allow, CheckedProgram, CheckedTask, TaskPlanValue, HasLayout}
+use Rattle.layout_facts.proofs.Names.{AreCallable, All, All-head, All-tail, length, CheckedFunction, body_of, Allow, CheckedProgram, CheckedTask}
+use Rattle.layout_facts.proofs.Names.{TaskPlanValue, HasLayout}
 use Rattle.task_ast.specs.Calls.{BlockCallsBelow}
 use Rattle.path_sums.specs.Access.{writes, SomePath, IsPrivate}
 use Rattle.layout_facts.proofs.Homes.{each_is_one_word}
@@ -170,7 +171,8 @@ in_place_by_paths p allow plans l h t v home copy width i e below = (to, from)
               absurd (cc),
         )
 
-    from : SomePath p.functions (task_body p t) (writes (Shared v)) × (IsPrivate p.functions (task_body p t) (Shared v) → ⊥) → (program_places p l).written_in_place t a ≡ true
+    from : SomePath p.functions (task_body p t) (writes (Shared v)) × (IsPrivate p.functions (task_body p t) (Shared v) → ⊥)
+        → (program_places p l).written_in_place t a ≡ true
     from w =
         let same : v ≡ 0 + v = omega arith in
         scalar_is (stays_in_place p.functions (task_body p t)) 0 l.variables v home copy width i e below

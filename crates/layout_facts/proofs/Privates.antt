@@ -204,7 +204,8 @@ privates_are_theirs p allow plans l h t = pick (cases_lt t (length l.tasks))
         let k = privates_of p allow plans l h t task.0 layout.0 (record { is_task = task.1; is_layout = layout.1 }) in
         subst (ArePrivate (program_places p l) t) (sym (entry_is l t layout.0 layout.1))
         (are_private p allow plans l h t layout.0.privates (ascending_numbers p l task.0 layout.0 k) k.places
-        (subst (λ b. All (λ s. is_private_in p.functions b s.number ≡ true) layout.0.privates) (sym (ap body_of task.1)) (private_numbers p l task.0 layout.0 k)))
+        (subst (λ b. All (λ s. is_private_in p.functions b s.number ≡ true) layout.0.privates) (sym (ap body_of task.1))
+        (private_numbers p l task.0 layout.0 k)))
 
     pick : (t < length l.tasks) ⊎ (length l.tasks ≤ t) → ArePrivate (program_places p l) t (privates_in (task_entries l) t)
     pick (inl lt) = there lt

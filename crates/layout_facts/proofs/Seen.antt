@@ -1,7 +1,8 @@
 -- What a task sees of a memory map stands in the whole map.
 use Rattle.layout_facts.proofs.Names.{◌≡◌, ℕ, ◌+◌, ◌*◌, ◌<◌, Some, List, refl, ap, ◌∙◌, slice_get, All-weaker, AreListed}
 use Rattle.layout_facts.proofs.Names.{some_path_writes, places_seen, map_seen}
-use Rattle.layout_facts.proofs.Names.{SeenFrom, scalar, array, read, seen_from, CheckedBlock, CheckedFunction, ArrayCopies, ScalarWidth, VariablePlace, Scalar, Array, MemoryMap}
+use Rattle.layout_facts.proofs.Names.{SeenFrom, scalar, array, read, seen_from, CheckedBlock, CheckedFunction, ArrayCopies, ScalarWidth, VariablePlace}
+use Rattle.layout_facts.proofs.Names.{Scalar, Array, MemoryMap}
 use Rattle.layout_facts.proofs.Names.{TaskPlace, home_region, places_of, Element, IsCopied, IsWordOf}
 
 module _ (fs : List CheckedFunction) (body : CheckedBlock) (l : MemoryMap) where

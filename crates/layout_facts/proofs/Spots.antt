@@ -12,7 +12,8 @@ pub task_places_are_apart : TaskPlacesAreApart
 task_places_are_apart p allow plans l h t task layout k =
     let mine = privates_of p allow plans l h t task layout k in
     let w = some_path_writes p.functions task.body in
-    let stand = spots_are_apart (map_seen p.functions task.body l) layout (seen_laid_out w l h.layout.rules) (privates_seen w l.variables layout.privates mine.places) in
+    let stand = spots_are_apart (map_seen p.functions task.body l) layout (seen_laid_out w l h.layout.rules)
+    (privates_seen w l.variables layout.privates mine.places) in
     let a = apart_of l h.layout.rules in
     let emits = a.emits in let versions = a.versions in
     let most_list = at_most_greatest (list_of (summaries p) p.shared) p.tasks t task k.is_task in
@@ -36,7 +37,8 @@ task_places_are_even p allow plans l h t task layout k =
     let mine = privates_of p allow plans l h t task layout k in
     let e = even_of l h.layout.rules in
     let w = some_path_writes p.functions task.body in
-    let stand = spots_are_apart (map_seen p.functions task.body l) layout (seen_laid_out w l h.layout.rules) (privates_seen w l.variables layout.privates mine.places) in
+    let stand = spots_are_apart (map_seen p.functions task.body l) layout (seen_laid_out w l h.layout.rules)
+    (privates_seen w l.variables layout.privates mine.places) in
     record {
       row = e.row;
       list = e.list;

@@ -417,7 +417,8 @@ module _ (k : Keeping) where
             (past_end k.z.p v elements length i (Some c) m.variables w.fram (locals_from k.z.own w.locals) at held)
 
         by : (copies : Option ArrayCopies) → IsArrayAt k.z.p v elements length copies
-            → LeavesWord k (with_stack below w) (behaviour (one (element_read (code_places k.z) (Some (Array elements length copies)))) (with_stack (i ∷ below) w))
+            → LeavesWord k (with_stack below w)
+            (behaviour (one (element_read (code_places k.z) (Some (Array elements length copies)))) (with_stack (i ∷ below) w))
             (by_answers m (gives word))
         by None at =
             let e = 2 * i + elements in

@@ -108,7 +108,8 @@ pub record IsTaskGiven (p : CheckedProgram) (l : MemoryMap) (task : CheckedTask)
 -- under undo: there is room behind the words that the start lists, and each scalar stands where it is
 pub record IsTaskLogged (p : CheckedProgram) (l : MemoryMap) (k : ℕ) (task : CheckedTask) (t : TaskPlace) : Type 0 where
   pub seen : IsTaskSeen p l task (task_seen Undo t)
-  pub has_room : HasRoomBehind (length (private_homes l k)) (task_places p l task (task_seen Undo t)) (λ v. stores_of (summaries p) v task.body) (task_room p task)
+  pub has_room : HasRoomBehind (length (private_homes l k)) (task_places p l task (task_seen Undo t)) (λ v. stores_of (summaries p) v task.body)
+      (task_room p task)
   pub home : (v home copy : ℕ) (width : ScalarWidth) → slice_get l.variables v ≡ Some (Scalar home copy width)
       → address_of (task_places p l task (task_seen Undo t)) v ≡ home
 
@@ -269,8 +270,8 @@ module _ (text : List ℕ) (p : CheckedProgram) (allow : Allow) (plans : List Ta
             admits = tasks_are_admitted l.runtime.events p k task is_task (ap (λ r. r.events) laid.layout.runtime);
             admitted = functions_are_admitted l.runtime.events p (ap (λ r. r.events) laid.layout.runtime);
             own_low = subst (λ n. n + 256 ≤ 65536) (sym (first_seen l.runtime.logging t) ∙ ap (λ (o : TaskPlace). o.first) own_is) low.own;
-            low = subst (All (λ (r : RoutinePlace). r.first + 256 ≤ 65536)) (sym (routines_seen l.runtime.logging t) ∙ ap (λ (o : TaskPlace). o.routines) own_is)
-                low.routines;
+            low = subst (All (λ (r : RoutinePlace). r.first + 256 ≤ 65536))
+                (sym (routines_seen l.runtime.logging t) ∙ ap (λ (o : TaskPlace). o.routines) own_is) low.routines;
             scalars = λ v home copy width is.
                 let match = places_are_declared p allow plans l has in
                 let scalar = match.is_scalar v home copy width is in

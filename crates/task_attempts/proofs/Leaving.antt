@@ -233,7 +233,8 @@ module _ (run : Attempting) where
         left.stands.variables.lengths v (Scalar home copied width) (scalar_seen (some_path_writes p.functions code) l.variables v home copied width e)
     row_fits v (Array elements len copies) e =
         ⊎_elim {C = length (get_or m.variables.shared v []) ≡ len}
-        (λ w. left.stands.variables.lengths v (Array elements len copies) (array_seen (some_path_writes p.functions code) l.variables v elements len copies e w))
+        (λ w. left.stands.variables.lengths v (Array elements len copies)
+        (array_seen (some_path_writes p.functions code) l.variables v elements len copies e w))
         (λ w. left.stands.variables.lengths v (Array elements len None) (array_read (some_path_writes p.functions code) l.variables v elements len copies e w))
         (cases_Bool (some_path_writes p.functions code v))
 

@@ -124,7 +124,8 @@ module _ (p : CheckedProgram) (allow : Allow) (plans : List TaskPlanValue) (l : 
 
     in_place : is_private_in p.functions code v ≡ false → (program_places p l).written_in_place s.task (2 * i + its.home) ≡ true
     in_place not_private =
-        let stays : stays_in_place p.functions code v ≡ true = and_from (some_path_writes p.functions code v) (not (is_private_in p.functions code v)) written (ap not not_private) in
+        let stays : stays_in_place p.functions code v ≡ true =
+        and_from (some_path_writes p.functions code v) (not (is_private_in p.functions code v)) written (ap not not_private) in
         let number : v ≡ 0 + v = omega arith in
         scalar_is (stays_in_place p.functions (task_body p s.task)) 0 l.variables v its.home its.copy its.width i in_map below
         (sym (ap (stays_in_place p.functions (task_body p s.task)) number) ∙ ap (λ b. stays_in_place p.functions b v) body_is ∙ stays)

@@ -39,7 +39,8 @@ module _ (st : Started) where
       let o = slice_get (map_seen p.functions code l).variables v in
       let its = scalar_place o (words_scalar o n h) in
       let below : n < scalar_words its.width = subst (λ k. n < k) (ap words_at its.place) h in
-      scalar_stands v n its.home its.copy its.width (is_private_in p.functions code v) (scalar_of_seen p.functions code l v its.home its.copy its.width its.place) below refl
+      let at = scalar_of_seen p.functions code l v its.home its.copy its.width its.place in
+      scalar_stands v n its.home its.copy its.width (is_private_in p.functions code v) at below refl
 
   pub redo_stands : StandsFor here 0 (held_attempt run) [] (started x.fram inputs)
   redo_stands = attempt_stands run scalar_by (record {

@@ -57,6 +57,11 @@ OfValue P (Some x) = P x
 abbrev OfRows : ℕ → Evaluated → Type 0
 OfRows n x = length x.behind.variables.shared ≡ n
 
+-- so do the words of a call
+abbrev OfWords : ℕ → Option EvaluatedWords → Type 0
+OfWords n None = Unit {0}
+OfWords n (Some ws) = length ws.behind.variables.shared ≡ n
+
 gives_rows : (n value : ℕ) (m : Attempt) (x : Evaluated) → length m.variables.shared ≡ n → gives value m ≡ Some x → length x.behind.variables.shared ≡ n
 gives_rows n value m x h e = subst (OfValue (OfRows n)) e h
 
@@ -105,7 +110,8 @@ module _ (known : List Meaning) (keep : KnownKeepRows known) (n : ℕ) where
     value_rows (t.unary op a) = made_rows n (unary_result op (type_of a)) (value_of known a) (value_rows a)
     value_rows (t.binary op a b) =
         let value : ℕ → ℕ → ℕ = binary_result op.operator (type_of a) (type_of b) in
-        then_rows n (value_of known a) (λ x m. made_of (value x) (value_of known b m)) (value_rows a) (λ x. made_rows n (value x) (value_of known b) (value_rows b))
+        then_rows n (value_of known a) (λ x m. made_of (value x) (value_of known b m)) (value_rows a)
+        (λ x. made_rows n (value x) (value_of known b) (value_rows b))
     value_rows (t.shift op a count) = made_rows n (λ w. shift_result op (type_of a) w count.value) (value_of known a) (value_rows a)
     value_rows (t.short_circuit op a b) =
         then_rows n (value_of known a) (λ x m. if is_settled op x then gives (truth_word x) m else made_of truth_word (value_of known b m)) (value_rows a)
@@ -114,12 +120,11 @@ module _ (known : List Meaning) (keep : KnownKeepRows known) (n : ℕ) where
 
     words_rows : (values : CheckedValues) (m : Attempt) (ws : EvaluatedWords) → length m.variables.shared ≡ n → words_of known values m ≡ Some ws
         → length ws.behind.variables.shared ≡ n
-    words_rows t.no_value m ws h e = let same : record { words = []; behind = m } ≡ ws = cc in ap (λ (u : EvaluatedWords). length u.behind.variables.shared) (sym same) ∙ h
+    words_rows t.no_value m ws h e = subst (OfWords n) e h
     words_rows (t.value a more) m ws h e =
         let x = bind_some (value_of known a m) (λ x. words_of known more x.behind >>? λ us. Some (word_before (word_of a x.value) us)) ws e in
         let us = bind_some (words_of known more x.0.behind) (λ us. Some (word_before (word_of a x.0.value) us)) ws x.2 in
-        let same : word_before (word_of a x.0.value) us.0 ≡ ws = let last = us.2 in cc in
-        ap (λ (u : EvaluatedWords). length u.behind.variables.shared) (sym same) ∙ words_rows more x.0.behind us.0 (value_rows a m x.0 h x.1) us.1
+        subst (OfWords n) us.2 (words_rows more x.0.behind us.0 (value_rows a m x.0 h x.1) us.1)
 
 rows_if : (n : ℕ) (b : Bool) (o q : Outcome) → HasRows n o → HasRows n q → HasRows n (if b then o else q)
 rows_if n true o q h k = h

@@ -126,7 +126,8 @@ module _ (st : Started) where
 
       in_place : is_private_in p.functions code v ≡ false → Quiet (scalar_address here v n) w
       in_place not_private =
-          let stays : stays_in_place p.functions code v ≡ true = and_from (some_path_writes p.functions code v) (not (is_private_in p.functions code v)) e (ap not not_private) in
+          let stays : stays_in_place p.functions code v ≡ true =
+          and_from (some_path_writes p.functions code v) (not (is_private_in p.functions code v)) e (ap not not_private) in
           let number : v ≡ 0 + v = omega arith in
           let is : sites.written_in_place s.task (2 * n + its.home) ≡ true =
           scalar_is (stays_in_place p.functions (task_body p s.task)) 0 l.variables v its.home its.copy its.width n at below
