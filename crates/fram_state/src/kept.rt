@@ -129,6 +129,7 @@ pub fn task_named(
 }
 
 // What a body that may call these functions does with the shared scalar of a number.
+#[derive(Clone, Copy)]
 struct Touches {
     written: bool,
     private: bool,
