@@ -23,7 +23,6 @@ pub fn runs_read_from_sp()
 {}
 
 /// The code of a program, and of a function's body, is no longer than the program's words say, and each of its instructions has its words.
-#[tactic(auto, using(crate::proofs::Lengths::code_has_its_bytes, crate::proofs::Lengths::code_has_its_words, crate::proofs::TaskForms::code_is_instructions))]
 pub fn code_has_its_words()
     ensures bytes { CodeHasItsBytes }
     ensures words { CodeHasItsWords }
@@ -32,7 +31,6 @@ pub fn code_has_its_words()
 
 /// The code of a program, and of a function's body, names no word of RAM below the lowest of its locals and of the frames of what it calls, sets SP no
 /// lower, and reads and writes RAM else on the stack.
-#[tactic(auto, using(crate::proofs::TaskForms::code_is_of_task_forms, crate::proofs::TaskForms::code_names_ram_from))]
 pub fn code_keeps_above_its_stack()
     ensures forms { CodeIsOfTaskForms }
     ensures ram { CodeNamesRamFrom }
