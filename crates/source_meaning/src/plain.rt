@@ -1,4 +1,4 @@
-//! Whether a source has helper functions: such a source isn't compiled yet.
+//! Whether the functions of a source fit where it takes events: a source of which they don't isn't compiled yet.
 ghost use Rattle.std.specs.Prelude.{◌≡◌, ◌<◌, ◌^◌, ◌-◌, length, map, IfOk, IfErr};
 ghost use Rattle.task_ast.specs.View.{program_of, function_of};
 ghost use Rattle.task_ast.specs.Paths.{CheckedProgram};
@@ -9,6 +9,7 @@ ghost use Rattle.source_meaning.specs.Plain.{IsPlain, IsUncompiled, function_lin
 
 use crate::fault::SourceFault;
 use crate::passes::{Accepted, accept};
+use function_locals::fits_events;
 use std::alloc::Global;
 use task_ast::{FunctionDeclaration, FunctionName, TaskName, VariableName};
 use task_lex::line_at;
@@ -42,11 +43,12 @@ pub fn first_function(accepted: &Accepted) -> Option<u32>
     line_of_first(accepted.source(), &accepted.checked().source().functions)
 }
 
-/// Takes a text through all passes, as `accept` does, and behind them through the last one of what is compiled: a source with functions
-/// isn't compiled yet.
+/// Takes a text through all passes, as `accept` does, and behind them through the last one of what is compiled: a source that takes events isn't
+/// compiled yet where a function has locals in RAM, or the stacks of a task with all that it calls have no room.
 ///
 /// # Errors
-/// Those of `accept`; and `NotYet` at the line of the name of the first function of a source that is accepted.
+/// Those of `accept`; and `NotYet` at the line of the name of the first function of such a source.
+#[tactic(auto, using(crate::proofs::Uncompiled::none_fits))]
 pub fn accept_compiled(alloc: Global, text: &[u8]) -> Result<Accepted, SourceFault>
     requires { length text.now < 2 ^ 32 - 1 }
     ensures text { IfOk result (λ a. a.text.items ≡ text.now) }
@@ -57,6 +59,9 @@ pub fn accept_compiled(alloc: Global, text: &[u8]) -> Result<Accepted, SourceFau
     ensures refused { IfErr result (IsUncompiled text.now) }
 {
     let accepted = accept(alloc, text)?;
+    if fits_events(accepted.checked().source()) {
+        return Ok(accepted);
+    }
     match first_function(&accepted) {
         Some(line) => Err(SourceFault::NotYet { line }),
         None => Ok(accepted),
