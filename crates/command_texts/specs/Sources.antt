@@ -76,8 +76,8 @@ pub record RefusesSource (text : List ℕ) (r : Refusal) : Type 0 where
   pub refused : IsRefusedText text cause
   pub told : source_refusal text cause ≡ Some r
 
--- the text isn't compiled: the first pass that refuses it does so, or behind all of them `NotYet` at its first function, where it takes events and its functions
--- don't fit there
+-- the text isn't compiled: the first pass that refuses it does so, or behind all of them `NotYet` at its first function, where it takes events and
+-- its functions don't fit there
 pub record RefusesBuild (text : List ℕ) (r : Refusal) : Type 0 where
   pub cause : SourceFault
   pub refused : IsUncompiled text cause
