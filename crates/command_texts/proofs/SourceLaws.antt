@@ -16,7 +16,7 @@ sources_exclude law text p r said refused =
     let none : Some r ≡ None = sym refused.told ∙ ap (source_refusal text) memory in
     cc
 
--- and none is a source without functions and kept from being compiled
+-- and none is a source that can be compiled and kept from it
 abbrev pub BuildsExclude : Type 0
 BuildsExclude = (text : List ℕ) (p : CheckedProgram) (r : Refusal) → IsPlainText text p → RefusesBuild text r → ⊥
 

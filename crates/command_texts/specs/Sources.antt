@@ -76,7 +76,8 @@ pub record RefusesSource (text : List ℕ) (r : Refusal) : Type 0 where
   pub refused : IsRefusedText text cause
   pub told : source_refusal text cause ≡ Some r
 
--- the text isn't compiled: the first pass that refuses it does so, or behind all of them `NotYet` at its first function
+-- the text isn't compiled: the first pass that refuses it does so, or behind all of them `NotYet` at its first function, where it takes events and
+-- its functions don't fit there
 pub record RefusesBuild (text : List ℕ) (r : Refusal) : Type 0 where
   pub cause : SourceFault
   pub refused : IsUncompiled text cause
@@ -90,10 +91,10 @@ SaysSource text = (program : CheckedProgram) × IsSourceText text program
 abbrev pub SaysSourceWithoutEvents : List ℕ → Type 0
 SaysSourceWithoutEvents text = SaysSource text × HasNoEvent text
 
--- the text is accepted as this program, which is compiled
+-- the text is accepted as this program, which can be compiled
 abbrev pub IsPlainText : List ℕ → CheckedProgram → Type 0
 IsPlainText text program = IsSourceText text program × IsPlain program
 
--- a text is a source that is compiled
+-- a text is a source that can be compiled
 abbrev pub SaysPlainSource : List ℕ → Type 0
 SaysPlainSource text = (program : CheckedProgram) × IsPlainText text program

@@ -126,7 +126,8 @@ pub fn source_of<'t>(alloc: Global, file: &'t str, text: &'t [u8]) -> Result<Acc
 /// The source that the text of a named file is, if it is compiled.
 ///
 /// # Errors
-/// `Refused` with the refusal of the first pass that refuses the text, or as `NotYet` at the line of the first function of one that isn't compiled yet;
+/// `Refused` with the refusal of the first pass that refuses the text, or as `NotYet` at the line of the first function of an accepted one that
+/// doesn't fit where it takes events;
 /// `Memory` where memory was refused.
 pub fn compiled_source_of<'t>(
     alloc: Global,

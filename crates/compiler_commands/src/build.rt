@@ -29,7 +29,7 @@ pub struct BuildNames<'n> {
 /// Puts the image of the source, and writes its bound. All memory but that of the put is taken before it.
 ///
 /// # Errors
-/// `Refused` for the text's first fault, which is `NotYet` where it is accepted and isn't compiled yet, `Memory` where memory was refused; no file is
+/// `Refused` for the text's first fault, which is `NotYet` where it is accepted and can't be compiled, `Memory` where memory was refused; no file is
 /// changed and nothing is written then. `Put` where the put failed, and the file of the image may hold anything or be absent. `Write` where a
 /// write failed behind it, and the output gained a proper prefix of the line.
 pub fn build_texts<'t, H: Shelf, O: Sink>(

@@ -66,7 +66,7 @@ fn write_trial<O: Sink>(
 /// Puts the image of the source for a runtime that logs so, and writes the report of its run on the trace. All memory but that of the put is taken before it.
 ///
 /// # Errors
-/// `Refused` for the first text that is refused, a source that is accepted and isn't compiled yet as `NotYet`; `Memory` where memory was refused; no
+/// `Refused` for the first text that is refused, a source that is accepted and can't be compiled as `NotYet`; `Memory` where memory was refused; no
 /// file is changed and nothing is written then. `Put` where the put failed, and the file of the image may hold anything or be absent. `Write`
 /// where a write failed behind it, and the output gained a proper prefix of the report.
 pub fn try_texts<'t, H: Shelf, O: Sink>(

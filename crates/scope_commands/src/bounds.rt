@@ -30,7 +30,7 @@ fn write_text<'t, O: Sink>(out: &mut O, text: &[u8]) -> Result<(), Failure<'t>>
 /// Writes what the tasks of the source that the text is need. All memory is taken before.
 ///
 /// # Errors
-/// `Refused` for the text's first fault, which is `NotYet` where it is accepted and isn't compiled yet, `Memory` where memory was refused; nothing is
+/// `Refused` for the text's first fault, which is `NotYet` where it is accepted and can't be compiled, `Memory` where memory was refused; nothing is
 /// written then. `Write` where a write failed, and the output gained a proper prefix of the lines.
 pub fn bounds_texts<'t, O: Sink>(
     alloc: Global,

@@ -22,8 +22,8 @@ pub enum SourceFault {
     /// A source that costs more than it may.
     #[error("{0}")]
     Over(Over),
-    /// An accepted source that isn't compiled yet; the line of its first function's name, counted from 1.
-    #[error("line {line}: functions that take so much room aren't compiled with events yet")]
+    /// An accepted source that isn't compiled yet, since its functions don't fit where it takes events; the line of its first function's name, counted from 1.
+    #[error("line {line}: functions that don't fit beside events aren't compiled yet")]
     NotYet { line: u32 },
     #[error("out of memory")]
     Memory,

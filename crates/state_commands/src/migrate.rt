@@ -230,7 +230,7 @@ fn migrated_text<'t>(
 /// Puts the state of the new edition that goes on in place of the old state. All memory but that of the put is taken before it.
 ///
 /// # Errors
-/// `Refused` for the first text that is refused, a source that is accepted and isn't compiled yet as `NotYet`; then for an image that doesn't suit its
+/// `Refused` for the first text that is refused, a source that is accepted and can't be compiled as `NotYet`; then for an image that doesn't suit its
 /// source, a state that doesn't belong to its image, and one that doesn't go on in the new edition. `Memory` where memory was refused; no file is
 /// changed then. `Put` where the put failed, and the file of the new state may hold anything or be absent.
 pub fn migrate_texts<'t, H: Shelf>(
