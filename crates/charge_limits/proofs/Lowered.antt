@@ -207,7 +207,8 @@ module _ (counts : List ℕ) (rs : List Program) (few : AreFew counts rs) where
     expression_few p (t.long_number w) = omega arith
     expression_few p (t.name x) =
         let none = read_none p x.variable in
-        lowering_by x.word_type (as_word (one (read_step p x.variable))) (as_long (read_long p x.variable)) 0 (omega (arith, none)) (read_long_none p x.variable)
+        lowering_by x.word_type (as_word (one (read_step p x.variable))) (as_long (read_long p x.variable)) 0 (omega (arith, none))
+        (read_long_none p x.variable)
     expression_few p (t.element x index) =
         behind_few (expression_readings counts index) (word_program (lowering p rs index)) (element_step p x.variable) (element_step_none p x.variable)
         (word_few (lowering p rs index) (expression_readings counts index) (expression_few p index))
@@ -291,8 +292,8 @@ module _ (counts : List ℕ) (rs : List Program) (few : AreFew counts rs) where
   sides_of_few : (p : Places) (index e : CheckedExpression)
       → senses (index_and_value p rs index e) ≤ expression_readings counts index + expression_readings counts e
   sides_of_few p index e =
-      joined_few (expression_readings counts index) (expression_readings counts e) (lowered_expression p rs index) (lowered_expression p rs e) (value_few p index)
-      (value_few p e)
+      joined_few (expression_readings counts index) (expression_readings counts e) (lowered_expression p rs index) (lowered_expression p rs e)
+      (value_few p index) (value_few p e)
 
   element_setting_few : (p : Places) (x : Variable) (index e : CheckedExpression)
       → senses (element_setting p rs x index e) ≤ expression_readings counts index + expression_readings counts e

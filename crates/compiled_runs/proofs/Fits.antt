@@ -68,7 +68,8 @@ module _ (p : CheckedProgram) (body : CheckedBlock) (places : Places) (ends : Al
       let cheap : BodiesKeep known (routine_bodies places front) =
       routines_keep places front (All-take (λ g. block_ends false g.body ≡ true) r.function p.functions ends) in
       let end = All-at p.functions r.function f ends is.is.function in
-      let short = blocks_keep_to_words known (routine_bodies places front) cheap (routine_places places r) (private_words places.privates) f.body (omega arith) in
+      let short =
+      blocks_keep_to_words known (routine_bodies places front) cheap (routine_places places r) (private_words places.privates) f.body (omega arith) in
       let same = block_same known (private_words places.privates) 0 f.body end in
       let program = ap words_of (body_is j r f at is.is.function) in
       omega (arith, short, same, words, room, program)

@@ -474,7 +474,8 @@ module _ (program : CheckedProgram) (body : CheckedBlock) (p : Places) (task : T
   -- the locals of each stand in registers and in RAM
   pub routine_low : (k : ℕ) (h : Here k) → LocalsBelow 1016 (program_of k h)
   routine_low k h =
-      each_local_as (code_of k h (ceiling k h)).locals (λ n. n < 1016) low (program_of k h) (sound_below (suc k) k (omega arith) h (ceiling k h) (omega arith)).0
+      each_local_as (code_of k h (ceiling k h)).locals (λ n. n < 1016) low (program_of k h)
+      (sound_below (suc k) k (omega arith) h (ceiling k h) (omega arith)).0
     where
       few : words_above words_of_stack h.known.summary.depth + h.known.locals.own ≤ 984
       few = let inside = within k h in let is = own_is k h in omega (arith, inside, is)
