@@ -136,7 +136,7 @@ struct Touches {
 }
 
 // Whether a body writes the shared scalar of this number, and whether this is private in it; or no memory is left.
-fn touches(
+fn touches_of(
     alloc: Global,
     functions: &[FunctionDeclaration<VariableName, TaskName, FunctionName>],
     number: usize,
@@ -169,6 +169,6 @@ pub fn is_in_place(
     requires calls { CallsReturn (program_of source.now) }
     ensures { IfOk result (λ in_place. IsTrue in_place ↔ IsInPlace (program_of source.now).functions (task_body (program_of source.now) task) number) }
 {
-    let touched = touches(alloc, &source.functions, number, &source.tasks[task].body)?;
+    let touched = touches_of(alloc, &source.functions, number, &source.tasks[task].body)?;
     Ok(touched.written && !touched.private)
 }

@@ -1,6 +1,6 @@
 use Rattle.std.proofs.Common.{map, ◌∙◌}
 use Rattle.task_ast.specs.View.{function_of}
-use Rattle.fram_state.proofs.kept.touches.Goals as goal
+use Rattle.fram_state.proofs.kept.touches_of.Goals as goal
 
 pub returns-clause-written : goal.returns-clause-written
 returns-clause-written c =
