@@ -126,23 +126,22 @@ if_both false c h = never h
 
 found : (calls : ℕ → Bool) (is : Summary → Bool) (k : ℕ) (known : List Summary) → some_called_from calls is k known ≡ true → Found calls is k known
 found calls is k [] h = never h
-found calls is k (s ∷ known) h = or_either (if calls k then is s else false) (some_called_from calls is (k + 1) known) h first behind
+found calls is k (s ∷ known) h = or_either (if calls k then is s else false) (some_called_from calls is (k + 1) known) h first
+    (λ e. behind (found calls is (k + 1) known e))
   where
     first : (if calls k then is s else false) ≡ true → Found calls is k (s ∷ known)
     first e =
         let both = if_both (calls k) (is s) e in
         record { number = 0; summary = s; at = refl; called = ap calls (let e : k + 0 ≡ k = omega arith in e) ∙ both.0; holds = both.1 }
 
-    behind : some_called_from calls is (k + 1) known ≡ true → Found calls is k (s ∷ known)
-    behind e =
-        let x = found calls is (k + 1) known e in
-        record {
-          number = suc x.number;
-          summary = x.summary;
-          at = x.at;
-          called = ap calls (let e : k + suc x.number ≡ (k + 1) + x.number = omega arith in e) ∙ x.called;
-          holds = x.holds;
-        }
+    behind : Found calls is (k + 1) known → Found calls is k (s ∷ known)
+    behind x = record {
+      number = suc x.number;
+      summary = x.summary;
+      at = x.at;
+      called = ap calls (let e : k + suc x.number ≡ (k + 1) + x.number = omega arith in e) ∙ x.called;
+      holds = x.holds;
+    }
 
 found_at : (calls : ℕ → Bool) (is : Summary → Bool) (known : List Summary) → some_called_from calls is 0 known ≡ true
     → (n : ℕ) × (s : Summary) × (slice_get known n ≡ Some s) × (calls n ≡ true) × (is s ≡ true)
@@ -208,7 +207,8 @@ module _ (fs : List CheckedFunction) (below : FunctionsCallBelow 0 fs) where
       → s.reaches j ≡ true → IsWithin s j
   within zero k f s j l is at r = absurd (let none : ⊥ = omega arith in none)
   within (suc fuel) k f s j l is at r =
-      or_either (some_called_from (λ n. block_calls n f.body) (λ x. x.reaches j) 0 (function_summaries (take k fs))) (block_calls j f.body) reaches far near
+      or_either (some_called_from (λ n. block_calls n f.body) (λ x. x.reaches j) 0 (function_summaries (take k fs))) (block_calls j f.body) reaches
+      (far (λ n g x l is at r. within fuel n g x j l is at r)) near
     where
       reaches : reaches_of (function_summaries (take k fs)) j f.body ≡ true
       reaches = sym (ap (λ x. x.reaches j) (made k f s is at)) ∙ r
@@ -225,8 +225,10 @@ module _ (fs : List CheckedFunction) (below : FunctionsCallBelow 0 fs) where
           let c = callees j k f s z.0 is at z.1 calls in
           (z.0, z.1, omega (arith, c))
 
-      far : some_called_from (λ n. block_calls n f.body) (λ x. x.reaches j) 0 (function_summaries (take k fs)) ≡ true → IsWithin s j
-      far some =
+      far : ((n : ℕ) (g : CheckedFunction) (x : Summary) → n < fuel → slice_get fs n ≡ Some g → slice_get known n ≡ Some x → x.reaches j ≡ true
+          → IsWithin x j)
+          → some_called_from (λ n. block_calls n f.body) (λ x. x.reaches j) 0 (function_summaries (take k fs)) ≡ true → IsWithin s j
+      far deeper some =
           let (n, x, there, called, holds) = found_at (λ n. block_calls n f.body) (λ y. y.reaches j) (function_summaries (take k fs)) some in
           let count = answers_length function_summary [] (take k fs) in
           let short = take_short fs k in
@@ -234,7 +236,7 @@ module _ (fs : List CheckedFunction) (below : FunctionsCallBelow 0 fs) where
           let lt : n < k = omega (arith, count, short, inside) in
           let at_x : slice_get known n ≡ Some x = sym (front n k lt) ∙ there in
           let g = element fs n (let m = slice_get_within fs k f is in omega (arith, m, lt)) in
-          let deep = within fuel n g.0 x j (omega (arith, l, lt)) g.1 at_x holds in
+          let deep = deeper n g.0 x (omega (arith, l, lt)) g.1 at_x holds in
           let c = callees n k f s x is at at_x called in
           let d = deep.2 in
           (deep.0, deep.1, omega (arith, c, d))
@@ -304,16 +306,19 @@ module _ (fs : List CheckedFunction) (below : FunctionsCallBelow 0 fs) (j k : �
   on (suc fuel) n g x l at there r =
       ap (λ y. y.reaches j) (made fs below n g x at there)
       ∙ or_either (some_called_from (λ m. block_calls m g.body) (λ y. y.reaches k) 0 (function_summaries (take n fs))) (block_calls k g.body)
-      (sym (ap (λ y. y.reaches k) (made fs below n g x at there)) ∙ r) far near
+      (sym (ap (λ y. y.reaches k) (made fs below n g x at there)) ∙ r)
+      (far (λ m h y l at there r. on fuel m h y l at there r)) near
     where
       near : block_calls k g.body ≡ true → reaches_of (function_summaries (take n fs)) j g.body ≡ true
       near c =
           let lt : k < 0 + n = block_below (0 + n) k g.body (below_at 0 fs n g below at) c in
           through (function_summaries (take n fs)) g.body k callee (front fs below k n (omega (arith, lt)) ∙ callee_at) c callee_reaches
 
-      far : some_called_from (λ m. block_calls m g.body) (λ y. y.reaches k) 0 (function_summaries (take n fs)) ≡ true
+      far : ((m : ℕ) (h : CheckedFunction) (y : Summary) → m < fuel → slice_get fs m ≡ Some h → slice_get all m ≡ Some y → y.reaches k ≡ true
+          → y.reaches j ≡ true)
+          → some_called_from (λ m. block_calls m g.body) (λ y. y.reaches k) 0 (function_summaries (take n fs)) ≡ true
           → reaches_of (function_summaries (take n fs)) j g.body ≡ true
-      far some =
+      far goes some =
           let (m, y, it, called, holds) = found_at (λ m. block_calls m g.body) (λ z. z.reaches k) (function_summaries (take n fs)) some in
           let count = answers_length function_summary [] (take n fs) in
           let short = take_short fs n in
@@ -321,7 +326,7 @@ module _ (fs : List CheckedFunction) (below : FunctionsCallBelow 0 fs) (j k : �
           let lt : m < n = omega (arith, count, short, inside) in
           let h = element fs m (let i = slice_get_within fs n g at in omega (arith, i, lt)) in
           through (function_summaries (take n fs)) g.body m y it called
-          (on fuel m h.0 y (omega (arith, l, lt)) h.1 (sym (front fs below m n lt) ∙ it) holds)
+          (goes m h.0 y (omega (arith, l, lt)) h.1 (sym (front fs below m n lt) ∙ it) holds)
 
   pub reached_on : (b : CheckedBlock) → reaches_of all k b ≡ true → reaches_of all j b ≡ true
   reached_on b r =
