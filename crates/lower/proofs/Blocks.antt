@@ -511,14 +511,14 @@ module _ (z : Scene) (known : KnownAgree z) where
   -- in place, where both sides are of one word
   element_sides_do : (x : Variable) (index : CheckedExpression) (op : PlacedOperator) (a b : CheckedExpression) (o : Option PlainOperation)
       {n : ℕ} {count : ℕ → ℕ} (here : Start z n count)
-      → of_words (joined_type (type_of a) (type_of b)) (element_updating x index op.operator a) ≡ o
+      → of_words (joined_type (type_of a) (type_of b)) (element_updating x index op.operator a b) ≡ o
       → IsWrittenArray z.p x → HasStoreSpare x index (t.binary op a b) n count → Fits index → IsOneWord (type_of index)
       → Fits (t.binary op a b)
       → AssignsElement x index (t.binary op a b) here (element_sides_set (code_places z) z.fs.bodies x index op a b o)
   element_sides_do x index op a b None here is array room of_index index_word of_e =
       element_setting_does x index (t.binary op a b) here array room of_index of_e
   element_sides_do x index op a b (Some o) here is array room of_index index_word of_e =
-      let word = is_of_words (joined_type (type_of a) (type_of b)) (element_updating x index op.operator a) o is in
+      let word = is_of_words (joined_type (type_of a) (type_of b)) (element_updating x index op.operator a b) o is in
       let types = joined_words (type_of a) (type_of b) word.word in
       let whole = one_word.binary_word op.operator (type_of a) (type_of b) types.0 types.1 in
       let u = is_element_update x index op.operator a b o word.is in

@@ -23,7 +23,7 @@ turned_behind [] first below = refl
 turned_behind (w ∷ words) first below = turned_behind words (w ∷ first) below
 
 pub turned_length : (words first : List ℕ) → length (turned words first) ≡ length words + length first
-turned_length [] first = refl
+turned_length [] first = omega arith
 turned_length (w ∷ words) first = let more = turned_length words (w ∷ first) in omega (arith, more)
 
 -- as many words as there are
@@ -129,10 +129,10 @@ module _ (k : Keeping) (known : KnownAgree k.z) where
       by_meaning r None at is = no_body i (Some r) body words below m s (known.none i is)
       by_meaning r (Some f) at is = known_call i f r words below m s is at writes few kept
 
-      by_place : (at : Option RoutinePlace) → routine_of k.z.p i ≡ at → CallLeaves i at body words below m s
-      by_place None is = unplaced
-      by_place (Some r) is = by_meaning r (slice_get k.z.fs.meanings i) is refl
-
       -- a function without a place has no body either
       unplaced : CallLeaves i None body words below m s
       unplaced count same = no_body i None nothing words below m s refl count same
+
+      by_place : (at : Option RoutinePlace) → routine_of k.z.p i ≡ at → CallLeaves i at body words below m s
+      by_place None is = unplaced
+      by_place (Some r) is = by_meaning r (slice_get k.z.fs.meanings i) is refl

@@ -52,7 +52,8 @@ pub use Rattle.cost_bound.specs.Summary.{Summary}
 pub use Rattle.cost_bound.specs.Table.{block_price, blocks_price, conditions_price, cycles_column, expression_price, operator_price, statement_price}
 pub use Rattle.cost_bound.specs.Table.{called_price, values_price, words_column}
 pub use Rattle.path_runs.proofs.Interface.{runs_go_on_along_paths}
-pub use Rattle.path_sums.specs.Access.{is_same, summary}
+pub use Rattle.path_sums.specs.Access.{is_same}
+unfoldable pub use Rattle.path_sums.specs.Access.{summary}
 pub use Rattle.path_sums.specs.declared.access.AccessSummary.{AccessSummary}
 pub use Rattle.path_sums.specs.Sums.{block_sum, choice_sum, statement_sum}
 pub use Rattle.source_values.proofs.Interface.{EmitsUpTo, block_up_to, more_turns, scalar_word, statement_up_to, value_keeps}

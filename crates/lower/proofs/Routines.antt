@@ -295,11 +295,13 @@ one_more_alike p fs f n h = record {
 routine_low : (routines : List RoutinePlace) (i : ℕ) (r : RoutinePlace) → All (λ r. r.first + 256 ≤ 65536) routines → routine_among routines i ≡ Some r
     → r.first + 256 ≤ 65536
 routine_low [] i r h is = let never : None ≡ Some r = is in absurd (cc)
-routine_low (q ∷ more) i r h is = by (q.function == i) is
+routine_low (q ∷ more) i r h is = by (q.function == i) (λ e. routine_low more i r (All-tail (λ r. r.first + 256 ≤ 65536) q more h) e) is
   where
-    by : (b : Bool) → (if b then Some q else routine_among more i) ≡ Some r → r.first + 256 ≤ 65536
-    by true e = let same : q ≡ r = cc in subst (λ (x : RoutinePlace). x.first + 256 ≤ 65536) same (All-head (λ r. r.first + 256 ≤ 65536) q more h)
-    by false e = routine_low more i r (All-tail (λ r. r.first + 256 ≤ 65536) q more h) e
+    by : (b : Bool) → (routine_among more i ≡ Some r → r.first + 256 ≤ 65536) → (if b then Some q else routine_among more i) ≡ Some r
+        → r.first + 256 ≤ 65536
+    by true others e =
+        let same : q ≡ r = cc in subst (λ (x : RoutinePlace). x.first + 256 ≤ 65536) same (All-head (λ r. r.first + 256 ≤ 65536) q more h)
+    by false others e = others e
 
 -- what a function gives emits no more than its block counts
 abbrev ValueUpTo : ℕ → Option Evaluated → Type 0
