@@ -540,7 +540,7 @@ module _ (z : Scene) (known : KnownAgree z) where
       → HasStoreSpare x index e n count → Fits index → IsOneWord (type_of index) → Fits e
       → AssignsElement x index e here (element_assignment (code_places z) z.fs.bodies x index e)
   element_does x index (t.binary op a b) here array room of_index index_word of_e =
-      element_sides_do x index op a b (of_words (joined_type (type_of a) (type_of b)) (element_updating x index op.operator a)) here refl array room
+      element_sides_do x index op a b (of_words (joined_type (type_of a) (type_of b)) (element_updating x index op.operator a b)) here refl array room
       of_index index_word of_e
   element_does x index e here array room of_index index_word of_e = element_setting_does x index e here array room of_index of_e
 
