@@ -1,5 +1,5 @@
 -- No part of the code names a word of RAM below where its stack begins.
-use Rattle.std.proofs.Common.{refl, ℕ, suc, ◌+◌, List, [], ◌∷◌, ◌++◌, Bool, true, false, arith}
+use Rattle.std.proofs.Common.{le_refl, ℕ, suc, ◌+◌, List, [], ◌∷◌, ◌++◌, Bool, true, false, arith}
 use Rattle.boot_runtime.specs.code_forms.Forms.{Form, Branch}
 use Rattle.boot_runtime.specs.memory_map.MemoryMap.{MemoryMap, where_events}
 use Rattle.boot_runtime.specs.memory_map.declared.runtime.Logging.{Logging}
@@ -72,14 +72,14 @@ module _ (low : ℕ) where
 
 -- SP is set to where the stack begins alone
 enabling_keeps : (events : Bool) → Keep (stack_origin events) (where_events events interrupts_set)
-enabling_keeps true = (refl, (tt, tt))
+enabling_keeps true = (le_refl (stack_origin true), (tt, tt))
 enabling_keeps false = tt
 
 abbrev from_origin : MemoryMap → ℕ
 from_origin m = stack_origin m.runtime.events
 
 dispatch_keeps : (m : MemoryMap) → Keep (from_origin m) (dispatch m)
-dispatch_keeps m = (refl, ((tt, tt), (tt, (tt, (tt, tt)))))
+dispatch_keeps m = (le_refl (from_origin m), ((tt, tt), (tt, (tt, (tt, tt)))))
 
 fixed_keep : (m : MemoryMap) (commit : ℕ) → Keep (from_origin m) (fixed_forms m commit)
 fixed_keep m commit =
