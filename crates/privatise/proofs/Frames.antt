@@ -18,7 +18,7 @@ use Rattle.memory_map.specs.Spots.{routine_among}
 use Rattle.privatise.specs.Routines.{routine_room, routine_at, routines_from, task_routines, known_functions}
 use Rattle.privatise.specs.Routines.{Known, IsFunction, IsRoutineOf, frame_words}
 use Rattle.privatise.specs.Laws.{IsPlacedIn, AllRoutinesStand, AllFramesStand}
-use Rattle.privatise.proofs.Routines.{if_marked}
+use Rattle.privatise.proofs.RoutinesPlaced.{if_marked}
 
 module _ (stack : ℕ) (marks : ℕ → Bool) where
   -- a place among those of functions from a number on

@@ -32,7 +32,7 @@ use Rattle.privatise.specs.Sizes.{body_words, boot_words, entry_words, own_boot_
 use Rattle.privatise.specs.Routines.{KnownFunctions, known_functions}
 use Rattle.privatise.specs.Layouts.{IsTaskLayout}
 use Rattle.privatise.specs.Placing.{ArePlacedTasks}
-use Rattle.privatise.proofs.Routines.{task_same}
+use Rattle.privatise.proofs.RoutinesPlaced.{task_same}
 
 -- ---- a task's part in all of them
 

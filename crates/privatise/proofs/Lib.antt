@@ -1,5 +1,5 @@
 mod Sums
-mod Routines
+mod RoutinesPlaced
 mod VariablesPlaced
 mod TasksPlaced
 mod Known

@@ -35,7 +35,7 @@ use Rattle.cost_bound.proofs.Interface.{known_length}
 use Rattle.privatise.specs.Layouts.{IsTaskLayout}
 use Rattle.privatise.specs.Placing.{is_scalar_place, IsScalarPlaceAt, ArePrivates, IsPlacedTask, ArePlacedTasks}
 use Rattle.memory_map.proofs.Interface.{in_order_append, in_order_higher}
-use Rattle.privatise.proofs.Routines.{task_in_order}
+use Rattle.privatise.proofs.RoutinesPlaced.{task_in_order}
 use Rattle.privatise.proofs.Sums.{total_step, total_part}
 use Rattle.privatise.proofs.VariablesPlaced.{each_push, even_behind}
 

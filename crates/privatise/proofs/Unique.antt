@@ -30,7 +30,7 @@ use Rattle.privatise.specs.Layouts.{IsPlaceOf, IsTaskLayout, IsLayoutFor}
 use Rattle.privatise.specs.Laws.{OneLayoutFor}
 use Rattle.memory_map.proofs.Interface.{apart_of}
 use Rattle.privatise.proofs.Whole.{Amounts, needed, adds_up}
-use Rattle.privatise.proofs.Routines.{if_marked}
+use Rattle.privatise.proofs.RoutinesPlaced.{if_marked}
 use Rattle.privatise.proofs.Tight.{IsChain, bytes, same_chain, kinds_from, same_variables}
 
 -- ---- tasks

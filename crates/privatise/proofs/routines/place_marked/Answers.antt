@@ -1,6 +1,6 @@
 use Rattle.std.proofs.Common.{false, slice_index_or, refl, subst, sym, arith, length, ◌<◌}
 use Rattle.std.proofs.lemmas.List.{drop_all}
-use Rattle.privatise.proofs.Routines.{Placed, none_placed, marked_small, marked_fits, next_placed, all_placed}
+use Rattle.privatise.proofs.RoutinesPlaced.{Placed, none_placed, marked_small, marked_fits, next_placed, all_placed}
 use Rattle.privatise.proofs.routines.place_marked.Goals as goal
 
 pub loop-k-init : goal.loop-k-init

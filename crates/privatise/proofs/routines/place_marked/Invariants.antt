@@ -1,5 +1,5 @@
 use Rattle.std.proofs.Common.{false, slice_index_or}
-use Rattle.privatise.proofs.Routines.{Placed}
+use Rattle.privatise.proofs.RoutinesPlaced.{Placed}
 use Rattle.privatise.proofs.routines.place_marked.Given as goal
 
 abbrev pub invariant-loop-k : goal.invariant-loop-k

@@ -1,6 +1,6 @@
 use Rattle.std.proofs.Common.{arith}
 use Rattle.task_ast.specs.View.{block_view}
-use Rattle.privatise.proofs.Routines.{marked_words, routines_are}
+use Rattle.privatise.proofs.RoutinesPlaced.{marked_words, routines_are}
 use Rattle.privatise.proofs.routines.place_routines.Goals as goal
 
 pub place_marked-requires-clause-small : goal.place_marked-requires-clause-small
