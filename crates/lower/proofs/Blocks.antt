@@ -31,7 +31,7 @@ use Rattle.lower.proofs.Names.{by_answers, event_index, runs_of, Base}
 use Rattle.lower.proofs.Sequence.{Spare, none_spare, Covers, before, Keeping, Keeps, spared, stands_still, LeavesWords, as_outcome, value_then}
 use Rattle.lower.proofs.Values.{holds_bit, truth_pushed, single}
 use Rattle.lower.proofs.EachExpression.{high_is, KeepsBefore, expression_leaves, long_leaves, test_leaves}
-use Rattle.lower.proofs.Writes.{declared_writes, assigned_writes, place_writes, stored_writes, given_writes, condition_writes, right_writes}
+use Rattle.lower.proofs.Writes.{declared_writes, assigned_writes, place_writes, stored_writes, given_writes, condition_writes, right_writes, known_goes_on}
 use Rattle.lower.proofs.Calls.{KnownAgree}
 use Rattle.lower.proofs.Emitted.{EmitsAtMost, statement_emitted, block_emitted}
 use Rattle.lower.proofs.Stored.{same_variables, same_list, spot_list, scalar_set, local_holds, after_emit, emit_spots, first_held, emit_list, emitted_emits}
@@ -774,11 +774,11 @@ module _ (z : Scene) (known : KnownAgree z) where
         scalar_does x.word_type x.variable e here (record { emits = omega arith; lists = λ v. omega arith })
         (fits.1, admits, λ v k. writes v (assigned_writes v (z.fs.sums v) (known.go_on v) x e k))
         (target_of z.shared z.p z.written z.declared x.word_type x.variable fits.0 fits.2
-        (λ v k. writes v (assignment_writes v (z.fs.sums v) (known.go_on v) x e k)))
+        (λ v k. writes v (assignment_writes v (z.fs.sums v) (known_goes_on v (z.fs.sums v) (known.go_on v)) x e k)))
     statement_does (t.store x index e) here fits admits writes =
         element_store_does x.variable index e here
         (array_target z.shared z.p z.written z.declared x.variable z.copied fits.0
-        (λ v k. writes v (store_writes v (z.fs.sums v) (known.go_on v) x index e k)))
+        (λ v k. writes v (store_writes v (z.fs.sums v) (known_goes_on v (z.fs.sums v) (known.go_on v)) x index e k)))
         (record { emits = omega arith; lists = λ v. omega arith })
         (fits.1, admits.0, λ v k. writes v (place_writes v (z.fs.sums v) (known.go_on v) x index e k)) fits.3
         (fits.2, admits.1, λ v k. writes v (stored_writes v (z.fs.sums v) (known.go_on v) x index e k))
@@ -788,7 +788,7 @@ module _ (z : Scene) (known : KnownAgree z) where
         loop_does x.variable from below (lowered_block (code_places z) z.fs.bodies body) (run_block z.fs.meanings body) (block_emits z.fs.emits body)
         (λ v. block_count (stores_in v) (is_store_to v) body) fits.0
         (λ some. record {
-          does = λ turn. block_does body turn fits.1 admits (λ v k. writes v (loop_writes v (z.fs.sums v) x from tested below stepped body some k));
+          does = λ turn. block_does body turn fits.1 admits (λ v k. writes v (loop_writes v (z.fs.sums v) (known_goes_on v (z.fs.sums v) (known.go_on v)) x from tested below stepped body some k));
           emitted = block_emitted z.fs.meanings z.fs.emits known.up_to body;
         }) here
     statement_does (t.emit e) here fits admits writes =
@@ -823,10 +823,10 @@ module _ (z : Scene) (known : KnownAgree z) where
         (λ there. block_does block
         (with_fewer (behind_value here free there) (block_emits z.fs.emits block) (λ v. block_count (stores_in v) (is_store_to v) block) (omega arith)
         (λ v. omega arith)) fits.1
-        admits.1 (λ v k. writes v (taken_writes v (z.fs.sums v) (known.go_on v) e block more k)))
+        admits.1 (λ v k. writes v (taken_writes v (z.fs.sums v) (known_goes_on v (z.fs.sums v) (known.go_on v)) e block more k)))
         (λ there. choice_does more
         (with_fewer (behind_value here free there) (choice_spare more).emits (choice_spare more).lists (omega arith) (λ v. omega arith)) fits.2
-        admits.2 (λ v k. writes v (passed_writes v (z.fs.sums v) (known.go_on v) e block more k)))
+        admits.2 (λ v k. writes v (passed_writes v (z.fs.sums v) (known_goes_on v (z.fs.sums v) (known.go_on v)) e block more k)))
 
     pub block_does : (b : CheckedBlock) (here : Start z (block_emits z.fs.emits b) (λ v. block_count (stores_in v) (is_store_to v) b))
         → WellFormedBlock z.shared b
@@ -879,4 +879,4 @@ module _ (z : Scene) (known : KnownAgree z) where
         } in
         subst Q there.stack_kept
         (block_does more behind fits.1 admits.1 (λ v k. writes v
-        (others_write v (z.fs.sums v) (known.go_on v) s more (runs_go_on_along_paths z.fs.meanings s (answered_by answers m) n is) k)))))
+        (others_write v (z.fs.sums v) (known_goes_on v (z.fs.sums v) (known.go_on v)) s more (runs_go_on_along_paths z.fs.meanings s (answered_by answers m) n is) k)))))

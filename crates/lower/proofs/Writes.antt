@@ -5,12 +5,18 @@ use Rattle.lower.proofs.Names.{PlacedOperator, ShortCircuitOperator, Shared, Var
 use Rattle.source_values.specs.alp_text.declared.lines.Span.{Span}
 use Rattle.path_sums.specs.Access.{summary_read, summary_unit}
 use Rattle.path_sums.specs.Sums.{call_sum, expression_sum, values_sum, statement_sum, choice_sum}
+use Rattle.checked_trees.proofs.Interface.{KnownGoOn}
 use Rattle.std.proofs.lemmas.Bool.{and_from, or_left, or_right}
 use Rattle.task_ast.specs.Tree as t
 
 -- each call goes on behind its function
 abbrev pub CallsGoOn : ℕ → List AccessSummary → Type 0
 CallsGoOn v known = (i : ℕ) → (call_sum known (summary (Shared v)) i).falls_through ≡ true
+
+-- so it is said of what the functions of a text write
+pub known_goes_on : (v : ℕ) (known : List AccessSummary) → CallsGoOn v known → KnownGoOn known
+unfolding summary
+known_goes_on v known on = on
 
 read_goes_on : (b : Bool) → (if b then summary_read else summary_unit).falls_through ≡ true
 read_goes_on true = refl
