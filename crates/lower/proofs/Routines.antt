@@ -226,6 +226,7 @@ module _ (z : Scene) (r : RoutinePlace) (low : r.first + 256 ≤ 65536) (fs : Fu
     by_end es e by h left = tt
 
     called_leaves : LeavesWord (keeping c) caller (called_behind caller (behaviour body there)) (by_answers c.m (meaning_of fs.meanings f c.words))
+    unfolding here
     called_leaves =
         by_end (behaviour body there).effects (behaviour body there).end (behaves_by_effects body there)
         (block_does (inside z r low fs) known f.body here fits admits writes)
