@@ -141,19 +141,22 @@ routines_in_order : (stack : ℕ) (marks : ℕ → Bool) (k at : ℕ) (ss : List
     → AreInOrder at (map (λ r. r.code) (routines_from stack marks k at ss ls)) (at + 2 * all_called_from marks routine_room k ss)
 routines_in_order stack marks k at [] ls e even = omega arith
 routines_in_order stack marks k at (s ∷ ss) [] e even = absurd (omega (arith, e))
-routines_in_order stack marks k at (s ∷ ss) (l ∷ ls) e even = by (marks k)
+routines_in_order stack marks k at (s ∷ ss) (l ∷ ls) e even =
+    by (λ later is. routines_in_order stack marks (k + 1) later ss ls (omega (arith, e)) is) (marks k)
   where
-    by : (b : Bool) → AreInOrder at (map (λ r. r.code) (if_marked b stack marks k at s l ss ls))
+    by : ((later : ℕ) → later % 2 ≡ 0 → AreInOrder later (map (λ r. r.code) (routines_from stack marks (k + 1) later ss ls))
+        (later + 2 * all_called_from marks routine_room (k + 1) ss)) → (b : Bool)
+        → AreInOrder at (map (λ r. r.code) (if_marked b stack marks k at s l ss ls))
         (at + 2 * ((if b then routine_room s else 0) + all_called_from marks routine_room (k + 1) ss))
-    by true =
+    by behind true =
         let later = at + 2 * routine_room s in
-        let rest = routines_in_order stack marks (k + 1) later ss ls (omega (arith, e)) (omega (arith, even)) in
+        let rest = behind later (omega (arith, even)) in
         let end : later + 2 * all_called_from marks routine_room (k + 1) ss ≡ at + 2 * (routine_room s + all_called_from marks routine_room (k + 1) ss) =
         omega arith in (
           record { from = omega arith; even = even },
           subst (λ n. AreInOrder later (map (λ r. r.code) (routines_from stack marks (k + 1) later ss ls)) n) end rest,
         )
-    by false = routines_in_order stack marks (k + 1) at ss ls (omega (arith, e)) even
+    by behind false = behind at even
 
 -- ---- as 64 bits keep the functions
 
@@ -179,18 +182,21 @@ module _ (stack : ℕ) (low : stack ≤ 1000) (marks more : ℕ → Bool) where
   from_same k at (s ∷ ss) [] ls few are small h = absurd (let c = h.count in omega (arith, c))
   from_same k at (s ∷ ss) (t ∷ ts) [] few are small h = refl
   from_same k at (s ∷ ss) (t ∷ ts) (l ∷ ls) few are small h =
-      by (marks k) small ∙ ap (λ b. if_marked b stack more k at t l ts ls) (are k (omega (arith, few)))
+      by (λ later low_words. from_same (k + 1) later ss ts ls (omega (arith, few)) are low_words (rest_same s t ss ts h)) (marks k) small
+      ∙ ap (λ b. if_marked b stack more k at t l ts ls) (are k (omega (arith, few)))
     where
-      by : (b : Bool) → (if b then routine_room s else 0) + all_called_from marks routine_room (k + 1) ss ≤ 22000
+      by : ((later : ℕ) → all_called_from marks routine_room (k + 1) ss ≤ 22000
+          → routines_from stack marks (k + 1) later ss ls ≡ routines_from stack more (k + 1) later ts ls) → (b : Bool)
+          → (if b then routine_room s else 0) + all_called_from marks routine_room (k + 1) ss ≤ 22000
           → if_marked b stack marks k at s l ss ls ≡ if_marked b stack more k at t l ts ls
-      by true low_words =
+      by behind true low_words =
           let here = first_same s t ss ts h in
           let words = room_same s t here (omega (arith, low_words)) in
-          let rest = from_same (k + 1) (at + 2 * routine_room s) ss ts ls (omega (arith, few)) are (omega (arith, low_words)) (rest_same s t ss ts h) in
+          let rest = behind (at + 2 * routine_room s) (omega (arith, low_words)) in
           ap (λ r. r ∷ routines_from stack marks (k + 1) (at + 2 * routine_room s) ss ls) (place_same k at s t l here (omega (arith, low_words)))
           ∙ ap (λ rs. routine_at stack k at t l ∷ rs) rest
           ∙ ap (λ n. routine_at stack k at t l ∷ routines_from stack more (k + 1) (at + 2 * n) ts ls) words
-      by false low_words = from_same (k + 1) at ss ts ls (omega (arith, few)) are low_words (rest_same s t ss ts h)
+      by behind false low_words = behind at (omega (arith, low_words))
 
 pub task_same : (as' bs : List Summary) (ls : List FunctionLocals) (b : CheckedBlock) (at : ℕ) → length as' ≤ 64 → AreSame as' bs
     → stack_of as' b ≤ 1000 → routine_words as' b ≤ 22000
