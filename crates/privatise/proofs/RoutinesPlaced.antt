@@ -1,5 +1,5 @@
 -- The functions of a task, one behind another.
-use Rattle.std.proofs.Common.{◌≡◌, ℕ, suc, ◌+◌, ◌*◌, ◌%◌, ◌<◌, ◌≤◌, Bool, true, false, List, [], ◌∷◌, ◌++◌, length, drop, map}
+use Rattle.std.proofs.Common.{◌≡◌, ℕ, ◌+◌, ◌*◌, ◌%◌, ◌<◌, ◌≤◌, Bool, true, false, List, [], ◌∷◌, ◌++◌, length, drop, map}
 use Rattle.std.proofs.Common.{get_or, refl, sym, ap, ◌∙◌, subst, arith, Some, None}
 use Rattle.std.proofs.Common.{if◌then◌else◌, slice_index_or, drop-cons, add-one, append_assoc}
 use Rattle.std.proofs.lemmas.List.{append-nil}
@@ -73,12 +73,22 @@ module _ (stack : ℕ) (marks : ℕ → Bool) (address : ℕ) (fs : List Functio
     left = ap (λ xs. routines_from stack marks k at (known_of xs) (drop k ls)) (functions_left k at d routines h lf)
         ∙ ap (λ ys. routines_from stack marks k at (known_of (function k d ∷ drop (k + 1) fs)) ys) locals_left
 
+    -- the functions that are left, by whether the first of them is marked
+    abbrev by_mark : Bool → List RoutinePlace
+    by_mark b = if_marked b stack marks k at (summary_of (function k d)) its (known_of (drop (k + 1) fs)) (drop (k + 1) ls)
+
+    abbrev behind : ℕ → List RoutinePlace
+    behind n = routines_from stack marks (k + 1) n (known_of (drop (k + 1) fs)) (drop (k + 1) ls)
+
+    abbrev words_by_mark : Bool → ℕ
+    words_by_mark b = (if b then routine_room (summary_of (function k d)) else 0) + words_from (k + 1)
+
     -- one that isn't marked
     pub passed_over : marks k ≡ false → Placed (k + 1) at routines
     passed_over e = record {
-      are = ap (λ rs. routines ++ rs) (sym (left ∙ ap (λ b. if_marked b stack marks k at (summary_of (function k d)) its (known_of (drop (k + 1) fs)) (drop (k + 1) ls)) e))
+      are = ap (λ rs. routines ++ rs) (sym (left ∙ ap by_mark e))
           ∙ h.are;
-      room = (let w : words_from k ≡ 0 + words_from (k + 1) = words_left k at d routines h lf ∙ ap (λ b. (if b then routine_room (summary_of (function k d)) else 0) + words_from (k + 1)) e in
+      room = (let w : words_from k ≡ 0 + words_from (k + 1) = words_left k at d routines h lf ∙ ap words_by_mark e in
           let r = h.room in omega (arith, w, r));
       low = h.low;
     }
@@ -87,12 +97,10 @@ module _ (stack : ℕ) (marks : ℕ → Bool) (address : ℕ) (fs : List Functio
     pub one_placed : (more : List RoutinePlace) (later : ℕ) → marks k ≡ true → later ≡ at + 2 * routine_room (summary_of (function k d))
         → more ≡ routines ++ routine_at stack k at (summary_of (function k d)) its ∷ [] → Placed (k + 1) later more
     one_placed more later e at_end is = record {
-      are = ap (λ rs. rs ++ routines_from stack marks (k + 1) later (known_of (drop (k + 1) fs)) (drop (k + 1) ls)) is
-          ∙ append_assoc routines (routine_at stack k at (summary_of (function k d)) its ∷ [])
-          (routines_from stack marks (k + 1) later (known_of (drop (k + 1) fs)) (drop (k + 1) ls))
-          ∙ ap (λ n. routines ++ routine_at stack k at (summary_of (function k d)) its ∷ routines_from stack marks (k + 1) n (known_of (drop (k + 1) fs)) (drop (k + 1) ls))
-          at_end
-          ∙ ap (λ rs. routines ++ rs) (sym (left ∙ ap (λ b. if_marked b stack marks k at (summary_of (function k d)) its (known_of (drop (k + 1) fs)) (drop (k + 1) ls)) e))
+      are = ap (λ rs. rs ++ behind later) is
+          ∙ append_assoc routines (routine_at stack k at (summary_of (function k d)) its ∷ []) (behind later)
+          ∙ ap (λ n. routines ++ routine_at stack k at (summary_of (function k d)) its ∷ behind n) at_end
+          ∙ ap (λ rs. routines ++ rs) (sym (left ∙ ap by_mark e))
           ∙ h.are;
       room = (let w = words_marked k at d routines h lf e in let r = h.room in omega (arith, w, r, at_end));
       low = (let from = h.low in omega (arith, from, at_end));

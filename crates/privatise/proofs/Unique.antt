@@ -70,7 +70,9 @@ routines_behind stack marks k at (s ∷ ss) (l ∷ ls) more end e h =
         let all : later + 2 * all_called_from marks routine_room (k + 1) ss ≡ at + 2 * (routine_room s + all_called_from marks routine_room (k + 1) ss) =
         omega arith in
         subst (λ n. AreInOrder n more end) all (behind later rest)
-    by behind false rest = behind at rest
+    by behind false rest =
+        let none_taken : all_called_from marks routine_room (k + 1) ss ≡ 0 + all_called_from marks routine_room (k + 1) ss = omega arith in
+        subst (λ n. AreInOrder (at + 2 * n) more end) none_taken (behind at rest)
 
 -- layouts of tasks by their plans
 abbrev AreOfTasks : KnownFunctions → List SharedDeclaration → List CheckedTask → List TaskPlanValue → List TaskPlace → Type 0
