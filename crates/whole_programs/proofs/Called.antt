@@ -99,18 +99,22 @@ entry_is : (first count : ℕ) → entry_place first count ≡ at 0 (entered fir
 entry_is first zero = refl
 entry_is first (suc n) = ap (assigning (first + n)) (entry_is first n)
 
-entered_at : (first count x : ℕ) → x < count → entered first count (first + x) ≡ true
-entered_at first zero x l = absurd (let none : ⊥ = omega arith in none)
-entered_at first (suc n) x l = ⊎_elim before last (cases_lt x n)
+-- it is the last of them, or one in front of it
+entered_by : (first n x : ℕ) → x < suc n → (x < n → entered first n (first + x) ≡ true) → entered first (suc n) (first + x) ≡ true
+entered_by first n x l in_front = ⊎_elim before last (cases_lt x n)
   where
     before : x < n → (nat_eq (first + x) (first + n) || entered first n (first + x)) ≡ true
-    before low = or_second (nat_eq (first + x) (first + n)) (entered first n (first + x)) (entered_at first n x low)
+    before low = or_second (nat_eq (first + x) (first + n)) (entered first n (first + x)) (in_front low)
 
     last : n ≤ x → (nat_eq (first + x) (first + n) || entered first n (first + x)) ≡ true
     last high =
         let is : first + x ≡ first + n = omega (arith, l, high) in
         let same : nat_eq (first + x) (first + n) ≡ true = grind (arith, nat_tests) in
         ap (λ b. b || entered first n (first + x)) same
+
+entered_at : (first count x : ℕ) → x < count → entered first count (first + x) ≡ true
+entered_at first zero x l = absurd (let none : ⊥ = omega arith in none)
+entered_at first (suc n) x l = entered_by first n x l (λ low. entered_at first n x low)
 
 given_below : (given x : ℕ) → not_given given x ≡ false → x < given
 given_below given x h = by (nat_lt x given) refl h
