@@ -191,7 +191,7 @@ module _ (program : CheckedProgram) (body : CheckedBlock) (p : Places) (task : T
     pub first : place.first ≡ first_local words_of_stack known.summary.depth known.locals
     pub frame : place.frame ≡ frame_of_locals words_of_stack known.summary.depth known.locals
 
-  known_at : (k : ℕ) → CheckedFunction → Known
+  abbrev known_at : (k : ℕ) → CheckedFunction → Known
   known_at k f = record {
     function = f;
     summary = function_summary (function_summaries (take k functions)) f;
@@ -541,7 +541,7 @@ module _ (program : CheckedProgram) (body : CheckedBlock) (p : Places) (task : T
     pub task_sound : Sound (task_code locals) task_program
     task_sound =
         block_sound p (routine_bodies p functions) (setting program 0 (length functions) true body) (task_code locals)
-        (record { locals = task_number; ends = refl; calls = task_calls }) task.words body
+        (record { locals = λ n few inside. task_number n few (omega (arith, inside)); ends = refl; calls = task_calls }) task.words body
         (body_fit program 0 (length functions) true body w)
 
   pub way_of_task : IsWellFormed program 0 (length functions) true body → p.map.commit.address % 2 ≡ 0
