@@ -87,7 +87,7 @@ less max16 'shared unsigned a[16]; shared unsigned m; task t { unsigned i; unsig
 # with functions: those of a C compiler are not put into what calls them
 less crc 'shared unsigned a[8]; shared unsigned s; unsigned crc(unsigned c, unsigned w) { unsigned i; c = c ^ w; for (i = 0; i < 8; i++) { if (c & 32768) { c = (c << 1) ^ 4129; } else { c = c << 1; } } return c; } task t { unsigned i; unsigned c = 65535; for (i = 0; i < 8; i++) { c = crc(c, a[i]); } s = c; transition_to(t); } entry t;'
 less clamp 'shared unsigned a[8]; shared unsigned s; unsigned clamp(unsigned v, unsigned low, unsigned high) { if (v < low) { return low; } if (v > high) { return high; } return v; } task t { unsigned i; unsigned k = 0; for (i = 0; i < 8; i++) { k = k + clamp(a[i], 2, 5); } s = k; transition_to(t); } entry t;'
-less four 'shared unsigned x = 1234; shared unsigned y = 567; shared unsigned z = 77; shared unsigned s; unsigned four(unsigned p, unsigned q, unsigned r, unsigned t) { return (p + q) ^ (r - t); } task t { s = four(x, y, z, 3) + four(y, 7, x, z); transition_to(t); } entry t;'
+less four 'shared unsigned x = 1234; shared unsigned y = 567; shared unsigned z = 77; shared unsigned s; unsigned four(unsigned p, unsigned q, unsigned r, unsigned k) { return (p + q) ^ (r - k); } task t { s = four(x, y, z, 3) + four(y, 7, x, z); transition_to(t); } entry t;'
 less chain 'shared unsigned x = 1234; shared unsigned y = 567; shared unsigned s; unsigned h(unsigned v) { return v + x; } unsigned g(unsigned v) { return h(v + 1) ^ v; } unsigned f(unsigned v) { return g(v) + g(v + 2); } task t { s = f(x) - f(y); transition_to(t); } entry t;'
 
 for name in $(cd "$top/examples" && ls -- *.alp); do example "${name%.alp}"; done
