@@ -1,5 +1,6 @@
 -- Whether tasks fit doesn't look at what 64 bits don't keep of functions.
-use Rattle.std.proofs.Common.{◌≡◌, ◌+◌, ◌≤◌, Bool, ◌&&◌, ◌==◌, nat_le, List, [], ◌∷◌, length, map, refl, ap, ◌∙◌, arith}
+use Rattle.std.proofs.Common.{◌≡◌, ℕ, suc, ◌+◌, ◌≤◌, Bool, false, ◌&&◌, ◌==◌, nat_le, List, [], ◌∷◌, length, map, refl, ap, ◌∙◌, arith}
+use Rattle.std.proofs.lemmas.Bool.{ne_eqb}
 use Rattle.std.proofs.lemmas.Bool.Decides.{nat_tests}
 use Rattle.task_ast.specs.View.{function_of}
 use Rattle.task_ast.specs.declared.FunctionDeclaration.{FunctionDeclaration}
@@ -10,7 +11,11 @@ use Rattle.task_ast.specs.Paths.{CheckedTask}
 use Rattle.cost_bound.specs.Summary.{Summary}
 use Rattle.cost_bound.specs.Counts.{CheckedBlock}
 use Rattle.cost_bound.specs.Frames.{block_locals, stack_of}
-use Rattle.cost_bound.specs.Machine.{AreSame}
+use Rattle.cost_bound.specs.Machine.{AreSame, known_of}
+use Rattle.cost_bound.specs.Summaries.{function_summary, function_summaries}
+use Rattle.cost_bound.specs.declared.function_summaries.FunctionSummary.{FunctionSummary}
+use Rattle.std.proofs.lemmas.List.{length-map}
+use Rattle.task_ast.proofs.Interface.{answers_length}
 use Rattle.cost_bound.proofs.Interface.{stack_same}
 use Rattle.function_locals.specs.declared.locals.FunctionLocals.{FunctionLocals}
 use Rattle.function_locals.specs.Locals.{base_of}
@@ -30,9 +35,21 @@ module _ (as' bs : List Summary) (few : length as' ≤ 64) (same : AreSame as' b
 
 -- ---- of a source
 
+-- as many functions are known as are declared
+pub known_count : (kept : List FunctionSummary) (fs : List (FunctionDeclaration VariableName TaskName FunctionName))
+    → AreSame (known_of kept) (function_summaries (map function_of fs)) → length (known_of kept) ≡ length fs
+known_count kept fs same =
+    let count = same.count in
+    let made = answers_length function_summary [] (map function_of fs) in
+    let many = length-map fs function_of in
+    omega (arith, count, made, many)
+
+some_at_least : (n : ℕ) → (suc n == 0) ≡ false
+some_at_least n = ne_eqb (suc n) 0 (λ same. let none : ⊥ = omega (arith, same) in none)
+
 pub no_functions : (fs : List (FunctionDeclaration VariableName TaskName FunctionName)) → (length fs == 0) ≡ has_none (map function_of fs)
 no_functions [] = refl
-no_functions (f ∷ fs) = refl
+no_functions (f ∷ fs) = some_at_least (length fs)
 
 module _ (as' bs : List Summary) (few : length as' ≤ 64) (same : AreSame as' bs) where
   pub all_fit : (ls kept : List FunctionLocals) (ts : List CheckedTask) (light fit : Bool) → kept ≡ ls → light ≡ all_light kept

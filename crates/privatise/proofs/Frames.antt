@@ -51,7 +51,7 @@ module _ (stack : ℕ) (marks : ℕ → Bool) where
       → IsAmong k ss ls r
   among k at [] ls j r e = let no : None ≡ Some r = e in cc
   among k at (s ∷ ss) [] j r e = let no : None ≡ Some r = e in cc
-  among k at (s ∷ ss) (l ∷ ls) j r e = by (marks k) refl j e
+  among k at (s ∷ ss) (l ∷ ls) j r e = by (λ later n e. among (k + 1) later ss ls n r e) (marks k) refl j e
     where
       first : marks k ≡ true → routine_at stack k at s l ≡ r → IsAmong k (s ∷ ss) (l ∷ ls) r
       first m is =
@@ -67,33 +67,35 @@ module _ (stack : ℕ) (marks : ℕ → Bool) where
             is = sym is ∙ ap (λ n. routine_at stack n at s l) (sym same);
           }
 
-      by : (b : Bool) → marks k ≡ b → (j : ℕ) → slice_get (if_marked b stack marks k at s l ss ls) j ≡ Some r → IsAmong k (s ∷ ss) (l ∷ ls) r
-      by true m zero e = first m (same_Some (routine_at stack k at s l) r e)
-      by true m (suc j) e = behind_first k s l ss ls r (among (k + 1) (at + 2 * routine_room s) ss ls j r e)
-      by false m j e = behind_first k s l ss ls r (among (k + 1) at ss ls j r e)
+      by : ((later n : ℕ) → slice_get (routines_from stack marks (k + 1) later ss ls) n ≡ Some r → IsAmong (k + 1) ss ls r) → (b : Bool) → marks k ≡ b
+          → (j : ℕ) → slice_get (if_marked b stack marks k at s l ss ls) j ≡ Some r → IsAmong k (s ∷ ss) (l ∷ ls) r
+      by rest true m zero e = first m (same_Some (routine_at stack k at s l) r e)
+      by rest true m (suc j) e = behind_first k s l ss ls r (rest (at + 2 * routine_room s) j e)
+      by rest false m j e = behind_first k s l ss ls r (rest at j e)
 
   -- it is the first of its function's
   own_place : (k at : ℕ) (ss : List Summary) (ls : List FunctionLocals) (j : ℕ) (r : RoutinePlace) → slice_get (routines_from stack marks k at ss ls) j ≡ Some r
       → routine_among (routines_from stack marks k at ss ls) r.function ≡ Some r
   own_place k at [] ls j r e = let no : None ≡ Some r = e in cc
   own_place k at (s ∷ ss) [] j r e = let no : None ≡ Some r = e in cc
-  own_place k at (s ∷ ss) (l ∷ ls) j r e = by (marks k) j e
+  own_place k at (s ∷ ss) (l ∷ ls) j r e = by (λ later n e. own_place (k + 1) later ss ls n r e) (marks k) j e
     where
-      by : (b : Bool) (j : ℕ) → slice_get (if_marked b stack marks k at s l ss ls) j ≡ Some r
-          → routine_among (if_marked b stack marks k at s l ss ls) r.function ≡ Some r
-      by true zero e =
+      by : ((later n : ℕ) → slice_get (routines_from stack marks (k + 1) later ss ls) n ≡ Some r
+          → routine_among (routines_from stack marks (k + 1) later ss ls) r.function ≡ Some r) → (b : Bool) (j : ℕ)
+          → slice_get (if_marked b stack marks k at s l ss ls) j ≡ Some r → routine_among (if_marked b stack marks k at s l ss ls) r.function ≡ Some r
+      by own true zero e =
           let first = routine_at stack k at s l in
           let same : first ≡ r = same_Some first r e in
           ap (λ b. if b then Some first else routine_among (routines_from stack marks (k + 1) (at + 2 * routine_room s) ss ls) r.function)
           (eq-eqb k r.function (ap (λ x. x.function) same)) ∙ ap (λ x. Some x) same
-      by true (suc j) e =
+      by own true (suc j) e =
           let rest = routines_from stack marks (k + 1) (at + 2 * routine_room s) ss ls in
           let h = among (k + 1) (at + 2 * routine_room s) ss ls j r e in
           let is : r.function ≡ (k + 1) + h.index = ap (λ x. x.function) h.is in
           let other : (k == r.function) ≡ false = ne_eqb k r.function (λ same. let none : ⊥ = omega (arith, is, same) in none) in
           ap (λ b. if b then Some (routine_at stack k at s l) else routine_among rest r.function) other
-          ∙ own_place (k + 1) (at + 2 * routine_room s) ss ls j r e
-      by false j e = own_place (k + 1) at ss ls j r e
+          ∙ own (at + 2 * routine_room s) j e
+      by own false j e = own at j e
 
   later : (r : RoutinePlace) (rs : List RoutinePlace) (number : ℕ) → (r.function == number) ≡ false → IsPlacedIn rs number → IsPlacedIn (r ∷ rs) number
   later r rs number other h = record {
@@ -122,7 +124,7 @@ module _ (stack : ℕ) (marks : ℕ → Bool) where
             is = same;
           }
       by false is = let clash : false ≡ true = is in cc
-  placed k at (t ∷ ss) (i ∷ ls) (suc n) s l e f m = by (marks k)
+  placed k at (t ∷ ss) (i ∷ ls) (suc n) s l e f m = by (λ at there. placed (k + 1) at ss ls n s l e f there) (marks k)
     where
       next : (k + 1) + n ≡ k + suc n
       next = omega arith
@@ -130,13 +132,13 @@ module _ (stack : ℕ) (marks : ℕ → Bool) where
       there : marks ((k + 1) + n) ≡ true
       there = ap marks next ∙ m
 
-      by : (b : Bool) → IsPlacedIn (if_marked b stack marks k at t i ss ls) (k + suc n)
-      by true =
+      by : ((at : ℕ) → marks ((k + 1) + n) ≡ true → IsPlacedIn (routines_from stack marks (k + 1) at ss ls) ((k + 1) + n)) → (b : Bool)
+          → IsPlacedIn (if_marked b stack marks k at t i ss ls) (k + suc n)
+      by rest true =
           later (routine_at stack k at t i) (routines_from stack marks (k + 1) (at + 2 * routine_room t) ss ls) (k + suc n)
           (let other : (k == k + suc n) ≡ false = grind (arith, nat_tests) in other)
-          (subst (IsPlacedIn (routines_from stack marks (k + 1) (at + 2 * routine_room t) ss ls)) next
-          (placed (k + 1) (at + 2 * routine_room t) ss ls n s l e f there))
-      by false = subst (IsPlacedIn (routines_from stack marks (k + 1) at ss ls)) next (placed (k + 1) at ss ls n s l e f there)
+          (subst (IsPlacedIn (routines_from stack marks (k + 1) (at + 2 * routine_room t) ss ls)) next (rest (at + 2 * routine_room t) there))
+      by rest false = subst (IsPlacedIn (routines_from stack marks (k + 1) at ss ls)) next (rest at there)
 
 module _ (p : CheckedProgram) (body : CheckedBlock) (at : ℕ) where
   abbrev stack : ℕ

@@ -1,5 +1,5 @@
 -- The functions of a task, one behind another.
-use Rattle.std.proofs.Common.{◌≡◌, ℕ, suc, ◌+◌, ◌*◌, ◌%◌, ◌<◌, ◌≤◌, Bool, true, false, List, [], ◌∷◌, ◌++◌, length, drop, map}
+use Rattle.std.proofs.Common.{◌≡◌, ℕ, ◌+◌, ◌*◌, ◌%◌, ◌<◌, ◌≤◌, Bool, true, false, List, [], ◌∷◌, ◌++◌, length, drop, map}
 use Rattle.std.proofs.Common.{get_or, refl, sym, ap, ◌∙◌, subst, arith, Some, None}
 use Rattle.std.proofs.Common.{if◌then◌else◌, slice_index_or, drop-cons, add-one, append_assoc}
 use Rattle.std.proofs.lemmas.List.{append-nil}
@@ -38,63 +38,78 @@ module _ (stack : ℕ) (marks : ℕ → Bool) (address : ℕ) (fs : List Functio
   pub none_placed : Placed 0 address []
   none_placed = record { are = refl; room = refl; low = omega arith }
 
-  module _ (k at : ℕ) (f : FunctionSummary) (l : FunctionLocals) (lf : k < length fs) (ll : k < length ls) (is_f : f ≡ get_or fs k f) (is_l : l ≡ get_or ls k l)
-      (routines : List RoutinePlace) (h : Placed k at routines) where
-    functions_left : drop k fs ≡ f ∷ drop (k + 1) fs
-    functions_left = drop-cons fs k f lf ∙ ap (λ x. x ∷ drop (suc k) fs) (sym is_f) ∙ ap (λ n. f ∷ drop n fs) (sym (add-one k))
+  abbrev function : ℕ → FunctionSummary → FunctionSummary
+  function k d = get_or fs k d
 
-    locals_left : drop k ls ≡ l ∷ drop (k + 1) ls
-    locals_left = drop-cons ls k l ll ∙ ap (λ x. x ∷ drop (suc k) ls) (sym is_l) ∙ ap (λ n. l ∷ drop n ls) (sym (add-one k))
+  module _ (k at : ℕ) (d : FunctionSummary) (routines : List RoutinePlace) (h : Placed k at routines) (lf : k < length fs) where
+    functions_left : drop k fs ≡ function k d ∷ drop (k + 1) fs
+    functions_left = drop-cons fs k d lf ∙ ap (λ n. function k d ∷ drop n fs) (sym (add-one k))
+
+    words_left : words_from k ≡ (if marks k then routine_room (summary_of (function k d)) else 0) + words_from (k + 1)
+    words_left = ap (λ xs. all_called_from marks routine_room k (known_of xs)) functions_left
+
+    words_marked : marks k ≡ true → words_from k ≡ routine_room (summary_of (function k d)) + words_from (k + 1)
+    words_marked e = words_left ∙ ap (λ b. (if b then routine_room (summary_of (function k d)) else 0) + words_from (k + 1)) e
+
+    -- there is room for one that is marked
+    pub marked_small : marks k ≡ true → all_called_from marks routine_room 0 (known_of fs) ≤ 22000
+        → routine_room (summary_of (function k d)) ≤ 22000
+    marked_small e small = let w = words_marked e in let r = h.room in let low = h.low in omega (arith, w, r, small, low)
+
+    pub marked_fits : marks k ≡ true → address + 2 * all_called_from marks routine_room 0 (known_of fs) ≤ program_end
+        → at + 2 * routine_room (summary_of (function k d)) < 65536
+    marked_fits e room = let w = words_marked e in let r = h.room in omega (arith, w, r, room)
+
+  module _ (k at : ℕ) (d : FunctionSummary) (e : FunctionLocals) (routines : List RoutinePlace) (h : Placed k at routines) (lf : k < length fs)
+      (ll : k < length ls) where
+    abbrev its : FunctionLocals
+    its = get_or ls k e
+
+    locals_left : drop k ls ≡ its ∷ drop (k + 1) ls
+    locals_left = drop-cons ls k e ll ∙ ap (λ n. its ∷ drop n ls) (sym (add-one k))
 
     left : routines_from stack marks k at (known_of (drop k fs)) (drop k ls)
-        ≡ if_marked (marks k) stack marks k at (summary_of f) l (known_of (drop (k + 1) fs)) (drop (k + 1) ls)
-    left = ap (λ xs. routines_from stack marks k at (known_of xs) (drop k ls)) functions_left
-        ∙ ap (λ ys. routines_from stack marks k at (known_of (f ∷ drop (k + 1) fs)) ys) locals_left
+        ≡ if_marked (marks k) stack marks k at (summary_of (function k d)) its (known_of (drop (k + 1) fs)) (drop (k + 1) ls)
+    left = ap (λ xs. routines_from stack marks k at (known_of xs) (drop k ls)) (functions_left k at d routines h lf)
+        ∙ ap (λ ys. routines_from stack marks k at (known_of (function k d ∷ drop (k + 1) fs)) ys) locals_left
 
-    words_left : words_from k ≡ (if marks k then routine_room (summary_of f) else 0) + words_from (k + 1)
-    words_left = ap (λ xs. all_called_from marks routine_room k (known_of xs)) functions_left
+    -- the functions that are left, by whether the first of them is marked
+    abbrev by_mark : Bool → List RoutinePlace
+    by_mark b = if_marked b stack marks k at (summary_of (function k d)) its (known_of (drop (k + 1) fs)) (drop (k + 1) ls)
+
+    abbrev behind : ℕ → List RoutinePlace
+    behind n = routines_from stack marks (k + 1) n (known_of (drop (k + 1) fs)) (drop (k + 1) ls)
+
+    abbrev words_by_mark : Bool → ℕ
+    words_by_mark b = (if b then routine_room (summary_of (function k d)) else 0) + words_from (k + 1)
 
     -- one that isn't marked
     pub passed_over : marks k ≡ false → Placed (k + 1) at routines
     passed_over e = record {
-      are = ap (λ rs. routines ++ rs) (sym (left ∙ ap (λ b. if_marked b stack marks k at (summary_of f) l (known_of (drop (k + 1) fs)) (drop (k + 1) ls)) e))
+      are = ap (λ rs. routines ++ rs) (sym (left ∙ ap by_mark e))
           ∙ h.are;
-      room = (let w : words_from k ≡ 0 + words_from (k + 1) = words_left ∙ ap (λ b. (if b then routine_room (summary_of f) else 0) + words_from (k + 1)) e in
+      room = (let w : words_from k ≡ 0 + words_from (k + 1) = words_left k at d routines h lf ∙ ap words_by_mark e in
           let r = h.room in omega (arith, w, r));
       low = h.low;
     }
 
-    words_marked : marks k ≡ true → words_from k ≡ routine_room (summary_of f) + words_from (k + 1)
-    words_marked e = words_left ∙ ap (λ b. (if b then routine_room (summary_of f) else 0) + words_from (k + 1)) e
-
-    -- there is room for one that is marked
-    pub marked_small : marks k ≡ true → all_called_from marks routine_room 0 (known_of fs) ≤ 22000
-        → routine_room (summary_of f) ≤ 22000
-    marked_small e small = let w = words_marked e in let r = h.room in let low = h.low in omega (arith, w, r, small, low)
-
-    pub marked_fits : marks k ≡ true → address + 2 * all_called_from marks routine_room 0 (known_of fs) ≤ program_end
-        → at + 2 * routine_room (summary_of f) < 65536
-    marked_fits e room = let w = words_marked e in let r = h.room in omega (arith, w, r, room)
-
     -- and it is placed
-    pub one_placed : (more : List RoutinePlace) (later : ℕ) → marks k ≡ true → later ≡ at + 2 * routine_room (summary_of f)
-        → more ≡ routines ++ routine_at stack k at (summary_of f) l ∷ [] → Placed (k + 1) later more
+    pub one_placed : (more : List RoutinePlace) (later : ℕ) → marks k ≡ true → later ≡ at + 2 * routine_room (summary_of (function k d))
+        → more ≡ routines ++ routine_at stack k at (summary_of (function k d)) its ∷ [] → Placed (k + 1) later more
     one_placed more later e at_end is = record {
-      are = ap (λ rs. rs ++ routines_from stack marks (k + 1) later (known_of (drop (k + 1) fs)) (drop (k + 1) ls)) is
-          ∙ append_assoc routines (routine_at stack k at (summary_of f) l ∷ [])
-          (routines_from stack marks (k + 1) later (known_of (drop (k + 1) fs)) (drop (k + 1) ls))
-          ∙ ap (λ n. routines ++ routine_at stack k at (summary_of f) l ∷ routines_from stack marks (k + 1) n (known_of (drop (k + 1) fs)) (drop (k + 1) ls))
-          at_end
-          ∙ ap (λ rs. routines ++ rs) (sym (left ∙ ap (λ b. if_marked b stack marks k at (summary_of f) l (known_of (drop (k + 1) fs)) (drop (k + 1) ls)) e))
+      are = ap (λ rs. rs ++ behind later) is
+          ∙ append_assoc routines (routine_at stack k at (summary_of (function k d)) its ∷ []) (behind later)
+          ∙ ap (λ n. routines ++ routine_at stack k at (summary_of (function k d)) its ∷ behind n) at_end
+          ∙ ap (λ rs. routines ++ rs) (sym (left ∙ ap by_mark e))
           ∙ h.are;
-      room = (let w = words_marked e in let r = h.room in omega (arith, w, r, at_end));
-      low = (let l = h.low in omega (arith, l, at_end));
+      room = (let w = words_marked k at d routines h lf e in let r = h.room in omega (arith, w, r, at_end));
+      low = (let from = h.low in omega (arith, from, at_end));
     }
 
     -- whichever it is
     pub next_placed : (b : Bool) → marks k ≡ b → (more : List RoutinePlace) (later : ℕ)
-        → later ≡ (if b then at + 2 * routine_room (summary_of f) else at)
-        → more ≡ (if b then routines ++ routine_at stack k at (summary_of f) l ∷ [] else routines) → Placed (k + 1) later more
+        → later ≡ (if b then at + 2 * routine_room (summary_of (function k d)) else at)
+        → more ≡ (if b then routines ++ routine_at stack k at (summary_of (function k d)) its ∷ [] else routines) → Placed (k + 1) later more
     next_placed true e more later at_end is = one_placed more later e at_end is
     next_placed false e more later at_end is =
         subst (λ n. Placed (k + 1) n more) (sym at_end) (subst (λ rs. Placed (k + 1) at rs) (sym is) (passed_over e))
@@ -141,19 +156,24 @@ routines_in_order : (stack : ℕ) (marks : ℕ → Bool) (k at : ℕ) (ss : List
     → AreInOrder at (map (λ r. r.code) (routines_from stack marks k at ss ls)) (at + 2 * all_called_from marks routine_room k ss)
 routines_in_order stack marks k at [] ls e even = omega arith
 routines_in_order stack marks k at (s ∷ ss) [] e even = absurd (omega (arith, e))
-routines_in_order stack marks k at (s ∷ ss) (l ∷ ls) e even = by (marks k)
+routines_in_order stack marks k at (s ∷ ss) (l ∷ ls) e even =
+    by (λ later is. routines_in_order stack marks (k + 1) later ss ls (omega (arith, e)) is) (marks k)
   where
-    by : (b : Bool) → AreInOrder at (map (λ r. r.code) (if_marked b stack marks k at s l ss ls))
+    by : ((later : ℕ) → later % 2 ≡ 0 → AreInOrder later (map (λ r. r.code) (routines_from stack marks (k + 1) later ss ls))
+        (later + 2 * all_called_from marks routine_room (k + 1) ss)) → (b : Bool)
+        → AreInOrder at (map (λ r. r.code) (if_marked b stack marks k at s l ss ls))
         (at + 2 * ((if b then routine_room s else 0) + all_called_from marks routine_room (k + 1) ss))
-    by true =
+    by behind true =
         let later = at + 2 * routine_room s in
-        let rest = routines_in_order stack marks (k + 1) later ss ls (omega (arith, e)) (omega (arith, even)) in
+        let rest = behind later (omega (arith, even)) in
         let end : later + 2 * all_called_from marks routine_room (k + 1) ss ≡ at + 2 * (routine_room s + all_called_from marks routine_room (k + 1) ss) =
         omega arith in (
           record { from = omega arith; even = even },
           subst (λ n. AreInOrder later (map (λ r. r.code) (routines_from stack marks (k + 1) later ss ls)) n) end rest,
         )
-    by false = routines_in_order stack marks (k + 1) at ss ls (omega (arith, e)) even
+    by behind false =
+        let behind_none : all_called_from marks routine_room (k + 1) ss ≡ 0 + all_called_from marks routine_room (k + 1) ss = omega arith in
+        subst (λ n. AreInOrder at (map (λ r. r.code) (routines_from stack marks (k + 1) at ss ls)) (at + 2 * n)) behind_none (behind at even)
 
 -- ---- as 64 bits keep the functions
 
@@ -179,18 +199,21 @@ module _ (stack : ℕ) (low : stack ≤ 1000) (marks more : ℕ → Bool) where
   from_same k at (s ∷ ss) [] ls few are small h = absurd (let c = h.count in omega (arith, c))
   from_same k at (s ∷ ss) (t ∷ ts) [] few are small h = refl
   from_same k at (s ∷ ss) (t ∷ ts) (l ∷ ls) few are small h =
-      by (marks k) small ∙ ap (λ b. if_marked b stack more k at t l ts ls) (are k (omega (arith, few)))
+      by (λ later low_words. from_same (k + 1) later ss ts ls (omega (arith, few)) are low_words (rest_same s t ss ts h)) (marks k) small
+      ∙ ap (λ b. if_marked b stack more k at t l ts ls) (are k (omega (arith, few)))
     where
-      by : (b : Bool) → (if b then routine_room s else 0) + all_called_from marks routine_room (k + 1) ss ≤ 22000
+      by : ((later : ℕ) → all_called_from marks routine_room (k + 1) ss ≤ 22000
+          → routines_from stack marks (k + 1) later ss ls ≡ routines_from stack more (k + 1) later ts ls) → (b : Bool)
+          → (if b then routine_room s else 0) + all_called_from marks routine_room (k + 1) ss ≤ 22000
           → if_marked b stack marks k at s l ss ls ≡ if_marked b stack more k at t l ts ls
-      by true low_words =
+      by behind true low_words =
           let here = first_same s t ss ts h in
           let words = room_same s t here (omega (arith, low_words)) in
-          let rest = from_same (k + 1) (at + 2 * routine_room s) ss ts ls (omega (arith, few)) are (omega (arith, low_words)) (rest_same s t ss ts h) in
+          let rest = behind (at + 2 * routine_room s) (omega (arith, low_words)) in
           ap (λ r. r ∷ routines_from stack marks (k + 1) (at + 2 * routine_room s) ss ls) (place_same k at s t l here (omega (arith, low_words)))
           ∙ ap (λ rs. routine_at stack k at t l ∷ rs) rest
           ∙ ap (λ n. routine_at stack k at t l ∷ routines_from stack more (k + 1) (at + 2 * n) ts ls) words
-      by false low_words = from_same (k + 1) at ss ts ls (omega (arith, few)) are low_words (rest_same s t ss ts h)
+      by behind false low_words = behind at (omega (arith, low_words))
 
 pub task_same : (as' bs : List Summary) (ls : List FunctionLocals) (b : CheckedBlock) (at : ℕ) → length as' ≤ 64 → AreSame as' bs
     → stack_of as' b ≤ 1000 → routine_words as' b ≤ 22000

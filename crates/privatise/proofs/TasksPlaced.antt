@@ -27,7 +27,7 @@ use Rattle.cost_bound.specs.Counts.{routine_words}
 use Rattle.cost_bound.specs.Allowance.{own_words}
 use Rattle.cost_bound.specs.Frames.{stack_of}
 use Rattle.privatise.specs.Sizes.{body_words}
-use Rattle.privatise.specs.Routines.{KnownFunctions}
+use Rattle.privatise.specs.Routines.{KnownFunctions, task_routines}
 use Rattle.privatise.specs.View.{functions_in}
 use Rattle.privatise.specs.declared.routines.Functions.{Functions}
 use Rattle.cost_bound.specs.Counts.{CheckedBlock}
@@ -182,7 +182,7 @@ module _ (known : KnownFunctions) (shared : List SharedDeclaration) (places : Li
           let even_start : end_of t.code % 2 ≡ 0 = omega (arith, start, even) in (
             record { from = omega (arith, at_t); even = omega (arith, at_t, even) },
             subst (λ rs. AreInOrder (end_of t.code) (map (λ r. r.code) rs) later) (sym placed.layout.routines)
-                (subst (λ n. AreInOrder (end_of t.code) _ n) end
+                (subst (λ n. AreInOrder (end_of t.code) (map (λ r. r.code) (task_routines known (task_of task).body (end_of t.code))) n) end
                 (task_in_order known.summaries known.locals (task_of task).body (end_of t.code) same even_start)),
           )
 

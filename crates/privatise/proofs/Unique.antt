@@ -58,16 +58,21 @@ routines_behind : (stack : ℕ) (marks : ℕ → Bool) (k at : ℕ) (ss : List S
     → AreInOrder (at + 2 * all_called_from marks routine_room k ss) more end
 routines_behind stack marks k at [] ls more end e h = subst (λ n. AreInOrder n more end) (let same : at ≡ at + 2 * 0 = omega arith in same) h
 routines_behind stack marks k at (s ∷ ss) [] more end e h = absurd (omega (arith, e))
-routines_behind stack marks k at (s ∷ ss) (l ∷ ls) more end e h = by (marks k) h
+routines_behind stack marks k at (s ∷ ss) (l ∷ ls) more end e h =
+    by (λ later rest. routines_behind stack marks (k + 1) later ss ls more end (omega (arith, e)) rest) (marks k) h
   where
-    by : (b : Bool) → AreInOrder at (map (λ r. r.code) (if_marked b stack marks k at s l ss ls) ++ more) end
+    by : ((later : ℕ) → AreInOrder later (map (λ r. r.code) (routines_from stack marks (k + 1) later ss ls) ++ more) end
+        → AreInOrder (later + 2 * all_called_from marks routine_room (k + 1) ss) more end) → (b : Bool)
+        → AreInOrder at (map (λ r. r.code) (if_marked b stack marks k at s l ss ls) ++ more) end
         → AreInOrder (at + 2 * ((if b then routine_room s else 0) + all_called_from marks routine_room (k + 1) ss)) more end
-    by true (here, rest) =
+    by behind true (here, rest) =
         let later = at + 2 * routine_room s in
         let all : later + 2 * all_called_from marks routine_room (k + 1) ss ≡ at + 2 * (routine_room s + all_called_from marks routine_room (k + 1) ss) =
         omega arith in
-        subst (λ n. AreInOrder n more end) all (routines_behind stack marks (k + 1) later ss ls more end (omega (arith, e)) rest)
-    by false rest = routines_behind stack marks (k + 1) at ss ls more end (omega (arith, e)) rest
+        subst (λ n. AreInOrder n more end) all (behind later rest)
+    by behind false rest =
+        let none_taken : all_called_from marks routine_room (k + 1) ss ≡ 0 + all_called_from marks routine_room (k + 1) ss = omega arith in
+        subst (λ n. AreInOrder (at + 2 * n) more end) none_taken (behind at rest)
 
 -- layouts of tasks by their plans
 abbrev AreOfTasks : KnownFunctions → List SharedDeclaration → List CheckedTask → List TaskPlanValue → List TaskPlace → Type 0

@@ -132,7 +132,7 @@ fn place_marked(
     requires small { all_called_from (λ k. slice_index_or marks.now k false) routine_room 0 (known_of functions.summaries.now) ≤ 22000 }
     requires room { address + 2 * all_called_from (λ k. slice_index_or marks.now k false) routine_room 0 (known_of functions.summaries.now) ≤ program_end }
     ensures { IfOk result (λ v. v.items
-        ≡ routines_from stack (λ k. slice_index_or marks.now k false) 0 address (known_of functions.summaries.now) functions.locals.now) }
+        ≡ routines_from stack (λ k. slice_index_or marks.now k false) 0 address (known_of functions.entry.summaries.now) functions.entry.locals.now) }
 {
     let (summaries, locals) = (functions.summaries, functions.locals);
     let mut routines = Vec::new(alloc);
@@ -157,7 +157,7 @@ pub fn place_routines(
     requires small { routine_words (known_of functions.summaries.now) (block_view body.now) ≤ 22000 }
     requires room { address + 2 * routine_words (known_of functions.summaries.now) (block_view body.now) ≤ program_end }
     ensures { IfOk result (λ v. v.items
-        ≡ task_routines (functions_in functions) (block_view body.now) address) }
+        ≡ task_routines (functions_in functions.entry) (block_view body.now) address) }
 {
     let marks = reached_functions(functions.summaries, body);
     let words = stack(functions.summaries, body);

@@ -68,7 +68,7 @@ fn task_layout(
     requires small { body_words (known_of functions.summaries.now) shared.now (task_of task.now).body ≤ 22000 }
     requires room { address + 2 * body_words (known_of functions.summaries.now) shared.now (task_of task.now).body ≤ program_end }
     requires scalars { All (IsScalarPlaceAt variables.now) plan.now.private_scalars }
-    ensures { IfOk result (IsPlacedTask (functions_in functions) shared.now variables.now (task_of task.now) plan.now address) }
+    ensures { IfOk result (IsPlacedTask (functions_in functions.entry) shared.now variables.now (task_of task.now) plan.now address) }
 {
     let privates = place_privates(alloc, variables, plan.private_scalars())?;
     let words = own_words(functions.summaries, shared, task);
@@ -97,7 +97,7 @@ pub fn place_tasks(
     requires even { address % 2 ≡ 0 }
     requires count { length plans.now ≡ length tasks.now }
     requires scalars { (k : ℕ) (plan : TaskPlanValue) → slice_get plans.now k ≡ Some plan → All (IsScalarPlaceAt variables.now) plan.private_scalars }
-    ensures { IfOk result (λ v. ArePlacedTasks (functions_in functions) shared.now variables.now (map task_of tasks.now) plans.now address v.items) }
+    ensures { IfOk result (λ v. ArePlacedTasks (functions_in functions.entry) shared.now variables.now (map task_of tasks.now) plans.now address v.items) }
 {
     let mut layouts = Vec::new(alloc);
     let mut at = address;

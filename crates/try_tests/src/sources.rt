@@ -66,7 +66,15 @@ const LONGS: &str =
      task t { unsigned r = sense(); last = n - r; n = n + r + s; if (last < n) { c = c + 1; emit(n >> 16); } emit(n); transition_to(u); } \
      task u { last = last ^ (n << 3); if (!(last & 7) || n == 65541UL) { s = s - 1; } else { s = -n >> 15; } transition_to(t); } entry t;";
 
-pub const SOURCES: [Source; 12] = [
+/// Functions with locals in registers and in RAM, that change variables, send and return early.
+const CALLS: &str = "shared unsigned n; shared unsigned x = 2; shared unsigned a[2]; \
+     unsigned put(unsigned v) { x = v; if (v & 1) { return v; } emit(v); a[v & 1] = a[0] + n; return v + x; } \
+     unsigned wide(unsigned c, unsigned d) { unsigned e = put(d); unsigned f = c + e; unsigned g = f + c; unsigned h = g + n; unsigned j = 2; unsigned i; \
+     for (i = 0; i < j; i++) { if (h == 9) { return put(i); } h = h + put(i) * c; } n = h; return h + g + f; } \
+     task t { unsigned k = x; n = n + wide(k, sense()) - k; emit(put(n) + wide(1, 2)); transition_to(u); } \
+     task u { emit(put(sense()) + x); transition_to(t); } entry t;";
+
+pub const SOURCES: [Source; 13] = [
     Source {
         text: SUM,
         readings: &[5, 7, 9, 11],
@@ -115,10 +123,14 @@ pub const SOURCES: [Source; 12] = [
         text: LONGS,
         readings: &[16, 65535, 0, 9],
     },
+    Source {
+        text: CALLS,
+        readings: &[3, 65534, 1, 8],
+    },
 ];
 
-/// Of arrays, of emits, of control flow and of longs.
-pub const CUT_TWICE: [Source; 4] = [
+/// Of arrays, of emits, of control flow, of longs and of functions.
+pub const CUT_TWICE: [Source; 5] = [
     Source {
         text: RING,
         readings: &[10, 20, 30, 40],
@@ -134,6 +146,10 @@ pub const CUT_TWICE: [Source; 4] = [
     Source {
         text: LONGS,
         readings: &[16, 65535, 0, 9],
+    },
+    Source {
+        text: CALLS,
+        readings: &[3, 65534, 1, 8],
     },
 ];
 

@@ -1,11 +1,11 @@
-use Rattle.std.proofs.Common.{◌∙◌, ap, arith}
+use Rattle.std.proofs.Common.{◌∙◌, ap, arith, subst, sym}
 use Rattle.task_ast.specs.View.{function_of}
 use Rattle.function_locals.specs.Locals.{function_locals}
-use Rattle.function_locals.proofs.Loops.{none_made, one_made, all_made}
+use Rattle.function_locals.proofs.Loops.{Made, none_made, one_made, all_made}
 use Rattle.function_locals.proofs.locals.all_locals.Goals as goal
 
 pub loop-i-init : goal.loop-i-init
-loop-i-init c = none_made c.args.functions.now
+loop-i-init c = subst (Made c.args.functions.now 0) (sym c.new-known.ensures) (none_made c.args.functions.now)
 
 pub loop-i-preserved : goal.loop-i-preserved
 loop-i-preserved c =

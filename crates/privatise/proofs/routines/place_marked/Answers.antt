@@ -13,25 +13,23 @@ pub place_if-requires-clause-small : goal.place_if-requires-clause-small
 place_if-requires-clause-small c = λ marked.
     let fs = c.args.functions.summaries.now in
     let ls = c.args.functions.locals.now in
-    let inside : c.loop-k.k < length ls = omega (arith, c.requires.same) in
-    marked_small c.args.stack (λ k. slice_index_or c.args.marks.now k false) c.args.address fs ls c.loop-k.k c.loop-k.at c.index-summaries-k.result
-    c.index-locals-k.result (omega arith) inside c.index-summaries-k.is c.index-locals-k.is c.loop-k.routines.items c.loop-k.invariant marked c.requires.small
+    marked_small c.args.stack (λ k. slice_index_or c.args.marks.now k false) c.args.address fs ls c.loop-k.k c.loop-k.at _ c.loop-k.routines.items
+    c.loop-k.invariant c.loop-k-test.true marked c.requires.small
 
 pub place_if-requires-clause-room : goal.place_if-requires-clause-room
 place_if-requires-clause-room c = λ marked.
     let fs = c.args.functions.summaries.now in
     let ls = c.args.functions.locals.now in
-    let inside : c.loop-k.k < length ls = omega (arith, c.requires.same) in
-    marked_fits c.args.stack (λ k. slice_index_or c.args.marks.now k false) c.args.address fs ls c.loop-k.k c.loop-k.at c.index-summaries-k.result
-    c.index-locals-k.result (omega arith) inside c.index-summaries-k.is c.index-locals-k.is c.loop-k.routines.items c.loop-k.invariant marked c.requires.room
+    marked_fits c.args.stack (λ k. slice_index_or c.args.marks.now k false) c.args.address fs ls c.loop-k.k c.loop-k.at _ c.loop-k.routines.items
+    c.loop-k.invariant c.loop-k-test.true marked c.requires.room
 
 pub loop-k-preserved : goal.loop-k-preserved
 loop-k-preserved c =
     let fs = c.args.functions.summaries.now in
     let ls = c.args.functions.locals.now in
     let inside : c.loop-k.k < length ls = omega (arith, c.requires.same) in
-    next_placed c.args.stack (λ k. slice_index_or c.args.marks.now k false) c.args.address fs ls c.loop-k.k c.loop-k.at c.index-summaries-k.result
-    c.index-locals-k.result (omega arith) inside c.index-summaries-k.is c.index-locals-k.is c.loop-k.routines.items c.loop-k.invariant
+    next_placed c.args.stack (λ k. slice_index_or c.args.marks.now k false) c.args.address fs ls c.loop-k.k c.loop-k.at _ _ c.loop-k.routines.items
+    c.loop-k.invariant c.loop-k-test.true inside
     (slice_index_or c.args.marks.now c.loop-k.k false) refl _ c.in_ok-at.at c.in_ok-at.ensures.behind c.in_ok-at.ensures.routines
 
 pub returns : goal.returns
