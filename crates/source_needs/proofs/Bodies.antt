@@ -5,11 +5,11 @@ use Rattle.std.specs.Prelude.{slice_get, slice_index_or}
 use Rattle.std.specs.Option.{option_map}
 use Rattle.std.proofs.lemmas.Bool.{cases_lt}
 use Rattle.std.proofs.lemmas.Bool.Decides.{nat_tests}
-use Rattle.std.proofs.lemmas.List.{length-take, take_more, get_or_past, get_or-take}
+use Rattle.std.proofs.lemmas.List.{length-take, get_or_past, get_or-take}
 use Rattle.std.proofs.lemmas.Option.{same_Some, none-some, slice_get-map, slice_get-get_or, slice_get_within, get_or_from_slice_get}
 use Rattle.task_ast.specs.Paths.{CheckedBlock, CheckedFunction}
-use Rattle.task_ast.proofs.Interface.{answer_at, answer_of, answers_length, answers_take}
-use Rattle.array_versions.specs.Program.{Program, nothing, filled}
+use Rattle.task_ast.proofs.Interface.{answer_of, answers_length, answers_take}
+use Rattle.array_versions.specs.Program.{Program, nothing}
 use Rattle.memory_map.specs.declared.place.RoutinePlace.{RoutinePlace}
 use Rattle.memory_map.specs.Spots.{Places, routine_of, routine_places}
 use Rattle.lower.specs.Lowered.{bare_body, bare_routine, body_at as body_in, lowered_block, routine_body, routine_bodies}
@@ -21,7 +21,7 @@ use Rattle.dearest_ways.specs.Calls.{cost_at, CallsCost}
 use Rattle.dearest_ways.specs.Ways.{bare}
 use Rattle.dearest_ways.proofs.Interface.{BodiesCost, filled_cost}
 use Rattle.source_needs.specs.Bodies.{routine_costs, AreBodies}
-use Rattle.source_needs.proofs.Ordered.{Ascends, address_from, in_front, stands_in_front, IsAmong, is_among}
+use Rattle.source_needs.proofs.Ordered.{Ascends, address_from, in_front, stands_in_front, is_among}
 
 -- ---- lists
 

@@ -1,13 +1,13 @@
 -- The programs of a task of an accepted source, as they are made and with the bodies of what they call: their code can be made, and what their calls cost
 -- is computed.
-use Rattle.std.proofs.Common.{◌≡◌, ℕ, zero, suc, ◌+◌, ◌<◌, ◌≤◌, ◌++◌, List, [], ◌∷◌, Option, Some, None, length, map, refl, sym, ap, ap₂, subst, ◌∙◌, arith}
+use Rattle.std.proofs.Common.{◌≡◌, ℕ, zero, suc, ◌<◌, ◌≤◌, List, [], ◌∷◌, Some, length, map, refl, sym, ap, ap₂, subst, ◌∙◌, arith}
 use Rattle.std.proofs.Common.{get_or}
-use Rattle.std.specs.Prelude.{slice_get, slice_index_or, All}
+use Rattle.std.specs.Prelude.{slice_get, All}
 use Rattle.std.specs.List.{flat_map}
 use Rattle.std.proofs.lemmas.List.{length-map}
 use Rattle.std.proofs.lemmas.List.Elements.{All-nil, All-cons, All-head, All-tail}
-use Rattle.std.proofs.lemmas.Option.{same_Some, none-some, slice_get-map}
-use Rattle.task_ast.specs.Paths.{CheckedBlock, CheckedFunction, CheckedTask}
+use Rattle.std.proofs.lemmas.Option.{same_Some, none-some}
+use Rattle.task_ast.specs.Paths.{CheckedFunction, CheckedTask}
 use Rattle.cost_bound.specs.declared.allowance.Allow.{Allow}
 use Rattle.cost_bound.specs.Counts.{reaches_of}
 use Rattle.cost_bound.specs.Frames.{stack_of}
@@ -16,7 +16,6 @@ use Rattle.function_locals.specs.Locals.{all_locals}
 use Rattle.source_values.specs.Runs.{CheckedProgram}
 use Rattle.war_analysis.specs.PlanValue.{TaskPlanValue}
 use Rattle.war_analysis.proofs.Interface.{element}
-use Rattle.memory_map.specs.declared.place.Region.{Region}
 use Rattle.memory_map.specs.declared.place.RoutinePlace.{RoutinePlace}
 use Rattle.memory_map.specs.MemoryMap.{MemoryMap, TaskPlace}
 use Rattle.memory_map.specs.Places.{AreInOrder, code_regions, end_of}
@@ -26,14 +25,13 @@ use Rattle.privatise.specs.Layouts.{IsTaskLayout}
 use Rattle.privatise.specs.Routines.{known_functions}
 use Rattle.privatise.specs.Laws.{RoutinesStand}
 use Rattle.privatise.proofs.Interface.{routines_stand}
-use Rattle.array_versions.specs.Program.{Program, nothing, filled}
+use Rattle.array_versions.specs.Program.{Program, nothing}
 use Rattle.array_versions.specs.TaskPrograms.{TaskPrograms, no_programs}
-use Rattle.array_versions.specs.Cost.{words_of}
 use Rattle.array_versions.specs.Form.{IsWhole, LocalsBelow}
 use Rattle.array_versions.proofs.Interface.{each_local_as, filled_locals, filled_words}
 use Rattle.word_code.proofs.Interface.{program_below, program_least}
 use Rattle.linked_code.specs.Linked.{RoutinesFit, TaskFits, ProgramsFit}
-use Rattle.lower.specs.Lowered.{bare_routine, bare_task, bare_tasks, lowered_task, lowered_tasks, routine_bodies, task_places}
+use Rattle.lower.specs.Lowered.{bare_routine, bare_task, bare_tasks, lowered_task, lowered_tasks, task_places}
 use Rattle.lower.proofs.Interface.{program_at, routines_seen}
 use Rattle.whole_programs.specs.Laws.{IsLaidOutText}
 use Rattle.whole_programs.proofs.Interface.{tasks_are_whole, calls_are_theirs, privates_are_few, routines_are_low}

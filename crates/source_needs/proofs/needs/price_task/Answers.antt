@@ -4,7 +4,7 @@ use Rattle.task_ast.specs.View.{block_view, program_of}
 use Rattle.source_values.specs.Runs.{body_of}
 use Rattle.cost_bound.specs.Counts.{emits_of}
 use Rattle.cost_bound.specs.Summaries.{summaries}
-use Rattle.cost_bound.specs.Allowance.{list_of, scalars_of, task_bound, task_words, uses_events, versions_of}
+use Rattle.cost_bound.specs.Allowance.{list_of, task_bound, task_words, uses_events, versions_of}
 use Rattle.code_costs.specs.Dearest.{most_spent}
 use Rattle.memory_map.proofs.Interface.{privates_few}
 use Rattle.compiled_model.specs.Parts.{program_parts, task_program}
