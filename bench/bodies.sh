@@ -1,6 +1,6 @@
 #!/usr/bin/env bash
 # Of eleven task bodies: the cycles from a power-up to the end of the first commit, beside the bound; and the words of the code, beside
-# those that the allowance gives it (the image fills these up with `jmp $`). Of ten bodies that a C compiler was given too: the same less
+# those that the allowance gives it (the image fills these up with `jmp $`). Of fourteen bodies that a C compiler was given too: the same less
 # what an empty task takes. Of each example: the cycles of a transition in the mean, of all that its readings pay for, in one charge.
 #
 # ALPACA names another build of the program, COMMAND the runtime: `try` (which is taken without it) or `undo`. Nothing depends on these figures.
@@ -84,5 +84,10 @@ less sense 'shared unsigned n = 0; task t { n = n + sense(); emit(n); transition
 less dot8 'shared unsigned a[8]; shared unsigned b[8]; shared unsigned s; task t { unsigned i; s = 0; for (i = 0; i < 8; i++) { s = s + a[i] * b[i]; } transition_to(t); } entry t;'
 less mix 'shared unsigned x = 4660; shared unsigned y = 41; shared unsigned a[32]; task t { x = (x << 3) ^ (x >> 2); a[x % 32] = y; y = a[y] ^ x; transition_to(t); } entry t;'
 less max16 'shared unsigned a[16]; shared unsigned m; task t { unsigned i; unsigned k = 0; for (i = 0; i < 16; i++) { if (a[i] > k) { k = a[i]; } } m = k; transition_to(t); } entry t;'
+# with functions: those of a C compiler are not put into what calls them
+less crc 'shared unsigned a[8]; shared unsigned s; unsigned crc(unsigned c, unsigned w) { unsigned i; c = c ^ w; for (i = 0; i < 8; i++) { if (c & 32768) { c = (c << 1) ^ 4129; } else { c = c << 1; } } return c; } task t { unsigned i; unsigned c = 65535; for (i = 0; i < 8; i++) { c = crc(c, a[i]); } s = c; transition_to(t); } entry t;'
+less clamp 'shared unsigned a[8]; shared unsigned s; unsigned clamp(unsigned v, unsigned low, unsigned high) { if (v < low) { return low; } if (v > high) { return high; } return v; } task t { unsigned i; unsigned k = 0; for (i = 0; i < 8; i++) { k = k + clamp(a[i], 2, 5); } s = k; transition_to(t); } entry t;'
+less four 'shared unsigned x = 1234; shared unsigned y = 567; shared unsigned z = 77; shared unsigned s; unsigned four(unsigned p, unsigned q, unsigned r, unsigned k) { return (p + q) ^ (r - k); } task t { s = four(x, y, z, 3) + four(y, 7, x, z); transition_to(t); } entry t;'
+less chain 'shared unsigned x = 1234; shared unsigned y = 567; shared unsigned s; unsigned h(unsigned v) { return v + x; } unsigned g(unsigned v) { return h(v + 1) ^ v; } unsigned f(unsigned v) { return g(v) + g(v + 2); } task t { s = f(x) - f(y); transition_to(t); } entry t;'
 
 for name in $(cd "$top/examples" && ls -- *.alp); do example "${name%.alp}"; done

@@ -6,7 +6,7 @@ use Rattle.word_code.specs.Code.{local_register, local_address, local_target}
 
 pub register_of_more : (n : ℕ) → 8 ≤ n → local_register n ≡ R15
 register_of_more (suc (suc (suc (suc (suc (suc (suc (suc n)))))))) l = refl
-register_of_more n l = omega (arith, l)
+register_of_more n l = absurd (let none : ⊥ = omega (arith, l) in none)
 
 pub target_of_more : (n : ℕ) → 0x1207 ≤ n → local_target n ≡ ToRam 0
 target_of_more n l = by (nat_lt n 8) refl

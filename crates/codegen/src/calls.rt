@@ -2,6 +2,7 @@
 
 ghost use Rattle.std.specs.Prelude.{◌≡◌, [], ◌∷◌, ◌++◌, OnOk};
 ghost use Rattle.word_code.specs.array_versions.Program as value;
+ghost use Rattle.word_code.specs.array_versions.Form.{StepOfWords};
 ghost use Rattle.word_code.specs.Code.{step_code, waiting_behind, values_code, below_words, light_call, frame_code, framed_call};
 
 use crate::forms::{register_behind, target_behind};
@@ -91,6 +92,7 @@ pub fn emit_call(
     ensures code { OnOk result (code.new.items
         ≡ code.old.items ++ step_code [] waiting.old.items (value.call entry frame first count value.nothing)) }
     ensures waiting { OnOk result (waiting.new.items ≡ waiting_behind waiting.old.items (value.call entry frame first count value.nothing)) }
+    ensures of_words { StepOfWords (value.call entry frame first count value.nothing) }
 {
     match frame {
         None => {

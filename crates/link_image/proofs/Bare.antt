@@ -8,8 +8,6 @@ use Rattle.task_ast.specs.Paths.{CheckedBlock, CheckedFunction, CheckedTask}
 use Rattle.task_ast.proofs.Interface.{answer_at, answer_of, answers_length}
 use Rattle.source_values.specs.Runs.{CheckedProgram}
 use Rattle.memory_map.specs.declared.place.RoutinePlace.{RoutinePlace}
-use Rattle.memory_map.specs.declared.runtime.Logging.{Logging}
-use Rattle.memory_map.specs.declared.runtime.Logging.TheVariants.{Redo, Undo}
 use Rattle.memory_map.specs.MemoryMap.{MemoryMap, TaskPlace}
 use Rattle.memory_map.specs.Spots.{Places, routine_among, routine_of, routine_places}
 use Rattle.array_versions.specs.Program.{Program, nothing, filled}
@@ -18,10 +16,9 @@ use Rattle.array_versions.specs.Cost.{words_of}
 use Rattle.array_versions.proofs.Interface.{filled_locals, filled_words}
 use Rattle.word_code.specs.Code.{code_of, routine_code}
 use Rattle.word_code.proofs.Interface.{code_filled, program_below, program_least, routine_filled}
-use Rattle.lower.specs.Seen.{task_seen}
 use Rattle.lower.specs.Lowered.{lowered_block, body_at, routine_body, routine_bodies, task_places, lowered_task, lowered_tasks, lowered}
 use Rattle.lower.specs.Lowered.{bare_body, bare_routine, bare_task, bare_tasks, bare_programs}
-use Rattle.lower.proofs.Interface.{FillsIn, block_filled}
+use Rattle.lower.proofs.Interface.{FillsIn, block_filled, routines_seen}
 use Rattle.linked_code.specs.Linked.{boot_part, commit_part, routine_part, routine_parts, parts_of_task, task_parts, code_parts}
 use Rattle.linked_code.specs.Parts.{CodePart}
 use Rattle.link_image.specs.Needs.{HasOwnPlaces}
@@ -102,15 +99,11 @@ routines_are p fs [] own = refl
 routines_are p fs (r ∷ rs) own =
     ap₂ (λ (x : CodePart) xs. x ∷ xs) (routine_part_is p fs r (own 0 r refl)) (routines_are p fs rs (λ j q at. own (suc j) q at))
 
-pub seen_routines : (logging : Logging) (t : TaskPlace) → (task_seen logging t).routines ≡ t.routines
-seen_routines Redo t = refl
-seen_routines Undo t = refl
-
 task_is : (events : Bool) (fs : List CheckedFunction) (l : MemoryMap) (t : TaskPlace) (body : CheckedBlock) → HasOwnPlaces t
     → parts_of_task events t (bare_task fs l t body) ≡ parts_of_task events t (lowered_task fs l t body)
 task_is events fs l t body own =
     let p = task_places fs l t body in
-    let seen = seen_routines l.runtime.logging t in
+    let seen = routines_seen l.runtime.logging t in
     let Parts : (RoutinePlace → Program) → List RoutinePlace → List CodePart = λ program rs. routine_parts t.routines (map program rs) in
     let its : RoutinePlace → Program = λ r. slice_index_or (routine_bodies p fs) r.function nothing in
     ap₂ (λ ms parts. record { address = t.code.address; forms = ms } ∷ parts) (own_code events p (routine_bodies p fs) body)

@@ -14,9 +14,10 @@ use Rattle.memory_map.proofs.Interface.{in_order_end}
 use Rattle.array_versions.specs.Program.{Program, nothing, filled}
 use Rattle.array_versions.specs.TaskPrograms.{TaskPrograms}
 use Rattle.lower.specs.Lowered.{routine_bodies, task_places, lowered_task, lowered_tasks, bare_routine, bare_task, bare_tasks}
+use Rattle.lower.proofs.Interface.{routines_seen}
 use Rattle.linked_code.specs.Linked.{RoutinesFit, ProgramsFit}
 use Rattle.link_image.specs.Needs.{IsShort, HasFewLocals, TaskHasFewLocals, TaskIsEmitted, TasksAreEmitted, HasOwnPlaces}
-use Rattle.link_image.proofs.Bare.{bare_is, bare_low, bare_words, no_bodies, routine_is, seen_routines}
+use Rattle.link_image.proofs.Bare.{bare_is, bare_low, bare_words, no_bodies, routine_is}
 
 -- programs whose code has its places are short
 routines_short : (from : ℕ) (rs : List RoutinePlace) (ps : List Program) (others : List Region) (end : ℕ)
@@ -70,7 +71,7 @@ task_emitted : (fs : List CheckedFunction) (l : MemoryMap) (t : TaskPlace) (body
 task_emitted fs l t body own h =
     let p = task_places fs l t body in
     let bodies = routine_bodies p fs in
-    let seen = seen_routines l.runtime.logging t in
+    let seen = routines_seen l.runtime.logging t in
     let its : (j : ℕ) (r : RoutinePlace) → slice_get p.routines j ≡ Some r → routine_among p.routines r.function ≡ Some r =
     λ j r at. ap (λ rs. routine_among rs r.function) seen ∙ own j r (sym (ap (λ rs. slice_get rs j) seen) ∙ at) in
     let many = length-map p.routines (bare_routine p fs) in

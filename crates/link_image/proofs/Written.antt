@@ -15,7 +15,8 @@ use Rattle.array_versions.specs.View.{programs_of}
 use Rattle.array_versions.specs.declared.program.WordProgram.{WordProgram}
 use Rattle.array_versions.specs.declared.tasks.TaskPrograms.{TaskPrograms as Programs}
 use Rattle.memory_map.specs.declared.place.RoutinePlace.{RoutinePlace}
-use Rattle.linked_code.specs.Linked.{routine_part, routine_parts, parts_of_task}
+use Rattle.word_code.specs.Code.{code_of}
+use Rattle.linked_code.specs.Linked.{task_part, routine_part, routine_parts, parts_of_task}
 use Rattle.link_image.specs.Needs.{HasPlaces, TaskIsEmitted, TasksAreEmitted}
 
 -- the words of forms
@@ -97,6 +98,20 @@ next_each P ps k p l a h =
     (All-head P (program_of p) (map program_of (drop (k + 1) ps)) there, All-tail P (program_of p) (map program_of (drop (k + 1) ps)) there)
 
 -- ---- tasks
+
+-- behind a task's own code that of its functions is next
+pub after_own : (start : ℕ) (old new : List ℕ) (code : List Form) (events : Bool) (t : TaskPlace) (p : TaskPrograms) → start % 2 ≡ 0
+    → PartsInOrder (start + 2 * length old) (parts_of_task events t p) reset_vector → code ≡ code_of events p.own
+    → new ≡ old ++ (words_in (repeated ((t.code.address - (start + 2 * length old)) / 2) filler) ++ words_in code)
+    → PartsInOrder (start + 2 * length new) (routine_parts t.routines p.routines) reset_vector
+    × (new ++ words_in (chained (start + 2 * length new) (routine_parts t.routines p.routines))
+    ≡ old ++ words_in (chained (start + 2 * length old) (parts_of_task events t p)))
+after_own start old new code events t p even order its is =
+    let functions = routine_parts t.routines p.routines in
+    let filling = words_in (repeated ((t.code.address - (start + 2 * length old)) / 2) filler) in
+    let made = part_words start old new (old ++ words_in (chained (start + 2 * length old) (parts_of_task events t p))) (task_part events t p.own) functions
+    even order.0.even order.0.from (is ∙ ap (λ ms. old ++ (filling ++ words_in ms)) its) refl in
+    (subst (λ at. PartsInOrder at functions reset_vector) (sym made.0) order.1, made.1)
 
 -- where parts end that begin at an address
 abbrev pub parts_end : ℕ → List CodePart → ℕ

@@ -161,4 +161,5 @@ linked_keeps_above l programs = record {
   boot = boot_above l.runtime.logging l;
   commit = commit_above l.runtime.logging l;
   tasks = λ k t p e f. (code_names_ram_from l.runtime.events p.own).0;
+  routines = λ k j p r q e f. (code_names_ram_from l.runtime.events q).1;
 }

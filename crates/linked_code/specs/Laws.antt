@@ -45,12 +45,14 @@ abbrev pub LinkedStands : Type 0
 LinkedStands = (l : MemoryMap) (programs : List TaskPrograms) → CodeFits l programs → PartsStand l programs (linked_code l programs)
 
 -- No part of the code names a word of RAM below where its stack begins: boot and commit, which have none, name no word of RAM at all, and the code of a
--- task none below its locals and those of the functions that it calls. A word of RAM that is read else is at SP
+-- task or of a function none below its locals and those of the functions that it calls. A word of RAM that is read else is at SP
 pub record PartsKeepAbove (l : MemoryMap) (programs : List TaskPrograms) : Type 0 where
   pub boot : EachForm (NamesRamFrom (stack_origin l.runtime.events)) (boot_part l).forms
   pub commit : EachForm (NamesRamFrom (stack_origin l.runtime.events)) (commit_part l).forms
   pub tasks : (k : ℕ) (t : TaskPlace) (p : TaskPrograms) → slice_get l.tasks k ≡ Some t → slice_get programs k ≡ Some p
       → EachForm (NamesRamFrom (named_from p.own)) (task_part l.runtime.events t p.own).forms
+  pub routines : (k j : ℕ) (p : TaskPrograms) (r : RoutinePlace) (q : Program) → slice_get programs k ≡ Some p → slice_get p.routines j ≡ Some q
+      → EachForm (NamesRamFrom (named_from q)) (routine_part r q).forms
 
 -- so it is of any programs, wherever they stand
 abbrev pub LinkedKeepsAbove : Type 0

@@ -1,5 +1,5 @@
 -- Programs one behind another, and those of lists from one item on.
-use Rattle.lower.proofs.Names.{◌≡◌, ℕ, suc, ◌+◌, ◌%◌, ◌<◌, ◌≤◌, List, [], ◌∷◌, ◌++◌, length, drop, true, false, refl, sym, ap, ◌∙◌, drop-cons, add-one}
+use Rattle.lower.proofs.Names.{◌≡◌, ℕ, suc, ◌+◌, ◌<◌, ◌≤◌, List, [], ◌∷◌, ◌++◌, length, drop, true, false, refl, sym, ap, ◌∙◌, drop-cons, add-one}
 use Rattle.lower.proofs.Names.{if◌then◌else◌, drop_all, statement_of, block_view, Stmt, VariableName, TaskName, FunctionName, WordStep, Program, list_entry}
 use Rattle.lower.proofs.Names.{step, nothing}
 use Rattle.lower.proofs.Names.{joined, behind, step_of, steps_of, joined_assoc, joined_nothing, Run, run_at, is_followed_by, longer, runs_from, entries}
@@ -50,10 +50,6 @@ entries_end count list r privates i p h = sym (ap (λ l. joined p (entries count
 pub function_found : (fs : List (FunctionDeclaration VariableName TaskName FunctionName)) (k : ℕ)
     → slice_get (map function_of fs) k ≡ option_map function_of (slice_get fs k)
 function_found fs k = slice_get-map function_of fs k
-
--- a value more, with no overflow
-pub one_value_more : (n : ℕ) → (n % 65536 + 1) % 65536 ≡ suc n % 65536
-one_value_more n = omega arith
 
 -- the statements from one on, as its own program and that of those behind it
 pub block_step : (p : Places) (body : List (Stmt VariableName TaskName FunctionName)) (i : ℕ) (s : Stmt VariableName TaskName FunctionName) (q : Program)

@@ -580,7 +580,6 @@ pub fn append(program: &mut WordProgram, mut more: WordProgram) -> Result<(), Al
 }
 
 // With how many words a function is called. No program calls one with 2^16.
-#[tactic(auto, using(crate::proofs::Chains::one_value_more))]
 fn value_count(values: &Args<VariableName, FunctionName>) -> u16
     ensures { result ≡ call_count (values_of values.now) }
 {

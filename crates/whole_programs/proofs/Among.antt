@@ -95,10 +95,11 @@ module _ (program : CheckedProgram) (body : CheckedBlock) (p : Places) (task : T
         address_is = refl;
       }
 
-  -- the bodies of the functions with a number below m
-  among_below : (m k : ℕ) → k < m → (h : Here program body p task stack k) → Among (program_of program body p task stack k h)
-  among_below zero k lt h = absurd (let none : ⊥ = omega (arith, lt) in none)
-  among_below (suc m) k lt h =
+  -- a body, where those of all in front of it are so
+  body_calls_among : (k : ℕ) (h : Here program body p task stack k)
+      → ((j : ℕ) → j < k → (callee : Here program body p task stack j) → Among (program_of program body p task stack j callee))
+      → Among (program_of program body p task stack k h)
+  body_calls_among k h in_front =
       block_among p.routines programs (routine_places p h.place) (routine_bodies p (take k program.functions))
       (setting program (length h.known.function.parameters) k false h.known.function.body) calls (routine_words p h.place task.words) h.known.function.body
       (body_fit program (length h.known.function.parameters) k false h.known.function.body (task.formed k h.known.function h.is.function))
@@ -108,7 +109,12 @@ module _ (program : CheckedProgram) (body : CheckedBlock) (p : Places) (task : T
       calls j count few made =
           let callee = callee_of program body p task stack k h j count made in
           call_among j callee (routine_bodies p (take k program.functions)) (count % 65536) (body_in_front program body p task stack j callee k made.1)
-          (among_below m j (let in_front = made.1 in omega (arith, lt, in_front)) callee)
+          (in_front j made.1 callee)
+
+  -- the bodies of the functions with a number below m
+  among_below : (m k : ℕ) → k < m → (h : Here program body p task stack k) → Among (program_of program body p task stack k h)
+  among_below zero k lt h = absurd (let none : ⊥ = omega (arith, lt) in none)
+  among_below (suc m) k lt h = body_calls_among k h (λ j low callee. among_below m j (omega (arith, lt, low)) callee)
 
   pub task_among : IsWellFormed program 0 (length program.functions) true body → Among (task_program program body p task stack)
   task_among w =

@@ -407,7 +407,8 @@ module _ {ℓ} {p : Places} {rs : List Program} {room : ℕ} (F : Fact {ℓ} p r
       -- a call's values wait one above the other
       arguments_have : (d : ℕ) (values : CheckedValues) → WellFormedValues shared values → value_words values + d ≤ room
           → ValuesRead F.of_local values → ValuesEachCall F.of_call values → F.of_program d (values_in values + d) (arguments p rs values)
-      arguments_have d t.no_value is few r c = F.empty d
+      arguments_have d t.no_value is few r c =
+          let same : d ≡ 0 + d = omega arith in subst (λ n. F.of_program d n nothing) same (F.empty d)
       arguments_have d (t.value e more) is few r c =
           let same : values_in more + suc d ≡ suc (values_in more) + d = omega arith in
           subst (λ n. F.of_program d n (arguments p rs (t.value e more))) same

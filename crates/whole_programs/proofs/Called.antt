@@ -99,18 +99,22 @@ entry_is : (first count : ℕ) → entry_place first count ≡ at 0 (entered fir
 entry_is first zero = refl
 entry_is first (suc n) = ap (assigning (first + n)) (entry_is first n)
 
-entered_at : (first count x : ℕ) → x < count → entered first count (first + x) ≡ true
-entered_at first zero x l = absurd (let none : ⊥ = omega arith in none)
-entered_at first (suc n) x l = ⊎_elim before last (cases_lt x n)
+-- it is the last of them, or one in front of it
+entered_by : (first n x : ℕ) → x < suc n → (x < n → entered first n (first + x) ≡ true) → entered first (suc n) (first + x) ≡ true
+entered_by first n x l in_front = ⊎_elim before last (cases_lt x n)
   where
     before : x < n → (nat_eq (first + x) (first + n) || entered first n (first + x)) ≡ true
-    before low = or_second (nat_eq (first + x) (first + n)) (entered first n (first + x)) (entered_at first n x low)
+    before low = or_second (nat_eq (first + x) (first + n)) (entered first n (first + x)) (in_front low)
 
     last : n ≤ x → (nat_eq (first + x) (first + n) || entered first n (first + x)) ≡ true
     last high =
         let is : first + x ≡ first + n = omega (arith, l, high) in
         let same : nat_eq (first + x) (first + n) ≡ true = grind (arith, nat_tests) in
         ap (λ b. b || entered first n (first + x)) same
+
+entered_at : (first count x : ℕ) → x < count → entered first count (first + x) ≡ true
+entered_at first zero x l = absurd (let none : ⊥ = omega arith in none)
+entered_at first (suc n) x l = entered_by first n x l (λ low. entered_at first n x low)
 
 given_below : (given x : ℕ) → not_given given x ≡ false → x < given
 given_below given x h = by (nat_lt x given) refl h
@@ -187,7 +191,7 @@ module _ (program : CheckedProgram) (body : CheckedBlock) (p : Places) (task : T
     pub first : place.first ≡ first_local words_of_stack known.summary.depth known.locals
     pub frame : place.frame ≡ frame_of_locals words_of_stack known.summary.depth known.locals
 
-  known_at : (k : ℕ) → CheckedFunction → Known
+  abbrev known_at : (k : ℕ) → CheckedFunction → Known
   known_at k f = record {
     function = f;
     summary = function_summary (function_summaries (take k functions)) f;
@@ -537,7 +541,7 @@ module _ (program : CheckedProgram) (body : CheckedBlock) (p : Places) (task : T
     pub task_sound : Sound (task_code locals) task_program
     task_sound =
         block_sound p (routine_bodies p functions) (setting program 0 (length functions) true body) (task_code locals)
-        (record { locals = task_number; ends = refl; calls = task_calls }) task.words body
+        (record { locals = λ n few inside. task_number n few (omega (arith, inside)); ends = refl; calls = task_calls }) task.words body
         (body_fit program 0 (length functions) true body w)
 
   pub way_of_task : IsWellFormed program 0 (length functions) true body → p.map.commit.address % 2 ≡ 0

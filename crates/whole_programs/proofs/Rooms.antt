@@ -40,7 +40,7 @@ abbrev mutual
 
 -- ---- two words for each node
 
-one_each : (of : WordType) → by_width of 1 1 ≡ 1
+one_each : (of : WordType) → ◌≡◌ {A = ℕ} (by_width of 1 1) 1
 one_each Long = refl
 one_each Int = refl
 one_each Unsigned = refl

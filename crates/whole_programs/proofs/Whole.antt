@@ -54,7 +54,7 @@ module _ (program : CheckedProgram) (body : CheckedBlock) (p : Places) (task : T
   sound : Sound (task_code program body p task ground.stack ground.locals) (task_program program body p task ground.stack)
   sound = task_sound program body p task ground.stack formed first ground.locals ground.below
 
-  whole : IsWhole (task_program program body p task ground.stack)
+  abbrev whole : IsWhole (task_program program body p task ground.stack)
   whole = record {
     locals = ground.locals;
     room = room_of body;
