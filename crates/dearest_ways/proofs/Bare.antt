@@ -46,7 +46,7 @@ ended_filled : (b : ℕ → Program) (p : Program) (v w : WaysValue) → v ≡ w
 ended_filled b p v w e = ap₂ (λ os ways. ways_behind ways (straight_cost (flush_most os))) (after_filled b [] p) e
 
 -- a choice of this number where these words wait, by the ways of its test and of its two blocks
-chosen : List Waiting → ℕ → ForksValue → WaysValue → WaysValue → WaysValue
+abbrev chosen : List Waiting → ℕ → ForksValue → WaysValue → WaysValue → WaysValue
 chosen os k test held failed =
     ways_behind (straight_cost (flush_most os))
     (chosen_ways test (ways_behind (choice_ways k true) held) (ways_behind (choice_ways k false) failed))
@@ -61,11 +61,21 @@ mutual
       let passed = ap₂ (λ ms n. size (ms ++ pass_over n)) (block_filled b bs p) over in
       let within = ap (λ n. suc k + n) (test_choices_filled b t) in
       let later = ap₂ (λ n m. n + m) within (choices_filled b p) in
-      let test = forks_filled b calls bs (suc k) t false _ ∙ ap (test_forks calls bs (suc k) t false) passed in
-      let taken = ended_filled b p _ _ (further_filled b calls bs [] _ (straight_ways 0) p ∙ ap (λ n. ways_further calls bs [] n (straight_ways 0) p) within) in
+      let far = size (block_code bs (filled b p) ++ pass_over (size (block_code bs (filled b q)))) in
+      let asked = test_forks calls bs (suc k) (test_filled b t) false far in
+      let test = forks_filled b calls bs (suc k) t false far ∙ ap (test_forks calls bs (suc k) t false) passed in
+      let first = suc k + test_choices t in
+      let second = first + program_choices p in
+      let on = straight_cost (forward_most (pass_over (size (block_code bs q))) 3) in
+      let taken = ended_filled b p _ _ (further_filled b calls bs [] (suc k + test_choices (test_filled b t)) (straight_ways 0) p
+      ∙ ap (λ n. ways_further calls bs [] n (straight_ways 0) p) within) in
       let held = ap₂ (λ ways n. ways_behind ways (straight_cost (forward_most (pass_over n) 3))) taken over in
-      let failed = ended_filled b q _ _ (further_filled b calls bs [] _ (straight_ways 0) q ∙ ap (λ n. ways_further calls bs [] n (straight_ways 0) q) later) in
-      ap (λ forks. chosen os k forks _ _) test ∙ ap₂ (chosen os k _) held failed
+      let failed = ended_filled b q _ _ (further_filled b calls bs []
+      (suc k + test_choices (test_filled b t) + program_choices (filled b p)) (straight_ways 0) q
+      ∙ ap (λ n. ways_further calls bs [] n (straight_ways 0) q) later) in
+      ap₂ (chosen os k asked) held failed
+      ∙ ap (λ forks. chosen os k forks (ways_behind (ended p (ways_further calls bs [] first (straight_ways 0) p)) on)
+      (ended q (ways_further calls bs [] second (straight_ways 0) q))) test
   step_ways_filled b calls bs os k (repeat n from below p) =
       let inner = bound_of n below ∷ bs in
       let set = forward_most (number_code n from) 5 in

@@ -109,9 +109,9 @@ mutual
       let made = behind_are (steps_most bs [] p) (λ n. asked + n) _ _ (further_are calls bs [] k (λ n. n) (straight_ways 0) p c none_are)
       (straight_are asked) in
       forked_are (λ n. steps_most bs [] p (asked + n)) (ways_behind (steps_ways calls bs [] k p) (straight_cost asked)) made
-  test_are calls bs k (compares c p) when d c =
+  test_are calls bs k (compares o p) when d c =
       let os = waiting_after [] p in
-      let asked = forward_most (compares_code os c when d) (10 + owed os) in
+      let asked = forward_most (compares_code os o when d) (10 + owed os) in
       let made = behind_are (steps_most bs [] p) (λ n. asked + n) _ _ (further_are calls bs [] k (λ n. n) (straight_ways 0) p c none_are)
       (straight_are asked) in
       forked_are (λ n. steps_most bs [] p (asked + n)) (ways_behind (steps_ways calls bs [] k p) (straight_cost asked)) made
