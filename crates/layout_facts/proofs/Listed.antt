@@ -50,7 +50,7 @@ module _ (p : CheckedProgram) (allow : Allow) (plans : List TaskPlanValue) (l : 
 
 pub elements_are_stores : ElementsAreStores
 elements_are_stores p allow plans l h t task layout k xs seen few =
-    let listed = listed_seen task.body l layout xs seen in
+    let listed = listed_seen p.functions task.body l layout xs seen in
     let sum =
     all_counted p.shared xs
     (All-weaker (IsCopied (places_of l layout)) (λ x. x.array < length p.shared) (within p allow plans l h layout) xs listed.copied) in

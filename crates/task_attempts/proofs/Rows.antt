@@ -97,14 +97,14 @@ known_rows (g ∷ known) keep n (suc k) words m x h e = known_rows known keep.1 
 module _ (known : List Meaning) (keep : KnownKeepRows known) (n : ℕ) where
   mutual
     value_rows : (e : CheckedExpression) → KeepsRows n (value_of known e)
-    value_rows (t.number k) m x h e = gives_rows n k m x h e
-    value_rows (t.long_number k) m x h e = gives_rows n k m x h e
-    value_rows (t.name v) m x h e = gives_rows n (scalar_value m.variables v) m x h e
+    value_rows (t.number k) = λ m x h e. gives_rows n k m x h e
+    value_rows (t.long_number k) = λ m x h e. gives_rows n k m x h e
+    value_rows (t.name v) = λ m x h e. gives_rows n (scalar_value m.variables v) m x h e
     value_rows (t.element v index) = then_rows n (value_of known index) (λ i m. gives (word_at m.variables v.variable i) m) (value_rows index)
         (λ i m x h e. gives_rows n (word_at m.variables v.variable i) m x h e)
     value_rows t.sense = reading_rows n
     value_rows t.next_event = answer_rows n
-    value_rows (t.call f values) m x h e =
+    value_rows (t.call f values) = λ m x h e.
         let ws = bind_some (words_of known values m) (λ ws. meaning_in known f.function ws.words ws.behind) x e in
         known_rows known keep n f.function ws.0.words ws.0.behind x (words_rows values m ws.0 h ws.1) ws.2
     value_rows (t.unary op a) = made_rows n (unary_result op (type_of a)) (value_of known a) (value_rows a)
