@@ -19,7 +19,7 @@ use Rattle.machine_effects.specs.World.{put}
 use Rattle.machine_effects.specs.fram_board.Effects.{Effect}
 use Rattle.machine_effects.specs.Inputs.{Inputs, first_look, other_looks, look_effects}
 use Rattle.machine_effects.specs.Going.{StepOutcome, Goes, Stops, Stretch}
-use Rattle.machine_effects.specs.Machine.{MachineBoard, MachineOutcome, IsPlace, IsRam}
+use Rattle.machine_effects.specs.Machine.{Code, MachineBoard, MachineOutcome, IsPlace, IsRam}
 pub use Rattle.instruction_forms.specs.Encoding.{index_of, source_operand, source_bytes, target_operand, target_bytes, modification_operand}
 pub use Rattle.instruction_forms.specs.Encoding.{instruction_of, form_bytes}
 pub use Rattle.instruction_forms.specs.declared.kinds.WorkRegister.{WorkRegister}
@@ -167,20 +167,34 @@ pub record IsSlot (a : ℕ) : Type 0 where
   pub low : ring_place ≤ a
   pub high : a < event_vector
 
--- what it needs, in code that may take events or not
-abbrev pub SourceNeeds : Bool → Source → Core → Type 0
-SourceNeeds events (Register b) u = Unit {0}
-SourceNeeds events (Number n) u = Unit {0}
-SourceNeeds events (Constant k) u = Unit {0}
-SourceNeeds events (Fram a) u = IsPlace a
-SourceNeeds events (Ram a) u = IsRam a × (u.sp ≤ a)
-SourceNeeds events (Pointed b) u = IsPlace (u.work (work_number b))
-SourceNeeds events (PointedNext b) u = IsPlace (u.work (work_number b))
-SourceNeeds events (Indexed b x) u = IsPlace (u.work (work_number b) + x)
-SourceNeeds events Popped u = IsRam u.sp × (events ≡ true → u.sp + 2 ≤ stack_start)
-SourceNeeds events (StackNext b) u = IsRam (u.work (work_number b)) × (u.sp ≤ u.work (work_number b))
-SourceNeeds events Head u = Unit {0}
-SourceNeeds events (Slot b) u = IsSlot (u.work (work_number b) + ring_place)
+-- code, and the addresses between which SP stays
+pub record KeptCode : Type 0 where
+  pub code : Code
+  pub low : ℕ
+  pub high : ℕ
+
+-- code of which it isn't said where SP stays
+abbrev pub anywhere : Code → KeptCode
+anywhere code = record { code = code; low = 0; high = 0x10000 }
+
+-- SP is between them
+abbrev pub IsKept : KeptCode → ℕ → Type 0
+IsKept kept sp = (kept.low ≤ sp) × (sp ≤ kept.high)
+
+-- what it needs, in code that keeps SP between addresses
+abbrev pub SourceNeeds : KeptCode → Source → Core → Type 0
+SourceNeeds kept (Register b) u = Unit {0}
+SourceNeeds kept (Number n) u = Unit {0}
+SourceNeeds kept (Constant k) u = Unit {0}
+SourceNeeds kept (Fram a) u = IsPlace a
+SourceNeeds kept (Ram a) u = IsRam a × (u.sp ≤ a)
+SourceNeeds kept (Pointed b) u = IsPlace (u.work (work_number b))
+SourceNeeds kept (PointedNext b) u = IsPlace (u.work (work_number b))
+SourceNeeds kept (Indexed b x) u = IsPlace (u.work (work_number b) + x)
+SourceNeeds kept Popped u = IsRam u.sp × (kept.code.events ≡ true → u.sp + 2 ≤ stack_start) × IsKept kept (u.sp + 2)
+SourceNeeds kept (StackNext b) u = IsRam (u.work (work_number b)) × (u.sp ≤ u.work (work_number b))
+SourceNeeds kept Head u = Unit {0}
+SourceNeeds kept (Slot b) u = IsSlot (u.work (work_number b) + ring_place)
 
 -- the address in RAM at which it reads, if it does
 abbrev pub source_ram : Source → Core → Option ℕ
@@ -282,11 +296,12 @@ form_step Return u = Goes [] 3 (record u { pc = u.ram u.sp; sp = u.sp + 2 })
 form_step (KeepStack b) u = Goes [] 1 (record u { pc = u.pc + 2; work = put u.work (work_number b) u.sp })
 form_step RestoreStack u = Goes [] 2 (record u { pc = u.pc + 2; sp = u.ram u.sp })
 
--- room in RAM below SP for a word
-pub record HasPushRoom (sp : ℕ) : Type 0 where
+-- room in RAM below SP for a word, where code keeps SP
+pub record HasPushRoom (kept : KeptCode) (sp : ℕ) : Type 0 where
   pub even : sp % 2 ≡ 0
   pub room : HasStackRoom sp 1
   pub high : sp ≤ stack_top
+  pub below : IsKept kept (sp - 2)
 
 -- a handler is named, and has room in RAM below SP
 pub record IsPrepared (u : Core) : Type 0 where
@@ -299,26 +314,28 @@ abbrev pub IsNotMov : TwoOp → Type 0
 IsNotMov Mov = ⊥
 IsNotMov _ = Unit {0}
 
--- what a form needs, in code that may take events or not
-abbrev pub FormNeeds : Bool → Form → Core → Type 0
-FormNeeds events (Move x y) u = SourceNeeds events x u × TargetNeeds y (source_read x u)
-FormNeeds events (Calculate op x b) u = IsNotMov op × SourceNeeds events x u
-FormNeeds events (Compare x a) u = SourceNeeds events x u × IsPlace a
-FormNeeds events (Update op x a) u = IsNotMov op × (writes_destination op ≡ true) × SourceNeeds events x u × IsPlace a
-FormNeeds events (Push x) u = SourceNeeds events x u × HasPushRoom (source_read x u).sp
-FormNeeds events (Modify m b) u = Unit {0}
-FormNeeds events (SetStack n) u = (n % 2 ≡ 0) × (events ≡ true → n ≡ stack_start)
-FormNeeds events EnableInterrupts u = (events ≡ true) × IsPrepared u
-FormNeeds events (Sense b) u = Unit {0}
-FormNeeds events (Jump c offset) u = Unit {0}
-FormNeeds events (Skip n) u = n % 2 ≡ 0
-FormNeeds events (Branch a) u = a % 2 ≡ 0
-FormNeeds events (BranchIndexed b x) u = IsPlace (u.work (work_number b) + x) × (u.fram (u.work (work_number b) + x) % 2 ≡ 0)
-FormNeeds events (SkipBy b) u = u.work (work_number b) % 2 ≡ 0
-FormNeeds events (Call a) u = (a % 2 ≡ 0) × HasPushRoom u.sp
-FormNeeds events Return u = IsRam u.sp × (events ≡ true → u.sp + 2 ≤ stack_start) × (u.ram u.sp % 2 ≡ 0)
-FormNeeds events (KeepStack b) u = Unit {0}
-FormNeeds events RestoreStack u = IsRam u.sp × (events ≡ true → (u.sp ≤ u.ram u.sp) × (u.ram u.sp ≤ stack_start)) × (u.ram u.sp % 2 ≡ 0)
+-- what a form needs, in code that keeps SP between addresses: so it stands there behind each
+abbrev pub FormNeeds : KeptCode → Form → Core → Type 0
+FormNeeds kept (Move x y) u = SourceNeeds kept x u × TargetNeeds y (source_read x u)
+FormNeeds kept (Calculate op x b) u = IsNotMov op × SourceNeeds kept x u
+FormNeeds kept (Compare x a) u = SourceNeeds kept x u × IsPlace a
+FormNeeds kept (Update op x a) u = IsNotMov op × (writes_destination op ≡ true) × SourceNeeds kept x u × IsPlace a
+FormNeeds kept (Push x) u = SourceNeeds kept x u × HasPushRoom kept (source_read x u).sp
+FormNeeds kept (Modify m b) u = Unit {0}
+FormNeeds kept (SetStack n) u = (n % 2 ≡ 0) × (kept.code.events ≡ true → n ≡ stack_start) × IsKept kept n
+FormNeeds kept EnableInterrupts u = (kept.code.events ≡ true) × IsPrepared u
+FormNeeds kept (Sense b) u = Unit {0}
+FormNeeds kept (Jump c offset) u = Unit {0}
+FormNeeds kept (Skip n) u = n % 2 ≡ 0
+FormNeeds kept (Branch a) u = a % 2 ≡ 0
+FormNeeds kept (BranchIndexed b x) u = IsPlace (u.work (work_number b) + x) × (u.fram (u.work (work_number b) + x) % 2 ≡ 0)
+FormNeeds kept (SkipBy b) u = u.work (work_number b) % 2 ≡ 0
+FormNeeds kept (Call a) u = (a % 2 ≡ 0) × HasPushRoom kept u.sp
+FormNeeds kept Return u =
+    IsRam u.sp × (kept.code.events ≡ true → u.sp + 2 ≤ stack_start) × (u.ram u.sp % 2 ≡ 0) × IsKept kept (u.sp + 2)
+FormNeeds kept (KeepStack b) u = Unit {0}
+FormNeeds kept RestoreStack u =
+    IsRam u.sp × (kept.code.events ≡ true → (u.sp ≤ u.ram u.sp) × (u.ram u.sp ≤ stack_start)) × (u.ram u.sp % 2 ≡ 0) × IsKept kept (u.ram u.sp)
 
 -- the address in RAM at which a form reads, if it does
 abbrev pub ram_read : Form → Core → Option ℕ
