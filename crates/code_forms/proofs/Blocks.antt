@@ -15,9 +15,9 @@ use Rattle.code_forms.specs.Forms.{source_effects, behind_source}
 use Rattle.code_forms.specs.Forms.{ToIndexed, ToPointed, ToOutnum, ToOutdata, target_written, Form, Move, Calculate, Compare, Update, Push, Modify, SetStack}
 use Rattle.code_forms.specs.Forms.{EnableInterrupts, Sense, Jump, Skip, Branch, BranchIndexed, SkipBy, Call, Return, KeepStack, RestoreStack, instruction_of}
 use Rattle.code_forms.specs.Forms.{form_bytes}
-use Rattle.code_forms.specs.Forms.{sensed, form_step, FormNeeds, KeptCode}
+use Rattle.code_forms.specs.Forms.{sensed, form_step, FormNeeds}
 use Rattle.code_forms.specs.Code.{Stands, forms_bytes, IsStraight, AreStraight, forms_run, OfNext, FormsNeed, IsTidy, IsAtKept, OfState, StepsAreKept}
-use Rattle.code_forms.specs.Code.{ComesWithin, RunsWithin, StarvesWithin}
+use Rattle.code_forms.specs.Code.{KeptCode, rules_of, ComesWithin, RunsWithin, StarvesWithin}
 use Rattle.code_forms.specs.Laws.{StraightCodeLeads}
 use Rattle.code_forms.proofs.Forms.{form_does}
 use Rattle.code_forms.proofs.Rules.{undisturbed_form}
@@ -157,15 +157,15 @@ module _ (kept : KeptCode) (tidy : IsTidy kept.code) where
   code = kept.code
 
   -- one form
-  pub does : (m : Form) (u : Core) → code.at u.pc ≡ Some (instruction_of m) → FormNeeds kept m u
+  pub does : (m : Form) (u : Core) → code.at u.pc ≡ Some (instruction_of m) → FormNeeds (rules_of kept) m u
       → exec code (board_of u) ≡ outcome_of_core (form_step m u)
   does m u h k =
       ap (λ o. undisturbed code.events o (board_of u) (step_with o (board_of u))) h
-      ∙ ap (undisturbed code.events (Some (instruction_of m)) (board_of u)) (form_does kept m u (tidy u.pc (instruction_of m) h) k)
-      ∙ undisturbed_form kept m u k
+      ∙ ap (undisturbed code.events (Some (instruction_of m)) (board_of u)) (form_does (rules_of kept) m u (tidy u.pc (instruction_of m) h) k)
+      ∙ undisturbed_form (rules_of kept) m u k
 
-  block_on : (ms : List Form) (p k : ℕ) (o : CoreOutcome) → OfNext o (IsAt p) → OfNext o (FormsNeed kept ms)
-      → ((t : Core) → t.pc ≡ p → FormsNeed kept ms t → going (exec code) (length ms + k) (board_of t) ≡ carry (forms_run ms t)
+  block_on : (ms : List Form) (p k : ℕ) (o : CoreOutcome) → OfNext o (IsAt p) → OfNext o (FormsNeed (rules_of kept) ms)
+      → ((t : Core) → t.pc ≡ p → FormsNeed (rules_of kept) ms t → going (exec code) (length ms + k) (board_of t) ≡ carry (forms_run ms t)
       (λ v. going (exec code) k (board_of v)))
       → continued (outcome_of_core o) (going (exec code) (length ms + k)) ≡ carry (continued o (forms_run ms)) (λ v. going (exec code) k (board_of v))
   block_on ms p k (Goes fs d t) g w ih =
@@ -173,7 +173,7 @@ module _ (kept : KeptCode) (tidy : IsTidy kept.code) where
       ∙ carry_after fs (forms_run ms t).effects d (forms_run ms t).cycles (forms_run ms t).status (λ v. going (exec code) k (board_of v))
   block_on ms p k (Stops es price x) g w ih = refl
 
-  block_all : (ms : List Form) (k : ℕ) (u : Core) → AreStraight ms → Stands code u.pc ms → FormsNeed kept ms u
+  block_all : (ms : List Form) (k : ℕ) (u : Core) → AreStraight ms → Stands code u.pc ms → FormsNeed (rules_of kept) ms u
       → going (exec code) (length ms + k) (board_of u) ≡ carry (forms_run ms u) (λ v. going (exec code) k (board_of v))
   block_all [] k u st h w = ap (λ n. going (exec code) n (board_of u)) (zero-add k) ∙ sym (after_nothing (going (exec code) k (board_of u)))
   block_all (m ∷ ms) k u st h w =
@@ -183,23 +183,23 @@ module _ (kept : KeptCode) (tidy : IsTidy kept.code) where
       (λ t e o. block_all ms k t st.1 (subst (λ p. Stands code p ms) (sym e) h.1) o)
 
   -- straight code ends where its forms do
-  pub block : (ms : List Form) (u t : Core) (es : List Effect) (c : ℕ) → AreStraight ms → Stands code u.pc ms → FormsNeed kept ms u
+  pub block : (ms : List Form) (u t : Core) (es : List Effect) (c : ℕ) → AreStraight ms → Stands code u.pc ms → FormsNeed (rules_of kept) ms u
       → forms_run ms u ≡ stretch es c (At t) → Leads (exec code) (length ms) es c (board_of u) (board_of t)
   block ms u t es c st h w e = record { by = λ k. block_all ms k u st h w ∙ ap (λ r. carry r (λ v. going (exec code) k (board_of v))) e }
 
   -- what stands there is a form that has what it needs
-  at_form : (m : Form) (u : Core) → code.at u.pc ≡ Some (instruction_of m) → FormNeeds kept m u → StepsAreKept kept 1 u
+  at_form : (m : Form) (u : Core) → code.at u.pc ≡ Some (instruction_of m) → FormNeeds (rules_of kept) m u → StepsAreKept kept 1 u
   at_form m u h w zero l = record { form = m; core = u; is = refl; stands = h; needs = w }
   at_form m u h w (suc n) l = absurd (omega (arith, l))
 
-  behind_form : (ms : List Form) (p n : ℕ) (o : CoreOutcome) → OfNext o (IsAt p) → OfNext o (FormsNeed kept ms)
-      → ((t : Core) → t.pc ≡ p → FormsNeed kept ms t → OfState (going (exec code) n (board_of t)).status (IsAtKept kept))
+  behind_form : (ms : List Form) (p n : ℕ) (o : CoreOutcome) → OfNext o (IsAt p) → OfNext o (FormsNeed (rules_of kept) ms)
+      → ((t : Core) → t.pc ≡ p → FormsNeed (rules_of kept) ms t → OfState (going (exec code) n (board_of t)).status (IsAtKept kept))
       → OfState (continued (outcome_of_core o) (going (exec code) n)).status (IsAtKept kept)
   behind_form ms p n (Goes fs d t) g w ih = ih t g w
   behind_form ms p n (Stops es price x) g w ih = tt
 
   -- so is each form of straight code
-  at_forms : (ms : List Form) (u : Core) → AreStraight ms → Stands code u.pc ms → FormsNeed kept ms u → StepsAreKept kept (length ms) u
+  at_forms : (ms : List Form) (u : Core) → AreStraight ms → Stands code u.pc ms → FormsNeed (rules_of kept) ms u → StepsAreKept kept (length ms) u
   at_forms [] u st h w n l = absurd (omega (arith, l))
   at_forms (m ∷ ms) u st h w zero l = at_form m u h.0 w.0 0 (omega arith)
   at_forms (m ∷ ms) u st h w (suc n) l =
@@ -208,7 +208,7 @@ module _ (kept : KeptCode) (tidy : IsTidy kept.code) where
       (λ t e k. at_forms ms t st.1 (subst (λ p. Stands code p ms) (sym e) h.1) k n (omega (arith, l))))
 
   pub straight_comes : (ms : List Form) (u t : Core) (es : List Effect) (c : ℕ) (P : Core → Type 0) → AreStraight ms → Stands code u.pc ms
-      → FormsNeed kept ms u → forms_run ms u ≡ stretch es c (At t) → P t → ComesWithin kept es (length ms) c u P
+      → FormsNeed (rules_of kept) ms u → forms_run ms u ≡ stretch es c (At t) → P t → ComesWithin kept es (length ms) c u P
   straight_comes ms u t es c P st h w e p = record { end = t; leads = block ms u t es c st h w e; forms = at_forms ms u st h w; holds = p }
 
   -- within so many cycles
@@ -216,7 +216,7 @@ module _ (kept : KeptCode) (tidy : IsTidy kept.code) where
   runs_within {es} {n} {c} most a l = record { steps = n; cycles = c; within = l; comes = a }
 
   -- one form, a jump too
-  pub form_comes : (m : Form) (u t : Core) (es : List Effect) (c : ℕ) (P : Core → Type 0) → code.at u.pc ≡ Some (instruction_of m) → FormNeeds kept m u
+  pub form_comes : (m : Form) (u t : Core) (es : List Effect) (c : ℕ) (P : Core → Type 0) → code.at u.pc ≡ Some (instruction_of m) → FormNeeds (rules_of kept) m u
       → form_step m u ≡ Goes es c t → P t → ComesWithin kept es 1 c u P
   form_comes m u t es c P h w e p = record {
     end = t;
@@ -226,7 +226,7 @@ module _ (kept : KeptCode) (tidy : IsTidy kept.code) where
   }
 
   pub hop : (m : Form) (most : ℕ) (u t : Core) (es : List Effect) (c : ℕ) (P : Core → Type 0) → code.at u.pc ≡ Some (instruction_of m)
-      → FormNeeds kept m u
+      → FormNeeds (rules_of kept) m u
       → form_step m u ≡ Goes es c t → c ≤ most → P t → RunsWithin kept es most u P
   hop m most u t es c P h w e l p = runs_within most (form_comes m u t es c P h w e p) l
 
@@ -253,7 +253,7 @@ module _ (kept : KeptCode) (tidy : IsTidy kept.code) where
   then_to most more u t Q es fs a b = runs_on most more u (λ v. v ≡ t) Q es fs a (λ v e. subst (λ x. RunsWithin kept fs more x Q) (sym e) b)
 
   -- straight code that comes to a sensor with no reading left, and a stretch before such a place
-  pub starve : (m : Form) (most price : ℕ) (u : Core) (es : List Effect) → code.at u.pc ≡ Some (instruction_of m) → FormNeeds kept m u
+  pub starve : (m : Form) (most price : ℕ) (u : Core) (es : List Effect) → code.at u.pc ≡ Some (instruction_of m) → FormNeeds (rules_of kept) m u
       → form_step m u ≡ Stops es price stop.NoReading → price ≤ most → StarvesWithin kept es most u
   starve m most price u es h w e l =
       record {

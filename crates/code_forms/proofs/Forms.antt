@@ -45,13 +45,13 @@ use Rattle.code_forms.specs.Forms.{TargetNeeds, Move, Calculate, Compare, Update
 use Rattle.code_forms.specs.Forms.{SkipBy, instruction_of, flags_after, calculated, sensed, form_step, FormNeeds, IsNotMov, HasPushRoom, IsCodeAddress, IsSlot}
 use Rattle.code_forms.specs.Forms.{EnableInterrupts, Call, Return, KeepStack, RestoreStack, Modification, modified}
 use Rattle.instruction_forms.specs.declared.kinds.Modification.TheVariants as change
-use Rattle.code_forms.specs.Forms.{KeptCode, anywhere}
+use Rattle.code_forms.specs.Forms.{CodeRules}
 use Rattle.code_forms.specs.Laws.{FormsDoAsInstructions}
 use Rattle.code_forms.proofs.Registers.{set_pc, set_sp, set_work, get_work, high, number, set_flags, flags_back, enable, is_on, no_port}
 
 -- code without events of which nothing is said
-abbrev plain : KeptCode
-plain = anywhere (record { at = λ a. None; events = false })
+abbrev plain : CodeRules
+plain = record { events = false; low = 0; high = 0x10000 }
 
 -- the bus of an instruction that began with SP here, and sees this of the ring
 abbrev inside : ℕ → Option Look → Core → MachineBus
@@ -790,41 +790,41 @@ modifies m b u c =
     rw (on, modified_blind m b, modified_effect m b u c, modified_cycles m b) refl
 
 -- what a source needs in any code, it needs in code of which nothing is said
-needs_so : (kept : KeptCode) (x : Source) (u : Core) → SourceNeeds kept x u → SourceNeeds plain x u
-needs_so kept (Register b) u h = h
-needs_so kept (Number n) u h = h
-needs_so kept (Constant k) u h = h
-needs_so kept (Fram a) u h = h
-needs_so kept (Ram a) u h = h
-needs_so kept (Pointed b) u h = h
-needs_so kept (PointedNext b) u h = h
-needs_so kept (Indexed b x) u h = h
-needs_so kept Popped u h = let high = h.0.high in (h.0, λ e. absurd cc, (omega arith, omega arith))
-needs_so kept (StackNext b) u h = h
-needs_so kept Head u h = h
-needs_so kept (Slot b) u h = h
+needs_so : (rules : CodeRules) (x : Source) (u : Core) → SourceNeeds rules x u → SourceNeeds plain x u
+needs_so rules (Register b) u h = h
+needs_so rules (Number n) u h = h
+needs_so rules (Constant k) u h = h
+needs_so rules (Fram a) u h = h
+needs_so rules (Ram a) u h = h
+needs_so rules (Pointed b) u h = h
+needs_so rules (PointedNext b) u h = h
+needs_so rules (Indexed b x) u h = h
+needs_so rules Popped u h = let high = h.0.high in (h.0, λ e. absurd cc, (omega arith, omega arith))
+needs_so rules (StackNext b) u h = h
+needs_so rules Head u h = h
+needs_so rules (Slot b) u h = h
 
 -- so with room for a push
-room_so : (kept : KeptCode) (sp : ℕ) → HasPushRoom kept sp → HasPushRoom plain sp
-room_so kept sp h = let high = h.high in record { even = h.even; room = h.room; high = h.high; below = (omega arith, omega arith) }
+room_so : (rules : CodeRules) (sp : ℕ) → HasPushRoom rules sp → HasPushRoom plain sp
+room_so rules sp h = let high = h.high in record { even = h.even; room = h.room; high = h.high; below = (omega arith, omega arith) }
 
 -- each form
 pub form_does : FormsDoAsInstructions
-form_does kept (Move x y) u c h = moves x y u c (needs_so kept x u h.0) h.1
-form_does kept (Calculate op x b) u c h = calculates op x b u c h.0 (needs_so kept x u h.1)
-form_does kept (Compare x a) u c h = compares x a u c (needs_so kept x u h.0) h.1
-form_does kept (Update op x a) u c h = updates op x a u c (h.0, h.1, needs_so kept x u h.2, h.3)
-form_does kept (Push x) u c h = pushes x u c (needs_so kept x u h.0, room_so kept (source_read x u).sp h.1)
-form_does kept (Modify m b) u c h = modifies m b u c
-form_does kept (SetStack n) u c h = sets_stack n u c h.0
-form_does kept EnableInterrupts u c h = enables u c
-form_does kept (Sense b) u c h = senses b u c
-form_does kept (Jump k o) u c h = jumps k o u c
-form_does kept (Skip n) u c h = skips n u c h
-form_does kept (Branch a) u c h = branches a u c h
-form_does kept (BranchIndexed b x) u c h = branches_indexed b x u c h
-form_does kept (SkipBy b) u c h = skips_by b u c h
-form_does kept (Call a) u c h = calls a u c (h.0, room_so kept u.sp h.1)
-form_does kept Return u c h = let high = h.0.high in returns u c (h.0, λ e. absurd cc, h.2, (omega arith, omega arith))
-form_does kept (KeepStack b) u c h = keeps_stack b u c
-form_does kept RestoreStack u c h = restores_stack u c (h.0, h.2)
+form_does rules (Move x y) u c h = moves x y u c (needs_so rules x u h.0) h.1
+form_does rules (Calculate op x b) u c h = calculates op x b u c h.0 (needs_so rules x u h.1)
+form_does rules (Compare x a) u c h = compares x a u c (needs_so rules x u h.0) h.1
+form_does rules (Update op x a) u c h = updates op x a u c (h.0, h.1, needs_so rules x u h.2, h.3)
+form_does rules (Push x) u c h = pushes x u c (needs_so rules x u h.0, room_so rules (source_read x u).sp h.1)
+form_does rules (Modify m b) u c h = modifies m b u c
+form_does rules (SetStack n) u c h = sets_stack n u c h.0
+form_does rules EnableInterrupts u c h = enables u c
+form_does rules (Sense b) u c h = senses b u c
+form_does rules (Jump k o) u c h = jumps k o u c
+form_does rules (Skip n) u c h = skips n u c h
+form_does rules (Branch a) u c h = branches a u c h
+form_does rules (BranchIndexed b x) u c h = branches_indexed b x u c h
+form_does rules (SkipBy b) u c h = skips_by b u c h
+form_does rules (Call a) u c h = calls a u c (h.0, room_so rules u.sp h.1)
+form_does rules Return u c h = let high = h.0.high in returns u c (h.0, λ e. absurd cc, h.2, (omega arith, omega arith))
+form_does rules (KeepStack b) u c h = keeps_stack b u c
+form_does rules RestoreStack u c h = restores_stack u c (h.0, h.2)

@@ -3,21 +3,21 @@ use Rattle.std.proofs.Common.{◌≡◌, ℕ, zero, suc, ◌+◌, ◌<◌, List,
 use Rattle.machine_effects.specs.fram_board.Effects.{Effect}
 use Rattle.machine_effects.specs.Going.{Goes, Stops, continued, going}
 use Rattle.machine_effects.specs.Machine.{Code, MachineBoard, MachineOutcome, exec}
-use Rattle.code_forms.specs.Forms.{WorkRegister, Core, CoreOutcome, board_of, outcome_of_core, KeptCode, IsKept}
+use Rattle.code_forms.specs.Forms.{WorkRegister, Core, CoreOutcome, board_of, outcome_of_core, CodeRules, IsKept}
 use Rattle.code_forms.specs.Forms.{Source, Register, Number, Constant, Fram, Ram, Pointed, PointedNext, Indexed, Popped, StackNext, Head, Slot}
 use Rattle.code_forms.specs.Forms.{source_read, source_effects, source_value, source_bytes, SourceNeeds, behind_source}
 use Rattle.code_forms.specs.Forms.{Target, ToRegister, ToFram, ToRam, ToIndexed, ToPointed, ToOutnum, ToOutdata, target_written, target_bytes, sensed}
 use Rattle.code_forms.specs.Forms.{Form, Move, Calculate, Compare, Update, Push, Modify, SetStack, Sense, Jump, Skip, Branch, BranchIndexed, SkipBy}
 use Rattle.code_forms.specs.Forms.{EnableInterrupts, Call, Return, KeepStack, RestoreStack, form_step, FormNeeds}
-use Rattle.code_forms.specs.Code.{OfNext, OfState, IsTidy, IsAtKept}
+use Rattle.code_forms.specs.Code.{OfNext, OfState, IsTidy, KeptCode, rules_of, IsAtKept}
 use Rattle.code_forms.specs.Laws.{FormsKeepTheStack}
 use Rattle.code_forms.proofs.Blocks.{does}
 
-module _ (kept : KeptCode) where
+module _ (rules : CodeRules) where
   abbrev StackStays : Core → Type 0
-  StackStays t = IsKept kept t.sp
+  StackStays t = IsKept rules t.sp
 
-  source_stays : (x : Source) (u : Core) → SourceNeeds kept x u → StackStays u → StackStays (source_read x u)
+  source_stays : (x : Source) (u : Core) → SourceNeeds rules x u → StackStays u → StackStays (source_read x u)
   source_stays (Register b) u h i = i
   source_stays (Number n) u h i = i
   source_stays (Constant k) u h i = i
@@ -49,7 +49,7 @@ module _ (kept : KeptCode) where
   sensed_stays [] b u i = tt
   sensed_stays (w ∷ ws) b u i = i
 
-  form_stays : (m : Form) (u : Core) → FormNeeds kept m u → StackStays u → OfNext (form_step m u) StackStays
+  form_stays : (m : Form) (u : Core) → FormNeeds rules m u → StackStays u → OfNext (form_step m u) StackStays
   form_stays (Move x y) u h i =
       let t : Core = record (source_read x u) { pc = u.pc + (2 + source_bytes x + target_bytes y) } in
       stays_behind (source_effects x u) (target_written y _ (source_value x u) t)
@@ -72,38 +72,38 @@ module _ (kept : KeptCode) where
   form_stays (KeepStack b) u h i = i
   form_stays RestoreStack u h i = h.3
 
-  module _ (tidy : IsTidy kept.code) where
-    abbrev code : Code
-    code = kept.code
+module _ (kept : KeptCode) (tidy : IsTidy kept.code) where
+  abbrev code : Code
+  code = kept.code
 
-    abbrev OnStack : MachineBoard → Type 0
-    OnStack s = IsKept kept (s.registers 1)
+  abbrev OnStack : MachineBoard → Type 0
+  OnStack s = IsKept (rules_of kept) (s.registers 1)
 
-    -- a board stands at forms in front of each of so many steps
-    abbrev AtForms : ℕ → MachineBoard → Type 0
-    AtForms n s = (k : ℕ) → k < n → OfState (going (exec code) k s).status (IsAtKept kept)
+  -- a board stands at forms in front of each of so many steps
+  abbrev AtForms : ℕ → MachineBoard → Type 0
+  AtForms n s = (k : ℕ) → k < n → OfState (going (exec code) k s).status (IsAtKept kept)
 
-    -- so it is behind a step
-    abbrev AtFormsBehind : ℕ → MachineOutcome → Type 0
-    AtFormsBehind n o = (k : ℕ) → k < n → OfState (continued o (going (exec code) k)).status (IsAtKept kept)
+  -- so it is behind a step
+  abbrev AtFormsBehind : ℕ → MachineOutcome → Type 0
+  AtFormsBehind n o = (k : ℕ) → k < n → OfState (continued o (going (exec code) k)).status (IsAtKept kept)
 
-    steps_on : (n : ℕ) (o : CoreOutcome) → OfNext o StackStays → AtFormsBehind n (outcome_of_core o)
-        → ((t : Core) → StackStays t → AtForms n (board_of t) → OfState (going (exec code) n (board_of t)).status OnStack)
-        → OfState (continued (outcome_of_core o) (going (exec code) n)).status OnStack
-    steps_on n (Goes es c t) i forms more = more t i forms
-    steps_on n (Stops es price e) i forms more = tt
+  steps_on : (n : ℕ) (o : CoreOutcome) → OfNext o (StackStays (rules_of kept)) → AtFormsBehind n (outcome_of_core o)
+      → ((t : Core) → StackStays (rules_of kept) t → AtForms n (board_of t) → OfState (going (exec code) n (board_of t)).status OnStack)
+      → OfState (continued (outcome_of_core o) (going (exec code) n)).status OnStack
+  steps_on n (Goes es c t) i forms more = more t i forms
+  steps_on n (Stops es price e) i forms more = tt
 
-    stays_on : (n : ℕ) (s : MachineBoard) → AtForms n s → OnStack s → OfState (going (exec code) n s).status OnStack
-    stays_on zero s forms i = i
-    stays_on (suc n) s forms i =
-        let k : IsAtKept kept s = forms 0 (omega arith) in
-        let made : exec code s ≡ outcome_of_core (form_step k.form k.core) = ap (exec code) k.is ∙ does kept tidy k.form k.core k.stands k.needs in
-        let sp : s.registers 1 ≡ k.core.sp = ap (λ b. b.registers 1) k.is in
-        let next = form_stays k.form k.core k.needs (subst (IsKept kept) sp i) in
-        let behind : AtFormsBehind n (outcome_of_core (form_step k.form k.core)) = λ j l.
-        subst (λ o. OfState (continued o (going (exec code) j)).status (IsAtKept kept)) made (forms (suc j) (omega (arith, l))) in
-        subst (λ o. OfState (continued o (going (exec code) n)).status OnStack) (sym made)
-        (steps_on n (form_step k.form k.core) next behind (λ t j at. stays_on n (board_of t) at j))
+  stays_on : (n : ℕ) (s : MachineBoard) → AtForms n s → OnStack s → OfState (going (exec code) n s).status OnStack
+  stays_on zero s forms i = i
+  stays_on (suc n) s forms i =
+      let k : IsAtKept kept s = forms 0 (omega arith) in
+      let made : exec code s ≡ outcome_of_core (form_step k.form k.core) = ap (exec code) k.is ∙ does kept tidy k.form k.core k.stands k.needs in
+      let sp : s.registers 1 ≡ k.core.sp = ap (λ b. b.registers 1) k.is in
+      let next = form_stays (rules_of kept) k.form k.core k.needs (subst (IsKept (rules_of kept)) sp i) in
+      let behind : AtFormsBehind n (outcome_of_core (form_step k.form k.core)) = λ j l.
+      subst (λ o. OfState (continued o (going (exec code) j)).status (IsAtKept kept)) made (forms (suc j) (omega (arith, l))) in
+      subst (λ o. OfState (continued o (going (exec code) n)).status OnStack) (sym made)
+      (steps_on n (form_step k.form k.core) next behind (λ t j at. stays_on n (board_of t) at j))
 
 pub forms_keep_the_stack : FormsKeepTheStack
 forms_keep_the_stack kept steps u tidy forms i n l = stays_on kept tidy n (board_of u) (λ k j. forms k (omega (arith, j, l))) i

@@ -9,7 +9,7 @@ use Rattle.machine_effects.specs.Going.{Goes, Stops, Status, At, Halted, stretch
 use Rattle.machine_effects.specs.Machine.{Code, MachineBoard, exec}
 use Rattle.code_forms.specs.Forms.{Core, CoreOutcome, CoreStretch, board_of, Form, Move, Calculate, Compare, Update, Push, Modify, SetStack, Sense, Jump, Skip}
 use Rattle.code_forms.specs.Forms.{EnableInterrupts, Branch, BranchIndexed, SkipBy, Call, Return, KeepStack, RestoreStack, instruction_of, form_bytes}
-use Rattle.code_forms.specs.Forms.{form_step, FormNeeds, KeptCode, anywhere}
+use Rattle.code_forms.specs.Forms.{form_step, FormNeeds, CodeRules}
 use Rattle.code_forms.specs.Forms.{IsCodeAddress}
 
 -- the forms stand in the code from this address on
@@ -79,13 +79,27 @@ OfNext (Goes es c t) P = P t
 OfNext (Stops es price e) P = Unit {0}
 
 -- what straight code needs: each form, where it is come to
-abbrev pub FormsNeed : KeptCode → List Form → Core → Type 0
-FormsNeed kept [] u = Unit {0}
-FormsNeed kept (m ∷ ms) u = FormNeeds kept m u × OfNext (form_step m u) (FormsNeed kept ms)
+abbrev pub FormsNeed : CodeRules → List Form → Core → Type 0
+FormsNeed rules [] u = Unit {0}
+FormsNeed rules (m ∷ ms) u = FormNeeds rules m u × OfNext (form_step m u) (FormsNeed rules ms)
 
 -- instructions stand at even addresses alone, with room behind them
 abbrev pub IsTidy : Code → Type 0
 IsTidy code = (p : ℕ) (i : Instr) → code.at p ≡ Some i → IsCodeAddress p
+
+-- code, and the addresses between which SP stays
+pub record KeptCode : Type 0 where
+  pub code : Code
+  pub low : ℕ
+  pub high : ℕ
+
+-- what it keeps to
+abbrev pub rules_of : KeptCode → CodeRules
+rules_of kept = record { events = kept.code.events; low = kept.low; high = kept.high }
+
+-- code of which it isn't said where SP stays
+abbrev pub anywhere : Code → KeptCode
+anywhere code = record { code = code; low = 0; high = 0x10000 }
 
 -- a machine that stands at a form, which has what it needs
 pub record IsAtKept (kept : KeptCode) (s : MachineBoard) : Type 0 where
@@ -93,7 +107,7 @@ pub record IsAtKept (kept : KeptCode) (s : MachineBoard) : Type 0 where
   pub core : Core
   pub is : s ≡ board_of core
   pub stands : kept.code.at core.pc ≡ Some (instruction_of form)
-  pub needs : FormNeeds kept form core
+  pub needs : FormNeeds (rules_of kept) form core
 
 -- a fact of the machine at a status
 abbrev pub OfState : Status MachineBoard Stop → (MachineBoard → Type 0) → Type 0

@@ -19,7 +19,7 @@ use Rattle.machine_effects.specs.World.{put}
 use Rattle.machine_effects.specs.fram_board.Effects.{Effect}
 use Rattle.machine_effects.specs.Inputs.{Inputs, first_look, other_looks, look_effects}
 use Rattle.machine_effects.specs.Going.{StepOutcome, Goes, Stops, Stretch}
-use Rattle.machine_effects.specs.Machine.{Code, MachineBoard, MachineOutcome, IsPlace, IsRam}
+use Rattle.machine_effects.specs.Machine.{MachineBoard, MachineOutcome, IsPlace, IsRam}
 pub use Rattle.instruction_forms.specs.Encoding.{index_of, source_operand, source_bytes, target_operand, target_bytes, modification_operand}
 pub use Rattle.instruction_forms.specs.Encoding.{instruction_of, form_bytes}
 pub use Rattle.instruction_forms.specs.declared.kinds.WorkRegister.{WorkRegister}
@@ -167,34 +167,30 @@ pub record IsSlot (a : ℕ) : Type 0 where
   pub low : ring_place ≤ a
   pub high : a < event_vector
 
--- code, and the addresses between which SP stays
-pub record KeptCode : Type 0 where
-  pub code : Code
+-- what code keeps to: whether it may take events, and between which addresses SP stays
+pub record CodeRules : Type 0 where
+  pub events : Bool
   pub low : ℕ
   pub high : ℕ
 
--- code of which it isn't said where SP stays
-abbrev pub anywhere : Code → KeptCode
-anywhere code = record { code = code; low = 0; high = 0x10000 }
-
 -- SP is between them
-abbrev pub IsKept : KeptCode → ℕ → Type 0
-IsKept kept sp = (kept.low ≤ sp) × (sp ≤ kept.high)
+abbrev pub IsKept : CodeRules → ℕ → Type 0
+IsKept rules sp = (rules.low ≤ sp) × (sp ≤ rules.high)
 
--- what it needs, in code that keeps SP between addresses
-abbrev pub SourceNeeds : KeptCode → Source → Core → Type 0
-SourceNeeds kept (Register b) u = Unit {0}
-SourceNeeds kept (Number n) u = Unit {0}
-SourceNeeds kept (Constant k) u = Unit {0}
-SourceNeeds kept (Fram a) u = IsPlace a
-SourceNeeds kept (Ram a) u = IsRam a × (u.sp ≤ a)
-SourceNeeds kept (Pointed b) u = IsPlace (u.work (work_number b))
-SourceNeeds kept (PointedNext b) u = IsPlace (u.work (work_number b))
-SourceNeeds kept (Indexed b x) u = IsPlace (u.work (work_number b) + x)
-SourceNeeds kept Popped u = IsRam u.sp × (kept.code.events ≡ true → u.sp + 2 ≤ stack_start) × IsKept kept (u.sp + 2)
-SourceNeeds kept (StackNext b) u = IsRam (u.work (work_number b)) × (u.sp ≤ u.work (work_number b))
-SourceNeeds kept Head u = Unit {0}
-SourceNeeds kept (Slot b) u = IsSlot (u.work (work_number b) + ring_place)
+-- what it needs, by the rules of its code
+abbrev pub SourceNeeds : CodeRules → Source → Core → Type 0
+SourceNeeds rules (Register b) u = Unit {0}
+SourceNeeds rules (Number n) u = Unit {0}
+SourceNeeds rules (Constant k) u = Unit {0}
+SourceNeeds rules (Fram a) u = IsPlace a
+SourceNeeds rules (Ram a) u = IsRam a × (u.sp ≤ a)
+SourceNeeds rules (Pointed b) u = IsPlace (u.work (work_number b))
+SourceNeeds rules (PointedNext b) u = IsPlace (u.work (work_number b))
+SourceNeeds rules (Indexed b x) u = IsPlace (u.work (work_number b) + x)
+SourceNeeds rules Popped u = IsRam u.sp × (rules.events ≡ true → u.sp + 2 ≤ stack_start) × IsKept rules (u.sp + 2)
+SourceNeeds rules (StackNext b) u = IsRam (u.work (work_number b)) × (u.sp ≤ u.work (work_number b))
+SourceNeeds rules Head u = Unit {0}
+SourceNeeds rules (Slot b) u = IsSlot (u.work (work_number b) + ring_place)
 
 -- the address in RAM at which it reads, if it does
 abbrev pub source_ram : Source → Core → Option ℕ
@@ -297,11 +293,11 @@ form_step (KeepStack b) u = Goes [] 1 (record u { pc = u.pc + 2; work = put u.wo
 form_step RestoreStack u = Goes [] 2 (record u { pc = u.pc + 2; sp = u.ram u.sp })
 
 -- room in RAM below SP for a word, where code keeps SP
-pub record HasPushRoom (kept : KeptCode) (sp : ℕ) : Type 0 where
+pub record HasPushRoom (rules : CodeRules) (sp : ℕ) : Type 0 where
   pub even : sp % 2 ≡ 0
   pub room : HasStackRoom sp 1
   pub high : sp ≤ stack_top
-  pub below : IsKept kept (sp - 2)
+  pub below : IsKept rules (sp - 2)
 
 -- a handler is named, and has room in RAM below SP
 pub record IsPrepared (u : Core) : Type 0 where
@@ -314,28 +310,28 @@ abbrev pub IsNotMov : TwoOp → Type 0
 IsNotMov Mov = ⊥
 IsNotMov _ = Unit {0}
 
--- what a form needs, in code that keeps SP between addresses: so it stands there behind each
-abbrev pub FormNeeds : KeptCode → Form → Core → Type 0
-FormNeeds kept (Move x y) u = SourceNeeds kept x u × TargetNeeds y (source_read x u)
-FormNeeds kept (Calculate op x b) u = IsNotMov op × SourceNeeds kept x u
-FormNeeds kept (Compare x a) u = SourceNeeds kept x u × IsPlace a
-FormNeeds kept (Update op x a) u = IsNotMov op × (writes_destination op ≡ true) × SourceNeeds kept x u × IsPlace a
-FormNeeds kept (Push x) u = SourceNeeds kept x u × HasPushRoom kept (source_read x u).sp
-FormNeeds kept (Modify m b) u = Unit {0}
-FormNeeds kept (SetStack n) u = (n % 2 ≡ 0) × (kept.code.events ≡ true → n ≡ stack_start) × IsKept kept n
-FormNeeds kept EnableInterrupts u = (kept.code.events ≡ true) × IsPrepared u
-FormNeeds kept (Sense b) u = Unit {0}
-FormNeeds kept (Jump c offset) u = Unit {0}
-FormNeeds kept (Skip n) u = n % 2 ≡ 0
-FormNeeds kept (Branch a) u = a % 2 ≡ 0
-FormNeeds kept (BranchIndexed b x) u = IsPlace (u.work (work_number b) + x) × (u.fram (u.work (work_number b) + x) % 2 ≡ 0)
-FormNeeds kept (SkipBy b) u = u.work (work_number b) % 2 ≡ 0
-FormNeeds kept (Call a) u = (a % 2 ≡ 0) × HasPushRoom kept u.sp
-FormNeeds kept Return u =
-    IsRam u.sp × (kept.code.events ≡ true → u.sp + 2 ≤ stack_start) × (u.ram u.sp % 2 ≡ 0) × IsKept kept (u.sp + 2)
-FormNeeds kept (KeepStack b) u = Unit {0}
-FormNeeds kept RestoreStack u =
-    IsRam u.sp × (kept.code.events ≡ true → (u.sp ≤ u.ram u.sp) × (u.ram u.sp ≤ stack_start)) × (u.ram u.sp % 2 ≡ 0) × IsKept kept (u.ram u.sp)
+-- what a form needs, by the rules of its code: behind each SP stands between their addresses
+abbrev pub FormNeeds : CodeRules → Form → Core → Type 0
+FormNeeds rules (Move x y) u = SourceNeeds rules x u × TargetNeeds y (source_read x u)
+FormNeeds rules (Calculate op x b) u = IsNotMov op × SourceNeeds rules x u
+FormNeeds rules (Compare x a) u = SourceNeeds rules x u × IsPlace a
+FormNeeds rules (Update op x a) u = IsNotMov op × (writes_destination op ≡ true) × SourceNeeds rules x u × IsPlace a
+FormNeeds rules (Push x) u = SourceNeeds rules x u × HasPushRoom rules (source_read x u).sp
+FormNeeds rules (Modify m b) u = Unit {0}
+FormNeeds rules (SetStack n) u = (n % 2 ≡ 0) × (rules.events ≡ true → n ≡ stack_start) × IsKept rules n
+FormNeeds rules EnableInterrupts u = (rules.events ≡ true) × IsPrepared u
+FormNeeds rules (Sense b) u = Unit {0}
+FormNeeds rules (Jump c offset) u = Unit {0}
+FormNeeds rules (Skip n) u = n % 2 ≡ 0
+FormNeeds rules (Branch a) u = a % 2 ≡ 0
+FormNeeds rules (BranchIndexed b x) u = IsPlace (u.work (work_number b) + x) × (u.fram (u.work (work_number b) + x) % 2 ≡ 0)
+FormNeeds rules (SkipBy b) u = u.work (work_number b) % 2 ≡ 0
+FormNeeds rules (Call a) u = (a % 2 ≡ 0) × HasPushRoom rules u.sp
+FormNeeds rules Return u =
+    IsRam u.sp × (rules.events ≡ true → u.sp + 2 ≤ stack_start) × (u.ram u.sp % 2 ≡ 0) × IsKept rules (u.sp + 2)
+FormNeeds rules (KeepStack b) u = Unit {0}
+FormNeeds rules RestoreStack u =
+    IsRam u.sp × (rules.events ≡ true → (u.sp ≤ u.ram u.sp) × (u.ram u.sp ≤ stack_start)) × (u.ram u.sp % 2 ≡ 0) × IsKept rules (u.ram u.sp)
 
 -- the address in RAM at which a form reads, if it does
 abbrev pub ram_read : Form → Core → Option ℕ

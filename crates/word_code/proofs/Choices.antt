@@ -5,7 +5,7 @@ use Rattle.word_code.proofs.Names.{to_register, source_operand, TwoOp, IsNotMov,
 use Rattle.word_code.proofs.Names.{◌∷◌, Some, refl, sym, ap, ap₂, ◌∙◌, subst, arith, Bool, true, false, if◌then◌else◌, not-not, Flags, Word, Condition, is_met}
 use Rattle.word_code.proofs.Names.{R4, Core, Constant, Form, Calculate, instruction_of, Stands, forms_bytes, Runs, Comparison, Above, SignedAbove, CommonBit}
 use Rattle.word_code.proofs.Names.{List, ◌++◌, stands_back, forms_bytes-append, is_true, compare_words, WordState, Behaviour, compare_form, holding}
-use Rattle.word_code.proofs.Names.{failing, jump_over, decision}
+use Rattle.word_code.proofs.Names.{failing, jump_over, decision, rules_of}
 use Rattle.word_code.proofs.Middles.{IsRead, calculate}
 use Rattle.word_code.proofs.Follows.{stands_elsewhere, StandsFor, Follows, then_end}
 use Rattle.word_code.proofs.Registers.{Holds, Has, line, equal_flag}
@@ -109,7 +109,7 @@ module _ (z : Setting) where
   flags_part : (o : TwoOp) (x : Source) (b : WorkRegister) (c pc : ℕ) {l r : ℕ} {w : WordState} {t : Core} (f : Flags) → IsNotMov o
       × (writes_destination o ≡ false)
       → source_cycles to_register (source_operand x) ≤ c
-      → (let m = Calculate o x b in z.code.at pc ≡ Some (instruction_of m) → StandsFor z pc w t → IsRead z.kept x b l r t t
+      → (let m = Calculate o x b in z.code.at pc ≡ Some (instruction_of m) → StandsFor z pc w t → IsRead (rules_of z.kept) x b l r t t
       → flags_after (operated o Word l r t.flags).flags t.flags ≡ f → Runs z.kept [] c t (HasFlags (pc + form_bytes m) w f))
   flags_part o x b c pc {l} {r} {w} {t} f reads price h i k made =
       calculate z o x b c t false _ reads.0 reads.1 price (ap z.code.at i.at ∙ h) k (record {

@@ -4,7 +4,7 @@ use Rattle.word_code.proofs.Names.{length, get_or, Some, refl, sym, ap, ◌∙�
 use Rattle.word_code.proofs.Names.{work_number, Core, R4, Register, ToRegister, ToRam, Move, Push, SetStack, Call, KeepStack, RestoreStack, StackNext}
 use Rattle.word_code.proofs.Names.{form_bytes, Stands, forms_bytes, Runs, IsRam, stands_front, stands_back, forms_bytes-append}
 use Rattle.word_code.proofs.Names.{WordState, Behaviour, with_stack, called_behind, called, Program, IsCalled, IsFormed, IsOwn, Waiting, flushed, length-append}
-use Rattle.word_code.proofs.Names.{local_register, local_address, local_target, frame_code, framed_call, IsKept}
+use Rattle.word_code.proofs.Names.{local_register, local_address, local_target, frame_code, framed_call, IsKept, rules_of}
 use Rattle.word_code.specs.declared.waiting.Waiting.TheVariants as waiting
 use Rattle.word_code.proofs.Stretches.{Setting, bounds_of, hop, runs_on, so_runs, nothing_run}
 use Rattle.word_code.proofs.Memory.{local_words, local_word, register_at, register_put, below_eight, from_eight, StackIs, stack_same, stack_upper, address_same}
@@ -199,7 +199,7 @@ module _ (z : Setting) where
 
   -- SP of the caller is kept, and SP set
   module _ (frame : ℕ) (words vs : List ℕ) (pc : ℕ) (w : WordState) (u : Core) where
-    frame_part : frame % 2 ≡ 0 → IsKept z.kept frame → (z.code.events ≡ false) → w.stack ≡ words ++ vs → Stands z.code pc (KeepStack R4 ∷ SetStack frame ∷ [])
+    frame_part : frame % 2 ≡ 0 → IsKept (rules_of z.kept) frame → (z.code.events ≡ false) → w.stack ≡ words ++ vs → Stands z.code pc (KeepStack R4 ∷ SetStack frame ∷ [])
         → StandsFor z pc w u → Runs z.kept [] 3 u (Filling u (u.sp + 2 * length words) frame (pc + 6) words)
     frame_part even stays none e h i =
         let t : Core = record u { pc = u.pc + 2; work = put u.work 4 u.sp } in
@@ -235,7 +235,7 @@ module _ (z : Setting) where
     frame_room = let spare = z.spare.fits in let floor = x.floor in let fits : x.lowest + 2 * (x.room + 2) ≤ f = x.fits.3 in omega (arith, spare, fits)
 
     -- SP stays in the stack there
-    frame_stays : (sp : ℕ) → f ≤ sp + 4 → sp ≤ f → IsKept z.kept sp
+    frame_stays : (sp : ℕ) → f ≤ sp + 4 → sp ≤ f → IsKept (rules_of z.kept) sp
     frame_stays sp low high =
         let floor = x.floor in let lowest = z.lowest in let fits : x.lowest + 2 * (x.room + 2) ≤ f = x.fits.3 in
         let below : f ≤ z.low = x.fits.2 in let deep = z.deep in let within = z.within in
@@ -318,7 +318,7 @@ module _ (z : Setting) where
           record { even = omega (arith, there, sp); low = omega (arith, there, sp); high = omega (arith, there, sp) },
           λ k. absurd (let light = z.light k in let framed : z.framed ≡ true = x.fits.0 in (cc)),
           ap (λ n. n % 2) word ∙ even_behind,
-          subst (IsKept z.kept) (sym word) (omega (arith, low_behind, floor), omega (arith, depth, within)),
+          subst (IsKept (rules_of z.kept)) (sym word) (omega (arith, low_behind, floor), omega (arith, depth, within)),
         ) refl (omega arith)
         (record {
           rest = w.stack;

@@ -3,7 +3,7 @@ use Rattle.word_code.proofs.Names.{◌≡◌, ℕ, ◌+◌, ◌≤◌, Bool, tru
 use Rattle.word_code.proofs.Names.{local, set_local, update_local, truth, choose, repeat, holds, compares, both, either, fails, nothing, step, StepLocalsBelow}
 use Rattle.word_code.proofs.Names.{TestLocalsBelow, LocalsBelow, step_locals, test_locals, locals_of, Core, Form, SetStack, forms_bytes, Stands, Runs}
 use Rattle.word_code.proofs.Names.{stack_top, stack_base, stack_set, stack_cycles, stack_start, HasStackRoom, Code, IsTidy, IsWhole, FitsEvents, ◌<◌, ◌*◌, ◌%◌}
-use Rattle.word_code.proofs.Names.{StepEachLocal, TestEachLocal, EachLocal, inl, inr, local_address, both_ways, KeptCode, IsKept, KeepsWithin, entry_stack}
+use Rattle.word_code.proofs.Names.{StepEachLocal, TestEachLocal, EachLocal, inl, inr, local_address, both_ways, KeptCode, IsKept, rules_of, KeepsWithin, entry_stack}
 use Rattle.word_code.proofs.Names.{subst, sym}
 use Rattle.word_code.proofs.Memory.{Owns, below_eight, from_eight}
 use Rattle.word_code.proofs.Stretches.{Setting, hop, nothing_run, dearer}
@@ -191,7 +191,7 @@ pub record HasStack (pc top : ℕ) (u t : Core) : Type 0 where
   pub ram : t.ram ≡ u.ram
   pub work : t.work ≡ u.work
 
-set_by : (z : Setting) (locals : ℕ) (b : Bool) (u : Core) → z.code.events ≡ false → IsKept z.kept (stack_base locals) → nat_lt 8 locals ≡ b
+set_by : (z : Setting) (locals : ℕ) (b : Bool) (u : Core) → z.code.events ≡ false → IsKept (rules_of z.kept) (stack_base locals) → nat_lt 8 locals ≡ b
     → u.sp ≡ stack_top
     → (let ms : List Form = if b then SetStack (stack_base locals) ∷ [] else [] in Stands z.code u.pc ms
     → Runs z.kept [] stack_cycles u (HasStack (u.pc + forms_bytes ms) (stack_base locals) u))
@@ -205,6 +205,6 @@ set_by z locals false u none stays e sp h =
     let few : locals ≤ 8 = grind (arith, nat_tests) in
     dearer z (omega arith) (nothing_run z (record { at = omega arith; sp = omega (arith, sp, few); fram = refl; inputs = refl; ram = refl; work = refl }))
 
-pub stack_part : (z : Setting) (locals : ℕ) (u : Core) → z.code.events ≡ false → IsKept z.kept (stack_base locals) → u.sp ≡ stack_top → Stands z.code u.pc (stack_set false locals)
+pub stack_part : (z : Setting) (locals : ℕ) (u : Core) → z.code.events ≡ false → IsKept (rules_of z.kept) (stack_base locals) → u.sp ≡ stack_top → Stands z.code u.pc (stack_set false locals)
     → Runs z.kept [] stack_cycles u (HasStack (u.pc + forms_bytes (stack_set false locals)) (stack_base locals) u)
 stack_part z locals u none stays sp h = set_by z locals (nat_lt 8 locals) u none stays refl sp h

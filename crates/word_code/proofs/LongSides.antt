@@ -35,7 +35,7 @@ seven_spare : IsSpare R7
 seven_spare = record { locals = λ f y. refl; four = λ f y. refl; six = λ f y. refl }
 
 register_shows : (b : WorkRegister) (v : ℕ) (f g : ℕ → ℕ) → g (work_number b) ≡ v → ShowsOn b (Register b) v f g
-register_shows b v f g e = record { word = λ s a l. ap (λ ws. get_or ws 0 0) l ∙ e; needs = λ code s. tt; quiet = λ s. refl; still = λ s. refl }
+register_shows b v f g e = record { word = λ s a l. ap (λ ws. get_or ws 0 0) l ∙ e; needs = λ rules s. tt; quiet = λ s. refl; still = λ s. refl }
 
 -- those words are the same where that register and those of the locals are
 side_same : (b : WorkRegister) (f g : ℕ → ℕ) → f (work_number b) ≡ g (work_number b) → ((n : ℕ) → 8 ≤ n → f n ≡ g n) → side_words b f ≡ side_words b g

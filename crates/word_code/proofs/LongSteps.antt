@@ -2,7 +2,7 @@
 use Rattle.word_code.proofs.Names.{◌≡◌, ℕ, ◌+◌, ◌-◌, ◌%◌, ◌<◌, ◌≤◌, Bool, true, false, not, nat_le, nat_lt, [], ◌∷◌, ◌++◌, Some, refl, ap, ap₂, ◌∙◌, subst}
 use Rattle.word_code.proofs.Names.{arith, not-not, bit, Flags, Core, Calculate, Constant, R4, R6, TwoOp, IsNotMov, Word, Runs, Source, source_operand}
 use Rattle.word_code.proofs.Names.{source_cycles, source_bytes, to_register, flags_after, operated, writes_destination, instruction_of, Stands, forms_bytes}
-use Rattle.word_code.proofs.Names.{PlainOperation, Add, Subtract, plain_instruction, WordState}
+use Rattle.word_code.proofs.Names.{PlainOperation, Add, Subtract, plain_instruction, WordState, rules_of}
 use Rattle.std.specs.Prelude.{bit_xor}
 use Rattle.array_versions.specs.msp_step.msp_isa.declared.instructions.TwoOp.TheVariants as op
 use Rattle.array_versions.specs.msp_step.msp_isa.declared.operands.Konst.TheVariants as konst
@@ -74,7 +74,7 @@ module _ (z : Setting) where
     low_step o pc a t writes h i =
         let k = i.held in
         calculate z o x R4 c t true _ writes.0 writes.1 low (ap z.code.at i.is.at ∙ h)
-        (record { needs = k.low.needs z.kept t; quiet = k.low.quiet t; still = k.low.still t; left = k.four; right = k.low.word t i.is.fram refl })
+        (record { needs = k.low.needs (rules_of z.kept) t; quiet = k.low.quiet t; still = k.low.still t; left = k.four; right = k.low.word t i.is.fram refl })
         (record {
           all = record {
             is = stands_elsewhere z pc (pc + (2 + source_bytes x)) w t _ i.is (omega (arith, i.is.at)) refl refl refl refl refl;
@@ -91,7 +91,7 @@ module _ (z : Setting) where
     high_step o pc a t writes h i =
         let k = i.held in
         calculate z o y R6 d t true _ writes.0 writes.1 high (ap z.code.at i.is.at ∙ h)
-        (record { needs = k.high.needs z.kept t; quiet = k.high.quiet t; still = k.high.still t; left = k.six; right = k.high.word t i.is.fram refl })
+        (record { needs = k.high.needs (rules_of z.kept) t; quiet = k.high.quiet t; still = k.high.still t; left = k.six; right = k.high.word t i.is.fram refl })
         (record {
           all = record {
             is = stands_elsewhere z pc (pc + (2 + source_bytes y)) w t _ i.is (omega (arith, i.is.at)) refl refl refl refl refl;

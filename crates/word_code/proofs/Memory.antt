@@ -3,7 +3,7 @@ use Rattle.word_code.proofs.Names.{◌≡◌, ℕ, zero, suc, ◌+◌, ◌-◌, 
 use Rattle.word_code.proofs.Names.{arith}
 use Rattle.word_code.proofs.Names.{Bool, true, false, nat_eq, nat_lt, eq-eqb, ne_eqb, if◌then◌else◌, nat_tests, same_Some, put, IsPlace, IsRam}
 use Rattle.word_code.proofs.Names.{stack_start, put_same, put_other, work_number, HasPushRoom, is_place, assigned, local_register, local_address, eqb-true}
-use Rattle.word_code.proofs.Names.{IsOwn, inl, inr, IsKept}
+use Rattle.word_code.proofs.Names.{IsOwn, inl, inr, IsKept, rules_of}
 use Rattle.word_code.proofs.Stretches.{Setting}
 pub use Rattle.array_versions.specs.alp_words.Words.{AreWords, HoldsWords}
 
@@ -155,7 +155,7 @@ module _ (z : Setting) where
       subst (λ n. Memory z n ram regs rest ls) same (drop_memory (sp + 2) words (pop_memory m))
 
   pub pop_needs : {sp v : ℕ} {ram : ℕ → ℕ} {words vs : List ℕ} {ls : ℕ → Option ℕ} → Memory z sp ram words (v ∷ vs) ls
-      → IsRam sp × (z.code.events ≡ true → sp + 2 ≤ stack_start) × IsKept z.kept (sp + 2)
+      → IsRam sp × (z.code.events ≡ true → sp + 2 ≤ stack_start) × IsKept (rules_of z.kept) (sp + 2)
   pop_needs m =
       let d = m.depth in let f = m.fits in let r = z.roomy.fits in let e = z.even in let b = z.deep in let high = z.high in
       let floor = z.floor in let lowest = z.lowest in let within = z.within in (
@@ -164,7 +164,7 @@ module _ (z : Setting) where
         (omega arith, omega arith),
       )
 
-  pub push_needs : {sp : ℕ} {ram : ℕ → ℕ} {words vs : List ℕ} {ls : ℕ → Option ℕ} → Memory z sp ram words vs ls → length vs < z.room → HasPushRoom z.kept sp
+  pub push_needs : {sp : ℕ} {ram : ℕ → ℕ} {words vs : List ℕ} {ls : ℕ → Option ℕ} → Memory z sp ram words vs ls → length vs < z.room → HasPushRoom (rules_of z.kept) sp
   push_needs m l =
       let d = m.depth in let r = z.roomy.fits in let e = z.even in let b = z.deep in let h = z.high in
       let floor = z.floor in let lowest = z.lowest in let within = z.within in

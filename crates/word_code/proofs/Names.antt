@@ -33,11 +33,11 @@ pub use Rattle.array_versions.specs.msp_step.Effect.{word_sum as sum16, distance
 -- forms of instructions
 pub use Rattle.code_forms.proofs.Interface.{stands_at, stands_front, stands_back, end_of, forms_bytes-append, form_small, bytes_are, form_at, forms_at}
 pub use Rattle.code_forms.proofs.Interface.{forms_behind, first_forms}
-pub use Rattle.code_forms.specs.Code.{Stands, forms_bytes, forms_run, RunsWithin as Runs, StarvesWithin as Starves, AreStraight, FormsNeed, IsTidy}
+pub use Rattle.code_forms.specs.Code.{Stands, forms_bytes, forms_run, RunsWithin as Runs, StarvesWithin as Starves, AreStraight, FormsNeed, IsTidy, KeptCode, rules_of, anywhere}
 pub use Rattle.code_forms.specs.Forms.{R4, R5, Core, Number, Constant, ToRegister, ToIndexed, Form, Move, Calculate, Update, form_bytes, Register}
 pub use Rattle.code_forms.specs.Forms.{instruction_of, Push, Fram, Ram, ToFram, Source, Jump, Skip, Branch, source_bytes, ToRam, target_bytes, WorkRegister, R6}
 pub use Rattle.code_forms.specs.Forms.{R7, work_number, Indexed, HasPushRoom, source_operand, source_value, source_read, source_effects, SourceNeeds}
-pub use Rattle.code_forms.specs.Forms.{board_of, Modify, sensed, KeptCode, IsKept, anywhere}
+pub use Rattle.code_forms.specs.Forms.{board_of, Modify, sensed, CodeRules, IsKept}
 pub use Rattle.code_forms.specs.Forms.{Call, Return, KeepStack, RestoreStack, StackNext}
 pub use Rattle.code_forms.specs.Forms.{flags_after, form_step, FormNeeds, IsNotMov, SetStack}
 pub use Rattle.code_forms.specs.Placed.{instructions, words_of as instruction_words, AreInstructions}

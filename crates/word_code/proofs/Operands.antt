@@ -7,7 +7,7 @@ use Rattle.word_code.proofs.Names.{source_cycles, to_register, to_memory, push, 
 use Rattle.word_code.proofs.Names.{Constant, source_operand, source_bytes, source_value, source_read, SourceNeeds, ToRegister, Form, Move, Calculate, Push}
 use Rattle.word_code.proofs.Names.{HasPushRoom, instruction_of, form_bytes, Stands, forms_bytes, Runs, WordState, with_stack, pushed, Waiting, number_source}
 use Rattle.word_code.proofs.Names.{waiting_source, flushed, top_of, source_from, below_top, any_held, cleared, kept, four_from, five_from, top_to_four}
-use Rattle.word_code.proofs.Names.{top_to_five, KeptCode}
+use Rattle.word_code.proofs.Names.{top_to_five, CodeRules, rules_of}
 use Rattle.array_versions.specs.msp_step.msp_isa.declared.instructions.TwoOp.TheVariants as op
 use Rattle.array_versions.specs.msp_step.msp_isa.declared.operands.Konst.TheVariants as konst
 use Rattle.word_code.specs.declared.waiting.Waiting.TheVariants as waiting
@@ -169,11 +169,11 @@ pub source_quiet : (o : Waiting) (u : Core) → source_effects (waiting_source o
 source_quiet (waiting.Number n) u = number_cases (λ s. source_effects s u ≡ []) n refl (λ k e. refl)
 source_quiet _ u = refl
 
-pub source_needs : (code : KeptCode) (owns : ℕ → Type 0) (locals : ℕ → Option ℕ) (o : Waiting) (u : Core) → IsThere owns locals o
-    → SourceNeeds code (waiting_source o) u
-source_needs code owns locals (waiting.Number n) u h = number_cases (λ s. SourceNeeds code s u) n tt (λ k e. tt)
-source_needs code owns locals (waiting.Fram a) u h = h
-source_needs code owns locals _ u h = tt
+pub source_needs : (rules : CodeRules) (owns : ℕ → Type 0) (locals : ℕ → Option ℕ) (o : Waiting) (u : Core) → IsThere owns locals o
+    → SourceNeeds rules (waiting_source o) u
+source_needs rules owns locals (waiting.Number n) u h = number_cases (λ s. SourceNeeds rules s u) n tt (λ k e. tt)
+source_needs rules owns locals (waiting.Fram a) u h = h
+source_needs rules owns locals _ u h = tt
 
 -- the flags of a register that is compared with a number
 pub record IsCompared (x k : ℕ) (f : Flags) : Type 0 where
@@ -193,7 +193,7 @@ pub record Top (z : Setting) (x : Source) (os : List Waiting) (pc : ℕ) (w : Wo
   pub at : u.pc ≡ pc
   pub fram : u.fram ≡ w.fram
   pub value : source_value x u ≡ v
-  pub needs : SourceNeeds z.kept x u
+  pub needs : SourceNeeds (rules_of z.kept) x u
   pub quiet : source_effects x u ≡ []
   pub left : Describes z os pc (with_stack vs w) (source_read x u)
   pub same : (source_read x u).work ≡ u.work
@@ -248,7 +248,7 @@ module _ (z : Setting) where
       let after : Core → Core = λ t. record t { pc = u.pc + (2 + source_bytes x); sp = t.sp - 2; ram = put t.ram (t.sp - 2) (source_value x u) } in
       let still = source_still o u in
       hop z (Push x) (owed_by o) u (after u) [] price _ (ap z.code.at i.at ∙ c)
-      (source_needs z.kept (Owns z) w.locals o u h, subst (λ (t : Core). HasPushRoom z.kept t.sp) (sym still) (push_needs z i.memory s))
+      (source_needs (rules_of z.kept) (Owns z) w.locals o u h, subst (λ (t : Core). HasPushRoom (rules_of z.kept) t.sp) (sym still) (push_needs z i.memory s))
       (ap (λ es. Goes es price (after (source_read x u))) (source_quiet o u) ∙ ap (λ t. Goes [] price (after t)) still) (push_cycles o)
       (record {
         is =
@@ -357,7 +357,7 @@ module _ (z : Setting) where
         at = d.is.at;
         fram = d.is.fram;
         value = source_word o pc (with_stack d.rest w) u d.is d.there.0 ∙ sym (head_is q);
-        needs = source_needs z.kept (Owns z) w.locals o u d.there.0;
+        needs = source_needs (rules_of z.kept) (Owns z) w.locals o u d.there.0;
         quiet = source_quiet o u;
         left = subst (λ t. Describes z os pc (with_stack vs w) t) (sym still)
             (record { rest = d.rest; is = d.is; stack = tail_is q; there = d.there.1; fits = omega (arith, d.fits, ap (length {A = ℕ}) e) });
@@ -372,7 +372,7 @@ module _ (z : Setting) where
         at = i.at;
         fram = i.fram;
         value = source_word (waiting.Number k) pc w u i tt;
-        needs = source_needs z.kept (Owns z) w.locals (waiting.Number k) u tt;
+        needs = source_needs (rules_of z.kept) (Owns z) w.locals (waiting.Number k) u tt;
         quiet = source_quiet (waiting.Number k) u;
         left = subst (λ t. Describes z [] pc w t) (sym still) (dressed pc w u i);
         same = ap (λ (t : Core). t.work) still;

@@ -2,7 +2,7 @@
 use Rattle.word_code.proofs.Names.{sym, subst, ◌≡◌, ℕ, ◌+◌, ◌-◌, ◌%◌, ◌<◌, ◌==◌, List, [], ◌∷◌, Some, refl, ap, ap₂, ◌∙◌, arith, Bool, false, nat_le}
 use Rattle.word_code.proofs.Names.{if◌then◌else◌, Flags, Effect, stretch, At, FormsNeed, AreStraight, forms_run, end_of, stands_at, work_number, WorkRegister}
 use Rattle.word_code.proofs.Names.{bytes_are, nat_tests, Word, sum_of, Condition, sum16, distance, is_met, Core, Form, Jump, Skip, instruction_of, Stands}
-use Rattle.word_code.proofs.Names.{forms_bytes, Runs, WordState, Inputs}
+use Rattle.word_code.proofs.Names.{forms_bytes, Runs, WordState, Inputs, rules_of}
 use Rattle.word_code.proofs.Memory.{Memory, local_words}
 use Rattle.word_code.proofs.Stretches.{straight, hop, so_runs, Setting}
 use Rattle.word_code.proofs.Follows.{StandsFor, stands_elsewhere}
@@ -72,7 +72,7 @@ module _ (z : Setting) where
   module _ {pc : ℕ} {w : WordState} {t : Core} where
     -- straight code that writes R4 to R7 and words of FRAM
     pub store_line : (ms : List Form) (es : List Effect) (f : ℕ → ℕ) (c pc' : ℕ) (Q : Core → Type 0) → StandsFor z pc w t → AreStraight ms
-        → Stands z.code pc ms → FormsNeed z.kept ms t → (let r = forms_run ms t in let v = end_of t r.status in r ≡ stretch r.effects c (At v)
+        → Stands z.code pc ms → FormsNeed (rules_of z.kept) ms t → (let r = forms_run ms t in let v = end_of t r.status in r ≡ stretch r.effects c (At v)
         → kept_by (record v { fram = t.fram }) ≡ kept_by t → v.pc ≡ pc' → r.effects ≡ es → v.fram ≡ f
         → (StandsFor z pc' (record w { fram = f }) v → Q v) → Runs z.kept es c t Q)
     store_line ms es f c pc' Q i st h ok e k p made fram q =
@@ -83,7 +83,7 @@ module _ (z : Setting) where
         (q (record { at = p; memory = words; fram = fram; inputs = ap (λ x. x.inputs) k ∙ i.inputs })))
 
     -- straight code that writes R4 to R7 alone
-    pub line : (ms : List Form) (c pc' : ℕ) (Q : Core → Type 0) → StandsFor z pc w t → AreStraight ms → Stands z.code pc ms → FormsNeed z.kept ms t
+    pub line : (ms : List Form) (c pc' : ℕ) (Q : Core → Type 0) → StandsFor z pc w t → AreStraight ms → Stands z.code pc ms → FormsNeed (rules_of z.kept) ms t
         → (let v = end_of t (forms_run ms t).status in forms_run ms t ≡ stretch [] c (At v) → kept_by v ≡ kept_by t → v.pc ≡ pc'
         → (StandsFor z pc' w v → Q v) → Runs z.kept [] c t Q)
     line ms c pc' Q i st h ok e k p q =

@@ -1,7 +1,7 @@
 -- The two sides of an operation: the left one in R4, and the right one in R5, or read where it waits.
 use Rattle.word_code.specs.Code.{is_turned, compare_sides, compare_source}
 use Rattle.word_code.proofs.Names.{source_effects, Comparison, Core, Form, R5, Register, Runs, Source, SourceNeeds, Stands, Waiting, WordState}
-use Rattle.word_code.proofs.Names.{WorkRegister, any_held, KeptCode}
+use Rattle.word_code.proofs.Names.{WorkRegister, any_held, CodeRules, rules_of}
 use Rattle.word_code.proofs.Names.{below_top, cleared, drop, five_from, flushed, forms_bytes, four_from, get_or, kept, rest_source, rests, right_source}
 use Rattle.word_code.proofs.Names.{right_to_rest, sides, source_cycles, source_from, source_operand, source_read, source_value, stays, to_memory, to_register}
 use Rattle.word_code.proofs.Names.{to_rest, top_of, two_to_registers, update_sides, waiting_source, with_stack, work_number, ◌≡◌, ℕ, ◌+◌, ◌≤◌, Bool, true}
@@ -57,7 +57,7 @@ kept_words six g = g 5 ∷ ((if six then g 6 else 0) ∷ local_words g)
 -- on each machine with this FRAM and these of its registers' words a source gives this word
 pub record Gives (keeps : (ℕ → ℕ) → List ℕ) (x : Source) (v : ℕ) (f : ℕ → ℕ) (ws : List ℕ) : Type 0 where
   pub word : (s : Core) → s.fram ≡ f → keeps s.work ≡ ws → source_value x s ≡ v
-  pub needs : (code : KeptCode) (s : Core) → SourceNeeds code x s
+  pub needs : (rules : CodeRules) (s : Core) → SourceNeeds rules x s
   pub quiet : (s : Core) → source_effects x s ≡ []
   pub still : (s : Core) → source_read x s ≡ s
 
@@ -70,7 +70,7 @@ pub record Aiming (six : Bool) (x : Source) (k v : ℕ) (f g : ℕ → ℕ) : Ty
   pub gives : GivesOn six x v f g
 
 pub five_gives : (six : Bool) (v : ℕ) (f g : ℕ → ℕ) → g 5 ≡ v → GivesOn six (Register R5) v f g
-five_gives six v f g e = record { word = λ s a l. ap (λ ws. get_or ws 0 0) l ∙ e; needs = λ code s. tt; quiet = λ s. refl; still = λ s. refl }
+five_gives six v f g e = record { word = λ s a l. ap (λ ws. get_or ws 0 0) l ∙ e; needs = λ rules s. tt; quiet = λ s. refl; still = λ s. refl }
 
 -- it stays where it waits, in R6 too where this is said
 abbrev pub lies : Bool → Option Waiting → Bool
@@ -102,7 +102,7 @@ pub waiting_gives : (keeps : (ℕ → ℕ) → List ℕ) (six : Bool) (owns : �
 waiting_gives keeps six owns locals o v t b h q same =
     record {
       word = λ s a l. let k = same s l in word_same six owns locals o s t b h a k.0 k.1 ∙ q;
-      needs = λ code s. source_needs code owns locals o s h;
+      needs = λ rules s. source_needs rules owns locals o s h;
       quiet = λ s. source_quiet o s;
       still = λ s. source_still o s;
     }
@@ -121,9 +121,9 @@ kept_same six f g h =
     ∷ other 15 (omega arith) k ∷ []))
 
 -- an operation on a register reads what a source gives
-pub is_read : {code : KeptCode} (six : Bool) (x : Source) (b : WorkRegister) (k v : ℕ) (f : ℕ → ℕ) (t : Core) → t.fram ≡ f → t.work (work_number b) ≡ k
-    → GivesOn six x v f t.work → IsRead code x b k v t t
-is_read {code} six x b k v f t e l g = record { needs = g.needs code t; quiet = g.quiet t; still = g.still t; left = l; right = g.word t e refl }
+pub is_read : {rules : CodeRules} (six : Bool) (x : Source) (b : WorkRegister) (k v : ℕ) (f : ℕ → ℕ) (t : Core) → t.fram ≡ f → t.work (work_number b) ≡ k
+    → GivesOn six x v f t.work → IsRead rules x b k v t t
+is_read {rules} six x b k v f t e l g = record { needs = g.needs rules t; quiet = g.quiet t; still = g.still t; left = l; right = g.word t e refl }
 
 module _ (z : Setting) where
   -- the right side to where it is read

@@ -1,6 +1,6 @@
 -- Stretches of code that stays, with room for locals and a stack.
 use Rattle.word_code.proofs.Names.{subst, ◌≡◌, ℕ, ◌+◌, ◌≤◌, List, [], ◌++◌, Some, arith, forms_bytes, stands_front, stands_back, forms_bytes-append}
-use Rattle.word_code.proofs.Names.{Effect, Goes, Stops, At, stretch, KeptCode, Core, Form, instruction_of, form_step, FormNeeds, Stands, AreStraight, forms_run}
+use Rattle.word_code.proofs.Names.{Effect, Goes, Stops, At, stretch, KeptCode, rules_of, Core, Form, instruction_of, form_step, FormNeeds, Stands, AreStraight, forms_run}
 use Rattle.word_code.proofs.Names.{FormsNeed, IsTidy, Runs, Starves, stack_top, stack_start, HasStackRoom, CallBounds, ◌%◌, ◌*◌, ◌<◌, Bool, true, false}
 use Rattle.array_versions.specs.msp_step.declared.machine.Stop.TheVariants as stop
 use Rattle.code_forms.proofs.Interface as blocks
@@ -52,13 +52,13 @@ bounds_of z = record { first = z.own; low = z.low; floor = z.bottom; framed = z.
 
 -- straight code comes to where its forms do
 module _ (z : Setting) (ms : List Form) (most : ℕ) (u t : Core) (es : List Effect) (c : ℕ) (P : Core → Type 0) where
-  pub straight : AreStraight ms → Stands z.code u.pc ms → FormsNeed z.kept ms u → forms_run ms u ≡ stretch es c (At t) → c ≤ most → P t
+  pub straight : AreStraight ms → Stands z.code u.pc ms → FormsNeed (rules_of z.kept) ms u → forms_run ms u ≡ stretch es c (At t) → c ≤ most → P t
       → Runs z.kept es most u P
   straight st h w e l p = blocks.runs_within z.kept z.tidy most (blocks.straight_comes z.kept z.tidy ms u t es c P st h w e p) l
 
 -- one form, a jump too
 module _ (z : Setting) (m : Form) (most : ℕ) (u t : Core) (es : List Effect) (c : ℕ) (P : Core → Type 0) where
-  pub hop : z.code.at u.pc ≡ Some (instruction_of m) → FormNeeds z.kept m u → form_step m u ≡ Goes es c t → c ≤ most → P t → Runs z.kept es most u P
+  pub hop : z.code.at u.pc ≡ Some (instruction_of m) → FormNeeds (rules_of z.kept) m u → form_step m u ≡ Goes es c t → c ≤ most → P t → Runs z.kept es most u P
   hop = blocks.hop z.kept z.tidy m most u t es c P
 
 pub runs_on : (z : Setting) {most more : ℕ} {u : Core} {P Q : Core → Type 0} {es fs : List Effect} → Runs z.kept es most u P
@@ -90,7 +90,7 @@ pub nothing_run : (z : Setting) {u : Core} {P : Core → Type 0} → P u → Run
 nothing_run z {u} {P} = blocks.nothing z.kept z.tidy u P
 
 -- a form that wants a reading where none is left
-pub starved : (z : Setting) (m : Form) (u : Core) (price : ℕ) → z.code.at u.pc ≡ Some (instruction_of m) → FormNeeds z.kept m u
+pub starved : (z : Setting) (m : Form) (u : Core) (price : ℕ) → z.code.at u.pc ≡ Some (instruction_of m) → FormNeeds (rules_of z.kept) m u
     → form_step m u ≡ Stops [] price stop.NoReading → Starves z.kept [] price u
 starved z m u price h w e = blocks.starve z.kept z.tidy m price price u [] h w e (omega arith)
 

@@ -2,7 +2,7 @@
 use Rattle.word_code.proofs.Names.{rests, ◌≡◌, ℕ, ◌+◌, ◌-◌, ◌*◌, ◌%◌, ◌<◌, ◌≤◌, ◌==◌, not, Bool, true, false, nat_lt, nat_le, if◌then◌else◌, List, [], ◌∷◌}
 use Rattle.word_code.proofs.Names.{◌++◌, Some, None, refl, sym, ap, ap₂, ◌∙◌, subst, arith, word_sum, Word, operated, sum16, distance, cycles_of, source_cycles}
 use Rattle.word_code.proofs.Names.{to_register, to_memory, Store, put, Goes, IsPlace, R4, R6, R7, Core, Source, source_bytes, source_value, source_read}
-use Rattle.word_code.proofs.Names.{source_operand}
+use Rattle.word_code.proofs.Names.{source_operand, rules_of}
 use Rattle.word_code.proofs.Names.{Register, Number, Fram, Indexed, ToRegister, ToIndexed, Form, Move, Calculate, Update, Jump, flags_after, instruction_of}
 use Rattle.word_code.proofs.Names.{form_bytes, Stands, forms_bytes, Runs, stands_front, stands_back, forms_bytes-append, PlainOperation, ArrayPlace, ListPlace}
 use Rattle.word_code.proofs.Names.{plain_word, versioned_update, WordState, Behaviour, goes_on, behind_effects, with_two, with_stack, is_place, at_place}
@@ -322,7 +322,7 @@ module _ (z : Setting) (o : PlainOperation) (x : Source) (r : ℕ) (reads : sour
       ∙ makes o (w.fram c) v t.flags l lv in
       let after : Core → ℕ → Core = λ s q. record s { pc = t.pc + (2 + source_bytes x + 2); flags = flags_after does.flags t.flags; fram = put t.fram c q } in
       let needs = plain_needs o in
-      hop z m 6 t (after t y) (Store c y ∷ []) price _ (ap z.code.at i.at ∙ h) (needs.0, needs.1, g.needs z.kept t, fc)
+      hop z m 6 t (after t y) (Store c y ∷ []) price _ (ap z.code.at i.at ∙ h) (needs.0, needs.1, g.needs (rules_of z.kept) t, fc)
       (ap (λ es. Goes (es ++ Store c does.value ∷ []) price (after (source_read x t) does.value)) (g.quiet t)
       ∙ ap (λ s. Goes (Store c does.value ∷ []) price (after s does.value)) (g.still t) ∙ ap (λ q. Goes (Store c q ∷ []) price (after t q)) is) writes
       (record {

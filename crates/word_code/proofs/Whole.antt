@@ -19,7 +19,7 @@ use Rattle.word_code.proofs.Names.{number_code, turns_code, waiting_behind, wait
 use Rattle.word_code.proofs.Names.{ComesTo, CodeDoesAsProgram, locals_of, stack_base, stack_set, stack_cycles, code_of, code_spent}
 use Rattle.word_code.proofs.Names.{IsWhole, FitsEvents, IsEntry, get_or, StepRoutinesStand, TestRoutinesStand, RoutinesStand, call, give, Gives, called}
 use Rattle.word_code.proofs.Names.{called_behind, entry_place, routine_code, light_call, framed_call, length-append}
-use Rattle.word_code.proofs.Names.{Code, anywhere, IsKept, KeepsWithin, CodeKeepsToTheStack, entry_stack}
+use Rattle.word_code.proofs.Names.{Code, anywhere, IsKept, rules_of, KeepsWithin, CodeKeepsToTheStack, entry_stack}
 use Rattle.array_versions.specs.Laws.{IsStateOfWords, EndsInWords, IsSound}
 use Rattle.array_versions.specs.msp_step.msp_isa.declared.instructions.Condition.TheVariants as condition
 use Rattle.array_versions.specs.msp_step.msp_isa.declared.operands.Konst.TheVariants as konst
@@ -690,7 +690,7 @@ code_keeps_to_the_stack code at p u tidy h routines whole keeps fits o entry = b
         let top = stack_base locals in
         let front = stack_set false locals in
         let mid = at + forms_bytes front in
-        let stays : IsKept code top =
+        let stays : IsKept (rules_of code) top =
         (let deep = b.deep in let floor = whole.floor in let low = keeps.low in let within = b.within in let high = keeps.high in
         (omega arith, omega arith)) in
         let set : Runs code [] stack_cycles u (HasStack mid top u) =

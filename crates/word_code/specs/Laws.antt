@@ -5,8 +5,8 @@ use Rattle.array_versions.specs.machine_effects.World.{IsPrefix}
 use Rattle.array_versions.specs.machine_effects.Inputs.{InputsAreWords}
 use Rattle.array_versions.specs.machine_effects.Going.{going}
 use Rattle.array_versions.specs.machine_effects.Machine.{Code, MachineStretch, exec}
-use Rattle.code_forms.specs.Forms.{Core, board_of, KeptCode, IsKept, anywhere}
-use Rattle.code_forms.specs.Code.{Stands, IsTidy, RunsWithin, StarvesWithin, Runs, Starves, forms_bytes}
+use Rattle.code_forms.specs.Forms.{Core, board_of, IsKept}
+use Rattle.code_forms.specs.Code.{KeptCode, rules_of, anywhere, Stands, IsTidy, RunsWithin, StarvesWithin, Runs, Starves, forms_bytes}
 use Rattle.code_forms.specs.Laws.{StepsReadFromSp, StepsKeepTheStack}
 use Rattle.code_forms.specs.Placed.{words_of as instruction_words, instructions, AreInstructions}
 use Rattle.array_versions.specs.Program.{Step, Test, Program, truth, choose, repeat, call, holds, compares, both, either, fails, nothing, step}
@@ -109,12 +109,12 @@ StarvingReadsFromSp = (code : Code) (es : List Effect) (most : ℕ) (u : Core) (
 
 -- at each boundary on the way to a jump, and there, SP stands between the addresses of the code, where it does at the entry
 abbrev pub RunsKeepTheStack : Type 0
-RunsKeepTheStack = (kept : KeptCode) (es : List Effect) (most : ℕ) (u : Core) (to : ℕ) (s : WordState) → IsTidy kept.code → IsKept kept u.sp
+RunsKeepTheStack = (kept : KeptCode) (es : List Effect) (most : ℕ) (u : Core) (to : ℕ) (s : WordState) → IsTidy kept.code → IsKept (rules_of kept) u.sp
     → (a : RunsWithin kept es most u (HasJumped to s)) → StepsKeepTheStack kept a.steps u
 
 -- and at each on the way to where a reading is wanted
 abbrev pub StarvingKeepsTheStack : Type 0
-StarvingKeepsTheStack = (kept : KeptCode) (es : List Effect) (most : ℕ) (u : Core) → IsTidy kept.code → IsKept kept u.sp
+StarvingKeepsTheStack = (kept : KeptCode) (es : List Effect) (most : ℕ) (u : Core) → IsTidy kept.code → IsKept (rules_of kept) u.sp
     → (a : StarvesWithin kept es most u) → StepsKeepTheStack kept (suc a.steps) u
 
 -- the code is at most as long as the program's words say, and so is that of a function's body

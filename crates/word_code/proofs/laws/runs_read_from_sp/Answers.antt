@@ -1,4 +1,4 @@
-use Rattle.code_forms.specs.Forms.{anywhere}
+use Rattle.code_forms.specs.Code.{anywhere}
 use Rattle.code_forms.proofs.Interface.{forms_read_from_sp}
 use Rattle.word_code.proofs.laws.runs_read_from_sp.Goals as goal
 
