@@ -218,6 +218,7 @@ pub record IsCalled (Deeper : CallBounds → Type 0) (bounds : CallBounds) (fram
   pub registers : end ≤ bounds.first
   pub fits : FrameFits bounds frame lowest room
   pub floor : bounds.floor ≤ lowest
+  pub spare : HasStackRoom lowest 0
   pub parameters : (n : ℕ) → n < count → IsOwn own end (frame_begin frame bounds.low) bounds.low (first + n)
   pub locals : EachLocal (IsOwn own end (frame_begin frame bounds.low) bounds.low) body
   pub ways : EachWay room body (λ q. ⊥) (entry_place first count)
@@ -330,7 +331,6 @@ pub record IsWhole (p : Program) : Type 0 where
   pub fits : HasStackRoom (stack_base locals) room
   pub lowest : bounds.low + 2 * room ≤ stack_base locals
   pub floor : bounds.floor ≤ bounds.low
-  pub spare : HasStackRoom bounds.floor 0
   pub registers : bounds.first ≤ 8
   pub low_locals : LocalsBelow locals p
   pub own_locals : EachLocal (λ n. bounds.first ≤ n) p

@@ -6,8 +6,8 @@ use Rattle.runtime_code.specs.fram_board.Effects.{Store}
 use Rattle.runtime_code.specs.machine_effects.World.{put}
 use Rattle.runtime_code.specs.machine_effects.Inputs.{Inputs}
 use Rattle.runtime_code.specs.machine_effects.Machine.{Code}
-use Rattle.runtime_code.specs.code_forms.Forms.{Core, Move, Branch, Fram, ToFram, anywhere}
-use Rattle.runtime_code.specs.code_forms.Code.{IsTidy, forms_bytes}
+use Rattle.runtime_code.specs.code_forms.Forms.{Core, Move, Branch, Fram, ToFram}
+use Rattle.runtime_code.specs.code_forms.Code.{IsTidy, forms_bytes, anywhere}
 use Rattle.runtime_code.proofs.code_forms.Interface.{forms_bytes-append}
 use Rattle.runtime_code.specs.runtime_effects.Places.{CopyPair}
 use Rattle.runtime_code.specs.runtime_effects.Stages.{copied_in}

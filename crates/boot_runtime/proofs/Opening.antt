@@ -9,8 +9,8 @@ use Rattle.runtime_code.specs.fram_board.Effects.{Effect, Store}
 use Rattle.runtime_code.specs.machine_effects.World.{put, fram_after}
 use Rattle.runtime_code.specs.machine_effects.Inputs.{Inputs}
 use Rattle.runtime_code.specs.machine_effects.Machine.{Code}
-use Rattle.runtime_code.specs.code_forms.Forms.{Core, Form, Update, Constant, anywhere}
-use Rattle.runtime_code.specs.code_forms.Code.{Stands, IsTidy}
+use Rattle.runtime_code.specs.code_forms.Forms.{Core, Form, Update, Constant}
+use Rattle.runtime_code.specs.code_forms.Code.{Stands, IsTidy, anywhere}
 use Rattle.runtime_code.proofs.code_forms.Interface.{forms_at, forms_behind, stands_front}
 use Rattle.runtime_code.specs.runtime_effects.Stages.{is_at_end, clearing_if, cleared, count_cleared, counting_effects, opening_effects}
 use Rattle.runtime_code.specs.runtime_effects.Needs.{AreInFram}

@@ -9,8 +9,8 @@ use Rattle.runtime_code.specs.machine_effects.World.{fram_after}
 use Rattle.runtime_code.specs.machine_effects.Inputs.{Inputs}
 use Rattle.runtime_code.specs.machine_effects.Machine.{Code, IsPlace}
 use Rattle.runtime_code.proofs.machine_effects.Interface.{fram_after-append, all_behind}
-use Rattle.runtime_code.specs.code_forms.Forms.{Core, Branch, anywhere}
-use Rattle.runtime_code.specs.code_forms.Code.{Stands, IsTidy, forms_bytes}
+use Rattle.runtime_code.specs.code_forms.Forms.{Core, Branch}
+use Rattle.runtime_code.specs.code_forms.Code.{Stands, IsTidy, forms_bytes, anywhere}
 use Rattle.runtime_code.proofs.code_forms.Interface.{stands_front, forms_at, forms_behind}
 use Rattle.runtime_code.specs.runtime_effects.Places.{CopyPair, run_pairs, entries_from, listed}
 use Rattle.runtime_code.specs.runtime_effects.Stages.{copied_home, sends, emits_sent, tail_moved, commit_closed, commit_effects}

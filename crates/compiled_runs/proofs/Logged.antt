@@ -6,7 +6,8 @@ use Rattle.machine_effects.specs.World.{World, fram_after, world_after}
 use Rattle.machine_effects.specs.Inputs.{Look, Inputs, InputsAreWords, no_inputs}
 use Rattle.machine_effects.specs.Machine.{Code, MachineBoard}
 use Rattle.machine_effects.proofs.Interface.{code_changes_by_effects, fram_after-append}
-use Rattle.code_forms.specs.Forms.{Core, board_of, anywhere}
+use Rattle.code_forms.specs.Forms.{Core, board_of}
+use Rattle.code_forms.specs.Code.{anywhere}
 use Rattle.cost_bound.specs.Summaries.{summaries}
 use Rattle.cost_bound.specs.Allowance.{list_of}
 use Rattle.cost_bound.specs.Counts.{emits_of}

@@ -4,7 +4,8 @@ use Rattle.fram_board.specs.Effects.{Effect}
 use Rattle.machine_effects.specs.World.{World, fram_after, world_after}
 use Rattle.machine_effects.specs.Inputs.{InputsAreWords}
 use Rattle.machine_effects.specs.Machine.{Code, MachineBoard}
-use Rattle.code_forms.specs.Forms.{Core, board_of, anywhere}
+use Rattle.code_forms.specs.Forms.{Core, board_of}
+use Rattle.code_forms.specs.Code.{anywhere}
 use Rattle.crash_rules.proofs.Interface.{world_fram}
 use Rattle.source_values.specs.Runs.{CheckedProgram, State}
 use Rattle.array_versions.specs.Behaviour.{Behaviour, behaviour, started}

@@ -13,8 +13,8 @@ use Rattle.runtime_effects.specs.machine_effects.World.{fram_after}
 use Rattle.runtime_effects.specs.machine_effects.Going.{Goes, At, stretch}
 use Rattle.runtime_effects.specs.machine_effects.Machine.{Code, IsPlace}
 use Rattle.runtime_effects.proofs.machine_effects.Interface.{fram_after-append}
-use Rattle.code_forms.specs.Forms.{Core, Form, Compare, Jump, Constant, instruction_of, anywhere}
-use Rattle.code_forms.specs.Code.{Stands, AreStraight, forms_run, forms_bytes, FormsNeed, IsTidy}
+use Rattle.code_forms.specs.Forms.{Core, Form, Compare, Jump, Constant, instruction_of}
+use Rattle.code_forms.specs.Code.{Stands, AreStraight, forms_run, forms_bytes, FormsNeed, IsTidy, rules_of, anywhere}
 use Rattle.code_forms.proofs.Interface.{end_of, comes_on, straight_comes, form_comes}
 use Rattle.runtime_code.specs.Counted.{over, size}
 use Rattle.runtime_code.specs.Comes.{Comes, IsAt}
@@ -67,7 +67,7 @@ moved_to e a = so_ends a (λ v h. record { pc = h.pc ∙ e; fram = h.fram; input
 
 module _ (code : Code) (tidy : IsTidy code) where
   -- straight code
-  pub straight : (ms : List Form) (u : Core) → AreStraight ms → Stands code u.pc ms → FormsNeed (anywhere code) ms u → (forms_run ms u).status ≡ At (behind ms u)
+  pub straight : (ms : List Form) (u : Core) → AreStraight ms → Stands code u.pc ms → FormsNeed (rules_of (anywhere code)) ms u → (forms_run ms u).status ≡ At (behind ms u)
       → Comes code (forms_run ms u).effects (length ms) (forms_run ms u).cycles u (λ v. v ≡ behind ms u)
   straight ms u st h w e =
       let r = forms_run ms u in

@@ -12,8 +12,8 @@ use Rattle.runtime_effects.specs.machine_effects.Machine.{Code, IsPlace}
 use Rattle.runtime_effects.specs.memory_map.declared.words.RuntimeWord.TheVariants.{CurrentTask}
 use Rattle.runtime_effects.specs.memory_map.MemoryMap.{MemoryMap, word_place}
 use Rattle.runtime_effects.specs.address_space.Limits.{stack_start}
-use Rattle.code_forms.specs.Forms.{Core, Form, Branch, SkipBy, R4, instruction_of, anywhere}
-use Rattle.code_forms.specs.Code.{Stands, IsTidy, forms_bytes}
+use Rattle.code_forms.specs.Forms.{Core, Form, Branch, SkipBy, R4, instruction_of}
+use Rattle.code_forms.specs.Code.{Stands, IsTidy, forms_bytes, anywhere}
 use Rattle.code_forms.proofs.Interface.{stands_front, stands_back, form_comes, comes_on}
 use Rattle.runtime_code.specs.Addresses.{stack_origin}
 use Rattle.runtime_code.specs.Comes.{Comes, IsAt, Enters}
@@ -113,6 +113,10 @@ origin_is_start : (events : Bool) → events ≡ true → stack_origin events �
 origin_is_start true e = refl
 origin_is_start false e = absurd (cc (e))
 
+origin_is_low : (events : Bool) → stack_origin events ≤ 0x10000
+origin_is_low true = omega arith
+origin_is_low false = omega arith
+
 module _ (code : Code) (tidy : IsTidy code) where
   -- to where the rung of the task that CUR names leads
   dispatched : (m : MemoryMap) (p q : ℕ) (ss : List Rung) (f : ℕ → ℕ) (l : Inputs) (u : Core) → HasLadder code m p q ss → IsAt p f l u
@@ -132,7 +136,7 @@ module _ (code : Code) (tidy : IsTidy code) where
       (All-get_or IsRung ss k (record { body = []; bytes = 0; code = 0 }) named h.each).even in
       from_there u at (then_on
       (straight code tidy (task_found m) s (tt, (tt, (tt, (tt, tt)))) (stands_front code p (task_found m) (SkipBy R4 ∷ []) h.dispatches)
-      ((origin_is_even m.runtime.events, λ e. origin_is_start m.runtime.events (sym h.events ∙ e)), ((h.current, tt), ((tt, tt), ((tt, tt), tt)))) refl)
+      ((origin_is_even m.runtime.events, λ e. origin_is_start m.runtime.events (sym h.events ∙ e), (omega arith, origin_is_low m.runtime.events)), ((h.current, tt), ((tt, tt), ((tt, tt), tt)))) refl)
       (then_on (form_comes (anywhere code) tidy (SkipBy R4) found skipped [] 2 (λ v. v ≡ skipped) h.dispatches.1.1.1.1.0 (omega (arith, far)) refl refl)
       (form_comes (anywhere code) tidy (Branch to) skipped (record skipped { pc = to }) [] 3 (Enters to (stack_origin m.runtime.events) f l)
       (ap code.at there ∙ rung_stands code ss (p + 14) q k h.rungs named) even refl (record { pc = refl; sp = refl; fram = refl; inputs = refl }))))

@@ -13,8 +13,8 @@ use Rattle.runtime_effects.specs.machine_effects.Inputs.{Inputs}
 use Rattle.runtime_effects.specs.machine_effects.Going.{Goes}
 use Rattle.runtime_effects.specs.machine_effects.Machine.{Code}
 use Rattle.runtime_effects.proofs.machine_effects.Interface.{zero_flag, put_other}
-use Rattle.code_forms.specs.Forms.{Core, Form, Move, Calculate, Constant, Number, ToRegister, R4, R5, anywhere}
-use Rattle.code_forms.specs.Code.{Stands, IsTidy, forms_bytes}
+use Rattle.code_forms.specs.Forms.{Core, Form, Move, Calculate, Constant, Number, ToRegister, R4, R5}
+use Rattle.code_forms.specs.Code.{Stands, IsTidy, forms_bytes, anywhere}
 use Rattle.code_forms.proofs.Interface.{stands_front, stands_back, form_comes, comes_on}
 use Rattle.runtime_code.specs.Comes.{Comes, IsAt}
 use Rattle.runtime_code.specs.Counted.{counted, loop_end, over_loop, back_to_turn, if_any}

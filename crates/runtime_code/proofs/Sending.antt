@@ -7,8 +7,8 @@ use Rattle.runtime_effects.specs.memory_map.declared.words.RuntimeWord.TheVarian
 use Rattle.runtime_effects.specs.memory_map.MemoryMap.{MemoryMap, word_place}
 use Rattle.runtime_effects.specs.Stages.{sends, emits_sent}
 use Rattle.runtime_effects.specs.Needs.{AreInFram}
-use Rattle.code_forms.specs.Forms.{Core, anywhere}
-use Rattle.code_forms.specs.Code.{Stands, IsTidy}
+use Rattle.code_forms.specs.Forms.{Core}
+use Rattle.code_forms.specs.Code.{Stands, IsTidy, anywhere}
 use Rattle.code_forms.proofs.Interface.{stands_front, forms_behind, no_steps}
 use Rattle.runtime_code.specs.Comes.{Comes, IsAt}
 use Rattle.runtime_code.specs.Counted.{if_any}

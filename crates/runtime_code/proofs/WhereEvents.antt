@@ -4,8 +4,8 @@ use Rattle.runtime_effects.specs.fram_board.Effects.{Effect}
 use Rattle.runtime_effects.specs.machine_effects.Machine.{Code, IsPlace}
 use Rattle.runtime_effects.specs.memory_map.MemoryMap.{where_events, with_events}
 use Rattle.runtime_effects.specs.memory_map.event_places.Places.{tail_place, count_place, sent_place}
-use Rattle.code_forms.specs.Forms.{Core, Form, anywhere}
-use Rattle.code_forms.specs.Code.{Stands, forms_bytes}
+use Rattle.code_forms.specs.Forms.{Core, Form}
+use Rattle.code_forms.specs.Code.{Stands, forms_bytes, anywhere}
 use Rattle.code_forms.specs.Placed.{instructions, AreInstructions}
 use Rattle.code_forms.proofs.Interface.{stands_back, no_steps}
 use Rattle.runtime_code.specs.Comes.{Comes}

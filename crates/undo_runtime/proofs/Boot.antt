@@ -8,8 +8,8 @@ use Rattle.runtime_code.specs.machine_effects.World.{fram_after}
 use Rattle.runtime_code.specs.machine_effects.Inputs.{Inputs}
 use Rattle.runtime_code.specs.machine_effects.Machine.{Code}
 use Rattle.runtime_code.proofs.machine_effects.Interface.{fram_after-append, fram_untouched}
-use Rattle.runtime_code.specs.code_forms.Forms.{Core, Form, Branch, anywhere}
-use Rattle.runtime_code.specs.code_forms.Code.{Stands, forms_bytes}
+use Rattle.runtime_code.specs.code_forms.Forms.{Core, Form, Branch}
+use Rattle.runtime_code.specs.code_forms.Code.{Stands, forms_bytes, anywhere}
 use Rattle.runtime_code.proofs.code_forms.Interface.{stands_front, stands_back, forms_behind}
 use Rattle.runtime_code.specs.runtime_effects.Needs.{IsOutOf}
 use Rattle.runtime_code.specs.Addresses.{gate_address, stack_origin}

@@ -6,8 +6,8 @@ use Rattle.runtime_code.specs.machine_effects.World.{fram_after}
 use Rattle.runtime_code.specs.machine_effects.Inputs.{Inputs}
 use Rattle.runtime_code.specs.machine_effects.Machine.{Code}
 use Rattle.runtime_code.proofs.machine_effects.Interface.{fram_after-append, fram_untouched}
-use Rattle.runtime_code.specs.code_forms.Forms.{Core, Branch, anywhere}
-use Rattle.runtime_code.specs.code_forms.Code.{Stands, IsTidy}
+use Rattle.runtime_code.specs.code_forms.Forms.{Core, Branch}
+use Rattle.runtime_code.specs.code_forms.Code.{Stands, IsTidy, anywhere}
 use Rattle.runtime_code.proofs.code_forms.Interface.{stands_front, forms_behind}
 use Rattle.runtime_code.specs.runtime_effects.Stages.{emits_sent, tail_moved}
 use Rattle.runtime_code.specs.runtime_effects.Needs.{AreInFram}

@@ -7,8 +7,8 @@ use Rattle.runtime_code.specs.machine_effects.World.{put, fram_after}
 use Rattle.runtime_code.specs.machine_effects.Inputs.{Inputs}
 use Rattle.runtime_code.specs.machine_effects.Machine.{Code, IsPlace}
 use Rattle.runtime_code.proofs.machine_effects.Interface.{put_same, put_other, fram_after-append}
-use Rattle.runtime_code.specs.code_forms.Forms.{Core, Branch, anywhere}
-use Rattle.runtime_code.specs.code_forms.Code.{Stands, IsTidy, forms_bytes}
+use Rattle.runtime_code.specs.code_forms.Forms.{Core, Branch}
+use Rattle.runtime_code.specs.code_forms.Code.{Stands, IsTidy, forms_bytes, anywhere}
 use Rattle.runtime_code.proofs.code_forms.Interface.{forms_bytes-append, stands_front, stands_back}
 use Rattle.runtime_code.specs.runtime_effects.Needs.{AreInFram}
 use Rattle.runtime_code.specs.Comes.{Comes, Enters}

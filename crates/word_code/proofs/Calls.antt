@@ -236,8 +236,7 @@ module _ (z : Setting) where
       deep = e.deep;
       floor = x.floor;
       lowest = z.lowest;
-      roomy = record { fits = let s = z.spare.fits in let f = x.floor in let d = e.deep in omega (arith, s, d) };
-      spare = z.spare;
+      roomy = record { fits = let s = x.spare.fits in let d = e.deep in omega (arith, s, d) };
       light = z.light;
       returns = λ k. record {
         outside = e.outside;

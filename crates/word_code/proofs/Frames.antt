@@ -232,7 +232,7 @@ module _ (z : Setting) where
 
     -- the frame has room for the caller's SP and the return address
     frame_room : 0x1C00 + 36 ≤ f
-    frame_room = let spare = z.spare.fits in let floor = x.floor in let fits : x.lowest + 2 * (x.room + 2) ≤ f = x.fits.3 in omega (arith, spare, fits)
+    frame_room = let spare = x.spare.fits in let fits : x.lowest + 2 * (x.room + 2) ≤ f = x.fits.3 in omega (arith, spare, fits)
 
     -- SP stays in the stack there
     frame_stays : (sp : ℕ) → f ≤ sp + 4 → sp ≤ f → IsKept (rules_of z.kept) sp

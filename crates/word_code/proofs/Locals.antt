@@ -160,7 +160,6 @@ module _ (kept : KeptCode) (tidy : IsTidy kept.code) (u : Core) (p : Program) (w
     floor = whole.floor;
     lowest = keeps.low;
     roomy = b.roomy;
-    spare = whole.spare;
     light = b.light;
     returns = λ e. absurd (both_ways false refl e);
   }

@@ -42,7 +42,6 @@ pub record Setting : Type 0 where
   pub floor : bottom ≤ low
   pub lowest : kept.low ≤ bottom
   pub roomy : HasStackRoom top room
-  pub spare : HasStackRoom bottom 0
   pub light : code.events ≡ true → framed ≡ false
   pub returns : gives ≡ true → IsReturn kept top frame ceiling entered
 
