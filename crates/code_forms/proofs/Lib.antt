@@ -4,4 +4,5 @@ mod Rules
 mod Blocks
 mod Placed
 mod FromSp
+mod Stacks
 pub mod Interface
