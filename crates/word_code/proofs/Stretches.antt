@@ -1,16 +1,16 @@
 -- Stretches of code that stays, with room for locals and a stack.
 use Rattle.word_code.proofs.Names.{subst, ◌≡◌, ℕ, ◌+◌, ◌≤◌, List, [], ◌++◌, Some, arith, forms_bytes, stands_front, stands_back, forms_bytes-append}
-use Rattle.word_code.proofs.Names.{Effect, Goes, Stops, At, stretch, KeptCode, rules_of, Core, Form, instruction_of, form_step, FormNeeds, Stands, AreStraight, forms_run}
+use Rattle.word_code.proofs.Names.{Effect, Goes, Stops, At, stretch, KeptCode, CodeRules, rules_of, Core, Form, instruction_of, form_step, FormNeeds, Stands, AreStraight, forms_run}
 use Rattle.word_code.proofs.Names.{FormsNeed, IsTidy, Runs, Starves, stack_top, stack_start, HasStackRoom, CallBounds, ◌%◌, ◌*◌, ◌<◌, Bool, true, false}
 use Rattle.array_versions.specs.msp_step.declared.machine.Stop.TheVariants as stop
 use Rattle.code_forms.proofs.Interface as blocks
 
 -- the word where the stack of a function begins: the return address
-pub record IsReturn (code : KeptCode) (top frame ceiling : ℕ) (entered : Core) : Type 0 where
+pub record IsReturn (rules : CodeRules) (top frame ceiling : ℕ) (entered : Core) : Type 0 where
   pub outside : frame ≤ top → ceiling ≤ top
   pub high : top + 2 ≤ stack_top
-  pub start : code.code.events ≡ true → top + 2 ≤ stack_start
-  pub within : top + 2 ≤ code.high
+  pub start : rules.events ≡ true → top + 2 ≤ stack_start
+  pub within : top + 2 ≤ rules.high
   pub even : entered.ram top % 2 ≡ 0
 
 -- some code as it runs, from its beginning on: which locals are its own, where its stack begins and how many words that may take, what of RAM it leaves
@@ -43,7 +43,7 @@ pub record Setting : Type 0 where
   pub lowest : kept.low ≤ bottom
   pub roomy : HasStackRoom top room
   pub light : code.events ≡ true → framed ≡ false
-  pub returns : gives ≡ true → IsReturn kept top frame ceiling entered
+  pub returns : gives ≡ true → IsReturn (rules_of kept) top frame ceiling entered
 
 -- what bounds its calls
 abbrev pub bounds_of : Setting → CallBounds
