@@ -881,4 +881,4 @@ module _ (z : Scene) (known : KnownAgree z) where
         subst Q there.stack_kept
         (block_does more behind fits.1 admits.1 (λ v k. writes v
         (others_write v (z.fs.sums v) (known_goes_on v (z.fs.sums v) (known.go_on v)) s more
-            (runs_go_on_along_paths z.fs.meanings s (answered_by answers m) n is) k)))))
+        (runs_go_on_along_paths z.fs.meanings s (answered_by answers m) n is) k)))))
