@@ -79,7 +79,8 @@ static void fill_ring(void) {
 
 /* one instruction; its cycles */
 static int step(void) {
-    static const int to_memory[] = {4, 5, 5, 5, 6}, to_pc[] = {2, 2, 3, 3, 3}, to_register[] = {1, 2, 2, 2, 3}, in_place[] = {1, 3, 3, 0, 4}, pushes[] = {3, 4, 5, 4, 5};
+    static const int to_memory[] = {4, 5, 5, 5, 6}, to_pc[] = {2, 2, 3, 3, 3}, to_register[] = {1, 2, 2, 2, 3}, in_place[] = {1, 3, 3, 0, 4};
+    static const int pushes[] = {3, 4, 5, 4, 5}, calls[] = {4, 4, 5, 5, 5};
     word pc = r[0], w = next_word(), d, v;
     int place, column;
     if (w >> 13 == 1) {
@@ -92,9 +93,10 @@ static int step(void) {
     if (w < 0x1000 || (w & 0x40)) stop("no instruction of the compiler's", pc);
     if (w < 0x2000) {
         int op = w >> 7 & 7, n = w & 15;
-        if (w >= 0x1300 || op > 4) stop("no instruction of the compiler's", pc);
+        if (w >= 0x1300 || op > 5) stop("no instruction of the compiler's", pc);
         word s = source(w >> 4 & 3, n, &place, &column);
         if (op == 4) { r[1] -= 2; set_at(r[1], s); return pushes[column]; }
+        if (op == 5) { r[1] -= 2; set_at(r[1], r[0]); put(0, s); return calls[column]; }
         if (op == 0) { v = s >> 1 | (r[2] & C ? 0x8000 : 0); flags(v, s & 1, 0); }
         else if (op == 2) { v = s >> 1 | (s & 0x8000); flags(v, s & 1, 0); }
         else if (op == 1) v = s << 8 | s >> 8;

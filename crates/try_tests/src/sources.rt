@@ -70,7 +70,7 @@ const LONGS: &str =
 const CALLS: &str = "shared unsigned n; shared unsigned x = 2; shared unsigned a[2]; \
      unsigned put(unsigned v) { x = v; if (v & 1) { return v; } emit(v); a[v & 1] = a[0] + n; return v + x; } \
      unsigned wide(unsigned c, unsigned d) { unsigned e = put(d); unsigned f = c + e; unsigned g = f + c; unsigned h = g + n; unsigned j = 2; unsigned i; \
-     for (i = 0; i < j; i++) { if (h == 9) { return put(i); } h = h + put(i) * c; } n = h; return h + g + f; } \
+     for (i = 0; i < 2; i++) { if (h == 9) { return put(i); } h = h + put(i) * c + j; } n = h; return h + g + f; } \
      task t { unsigned k = x; n = n + wide(k, sense()) - k; emit(put(n) + wide(1, 2)); transition_to(u); } \
      task u { emit(put(sense()) + x); transition_to(t); } entry t;";
 
@@ -129,8 +129,8 @@ pub const SOURCES: [Source; 13] = [
     },
 ];
 
-/// Of arrays, of emits, of control flow, of longs and of functions.
-pub const CUT_TWICE: [Source; 5] = [
+/// Of arrays, of emits, of control flow and of longs.
+pub const CUT_TWICE: [Source; 4] = [
     Source {
         text: RING,
         readings: &[10, 20, 30, 40],
@@ -146,10 +146,6 @@ pub const CUT_TWICE: [Source; 5] = [
     Source {
         text: LONGS,
         readings: &[16, 65535, 0, 9],
-    },
-    Source {
-        text: CALLS,
-        readings: &[3, 65534, 1, 8],
     },
 ];
 
