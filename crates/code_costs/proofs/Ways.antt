@@ -522,7 +522,8 @@ code_keeps_to_its_ways code at p u tidy h routines whole fits o entry = by code.
     by true e h fits entry =
         let b = at_start code p whole (fits refl) in
         let z = uncalled (anywhere code) tidy u p whole keeps b in
-        steps_keep z p whole o (uncalled_owns (anywhere code) tidy u p whole keeps b) refl (whole.formed, routines) at at (forward_most (stack_set true (locals_of p)) 2) h
+        steps_keep z p whole o (uncalled_owns (anywhere code) tidy u p whole keeps b) refl (whole.formed, routines) at at
+        (forward_most (stack_set true (locals_of p)) 2) h
         (subst (λ b. IsEntry b at u) (sym e) entry)
         (dearer z (omega arith) (nothing_run z (record { at = entry.pc; sp = entry.sp; fram = refl; inputs = refl; ram = refl; work = refl })))
     by false e h fits entry =

@@ -212,11 +212,13 @@ module _ (kept : KeptCode) (tidy : IsTidy kept.code) where
   straight_comes ms u t es c P st h w e p = record { end = t; leads = block ms u t es c st h w e; forms = at_forms ms u st h w; holds = p }
 
   -- within so many cycles
-  pub runs_within : {es : List Effect} {n c : ℕ} {u : Core} {P : Core → Type 0} (most : ℕ) → ComesWithin kept es n c u P → c ≤ most → RunsWithin kept es most u P
+  pub runs_within : {es : List Effect} {n c : ℕ} {u : Core} {P : Core → Type 0} (most : ℕ) → ComesWithin kept es n c u P → c ≤ most
+      → RunsWithin kept es most u P
   runs_within {es} {n} {c} most a l = record { steps = n; cycles = c; within = l; comes = a }
 
   -- one form, a jump too
-  pub form_comes : (m : Form) (u t : Core) (es : List Effect) (c : ℕ) (P : Core → Type 0) → code.at u.pc ≡ Some (instruction_of m) → FormNeeds (rules_of kept) m u
+  pub form_comes : (m : Form) (u t : Core) (es : List Effect) (c : ℕ) (P : Core → Type 0) → code.at u.pc ≡ Some (instruction_of m)
+      → FormNeeds (rules_of kept) m u
       → form_step m u ≡ Goes es c t → P t → ComesWithin kept es 1 c u P
   form_comes m u t es c P h w e p = record {
     end = t;

@@ -164,7 +164,8 @@ module _ (code : Code) (tidy : IsTidy code) (m : MemoryMap) (places : AreInFram 
       subst (λ k. Comes code (es k) 4 17 u (IsAt start (fram_after (es k) f) l)) at.next_number
       (from_there u at.at (then_on (straight code tidy (closing m) s (tt, (tt, (tt, tt))) (stands_front code p (closing m) (Branch start ∷ []) h)
       ((places.words NextTask, places.words CurrentTask), ((tt, places.words Base), ((tt, places.words Gate), tt))) refl)
-      (form_comes (anywhere code) tidy (Branch start) closed (record closed { pc = start }) [] 3 (IsAt start (fram_after (es (u.work 7)) f) l) h.1.1.1.0 even refl
+      (form_comes (anywhere code) tidy (Branch start) closed (record closed { pc = start }) [] 3 (IsAt start (fram_after (es (u.work 7)) f) l) h.1.1.1.0
+      even refl
       (record { pc = refl; fram = refl; inputs = refl }))))
 
   -- all of them, with a word for TAIL

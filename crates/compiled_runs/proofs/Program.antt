@@ -100,7 +100,15 @@ module _ (source : Source) where
   from_start b k =
       let u = k.core in
       let here : IsAt (attempt_start l) u.fram u.inputs u = record { pc = k.pc; fram = refl; inputs = refl } in
-      record { core = u; is = k.is; steps = 0; cycles = 0; within = omega arith; comes = no_steps (anywhere code) u (IsAt (attempt_start l) u.fram u.inputs) here }
+      record {
+        core = u;
+        is = k.is;
+        steps = 0;
+        cycles = 0;
+        within = omega arith;
+        comes = no_steps (anywhere code) u (IsAt (attempt_start l) u.fram u.inputs)
+            here;
+      }
 
   abbrev cost : ℕ → ℕ
   cost k = costs.cost k

@@ -1,3 +1,4 @@
 mod Counted
 mod Last
 mod Listed
+mod Passed

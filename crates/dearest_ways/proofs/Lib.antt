@@ -1,3 +1,6 @@
+mod Coded
+mod Bare
+mod Filling
 mod Costs
 mod Few
 mod Priced

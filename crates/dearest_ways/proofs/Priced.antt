@@ -4,11 +4,10 @@ use Rattle.std.proofs.Common.{if◌then◌else◌, Option, Some, None, is_some, 
 use Rattle.std.proofs.lemmas.Bool.{eqb-true}
 use Rattle.word_code.specs.code_forms.Forms.{Form}
 use Rattle.word_code.specs.declared.bounds.Bound.{Bound}
-use Rattle.word_code.specs.array_versions.Program.{Test, Program}
+use Rattle.word_code.specs.array_versions.Program.{Test}
 use Rattle.word_code.specs.array_versions.Cost.{test_words}
-use Rattle.word_code.specs.array_versions.Form.{IsWhole, locals_of}
 use Rattle.word_code.specs.Code.{size, test_code}
-use Rattle.word_code.proofs.Interface.{test_takes, program_least}
+use Rattle.word_code.proofs.Interface.{test_takes}
 use Rattle.code_costs.specs.Dearest.{bits_in, by_number_most}
 use Rattle.code_paths.specs.Paths.{capped, dearest, is_forward, forward_most}
 
@@ -27,6 +26,10 @@ most_cut ms most = by (is_forward ms)
 pub cut_sum : (a b : ℕ) → capped (a + capped b) ≡ capped (a + b)
 cut_sum a b = omega arith
 
+-- the cycles of a call
+pub cut_call : (own owed cost : ℕ) → capped (capped (own + capped owed) + cost) ≡ capped (own + owed + cost)
+cut_call own owed cost = omega arith
+
 -- the words of a test's code, at most
 pub test_size : (bs : List Bound) (t : Test) (when : Bool) (d : ℕ) (own : List Form) → own ≡ test_code bs t when d → size own ≤ test_words t
 test_size bs t when d own e = omega (arith, ap size e, (test_takes bs t when d).bytes)
@@ -35,10 +38,6 @@ test_size bs t when d own e = omega (arith, ap size e, (test_takes bs t when d).
 pub words_at_most : (b : Bool) (n : ℕ) → (if b then n else 0) ≤ n
 words_at_most true n = omega arith
 words_at_most false n = omega arith
-
--- of a whole program no local is further up than RAM has room
-pub whole_locals : (p : Program) → IsWhole p → locals_of p ≤ 1016
-whole_locals p whole = omega (arith, program_least whole.locals p whole.low_locals, whole.fits.fits)
 
 no_bit : (m : ℕ) → bits_in m 0 ≡ 0
 no_bit zero = refl

@@ -4,16 +4,22 @@ use Rattle.std.specs.Prelude.{◌≡◌, ℕ, suc, ◌+◌, ◌-◌, Bool, true,
 use Rattle.word_code.specs.declared.bounds.Bound.{Bound}
 use Rattle.word_code.specs.declared.waiting.Waiting.{Waiting}
 use Rattle.word_code.specs.array_versions.Program.{Step, Test, Program, truth, choose, repeat, jump, call, give, holds, compares, both, either, fails}
-use Rattle.word_code.specs.array_versions.Program.{nothing, step}
+use Rattle.word_code.specs.array_versions.Program.{nothing, step, filled}
 use Rattle.word_code.specs.array_versions.Form.{locals_of}
 use Rattle.word_code.specs.Code.{owed, holds_code, compares_code, number_code, turn_end, pass_over, size, bound_of, stack_set, waiting_behind}
 use Rattle.word_code.specs.Code.{waiting_after, test_code, block_code}
 use Rattle.code_paths.specs.Paths.{capped, forward_most}
-use Rattle.code_costs.specs.Dearest.{flush_most, leaf_most, turn_most, call_most, give_most, block_most}
+use Rattle.code_costs.specs.Dearest.{flush_most, leaf_most, turn_most, call_most, give_most}
 use Rattle.code_ways.specs.Choices.{counts_from}
 use Rattle.code_ways.specs.Ways.{WayValue, WaysValue, ForksValue, straight_ways, choice_ways, leaving_ways, ways_behind, all_turns, forked_ways, both_forks}
 use Rattle.code_ways.specs.Ways.{one_of_forks, turned_forks, chosen_ways, most_of}
+use Rattle.dearest_ways.specs.declared.calls.CallCost.{CallCost}
 use Rattle.dearest_ways.specs.declared.program.DearestWay.{DearestWay}
+use Rattle.dearest_ways.specs.Calls.{cost_at}
+
+-- a program without the bodies of what it calls
+abbrev pub bare : Program → Program
+bare p = filled (λ entry. nothing) p
 
 -- how many choices there are; those of what is called aren't counted
 abbrev mutual
@@ -43,61 +49,68 @@ abbrev pub ended : Program → WaysValue → WaysValue
 ended p w = ways_behind w (straight_cost (flush_most (waiting_after [] p)))
 
 abbrev mutual
-  -- the ways of a step's code, in the bodies of loops with these bounds, where these words wait; its first choice has this number
-  pub step_ways : List Bound → List Waiting → ℕ → Step → WaysValue
-  step_ways bs os k (truth t) = ways_behind (straight_cost (flush_most os)) (chosen_ways (test_forks bs k t false 2) (straight_ways 5) (straight_ways 3))
-  step_ways bs os k (choose t taken otherwise) =
+  -- the ways of a step's code, where calls cost so much, in the bodies of loops with these bounds, where these words wait; its first choice has this number
+  pub step_ways : List CallCost → List Bound → List Waiting → ℕ → Step → WaysValue
+  step_ways calls bs os k (truth t) =
+      ways_behind (straight_cost (flush_most os)) (chosen_ways (test_forks calls bs k t false 2) (straight_ways 5) (straight_ways 3))
+  step_ways calls bs os k (choose t taken otherwise) =
       let over = size (block_code bs otherwise) in
       let first = size (block_code bs taken ++ pass_over over) in
       let within = suc k + test_choices t in
-      let held = ways_behind (ended taken (ways_further bs [] within (straight_ways 0) taken)) (straight_cost (forward_most (pass_over over) 3)) in
-      let failed = ended otherwise (ways_further bs [] (within + program_choices taken) (straight_ways 0) otherwise) in
+      let held = ways_behind (ended taken (ways_further calls bs [] within (straight_ways 0) taken)) (straight_cost (forward_most (pass_over over) 3)) in
+      let failed = ended otherwise (ways_further calls bs [] (within + program_choices taken) (straight_ways 0) otherwise) in
       ways_behind (straight_cost (flush_most os))
-      (chosen_ways (test_forks bs (suc k) t false first) (ways_behind (choice_ways k true) held) (ways_behind (choice_ways k false) failed))
-  step_ways bs os k (repeat n from below body) =
+      (chosen_ways (test_forks calls bs (suc k) t false first) (ways_behind (choice_ways k true) held) (ways_behind (choice_ways k false) failed))
+  step_ways calls bs os k (repeat n from below body) =
       let inner = bound_of n below ∷ bs in
       let end = turn_most n below (size (block_code inner body ++ turn_end n below)) in
-      let turn = ways_behind (ended body (ways_further inner [] k (straight_ways 0) body)) (straight_cost end) in
+      let turn = ways_behind (ended body (ways_further calls inner [] k (straight_ways 0) body)) (straight_cost end) in
       ways_behind (straight_cost (flush_most os)) (ways_behind (straight_cost (forward_most (number_code n from) 5)) (all_turns (below - from) turn))
-  step_ways bs os k (jump to) = ways_behind (straight_cost (flush_most os)) (leaving_ways 3)
-  step_ways bs os k (call entry frame first count body) = straight_cost (call_most frame count os + block_most [] body 0)
-  step_ways bs os k give = leaving_ways (capped (give_most os))
-  step_ways bs os k s = straight_cost (leaf_most bs os s)
+  step_ways calls bs os k (jump to) = ways_behind (straight_cost (flush_most os)) (leaving_ways 3)
+  step_ways calls bs os k (call entry frame first count body) = straight_cost (call_most frame count os + cost_at calls entry)
+  step_ways calls bs os k give = leaving_ways (capped (give_most os))
+  step_ways calls bs os k s = straight_cost (leaf_most bs os s)
 
   -- those of a test's code that goes over so many words where its truth is this one
-  pub test_forks : List Bound → ℕ → Test → Bool → ℕ → ForksValue
-  test_forks bs k (holds p) when d =
+  pub test_forks : List CallCost → List Bound → ℕ → Test → Bool → ℕ → ForksValue
+  test_forks calls bs k (holds p) when d =
       let os = waiting_after [] p in
-      forked_ways (ways_behind (ways_further bs [] k (straight_ways 0) p) (straight_cost (forward_most (holds_code os when d) (8 + owed os))))
-  test_forks bs k (compares c p) when d =
+      forked_ways (ways_behind (ways_further calls bs [] k (straight_ways 0) p) (straight_cost (forward_most (holds_code os when d) (8 + owed os))))
+  test_forks calls bs k (compares c p) when d =
       let os = waiting_after [] p in
-      forked_ways (ways_behind (ways_further bs [] k (straight_ways 0) p) (straight_cost (forward_most (compares_code os c when d) (10 + owed os))))
-  test_forks bs k (both t u) when d =
-      both_forks (test_forks bs k t false (size (test_code bs u when d) + (if not when then d else 0))) (test_forks bs (k + test_choices t) u when d)
-  test_forks bs k (either t u) when d =
-      one_of_forks (test_forks bs k t true (size (test_code bs u when d) + (if when then d else 0))) (test_forks bs (k + test_choices t) u when d)
-  test_forks bs k (fails t) when d = turned_forks (test_forks bs k t (not when) d)
+      forked_ways (ways_behind (ways_further calls bs [] k (straight_ways 0) p) (straight_cost (forward_most (compares_code os c when d) (10 + owed os))))
+  test_forks calls bs k (both t u) when d =
+      both_forks (test_forks calls bs k t false (size (test_code bs u when d) + (if not when then d else 0)))
+      (test_forks calls bs (k + test_choices t) u when d)
+  test_forks calls bs k (either t u) when d =
+      one_of_forks (test_forks calls bs k t true (size (test_code bs u when d) + (if when then d else 0)))
+      (test_forks calls bs (k + test_choices t) u when d)
+  test_forks calls bs k (fails t) when d = turned_forks (test_forks calls bs k t (not when) d)
 
   -- those of steps, one after another, behind these
-  pub ways_further : List Bound → List Waiting → ℕ → WaysValue → Program → WaysValue
-  ways_further bs os k w nothing = w
-  ways_further bs os k w (step first more) =
-      ways_further bs (waiting_behind os first) (k + step_choices first) (ways_behind w (step_ways bs os k first)) more
+  pub ways_further : List CallCost → List Bound → List Waiting → ℕ → WaysValue → Program → WaysValue
+  ways_further calls bs os k w nothing = w
+  ways_further calls bs os k w (step first more) =
+      ways_further calls bs (waiting_behind os first) (k + step_choices first) (ways_behind w (step_ways calls bs os k first)) more
 
 -- those of steps alone
-abbrev pub steps_ways : List Bound → List Waiting → ℕ → Program → WaysValue
-steps_ways bs os k p = ways_further bs os k (straight_ways 0) p
+abbrev pub steps_ways : List CallCost → List Bound → List Waiting → ℕ → Program → WaysValue
+steps_ways calls bs os k p = ways_further calls bs os k (straight_ways 0) p
 
 -- with no word waiting in front of them or behind them
-abbrev pub block_ways : List Bound → ℕ → Program → WaysValue
-block_ways bs k p = ended p (steps_ways bs [] k p)
+abbrev pub block_ways : List CallCost → List Bound → ℕ → Program → WaysValue
+block_ways calls bs k p = ended p (steps_ways calls bs [] k p)
+
+-- the cycles of the dearest way through the body of a function
+abbrev pub body_cycles : List CallCost → Program → ℕ
+body_cycles calls p = (most_of (ways_behind (straight_ways 0) (block_ways calls [] 0 p))).cycles
 
 -- the dearest way through the code of a program, by whether it takes events
-abbrev pub dearest_way : Bool → Program → WayValue
-dearest_way events p = most_of (ways_behind (straight_cost (forward_most (stack_set events (locals_of p)) 2)) (block_ways [] 0 p))
+abbrev pub dearest_way : Bool → List CallCost → Program → WayValue
+dearest_way events calls p = most_of (ways_behind (straight_cost (forward_most (stack_set events (locals_of p)) 2)) (block_ways calls [] 0 p))
 
 -- the cycles of the dearest way, and how often it takes each choice of the program, by whether its test holds
-pub record IsDearestWay (w : DearestWay) (events : Bool) (p : Program) : Type 0 where
-  pub cycles : w.cycles ≡ (dearest_way events p).cycles
-  pub held : w.held.items ≡ counts_from true 0 (program_choices p) (dearest_way events p).taken
-  pub failed : w.failed.items ≡ counts_from false 0 (program_choices p) (dearest_way events p).taken
+pub record IsDearestWay (w : DearestWay) (events : Bool) (calls : List CallCost) (p : Program) : Type 0 where
+  pub cycles : w.cycles ≡ (dearest_way events calls p).cycles
+  pub held : w.held.items ≡ counts_from true 0 (program_choices p) (dearest_way events calls p).taken
+  pub failed : w.failed.items ≡ counts_from false 0 (program_choices p) (dearest_way events calls p).taken

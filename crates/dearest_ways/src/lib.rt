@@ -2,6 +2,8 @@
 //! tests, choices and loops go on.
 #![tactic(auto)]
 
+mod calls;
 mod program;
 
-pub use program::{DearestWay, dearest_way};
+pub use calls::CallCost;
+pub use program::{DearestWay, body_cycles, dearest_way};

@@ -1,9 +1,9 @@
 //! The dearest way of a program's code.
 
 ghost use Rattle.std.specs.Prelude.{◌≡◌, ◌==◌, ◌+◌, ◌*◌, ◌^◌, ◌<◌, ◌≤◌, ◌∷◌, ◌++◌, ◌-◌, [], ℕ, None, not, if◌then◌else◌, is_some, true, false, IfOk, OnOk};
-ghost use Rattle.word_code.specs.array_versions.Program.{truth, repeat};
+ghost use Rattle.word_code.specs.array_versions.Program.{Program, truth, repeat};
 ghost use Rattle.word_code.specs.array_versions.View.{program_of, steps_of, step_of, test_of};
-ghost use Rattle.word_code.specs.array_versions.Form.{IsWhole, LocalsBelow, StepLocalsBelow, TestLocalsBelow};
+ghost use Rattle.word_code.specs.array_versions.Form.{LocalsBelow, StepLocalsBelow, TestLocalsBelow};
 ghost use Rattle.word_code.specs.array_versions.Cost.{words_of, step_words, test_words, call_cycles};
 ghost use Rattle.word_code.specs.declared.waiting.Waiting.TheVariants.{R4};
 ghost use Rattle.word_code.specs.Code.{owed_by, owed, power, size, holds_code, compares_code, number_code, turn_end, pass_over, test_code};
@@ -14,8 +14,10 @@ ghost use Rattle.code_costs.specs.Dearest.{back_cycles, turn_most, turns_most, s
 ghost use Rattle.code_costs.specs.Dearest.{test_most, steps_most, block_most, most_spent};
 ghost use Rattle.code_ways.specs.Ways.{choice_ways, forks_of, leaving_ways, ways_behind, ways_of};
 ghost use Rattle.dearest_ways.specs.Ways.{straight_cost, step_choices, test_choices, program_choices, step_ways, test_forks};
-ghost use Rattle.dearest_ways.specs.Ways.{steps_ways, block_ways, IsDearestWay};
+ghost use Rattle.dearest_ways.specs.Ways.{steps_ways, block_ways, bare, body_cycles, IsDearestWay};
+ghost use Rattle.dearest_ways.specs.Calls.{cost_at, CallsCost};
 
+use crate::calls::{CallCost, cost_at};
 use array_versions::{BinaryOperation, Comparison, WordProgram, WordStep, WordTest};
 use code_paths::{forward_most, plus};
 use code_ways::{
@@ -293,6 +295,7 @@ fn turn_ended(
 #[cycle(ways)]
 fn test_forks(
     alloc: Global,
+    calls: &[CallCost],
     bounds: &[Bound],
     test: &WordTest,
     when: bool,
@@ -302,36 +305,36 @@ fn test_forks(
     requires room { over + test_words (test_of test.now) ≤ 0x7FFF }
     requires locals { TestLocalsBelow 1016 (test_of test.now) }
     requires few { choices.old + test_choices (test_of test.now) < 2 ^ 32 }
-    ensures forks { IfOk result (λ t. forks_of t ≡ test_forks bounds.now choices.old (test_of test.now) when over) }
+    ensures forks { IfOk result (λ t. forks_of t ≡ test_forks calls.now bounds.now choices.old (test_of test.now) when over) }
     ensures choices { OnOk result (choices.new ≡ choices.old + test_choices (test_of test.now)) }
 {
     match test {
         WordTest::Holds(steps) => {
             let mut waiting = Vec::new(alloc);
-            let first = steps_ways(alloc, bounds, steps, &mut waiting, choices)?;
+            let first = steps_ways(alloc, calls, bounds, steps, &mut waiting, choices)?;
             let asked = holds_asked(alloc, when, over, &mut waiting)?;
             forked(behind(alloc, first, asked)?)
         }
         WordTest::Compares(comparison, steps) => {
             let mut waiting = Vec::new(alloc);
-            let first = steps_ways(alloc, bounds, steps, &mut waiting, choices)?;
+            let first = steps_ways(alloc, calls, bounds, steps, &mut waiting, choices)?;
             let asked = compares_asked(alloc, *comparison, when, over, &mut waiting)?;
             forked(behind(alloc, first, asked)?)
         }
         WordTest::Both(first, second) => {
             let further = over_both(alloc, bounds, second, when, over, !when)?;
-            let one = test_forks(alloc, bounds, first, false, further, choices)?;
-            let other = test_forks(alloc, bounds, second, when, over, choices)?;
+            let one = test_forks(alloc, calls, bounds, first, false, further, choices)?;
+            let other = test_forks(alloc, calls, bounds, second, when, over, choices)?;
             both(alloc, one, other)
         }
         WordTest::Either(first, second) => {
             let further = over_both(alloc, bounds, second, when, over, when)?;
-            let one = test_forks(alloc, bounds, first, true, further, choices)?;
-            let other = test_forks(alloc, bounds, second, when, over, choices)?;
+            let one = test_forks(alloc, calls, bounds, first, true, further, choices)?;
+            let other = test_forks(alloc, calls, bounds, second, when, over, choices)?;
             one_of(alloc, one, other)
         }
         WordTest::Fails(test) => {
-            let other = test_forks(alloc, bounds, test, !when, over, choices)?;
+            let other = test_forks(alloc, calls, bounds, test, !when, over, choices)?;
             Ok(turned(other))
         }
     }
@@ -341,6 +344,7 @@ fn test_forks(
 #[cycle(ways)]
 fn truth_ways(
     alloc: Global,
+    calls: &[CallCost],
     bounds: &[Bound],
     test: &WordTest,
     waiting: &mut Vec<Waiting>,
@@ -349,12 +353,12 @@ fn truth_ways(
     requires room { step_words (truth (test_of test.now)) ≤ 0x7FFF }
     requires locals { TestLocalsBelow 1016 (test_of test.now) }
     requires few { choices.old + test_choices (test_of test.now) < 2 ^ 32 }
-    ensures ways { IfOk result (λ w. ways_of w ≡ step_ways bounds.now waiting.old.items choices.old (truth (test_of test.now))) }
+    ensures ways { IfOk result (λ w. ways_of w ≡ step_ways calls.now bounds.now waiting.old.items choices.old (truth (test_of test.now))) }
     ensures waiting { OnOk result (waiting.new.items ≡ []) }
     ensures choices { OnOk result (choices.new ≡ choices.old + test_choices (test_of test.now)) }
 {
     let front = flush(alloc, waiting)?;
-    let test = test_forks(alloc, bounds, test, false, 2, choices)?;
+    let test = test_forks(alloc, calls, bounds, test, false, 2, choices)?;
     behind(alloc, front, chosen(alloc, test, straight(5), straight(3))?)
 }
 
@@ -362,6 +366,7 @@ fn truth_ways(
 #[cycle(ways)]
 fn held_ways(
     alloc: Global,
+    calls: &[CallCost],
     bounds: &[Bound],
     number: u32,
     block: &[WordStep],
@@ -373,11 +378,11 @@ fn held_ways(
     requires few { choices.old + program_choices (steps_of block.now) < 2 ^ 32 }
     requires over { 2 * other ≤ 0xFFFE }
     ensures ways { IfOk result (λ w. ways_of w ≡ ways_behind (choice_ways number true)
-        (ways_behind (block_ways bounds.now choices.old (steps_of block.now)) (straight_cost (forward_most (pass_over other) 3)))) }
+        (ways_behind (block_ways calls.now bounds.now choices.old (steps_of block.now)) (straight_cost (forward_most (pass_over other) 3)))) }
     ensures choices { OnOk result (choices.new ≡ choices.old + program_choices (steps_of block.now)) }
 {
     let holds = choice(alloc, number, true)?;
-    let block = block_ways(alloc, bounds, block, choices)?;
+    let block = block_ways(alloc, calls, bounds, block, choices)?;
     let over = pass(alloc, other)?;
     behind(alloc, holds, behind(alloc, block, over)?)
 }
@@ -386,6 +391,7 @@ fn held_ways(
 #[cycle(ways)]
 fn failed_ways(
     alloc: Global,
+    calls: &[CallCost],
     bounds: &[Bound],
     number: u32,
     block: &[WordStep],
@@ -394,11 +400,11 @@ fn failed_ways(
     requires room { words_of (steps_of block.now) ≤ 0x7FFF }
     requires locals { LocalsBelow 1016 (steps_of block.now) }
     requires few { choices.old + program_choices (steps_of block.now) < 2 ^ 32 }
-    ensures ways { IfOk result (λ w. ways_of w ≡ ways_behind (choice_ways number false) (block_ways bounds.now choices.old (steps_of block.now))) }
+    ensures ways { IfOk result (λ w. ways_of w ≡ ways_behind (choice_ways number false) (block_ways calls.now bounds.now choices.old (steps_of block.now))) }
     ensures choices { OnOk result (choices.new ≡ choices.old + program_choices (steps_of block.now)) }
 {
     let fails = choice(alloc, number, false)?;
-    let block = block_ways(alloc, bounds, block, choices)?;
+    let block = block_ways(alloc, calls, bounds, block, choices)?;
     behind(alloc, fails, block)
 }
 
@@ -406,6 +412,7 @@ fn failed_ways(
 #[cycle(ways)]
 fn loop_ways(
     alloc: Global,
+    calls: &[CallCost],
     bounds: &[Bound],
     own: Bound,
     from: u16,
@@ -418,14 +425,14 @@ fn loop_ways(
     requires locals { LocalsBelow 1016 (steps_of body.now) }
     requires few { choices.old + program_choices (steps_of body.now) < 2 ^ 32 }
     ensures ways { IfOk result (λ w. ways_of w
-        ≡ step_ways bounds.now waiting.old.items choices.old (repeat own.local from own.below (steps_of body.now))) }
+        ≡ step_ways calls.now bounds.now waiting.old.items choices.old (repeat own.local from own.below (steps_of body.now))) }
     ensures waiting { OnOk result (waiting.new.items ≡ []) }
     ensures choices { OnOk result (choices.new ≡ choices.old + program_choices (steps_of body.now)) }
 {
     let front = flush(alloc, waiting)?;
     let set = number_set(alloc, own.local, from)?;
     let inner = bounds_within(alloc, own, bounds)?;
-    let turn = block_ways(alloc, &inner, body, choices)?;
+    let turn = block_ways(alloc, calls, &inner, body, choices)?;
     let end = turn_ended(alloc, &inner, own, body)?;
     let turn = behind(alloc, turn, end)?;
     let turns = all_turns(alloc, own.below.saturating_sub(from), turn)?;
@@ -443,15 +450,21 @@ fn call_cycles(frame: Option<u16>, count: u16) -> u64
 }
 
 // A call, whose function's body isn't a part of the step; its word waits behind it.
-#[tactic(auto, using(crate::proofs::Priced::cut_sum))]
-fn call_ways(frame: Option<u16>, count: u16, waiting: &mut Vec<Waiting>) -> Result<Ways, AllocError>
-    ensures ways { IfOk result (λ w. ways_of w ≡ straight_cost (call_most frame count waiting.old.items)) }
+#[tactic(auto, using(crate::proofs::Priced::cut_call))]
+fn call_ways(
+    calls: &[CallCost],
+    entry: u16,
+    frame: Option<u16>,
+    count: u16,
+    waiting: &mut Vec<Waiting>,
+) -> Result<Ways, AllocError>
+    ensures ways { IfOk result (λ w. ways_of w ≡ straight_cost (call_most frame count waiting.old.items + cost_at calls.now entry)) }
     ensures waiting { OnOk result (waiting.new.items ≡ R4 ∷ []) }
 {
-    let cycles = plus(call_cycles(frame, count), owed(waiting));
+    let own = plus(call_cycles(frame, count), owed(waiting));
     waiting.clear();
     waiting.push(Waiting::R4)?;
-    Ok(straight(cycles))
+    Ok(straight(plus(own, cost_at(calls, entry))))
 }
 
 // A return, behind which nothing waits.
@@ -469,6 +482,7 @@ fn give_ways(waiting: &mut Vec<Waiting>) -> Ways
 #[cycle(ways)]
 fn step_ways(
     alloc: Global,
+    calls: &[CallCost],
     bounds: &[Bound],
     step: &WordStep,
     waiting: &mut Vec<Waiting>,
@@ -477,20 +491,20 @@ fn step_ways(
     requires room { step_words (step_of step.now) ≤ 0x7FFF }
     requires locals { StepLocalsBelow 1016 (step_of step.now) }
     requires few { choices.old + step_choices (step_of step.now) < 2 ^ 32 }
-    ensures ways { IfOk result (λ w. ways_of w ≡ step_ways bounds.now waiting.old.items choices.old (step_of step.now)) }
+    ensures ways { IfOk result (λ w. ways_of w ≡ step_ways calls.now bounds.now waiting.old.items choices.old (step_of step.now)) }
     ensures waiting { OnOk result (waiting.new.items ≡ waiting_behind waiting.old.items (step_of step.now)) }
     ensures choices { OnOk result (choices.new ≡ choices.old + step_choices (step_of step.now)) }
 {
     match step {
-        WordStep::Truth(test) => truth_ways(alloc, bounds, test, waiting, choices),
+        WordStep::Truth(test) => truth_ways(alloc, calls, bounds, test, waiting, choices),
         WordStep::Choose(test, taken, otherwise) => {
             let front = flush(alloc, waiting)?;
             let jumps = choice_jumps(alloc, bounds, taken, otherwise)?;
             let number = *choices;
             *choices += 1;
-            let asked = test_forks(alloc, bounds, test, false, jumps.first, choices)?;
-            let held = held_ways(alloc, bounds, number, taken, jumps.second, choices)?;
-            let failed = failed_ways(alloc, bounds, number, otherwise, choices)?;
+            let asked = test_forks(alloc, calls, bounds, test, false, jumps.first, choices)?;
+            let held = held_ways(alloc, calls, bounds, number, taken, jumps.second, choices)?;
+            let failed = failed_ways(alloc, calls, bounds, number, otherwise, choices)?;
             behind(alloc, front, chosen(alloc, asked, held, failed)?)
         }
         WordStep::Repeat {
@@ -503,13 +517,18 @@ fn step_ways(
                 local: *local,
                 below: *below,
             };
-            loop_ways(alloc, bounds, own, *from, body, waiting, choices)
+            loop_ways(alloc, calls, bounds, own, *from, body, waiting, choices)
         }
         WordStep::Jump(_) => {
             let front = flush(alloc, waiting)?;
             behind(alloc, front, leaving(3))
         }
-        WordStep::Call { frame, count, .. } => call_ways(*frame, *count, waiting),
+        WordStep::Call {
+            entry,
+            frame,
+            count,
+            ..
+        } => call_ways(calls, *entry, *frame, *count, waiting),
         WordStep::Give => Ok(give_ways(waiting)),
         _ => leaf(alloc, bounds, step, waiting),
     }
@@ -519,6 +538,7 @@ fn step_ways(
 #[cycle(ways)]
 fn steps_ways(
     alloc: Global,
+    calls: &[CallCost],
     bounds: &[Bound],
     steps: &[WordStep],
     waiting: &mut Vec<Waiting>,
@@ -527,13 +547,13 @@ fn steps_ways(
     requires room { words_of (steps_of steps.now) ≤ 0x7FFF }
     requires locals { LocalsBelow 1016 (steps_of steps.now) }
     requires few { choices.old + program_choices (steps_of steps.now) < 2 ^ 32 }
-    ensures ways { IfOk result (λ w. ways_of w ≡ steps_ways bounds.now waiting.old.items choices.old (steps_of steps.now)) }
+    ensures ways { IfOk result (λ w. ways_of w ≡ steps_ways calls.now bounds.now waiting.old.items choices.old (steps_of steps.now)) }
     ensures waiting { OnOk result (waiting.new.items ≡ waiting_after waiting.old.items (steps_of steps.now)) }
     ensures choices { OnOk result (choices.new ≡ choices.old + program_choices (steps_of steps.now)) }
 {
     let mut ways = straight(0);
     for step in steps {
-        let next = step_ways(alloc, bounds, step, waiting, choices)?;
+        let next = step_ways(alloc, calls, bounds, step, waiting, choices)?;
         ways = behind(alloc, ways, next)?;
     }
     Ok(ways)
@@ -543,6 +563,7 @@ fn steps_ways(
 #[cycle(ways)]
 fn block_ways(
     alloc: Global,
+    calls: &[CallCost],
     bounds: &[Bound],
     steps: &[WordStep],
     choices: &mut u32,
@@ -550,11 +571,11 @@ fn block_ways(
     requires room { words_of (steps_of steps.now) ≤ 0x7FFF }
     requires locals { LocalsBelow 1016 (steps_of steps.now) }
     requires few { choices.old + program_choices (steps_of steps.now) < 2 ^ 32 }
-    ensures ways { IfOk result (λ w. ways_of w ≡ block_ways bounds.now choices.old (steps_of steps.now)) }
+    ensures ways { IfOk result (λ w. ways_of w ≡ block_ways calls.now bounds.now choices.old (steps_of steps.now)) }
     ensures choices { OnOk result (choices.new ≡ choices.old + program_choices (steps_of steps.now)) }
 {
     let mut waiting = Vec::new(alloc);
-    let ways = steps_ways(alloc, bounds, steps, &mut waiting, choices)?;
+    let ways = steps_ways(alloc, calls, bounds, steps, &mut waiting, choices)?;
     let end = flush(alloc, &mut waiting)?;
     behind(alloc, ways, end)
 }
@@ -570,31 +591,71 @@ pub struct DearestWay {
     pub failed: Vec<u64>,
 }
 
-/// The dearest way of the code of a whole program, which takes events or not: no way takes more cycles, whatever the words are that decide it. Choices
-/// stand in the order in which the program has them.
-///
-/// # Errors
-/// `AllocError` where memory was refused.
-#[tactic(auto, using(crate::proofs::Costs::cycles_are))]
-pub fn dearest_way(
+// The dearest way of a program as it is.
+fn bare_way(
     alloc: Global,
     events: bool,
+    calls: &[CallCost],
     program: &WordProgram,
 ) -> Result<DearestWay, AllocError>
     requires room { words_of (program_of program.now) ≤ 0x7FFF }
-    requires whole { IsWhole (program_of program.now) }
-    ensures cycles { IfOk result (λ w. w.cycles ≡ capped (most_spent events (program_of program.now))) }
-    ensures way { IfOk result (λ w. IsDearestWay w events (program_of program.now)) }
+    requires locals { LocalsBelow 1016 (program_of program.now) }
+    ensures { IfOk result (λ w. IsDearestWay w events calls.now (program_of program.now)) }
 {
     let mut set = Vec::new(alloc);
     emit_stack_set(events, steps_locals(&program.steps), &mut set)?;
     let front = priced(alloc, set.as_slice(), 2)?;
     let mut choices = 0;
-    let block = block_ways(alloc, &[], &program.steps, &mut choices)?;
+    let block = block_ways(alloc, calls, &[], &program.steps, &mut choices)?;
     let way = most_of(behind(alloc, front, block)?);
     Ok(DearestWay {
         cycles: way.cycles,
         held: counts_of(alloc, &way.taken, true, choices)?,
         failed: counts_of(alloc, &way.taken, false, choices)?,
     })
+}
+
+// The cycles of the dearest way through a body as it is.
+fn bare_cycles(alloc: Global, calls: &[CallCost], body: &WordProgram) -> Result<u64, AllocError>
+    requires room { words_of (program_of body.now) ≤ 0x7FFF }
+    requires locals { LocalsBelow 1016 (program_of body.now) }
+    ensures { IfOk result (λ cycles. cycles ≡ body_cycles calls.now (program_of body.now)) }
+{
+    let mut choices = 0;
+    let block = block_ways(alloc, calls, &[], &body.steps, &mut choices)?;
+    Ok(most_of(behind(alloc, straight(0), block)?).cycles)
+}
+
+/// The dearest way of the code of a program, which takes events or not, by what its calls cost: no way takes more cycles, whatever the words are that decide
+/// it. Choices stand in the order in which the program has them; those of what it calls aren't among them. It is told of each program that has bodies in the
+/// calls of this one.
+///
+/// # Errors
+/// `AllocError` where memory was refused.
+pub fn dearest_way(
+    alloc: Global,
+    events: bool,
+    calls: &[CallCost],
+    program: &WordProgram,
+) -> Result<DearestWay, AllocError>
+    requires room { words_of (program_of program.now) ≤ 0x7FFF }
+    requires locals { LocalsBelow 1016 (program_of program.now) }
+    ensures way { IfOk result (λ w. (p : Program) → bare p ≡ program_of program.now → IsDearestWay w events calls.now p) }
+    ensures cycles { IfOk result (λ w. (p : Program) → bare p ≡ program_of program.now → CallsCost calls.now p
+        → w.cycles ≡ capped (most_spent events p)) }
+{
+    bare_way(alloc, events, calls, program)
+}
+
+/// The cycles that the code of a function's body takes on its dearest way, by what its calls cost; 2^64 - 1 where they are more. It is told of each body that
+/// has bodies in the calls of this one.
+///
+/// # Errors
+/// `AllocError` where memory was refused.
+pub fn body_cycles(alloc: Global, calls: &[CallCost], body: &WordProgram) -> Result<u64, AllocError>
+    requires room { words_of (program_of body.now) ≤ 0x7FFF }
+    requires locals { LocalsBelow 1016 (program_of body.now) }
+    ensures { IfOk result (λ cycles. (p : Program) → bare p ≡ program_of body.now → CallsCost calls.now p → cycles ≡ capped (block_most [] p 0)) }
+{
+    bare_cycles(alloc, calls, body)
 }

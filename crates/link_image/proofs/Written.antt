@@ -190,14 +190,11 @@ next_order events ts ps at k t p l n a b o =
 pub next_emitted : (ts : List TaskPlace) (ps : List Programs) (k : ℕ) (t : TaskPlace) (p : Programs) → k < length ts → k < length ps
     → t ≡ get_or ts k t → p ≡ get_or ps k p → TasksAreEmitted (drop k ts) (map programs_of (drop k ps))
     → TaskIsEmitted t (programs_of p) × TasksAreEmitted (drop (k + 1) ts) (map programs_of (drop (k + 1) ps))
-next_emitted ts ps k t p l m a b h = subst (λ x. x) same h
-  where
-    same : TasksAreEmitted (drop k ts) (map programs_of (drop k ps))
-        ≡ (TaskIsEmitted t (programs_of p) × TasksAreEmitted (drop (k + 1) ts) (map programs_of (drop (k + 1) ps)))
-    same = at_drop_more (λ xs. TasksAreEmitted xs (map programs_of (drop k ps))) ts k t l
-        ∙ ap (λ x. TasksAreEmitted (x ∷ drop (k + 1) ts) (map programs_of (drop k ps))) (sym a)
-        ∙ at_drop_more (λ xs. TasksAreEmitted (t ∷ drop (k + 1) ts) (map programs_of xs)) ps k p m
-        ∙ ap (λ x. TasksAreEmitted (t ∷ drop (k + 1) ts) (map programs_of (x ∷ drop (k + 1) ps))) (sym b)
+next_emitted ts ps k t p l m a b h =
+    let tasks = at_drop_more (λ (xs : List TaskPlace). xs) ts k t l ∙ ap (λ (x : TaskPlace). x ∷ drop (k + 1) ts) (sym a) in
+    let programs = at_drop_more (λ (xs : List Programs). xs) ps k p m ∙ ap (λ (x : Programs). x ∷ drop (k + 1) ps) (sym b) in
+    subst (λ xs. TasksAreEmitted (t ∷ drop (k + 1) ts) (map programs_of xs)) programs
+    (subst (λ xs. TasksAreEmitted xs (map programs_of (drop k ps))) tasks h)
 
 -- ---- the whole code
 

@@ -67,7 +67,8 @@ moved_to e a = so_ends a (λ v h. record { pc = h.pc ∙ e; fram = h.fram; input
 
 module _ (code : Code) (tidy : IsTidy code) where
   -- straight code
-  pub straight : (ms : List Form) (u : Core) → AreStraight ms → Stands code u.pc ms → FormsNeed (rules_of (anywhere code)) ms u → (forms_run ms u).status ≡ At (behind ms u)
+  pub straight : (ms : List Form) (u : Core) → AreStraight ms → Stands code u.pc ms → FormsNeed (rules_of (anywhere code)) ms u → (forms_run ms u).status
+      ≡ At (behind ms u)
       → Comes code (forms_run ms u).effects (length ms) (forms_run ms u).cycles u (λ v. v ≡ behind ms u)
   straight ms u st h w e =
       let r = forms_run ms u in

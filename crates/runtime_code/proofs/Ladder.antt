@@ -135,8 +135,10 @@ module _ (code : Code) (tidy : IsTidy code) where
       let even = rung_even (stub_at q ss k) (rung_in ss k).code (rung_in ss k).body (stub_is_even q ss k h.even h.each)
       (All-get_or IsRung ss k (record { body = []; bytes = 0; code = 0 }) named h.each).even in
       from_there u at (then_on
-      (straight code tidy (task_found m) s (tt, (tt, (tt, (tt, tt)))) (stands_front code p (task_found m) (SkipBy R4 ∷ []) h.dispatches)
-      ((origin_is_even m.runtime.events, λ e. origin_is_start m.runtime.events (sym h.events ∙ e), (omega arith, origin_is_low m.runtime.events)), ((h.current, tt), ((tt, tt), ((tt, tt), tt)))) refl)
+      (straight code tidy (task_found m) s (tt, (tt, (tt, (tt, tt)))) (stands_front code p (task_found m) (SkipBy R4 ∷ []) h.dispatches) (
+        (origin_is_even m.runtime.events, λ e. origin_is_start m.runtime.events (sym h.events ∙ e), (omega arith, origin_is_low m.runtime.events)),
+        ((h.current, tt), ((tt, tt), ((tt, tt), tt))),
+      ) refl)
       (then_on (form_comes (anywhere code) tidy (SkipBy R4) found skipped [] 2 (λ v. v ≡ skipped) h.dispatches.1.1.1.1.0 (omega (arith, far)) refl refl)
       (form_comes (anywhere code) tidy (Branch to) skipped (record skipped { pc = to }) [] 3 (Enters to (stack_origin m.runtime.events) f l)
       (ap code.at there ∙ rung_stands code ss (p + 14) q k h.rungs named) even refl (record { pc = refl; sp = refl; fram = refl; inputs = refl }))))

@@ -1,5 +1,5 @@
 -- The program of a task has at least the choices of the task's conditions.
-use Rattle.std.proofs.Common.{◌≡◌, ◌+◌, ◌≤◌, arith}
+use Rattle.std.proofs.Common.{◌≡◌, ◌+◌, ◌≤◌, List, arith}
 use Rattle.task_ast.specs.Tree as t
 use Rattle.task_ast.specs.Paths.{CheckedStatement, CheckedChoice, CheckedBlock}
 use Rattle.array_versions.specs.Program.{Program, nothing, step, joined}
@@ -13,25 +13,25 @@ choices_joined nothing q = omega arith
 choices_joined (step s p) q = let rest = choices_joined p q in omega (arith, rest)
 
 mutual
-  statement_few : (p : Places) (s : CheckedStatement) → statement_conditions s ≤ program_choices (lowered_statement p s)
-  statement_few p (t.choose choice) = choice_few p choice
-  statement_few p (t.loop x from tested below stepped body) = let h = block_few p body in omega (arith, h)
-  statement_few p (t.declare of x e) = omega arith
-  statement_few p (t.assign x e) = omega arith
-  statement_few p (t.store x index e) = omega arith
-  statement_few p (t.emit e) = omega arith
-  statement_few p (t.give at e) = omega arith
-  statement_few p (t.transition at task) = omega arith
+  statement_few : (p : Places) (rs : List Program) (s : CheckedStatement) → statement_conditions s ≤ program_choices (lowered_statement p rs s)
+  statement_few p rs (t.choose choice) = choice_few p rs choice
+  statement_few p rs (t.loop x from tested below stepped body) = let h = block_few p rs body in omega (arith, h)
+  statement_few p rs (t.declare of x e) = omega arith
+  statement_few p rs (t.assign x e) = omega arith
+  statement_few p rs (t.store x index e) = omega arith
+  statement_few p rs (t.emit e) = omega arith
+  statement_few p rs (t.give at e) = omega arith
+  statement_few p rs (t.transition at task) = omega arith
 
-  choice_few : (p : Places) (c : CheckedChoice) → choice_conditions c ≤ program_choices (lowered_choice p c)
-  choice_few p t.nothing = omega arith
-  choice_few p (t.otherwise block) = block_few p block
-  choice_few p (t.test e block more) = let h = block_few p block in let k = choice_few p more in omega (arith, h, k)
+  choice_few : (p : Places) (rs : List Program) (c : CheckedChoice) → choice_conditions c ≤ program_choices (lowered_choice p rs c)
+  choice_few p rs t.nothing = omega arith
+  choice_few p rs (t.otherwise block) = block_few p rs block
+  choice_few p rs (t.test e block more) = let h = block_few p rs block in let k = choice_few p rs more in omega (arith, h, k)
 
-  pub block_few : (p : Places) (b : CheckedBlock) → block_conditions b ≤ program_choices (lowered_block p b)
-  block_few p t.end = omega arith
-  block_few p (t.step s more) =
-      let h = statement_few p s in
-      let k = block_few p more in
-      let sum = choices_joined (lowered_statement p s) (lowered_block p more) in
+  pub block_few : (p : Places) (rs : List Program) (b : CheckedBlock) → block_conditions b ≤ program_choices (lowered_block p rs b)
+  block_few p rs t.end = omega arith
+  block_few p rs (t.step s more) =
+      let h = statement_few p rs s in
+      let k = block_few p rs more in
+      let sum = choices_joined (lowered_statement p rs s) (lowered_block p rs more) in
       omega (arith, h, k, sum)

@@ -1,4 +1,7 @@
 mod Stretches
 mod Tables
+mod Ordered
+mod Bodies
+mod Tasks
 mod Rows
 mod Conditions

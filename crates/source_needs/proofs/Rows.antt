@@ -11,7 +11,8 @@ use Rattle.task_ast.specs.declared.names.VariableName.{VariableName}
 use Rattle.task_ast.specs.declared.names.FunctionName.{FunctionName}
 use Rattle.task_ast.specs.declared.names.TaskName.{TaskName}
 use Rattle.task_ast.specs.View.{block_view, task_of}
-use Rattle.cost_bound.specs.Summaries.{function_summaries, summaries}
+use Rattle.task_ast.specs.Paths.{CheckedFunction}
+use Rattle.cost_bound.specs.Summaries.{summaries}
 use Rattle.cost_bound.specs.declared.allowance.Allow.{Allow}
 use Rattle.cost_bound.specs.Allowance.{CheckedTask, scalars_of, task_bound, task_words, uses_events, versions_of}
 use Rattle.code_paths.specs.Paths.{capped}
@@ -24,14 +25,11 @@ use Rattle.privatise.specs.Laws.{OneLayoutFor, OneLayout, LayoutsAreLogged}
 use Rattle.memory_map.specs.declared.runtime.Logging.TheVariants.{Undo}
 use Rattle.war_analysis.proofs.Interface.{element}
 use Rattle.memory_map.specs.MemoryMap.{MemoryMap, TaskPlace, logged_map}
-use Rattle.memory_map.specs.Spots.{places_of, private_words}
-use Rattle.array_versions.specs.Form.{IsWhole}
-use Rattle.array_versions.specs.Cost.{words_of}
-use Rattle.lower.specs.Seen.{map_seen, task_seen}
-use Rattle.lower.specs.Lowered.{lowered_block, lowered_tasks}
-use Rattle.lower.proofs.Interface.{seen_words, blocks_keep_to_words, program_at}
-use Rattle.whole_programs.specs.Laws.{IsLaidOutText, TasksAreWhole, PrivatesAreFew}
-use Rattle.compiled_model.specs.Parts.{task_program}
+use Rattle.memory_map.specs.Spots.{private_words}
+use Rattle.lower.specs.Lowered.{bare_tasks, lowered_block, routine_bodies, task_places}
+use Rattle.lower.proofs.Interface.{seen_words, blocks_keep_to_words, routines_keep}
+use Rattle.whole_programs.specs.Laws.{IsLaidOutText}
+use Rattle.whole_programs.proofs.Interface.{privates_are_few}
 use Rattle.dearest_ways.proofs.Interface.{program_few}
 use Rattle.condition_lines.specs.Conditions.{block_conditions, block_ifs}
 use Rattle.need_lines.specs.Rows.{NeedRow}
@@ -51,32 +49,27 @@ pub record TaskHolds (text : List ℕ) (p : CheckedProgram) (allow : Allow) (l :
   pub cleared : l.versions.words ≡ allow.versions
   pub bound : task_bound (summaries p) (uses_events p) (versions_of p) p.shared task.body < 2 ^ 32
   pub words : task_words (summaries p) p.shared task.body ≤ 22000
-  pub whole : IsWhole (task_program p l k)
-  pub room : words_of (task_program p l k) ≤ 0x7FFF
   pub privates : private_words place.privates ≤ scalars_of (summaries p) p.shared task.body
   pub conditions : block_conditions task.body < 2 ^ 32
-  pub none : [] ≡ summaries p
 
-pub task_holds : TasksAreWhole → (text : List ℕ) (p : CheckedProgram) (allow : Allow) (plans : List TaskPlanValue) (l : MemoryMap)
-    → PrivatesAreFew → IsLaidOutText text p allow plans l
+pub task_holds : (text : List ℕ) (p : CheckedProgram) (allow : Allow) (plans : List TaskPlanValue) (l : MemoryMap) → IsLaidOutText text p allow plans l
     → (k : ℕ) → k < length p.tasks → TaskHolds text p allow l k
-task_holds whole text p allow plans l few laid k inside =
+task_holds text p allow plans l laid k inside =
     let t = element p.tasks k inside in
     let count = laid.layout.tasks.count in
     let place = element l.tasks k (omega (arith, inside, count)) in
-    let program : task_program p l k ≡ _ = program_at l p.tasks l.tasks k t.0 place.0 t.1 place.1 in
-    let privates = few text p allow plans l laid k t.0 place.0 t.1 place.1 in
+    let privates = privates_are_few text p allow plans l laid k t.0 place.0 t.1 place.1 in
     let allowed = laid.accepted.allowed in
     let bound = at_most_greatest (task_bound (summaries p) (uses_events p) (versions_of p) p.shared) p.tasks k t.0 t.1 in
     let words = at_most_total (task_words (summaries p) p.shared) p.tasks k t.0 t.1 in
-    let own = task_seen l.runtime.logging place.0 in
     let no_more = seen_words l.runtime.logging place.0 in
-    let code = blocks_keep_to_words (summaries p) (places_of (map_seen t.0.body l) own) (scalars_of (summaries p) p.shared t.0.body) t.0.body
-    (omega (arith, privates, no_more)) in
+    let places = task_places p.functions l place.0 t.0.body in
+    let bodies = routine_bodies places p.functions in
+    let code = blocks_keep_to_words (summaries p) bodies (routines_keep places p.functions laid.layout.placed.functions) places
+    (scalars_of (summaries p) p.shared t.0.body) t.0.body (omega (arith, privates, no_more)) in
     let small : task_words (summaries p) p.shared t.0.body ≤ 22000 = omega (arith, words, allowed.within_size) in
-    let places = places_of (map_seen t.0.body l) own in
-    let conditions = block_few places t.0.body in
-    let choices = program_few (lowered_block places t.0.body) in
+    let conditions = block_few places bodies t.0.body in
+    let choices = program_few (lowered_block places bodies t.0.body) in
     record {
       task = t.0;
       place = place.0;
@@ -87,11 +80,8 @@ task_holds whole text p allow plans l few laid k inside =
       cleared = laid.layout.versions;
       bound = omega (arith, bound, allowed.within_bound);
       words = small;
-      whole = subst IsWhole (sym program) (whole text p allow plans l laid k t.0 place.0 t.1 place.1).0.whole;
-      room = omega (arith, ap words_of program, code, small);
       privates = privates;
       conditions = omega (arith, conditions, choices, code, small);
-      none = ap function_summaries (sym laid.layout.plain);
     }
 
 -- ways that are cut at 2^64 - 1 are cut by a bound of 32 bits
@@ -122,10 +112,11 @@ pub rows_end : (text : List ℕ) (p : CheckedProgram) (l : MemoryMap) (lines : L
 rows_end text p l lines i rows h = ap (λ ts. rows ++ rows_from text p l lines i ts) (drop_all i p.tasks h) ∙ append-nil rows
 
 -- as many programs as tasks
-pub as_many : (l : MemoryMap) (tasks : List CheckedTask) (ts : List TaskPlace) → length ts ≡ length tasks → length (lowered_tasks l tasks ts) ≡ length tasks
-as_many l [] ts e = refl
-as_many l (task ∷ tasks) [] e = absurd (omega (arith, e))
-as_many l (task ∷ tasks) (t ∷ ts) e = ap suc (as_many l tasks ts (omega (arith, e)))
+pub as_many : (fs : List CheckedFunction) (l : MemoryMap) (tasks : List CheckedTask) (ts : List TaskPlace) → length ts ≡ length tasks
+    → length (bare_tasks fs l tasks ts) ≡ length tasks
+as_many fs l [] ts e = refl
+as_many fs l (task ∷ tasks) [] e = absurd (omega (arith, e))
+as_many fs l (task ∷ tasks) (t ∷ ts) e = ap suc (as_many fs l tasks ts (omega (arith, e)))
 
 -- a task as it is declared, where it stands
 pub task_at : (ts : List (TaskDeclaration VariableName TaskName FunctionName)) (k : ℕ) (t : TaskDeclaration VariableName TaskName FunctionName)

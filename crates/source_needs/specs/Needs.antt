@@ -19,21 +19,23 @@ use Rattle.compiled_model.specs.Parts.{program_parts, task_program}
 use Rattle.task_needs.specs.Needs.{Need, boot_time, start_time, commit_time, need_parts}
 use Rattle.code_ways.specs.Choices.{counts_from}
 use Rattle.dearest_ways.specs.Ways.{dearest_way, program_choices}
+use Rattle.condition_lines.specs.Behind.{functions_behind}
 use Rattle.condition_lines.specs.Lines.{if_lines}
 use Rattle.condition_lines.specs.Conditions.{block_ifs}
 use Rattle.condition_lines.specs.Ways.{task_ways}
 use Rattle.need_lines.specs.declared.needs.IfWay.{IfWay}
 use Rattle.need_lines.specs.declared.needs.UndoNeed.{UndoNeed}
 use Rattle.need_lines.specs.Rows.{NeedRow}
+use Rattle.source_needs.specs.Bodies.{task_calls}
 use Rattle.source_needs.specs.declared.needs.Table.{Table}
 use Rattle.source_needs.specs.declared.needs.Parts.{Parts}
 
--- which ways the dearest one through a task goes at its `if`s, by the lines of these
+-- which ways the dearest one through a task goes at its own `if`s, by the lines of these
 abbrev pub ways_gone : List ℕ → CheckedProgram → MemoryMap → ℕ → CheckedTask → List IfWay
 ways_gone lines p l k task =
     let program = task_program p l k in
     let choices = program_choices program in
-    let taken = (dearest_way l.runtime.events program).taken in
+    let taken = (dearest_way l.runtime.events (task_calls p l k) program).taken in
     task_ways (counts_from true 0 choices taken) (counts_from false 0 choices taken) lines (block_ifs 0 task.body)
 
 -- what a task needs in place, by the map of a layout for that
@@ -61,9 +63,9 @@ rows_from text p l lines k [] = []
 rows_from text p l lines k (task ∷ tasks) =
     need_row text p l k (ways_gone lines p l k task) task ∷ rows_from text p l (drop (length (block_ifs 0 task.body)) lines) (suc k) tasks
 
--- all tasks
+-- all tasks, behind the functions
 abbrev pub need_rows : List ℕ → CheckedProgram → MemoryMap → List NeedRow
-need_rows text p l = rows_from text p l (if_lines text) 0 p.tasks
+need_rows text p l = rows_from text p l (functions_behind (if_lines text) p.functions) 0 p.tasks
 
 -- These are the needs of the tasks of a source, by its layout, of which there is one; the layout of its image that works in place, of which there is one too,
 -- has the same places

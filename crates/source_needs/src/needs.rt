@@ -4,6 +4,7 @@ ghost use Rattle.std.specs.Prelude.{◌≡◌, ◌+◌, ◌*◌, ◌^◌, ◌<�
 ghost use Rattle.task_ast.specs.View.{block_view, program_of};
 ghost use Rattle.task_ast.specs.Paths.{CheckedTask};
 ghost use Rattle.cost_bound.specs.Counts.{emits_of};
+ghost use Rattle.cost_bound.specs.Machine.{known_of};
 ghost use Rattle.cost_bound.specs.Summaries.{summaries};
 ghost use Rattle.cost_bound.specs.Allowance.{list_of, scalars_of, task_bound, task_words};
 ghost use Rattle.source_meaning.specs.Acceptance.{IsAcceptedText};
@@ -12,23 +13,26 @@ ghost use Rattle.war_analysis.specs.Plans.{IsPlan};
 ghost use Rattle.memory_map.specs.declared.runtime.Logging.TheVariants.{Redo, Undo};
 ghost use Rattle.memory_map.specs.MemoryMap.{MemoryMap, logged_map};
 ghost use Rattle.privatise.specs.Layouts.{IsLayout};
-ghost use Rattle.array_versions.specs.View as word_program;
+ghost use Rattle.array_versions.specs.View.{programs_of};
 ghost use Rattle.compiled_model.specs.Parts.{program_parts, task_program};
-ghost use Rattle.lower.specs.Lowered.{lowered};
+ghost use Rattle.lower.specs.Lowered.{bare_programs};
 ghost use Rattle.code_costs.specs.Dearest.{most_spent};
 ghost use Rattle.code_paths.specs.Paths.{capped};
+ghost use Rattle.dearest_ways.specs.Ways.{IsDearestWay};
 ghost use Rattle.condition_lines.specs.Conditions.{block_ifs, lists_of};
 ghost use Rattle.need_lines.specs.Rows.{row_of};
 ghost use Rattle.task_needs.specs.Needs.{elements_of, need_parts};
+ghost use Rattle.source_needs.specs.Bodies.{made_programs, task_calls};
 ghost use Rattle.source_needs.specs.Needs.{AreNeedsOf, AreUndoNeeds, IsPlannedText, need_row, rows_from, undo_need, ways_gone};
 ghost use Rattle.source_needs.specs.Needs.{boot_part, commit_part, parts_in, path_part, start_part};
 
+use crate::calls::call_costs;
 use crate::parts::{boot_need, commit_need, path_need, start_need};
 use crate::runs::{run_count, word_count};
-use array_versions::WordProgram;
-use condition_lines::{if_lines, task_ifs, task_ways};
-use cost_bound::{assigned_scalars, task_needs};
-use dearest_ways::dearest_way;
+use array_versions::TaskPrograms;
+use condition_lines::{behind_functions, if_lines, task_ifs, task_ways};
+use cost_bound::{FunctionSummary, assigned_scalars, summaries, task_needs};
+use dearest_ways::{DearestWay, dearest_way};
 use lower::lower;
 use memory_map::{Layout, PrivateScalar, Runtime};
 use need_lines::{IfWay, TaskNeed, UndoNeed};
@@ -38,7 +42,6 @@ use source_report::spelled;
 use std::alloc::{AllocError, Global};
 use task_ast::{FunctionName, SharedDeclaration, Stmt, TaskName, VariableName};
 use war_analysis::{Plan, analyse, one_plan};
-use whole_programs::{privates_are_few, tasks_are_whole};
 
 // What the table of allowances says of a task: its bound, its words, what it lists at most, the elements among that, and the words that it emits.
 #[derive(Clone, Copy)]
@@ -50,27 +53,29 @@ struct Table {
     emits: u64,
 }
 
-// The same of a task with these statements, which call no function, in a source whose bound has 32 bits.
+// The same of a task with these statements, which call these functions, in a source whose bound has 32 bits.
 fn table_of(
+    functions: &[FunctionSummary],
     shared: &[SharedDeclaration],
     events: bool,
     versions: u64,
     body: &[Stmt<VariableName, TaskName, FunctionName>],
 ) -> Table
     requires few { length shared.now ≤ 256 }
-    requires small { task_bound [] events versions shared.now (block_view body.now) < 2 ^ 32 }
-    requires short { task_words [] shared.now (block_view body.now) < 2 ^ 32 }
-    ensures bound { result.bound ≡ task_bound [] events versions shared.now (block_view body.now) }
-    ensures words { result.words ≡ task_words [] shared.now (block_view body.now) }
-    ensures list { result.list ≡ list_of [] shared.now (block_view body.now) }
-    ensures elements { result.elements ≡ elements_of [] shared.now (block_view body.now) }
-    ensures emits { result.emits ≡ emits_of [] (block_view body.now) }
+    requires few_functions { length functions.now ≤ 64 }
+    requires small { task_bound (known_of functions.now) events versions shared.now (block_view body.now) < 2 ^ 32 }
+    requires short { task_words (known_of functions.now) shared.now (block_view body.now) < 2 ^ 32 }
+    ensures bound { result.bound ≡ task_bound (known_of functions.now) events versions shared.now (block_view body.now) }
+    ensures words { result.words ≡ task_words (known_of functions.now) shared.now (block_view body.now) }
+    ensures list { result.list ≡ list_of (known_of functions.now) shared.now (block_view body.now) }
+    ensures elements { result.elements ≡ elements_of (known_of functions.now) shared.now (block_view body.now) }
+    ensures emits { result.emits ≡ emits_of (known_of functions.now) (block_view body.now) }
     ensures few { 12 * versions + 40 * result.list + 40 * result.emits < 2 ^ 32 }
     ensures some { result.elements ≤ result.list }
-    ensures scalars { scalars_of [] shared.now (block_view body.now) ≤ 512 }
+    ensures scalars { scalars_of (known_of functions.now) shared.now (block_view body.now) ≤ 512 }
 {
-    let needs = task_needs(&[], shared, events, versions, body);
-    let scalars = assigned_scalars(&[], shared, body);
+    let needs = task_needs(functions, shared, events, versions, body);
+    let scalars = assigned_scalars(functions, shared, body);
     Table {
         bound: needs.bound,
         words: needs.words,
@@ -146,13 +151,18 @@ fn price_task(accepted: &Accepted, layout: &Layout, most: u64, number: usize) ->
     ensures low { (result.parts.boot < 2 ^ 32) × (result.parts.start < 2 ^ 32) × (result.parts.path < 2 ^ 32) × (result.parts.commit < 2 ^ 32) }
     ensures small { (result.bound < 2 ^ 32) × (result.words < 2 ^ 32) }
 {
-    tasks_are_whole();
-    privates_are_few();
     let source = accepted.checked().source();
+    let functions = summaries(&source.functions);
     let task = &source.tasks[number];
     let runtime = layout.runtime();
     let versions = accepted.allow().versions as u64;
-    let table = table_of(&source.shared, runtime.events, versions, &task.body);
+    let table = table_of(
+        &functions,
+        &source.shared,
+        runtime.events,
+        versions,
+        &task.body,
+    );
     let parts = parts_of(
         runtime,
         versions,
@@ -199,23 +209,42 @@ fn task_need<'a>(
     }
 }
 
-// What the task of a number needs in place, whose program this is.
+// The dearest way through the task of a number, whose programs these are.
+fn way_of(
+    alloc: Global,
+    accepted: &Accepted,
+    layout: &Layout,
+    programs: &TaskPrograms,
+    number: usize,
+) -> Result<DearestWay, AllocError>
+    requires laid_out { IsPlannedText accepted.now.text.items (program_of accepted.now.checked.source) accepted.now.allow layout.now }
+    requires task { number < length (program_of accepted.now.checked.source).tasks }
+    requires programs { programs_of programs.now ≡ made_programs (program_of accepted.now.checked.source) layout.now number }
+    ensures way { IfOk result (λ w. IsDearestWay w layout.now.runtime.events (task_calls (program_of accepted.now.checked.source) layout.now number)
+        (task_program (program_of accepted.now.checked.source) layout.now number)) }
+    ensures cycles { IfOk result (λ w. w.cycles
+        ≡ capped (most_spent layout.now.runtime.events (task_program (program_of accepted.now.checked.source) layout.now number))) }
+{
+    let routines = layout.tasks()[number].routines();
+    let calls = call_costs(alloc, routines, &programs.routines)?;
+    dearest_way(alloc, layout.runtime().events, &calls, &programs.own)
+}
+
+// What the task of a number needs in place, whose programs these are.
 fn undo_need_of(
     alloc: Global,
     accepted: &Accepted,
     layout: &Layout,
-    program: &WordProgram,
+    programs: &TaskPrograms,
     number: usize,
 ) -> Result<UndoNeed, AllocError>
     requires laid_out { IsPlannedText accepted.now.text.items (program_of accepted.now.checked.source) accepted.now.allow layout.now }
     requires undo { layout.now.runtime.logging ≡ Undo }
     requires task { number < length (program_of accepted.now.checked.source).tasks }
-    requires program { word_program.program_of program.now ≡ task_program (program_of accepted.now.checked.source) layout.now number }
+    requires programs { programs_of programs.now ≡ made_programs (program_of accepted.now.checked.source) layout.now number }
     ensures { IfOk result (λ n. n ≡ undo_need (program_of accepted.now.checked.source) layout.now number) }
 {
-    tasks_are_whole();
-    privates_are_few();
-    let way = dearest_way(alloc, layout.runtime().events, program)?;
+    let way = way_of(alloc, accepted, layout, programs, number)?;
     let priced = price_task(accepted, layout, way.cycles, number);
     Ok(UndoNeed {
         boot: priced.parts.boot as u32,
@@ -230,11 +259,11 @@ fn undo_needs(
     alloc: Global,
     accepted: &Accepted,
     layout: &Layout,
-    programs: &[WordProgram],
+    programs: &[TaskPrograms],
 ) -> Result<Vec<UndoNeed>, AllocError>
     requires laid_out { IsPlannedText accepted.now.text.items (program_of accepted.now.checked.source) accepted.now.allow layout.now }
     requires undo { layout.now.runtime.logging ≡ Undo }
-    requires programs { map word_program.program_of programs.now ≡ lowered layout.now (program_of accepted.now.checked.source) }
+    requires programs { map programs_of programs.now ≡ bare_programs layout.now (program_of accepted.now.checked.source) }
     ensures { IfOk result (λ needs. AreUndoNeeds (program_of accepted.now.checked.source) layout.now needs.items) }
 {
     let mut needs = Vec::new(alloc);
@@ -257,8 +286,6 @@ fn ifs_of(
         → lists_of ifs.items ≡ block_ifs 0 task.body) }
 {
     let _ = layout;
-    tasks_are_whole();
-    privates_are_few();
     let source = accepted.checked().source();
     let task = &source.tasks[number];
     task_ifs(alloc, &task.body)
@@ -271,12 +298,12 @@ struct Ifs<'a> {
     numbers: &'a [Vec<u32>],
 }
 
-// What the task of a number needs, whose program this is, with these `if`s; and what it needs in place.
+// What the task of a number needs, whose programs these are, with these `if`s; and what it needs in place.
 fn need_by_lines<'a>(
     alloc: Global,
     accepted: &'a Accepted,
     layout: &Layout,
-    program: &WordProgram,
+    programs: &TaskPrograms,
     ifs: Ifs<'_>,
     undo: UndoNeed,
     number: usize,
@@ -284,7 +311,7 @@ fn need_by_lines<'a>(
     requires laid_out { IsPlannedText accepted.now.text.items (program_of accepted.now.checked.source) accepted.now.allow layout.now }
     requires redo { layout.now.runtime.logging ≡ Redo }
     requires task { number < length (program_of accepted.now.checked.source).tasks }
-    requires program { word_program.program_of program.now ≡ task_program (program_of accepted.now.checked.source) layout.now number }
+    requires programs { programs_of programs.now ≡ made_programs (program_of accepted.now.checked.source) layout.now number }
     requires ifs { (task : CheckedTask) → slice_get (program_of accepted.now.checked.source).tasks number ≡ Some task
         → lists_of ifs.numbers.now ≡ block_ifs 0 task.body }
     requires undo { undo ≡ undo_need (program_of accepted.now.checked.source) (logged_map layout.now) number }
@@ -292,9 +319,7 @@ fn need_by_lines<'a>(
         → row_of n ≡ need_row accepted.now.text.items (program_of accepted.now.checked.source) layout.now number
         (ways_gone ifs.entry.lines.now (program_of accepted.now.checked.source) layout.now number task) task) }
 {
-    tasks_are_whole();
-    privates_are_few();
-    let way = dearest_way(alloc, layout.runtime().events, program)?;
+    let way = way_of(alloc, accepted, layout, programs, number)?;
     let ways = task_ways(alloc, ifs.lines, ifs.numbers, &way.held, &way.failed)?;
     Ok(task_need(accepted, layout, way.cycles, ways, undo, number))
 }
@@ -310,18 +335,18 @@ fn lines_behind(lines: &[u32], count: usize) -> &[u32]
     }
 }
 
-// What each of the tasks needs, whose programs these are, by the lines of all `if`s; this is what they need in place.
+// What each of the tasks needs, whose programs these are, by the lines of their `if`s; this is what they need in place.
 fn tasks_need<'a>(
     alloc: Global,
     accepted: &'a Accepted,
     layout: &Layout,
-    programs: &[WordProgram],
+    programs: &[TaskPrograms],
     lines: &[u32],
     undo: &[UndoNeed],
 ) -> Result<Vec<TaskNeed<'a>>, AllocError>
     requires laid_out { IsPlannedText accepted.now.text.items (program_of accepted.now.checked.source) accepted.now.allow layout.now }
     requires redo { layout.now.runtime.logging ≡ Redo }
-    requires programs { map word_program.program_of programs.now ≡ lowered layout.now (program_of accepted.now.checked.source) }
+    requires programs { map programs_of programs.now ≡ bare_programs layout.now (program_of accepted.now.checked.source) }
     requires undo { AreUndoNeeds (program_of accepted.now.checked.source) (logged_map layout.now) undo.now }
     ensures { IfOk result (λ needs. map row_of needs.items
         ≡ rows_from accepted.now.text.items (program_of accepted.now.checked.source) layout.now lines.now 0 (program_of accepted.now.checked.source).tasks) }
@@ -340,7 +365,7 @@ fn tasks_need<'a>(
     Ok(needs)
 }
 
-// The layout of an accepted source without functions.
+// The layout of an accepted source that is compiled.
 fn layout_of(alloc: Global, accepted: &Accepted, plan: &Plan) -> Result<Layout, AllocError>
     requires accepted { IsAcceptedText accepted.now.text.items (program_of accepted.now.checked.source) accepted.now.allow }
     requires plain { IsPlain (program_of accepted.now.checked.source) }
@@ -369,7 +394,7 @@ fn needs_in_place(
     undo_needs(alloc, accepted, &layout, programs.as_slice())
 }
 
-/// What each task of an accepted source without functions needs, in order of declaration; or no memory is left.
+/// What each task of an accepted source that is compiled needs, in order of declaration; or no memory is left.
 pub fn needs_of<'a>(alloc: Global, accepted: &'a Accepted) -> Result<Vec<TaskNeed<'a>>, AllocError>
     requires accepted { IsAcceptedText accepted.now.text.items (program_of accepted.now.checked.source) accepted.now.allow }
     requires plain { IsPlain (program_of accepted.now.checked.source) }
@@ -385,5 +410,6 @@ pub fn needs_of<'a>(alloc: Global, accepted: &'a Accepted) -> Result<Vec<TaskNee
     let layout = layout_of(alloc, accepted, &plan)?;
     let programs = lower(alloc, accepted.checked(), &layout)?;
     let lines = if_lines(alloc, accepted.source())?;
-    tasks_need(alloc, accepted, &layout, programs.as_slice(), &lines, &undo)
+    let own = behind_functions(&lines, &accepted.checked().source().functions);
+    tasks_need(alloc, accepted, &layout, programs.as_slice(), own, &undo)
 }

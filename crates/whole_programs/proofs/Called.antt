@@ -1,9 +1,9 @@
 -- The functions of a task: each may be called where it is, its locals and its stack below those of its caller; its body is sound, and each way through
 -- it ends by giving a word.
 use Rattle.std.proofs.Common.{◌≡◌, ℕ, zero, suc, ◌+◌, ◌-◌, ◌*◌, ◌%◌, ◌<◌, ◌≤◌, ◌||◌, Bool, true, false, not, nat_eq, nat_lt, if◌then◌else◌}
-use Rattle.std.proofs.Common.{List, [], ◌∷◌, length, map, take, Option, Some, None, IsSomeAnd, slice_get, slice_index_or, refl, sym, ap, subst, ◌∙◌}
-use Rattle.std.proofs.Common.{◌⊎◌, inl, inr, ⊎_elim, arith, ltb-true}
-use Rattle.std.proofs.lemmas.Bool.{cases_lt}
+use Rattle.std.proofs.Common.{List, [], ◌∷◌, length, take, Option, Some, None, IsSomeAnd, slice_get, slice_index_or, refl, sym, ap, subst, ◌∙◌}
+use Rattle.std.proofs.Common.{inl, inr, ⊎_elim, arith, ltb-true}
+use Rattle.std.proofs.lemmas.Bool.{cases_lt, or_right}
 use Rattle.std.proofs.lemmas.Bool.Decides.{nat_tests}
 use Rattle.std.proofs.lemmas.List.{take-take, length-take-le}
 use Rattle.std.proofs.lemmas.Option.{same_Some, slice_get_within}
@@ -32,7 +32,7 @@ use Rattle.checked_trees.specs.WellFormed.{HasParameters, IsWellFormed, IsWellFo
 use Rattle.checked_trees.proofs.Interface.{not_given, safe_paths}
 use Rattle.whole_programs.proofs.Placed.{PlacesOfWords, routine_words}
 use Rattle.whole_programs.proofs.Rooms.{room_of, has_room}
-use Rattle.whole_programs.proofs.Fit.{OfCalls, each_call, or_second, Setting, IsFitBlock}
+use Rattle.whole_programs.proofs.Fit.{OfCalls, each_call, Setting, IsFitBlock}
 use Rattle.whole_programs.proofs.Ways.{at, Covers, body_way, task_way}
 use Rattle.whole_programs.proofs.Steps.{Code, Sound, StepSound, block_sound}
 
@@ -104,7 +104,7 @@ entered_by : (first n x : ℕ) → x < suc n → (x < n → entered first n (fir
 entered_by first n x l in_front = ⊎_elim before last (cases_lt x n)
   where
     before : x < n → (nat_eq (first + x) (first + n) || entered first n (first + x)) ≡ true
-    before low = or_second (nat_eq (first + x) (first + n)) (entered first n (first + x)) (in_front low)
+    before low = or_right (nat_eq (first + x) (first + n)) (entered first n (first + x)) (in_front low)
 
     last : n ≤ x → (nat_eq (first + x) (first + n) || entered first n (first + x)) ≡ true
     last high =
@@ -252,7 +252,7 @@ module _ (program : CheckedProgram) (body : CheckedBlock) (p : Places) (task : T
   task_callee j count made =
       let of = there j count made.0 in
       here j of.function of.at
-      (or_second (some_called_from (λ k. block_calls k body) (λ s. s.reaches j) 0 (summaries program)) (block_calls j body) made.2)
+      (or_right (some_called_from (λ k. block_calls k body) (λ s. s.reaches j) 0 (summaries program)) (block_calls j body) made.2)
 
   -- ---- one function
 

@@ -199,7 +199,8 @@ module _ (z : Setting) where
 
   -- SP of the caller is kept, and SP set
   module _ (frame : ℕ) (words vs : List ℕ) (pc : ℕ) (w : WordState) (u : Core) where
-    frame_part : frame % 2 ≡ 0 → IsKept (rules_of z.kept) frame → (z.code.events ≡ false) → w.stack ≡ words ++ vs → Stands z.code pc (KeepStack R4 ∷ SetStack frame ∷ [])
+    frame_part : frame % 2 ≡ 0 → IsKept (rules_of z.kept) frame → (z.code.events ≡ false) → w.stack ≡ words ++ vs
+        → Stands z.code pc (KeepStack R4 ∷ SetStack frame ∷ [])
         → StandsFor z pc w u → Runs z.kept [] 3 u (Filling u (u.sp + 2 * length words) frame (pc + 6) words)
     frame_part even stays none e h i =
         let t : Core = record u { pc = u.pc + 2; work = put u.work 4 u.sp } in
@@ -302,11 +303,27 @@ module _ (z : Setting) where
         let even_behind : behind % 2 ≡ 0 = omega (arith, four, i.even) in
         let low_behind : z.low ≤ behind = omega (arith, four) in
         let at1 : t1.pc ≡ pc + 2 = omega (arith, i.at) in
-        let pushed = hop z (Push (Register R4)) 3 t t1 [] 3 (λ q. q ≡ t1) (ap z.code.at i.at ∙ h.0)
-        (tt, record { even = omega (arith, sp); room = record { fits = omega (arith, sp) }; high = omega (arith, sp); below = stays saved (omega (arith, sp)) (omega (arith, sp)) })
+        let pushed = hop z (Push (Register R4)) 3 t t1 [] 3 (λ q. q ≡ t1) (ap z.code.at i.at ∙ h.0) (
+          tt,
+          record {
+            even = omega (arith, sp);
+            room = record { fits = omega (arith, sp) };
+            high = omega (arith, sp);
+            below = stays saved
+                (omega (arith, sp)) (omega (arith, sp));
+          },
+        )
         refl (omega arith) refl in
-        let hopped = hop z (Call entry) 5 t1 t2 [] 5 (λ q. q ≡ t2) (ap z.code.at at1 ∙ h.1.0)
-        (even, record { even = omega (arith, sp); room = record { fits = omega (arith, sp) }; high = omega (arith, sp); below = stays top (omega (arith, sp)) (omega (arith, sp)) })
+        let hopped = hop z (Call entry) 5 t1 t2 [] 5 (λ q. q ≡ t2) (ap z.code.at at1 ∙ h.1.0) (
+          even,
+          record {
+            even = omega (arith, sp);
+            room = record { fits = omega (arith, sp) };
+            high = omega (arith, sp);
+            below = stays top
+                (omega (arith, sp)) (omega (arith, sp));
+          },
+        )
         refl (omega arith) refl in
         let reached = call_ends z (Some f) first count body x top t2 e last cost 2 (pc + 8) w b.effects b.end (runs top t2 e starts) (λ v v' q r.
         let there : q.sp ≡ saved = omega (arith, r.sp, sp) in

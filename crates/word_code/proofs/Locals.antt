@@ -204,6 +204,7 @@ set_by z locals false u none stays e sp h =
     let few : locals ≤ 8 = grind (arith, nat_tests) in
     dearer z (omega arith) (nothing_run z (record { at = omega arith; sp = omega (arith, sp, few); fram = refl; inputs = refl; ram = refl; work = refl }))
 
-pub stack_part : (z : Setting) (locals : ℕ) (u : Core) → z.code.events ≡ false → IsKept (rules_of z.kept) (stack_base locals) → u.sp ≡ stack_top → Stands z.code u.pc (stack_set false locals)
+pub stack_part : (z : Setting) (locals : ℕ) (u : Core) → z.code.events ≡ false → IsKept (rules_of z.kept) (stack_base locals) → u.sp ≡ stack_top
+    → Stands z.code u.pc (stack_set false locals)
     → Runs z.kept [] stack_cycles u (HasStack (u.pc + forms_bytes (stack_set false locals)) (stack_base locals) u)
 stack_part z locals u none stays sp h = set_by z locals (nat_lt 8 locals) u none stays refl sp h

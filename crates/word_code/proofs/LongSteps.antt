@@ -91,7 +91,14 @@ module _ (z : Setting) where
     high_step o pc a t writes h i =
         let k = i.held in
         calculate z o y R6 d t true _ writes.0 writes.1 high (ap z.code.at i.is.at ∙ h)
-        (record { needs = k.high.needs (rules_of z.kept) t; quiet = k.high.quiet t; still = k.high.still t; left = k.six; right = k.high.word t i.is.fram refl })
+        (record {
+          needs = k.high.needs (rules_of z.kept) t;
+          quiet = k.high.quiet t;
+          still = k.high.still t;
+          left = k.six;
+          right = k.high.word t i.is.fram
+              refl;
+        })
         (record {
           all = record {
             is = stands_elsewhere z pc (pc + (2 + source_bytes y)) w t _ i.is (omega (arith, i.is.at)) refl refl refl refl refl;

@@ -164,7 +164,8 @@ module _ (z : Setting) where
         (omega arith, omega arith),
       )
 
-  pub push_needs : {sp : ℕ} {ram : ℕ → ℕ} {words vs : List ℕ} {ls : ℕ → Option ℕ} → Memory z sp ram words vs ls → length vs < z.room → HasPushRoom (rules_of z.kept) sp
+  pub push_needs : {sp : ℕ} {ram : ℕ → ℕ} {words vs : List ℕ} {ls : ℕ → Option ℕ} → Memory z sp ram words vs ls → length vs < z.room
+      → HasPushRoom (rules_of z.kept) sp
   push_needs m l =
       let d = m.depth in let r = z.roomy.fits in let e = z.even in let b = z.deep in let h = z.high in
       let floor = z.floor in let lowest = z.lowest in let within = z.within in

@@ -110,7 +110,8 @@ module _ (z : Setting) (p : ℕ) (all : List Form) (h : Stands z.code p all) whe
   Comes j v t = (t ≡ v) × (v.pc ≡ p + place all j)
 
   on_by : {fs : List Effect} {d : ℕ} (s : Status Core Stop) (n j to : ℕ) {u v : Core} (go : Core → CoreStretch) (More : Core → Type 0)
-      → (let ms = take n (drop j all) in u.pc ≡ p + place all j → AreStraight ms → FormsNeed (rules_of z.kept) ms u → forms_run ms u ≡ stretch fs d s → OnAt s More
+      → (let ms = take n (drop j all) in u.pc ≡ p + place all j → AreStraight ms → FormsNeed (rules_of z.kept) ms u → forms_run ms u ≡ stretch fs d s
+      → OnAt s More
       → ((t : Core) → More t → (go t).status ≡ At v → Runs z.kept (go t).effects (go t).cycles t (Comes to v))
       → (let r = onward s fs d go in r.status ≡ At v → Runs z.kept r.effects r.cycles u (Comes to v)))
   on_by {fs} {d} (At t) n j to {u} {v} go More at st needs made more on_then e =

@@ -66,6 +66,7 @@ step_ways-failed_ways-requires t c =
 
 pub step_ways-returns-in_ok-chosen-in-Choose-clause-ways : goal.step_ways-returns-in_ok-chosen-in-Choose-clause-ways
 step_ways-returns-in_ok-chosen-in-Choose-clause-ways t c =
+    let calls = c.args.calls.now in
     let bs = c.args.bounds.now in
     let os = c.args.waiting.now.items in
     let k = c.args.choices.now in
@@ -89,36 +90,37 @@ step_ways-returns-in_ok-chosen-in-Choose-clause-ways t c =
     let within : c.test_forks.new.choices ≡ suc k + test_choices test = omega (arith, c.in_ok-asked-in-Choose.ensures.choices) in
     let later : c.held_ways.new.choices ≡ suc k + test_choices test + program_choices p =
     omega (arith, c.in_ok-held-in-Choose.ensures.choices, within, ap (λ ws. program_choices (steps_of ws)) block) in
-    let forks = test_forks bs (suc k) test false passed in
+    let forks = test_forks calls bs (suc k) test false passed in
     let asked : forks_of c.in_ok-asked-in-Choose.asked ≡ forks =
-    c.in_ok-asked-in-Choose.ensures.forks ∙ ap (λ j. test_forks bs j test false c.in_ok-jumps-in-Choose.jumps.first) number
-    ∙ ap (test_forks bs (suc k) test false) further in
-    let one = ways_behind (choice_ways k true) (ways_behind (block_ways bs (suc k + test_choices test) p) on) in
+    c.in_ok-asked-in-Choose.ensures.forks ∙ ap (λ j. test_forks calls bs j test false c.in_ok-jumps-in-Choose.jumps.first) number
+    ∙ ap (test_forks calls bs (suc k) test false) further in
+    let one = ways_behind (choice_ways k true) (ways_behind (block_ways calls bs (suc k + test_choices test) p) on) in
     let held : ways_of c.in_ok-held-in-Choose.held ≡ one =
     c.in_ok-held-in-Choose.ensures.ways
-    ∙ ap (λ ws. ways_behind (choice_ways k true) (ways_behind (block_ways bs c.test_forks.new.choices (steps_of ws))
+    ∙ ap (λ ws. ways_behind (choice_ways k true) (ways_behind (block_ways calls bs c.test_forks.new.choices (steps_of ws))
     (straight_cost (forward_most (pass_over c.in_ok-jumps-in-Choose.jumps.second) 3)))) block
-    ∙ ap (λ j. ways_behind (choice_ways k true) (ways_behind (block_ways bs j p)
+    ∙ ap (λ j. ways_behind (choice_ways k true) (ways_behind (block_ways calls bs j p)
     (straight_cost (forward_most (pass_over c.in_ok-jumps-in-Choose.jumps.second) 3)))) within
-    ∙ ap (λ o. ways_behind (choice_ways k true) (ways_behind (block_ways bs (suc k + test_choices test) p)
+    ∙ ap (λ o. ways_behind (choice_ways k true) (ways_behind (block_ways calls bs (suc k + test_choices test) p)
     (straight_cost (forward_most (pass_over o) 3)))) over in
-    let two = ways_behind (choice_ways k false) (block_ways bs (suc k + test_choices test + program_choices p) q) in
+    let two = ways_behind (choice_ways k false) (block_ways calls bs (suc k + test_choices test + program_choices p) q) in
     let failed : ways_of c.in_ok-failed-in-Choose.failed ≡ two =
     c.in_ok-failed-in-Choose.ensures.ways
-    ∙ ap (λ ws. ways_behind (choice_ways k false) (block_ways bs c.held_ways.new.choices (steps_of ws))) c.deref-in-Choose-3.ensures.value
-    ∙ ap (λ j. ways_behind (choice_ways k false) (block_ways bs j q)) later in
+    ∙ ap (λ ws. ways_behind (choice_ways k false) (block_ways calls bs c.held_ways.new.choices (steps_of ws))) c.deref-in-Choose-3.ensures.value
+    ∙ ap (λ j. ways_behind (choice_ways k false) (block_ways calls bs j q)) later in
     let choice : ways_of c.in_ok-chosen-in-Choose.field-0 ≡ chosen_ways forks one two =
     c.in_ok-chosen-in-Choose.ensures
     ∙ ap (λ a. chosen_ways a (ways_of c.in_ok-held-in-Choose.held) (ways_of c.in_ok-failed-in-Choose.failed)) asked
     ∙ ap (λ v. chosen_ways forks v (ways_of c.in_ok-failed-in-Choose.failed)) held ∙ ap (chosen_ways forks one) failed in
     let front = ways_of c.in_ok-front-in-Choose.front in
     let all = ap (λ v. ways_behind v (ways_of c.in_ok-chosen-in-Choose.field-0)) c.in_ok-front-in-Choose.ensures.ways
-    ∙ ap (ways_behind (straight_cost (flush_most os))) choice ∙ sym (ap (step_ways bs os k) is) in
+    ∙ ap (ways_behind (straight_cost (flush_most os))) choice ∙ sym (ap (step_ways calls bs os k) is) in
     IfOk-weaker c.behind.result (λ w. ways_of w ≡ ways_behind front (ways_of c.in_ok-chosen-in-Choose.field-0))
-    (λ w. ways_of w ≡ step_ways bs os k (step_of c.args.step.now)) (λ w e. e ∙ all) c.behind.ensures
+    (λ w. ways_of w ≡ step_ways calls bs os k (step_of c.args.step.now)) (λ w e. e ∙ all) c.behind.ensures
 
 pub loop_ways-returns-clause-ways : goal.loop_ways-returns-clause-ways
 loop_ways-returns-clause-ways t c =
+    let calls = c.args.calls.now in
     let bs = c.args.bounds.now in
     let os = c.args.waiting.now.items in
     let k = c.args.choices.now in
@@ -128,11 +130,11 @@ loop_ways-returns-clause-ways t c =
     let size_of = λ (b : List Bound). straight_cost (turn_most own.local own.below (size (block_code b body ++ turn_end own.local own.below))) in
     let around = c.deref.ensures.value ∙ c.in_ok-inner.ensures in
     let around_end = c.deref-2.ensures.value ∙ c.in_ok-inner.ensures in
-    let block : ways_of c.in_ok-turn.turn ≡ block_ways inner k body = c.in_ok-turn.ensures.ways ∙ ap (λ b. block_ways b k body) around in
+    let block : ways_of c.in_ok-turn.turn ≡ block_ways calls inner k body = c.in_ok-turn.ensures.ways ∙ ap (λ b. block_ways calls b k body) around in
     let end : ways_of c.in_ok-end.end ≡ size_of inner = c.in_ok-end.ensures ∙ ap size_of around_end in
-    let one = ways_behind (block_ways inner k body) (size_of inner) in
+    let one = ways_behind (block_ways calls inner k body) (size_of inner) in
     let turn : ways_of c.in_ok-turn-2.turn ≡ one =
-    c.in_ok-turn-2.ensures ∙ ap (λ v. ways_behind v (ways_of c.in_ok-end.end)) block ∙ ap (ways_behind (block_ways inner k body)) end in
+    c.in_ok-turn-2.ensures ∙ ap (λ v. ways_behind v (ways_of c.in_ok-end.end)) block ∙ ap (ways_behind (block_ways calls inner k body)) end in
     let count = own.below - c.args.from in
     let turns : ways_of c.in_ok-turns.turns ≡ all_turns count one =
     c.in_ok-turns.ensures ∙ ap (λ m. all_turns m (ways_of c.in_ok-turn-2.turn)) c.saturating_sub.ensures ∙ ap (all_turns count) turn in
@@ -142,4 +144,4 @@ loop_ways-returns-clause-ways t c =
     let front = ways_of c.in_ok-front.front in
     let all = ap (λ v. ways_behind v (ways_of c.in_ok-behind.field-0)) c.in_ok-front.ensures.ways ∙ ap (ways_behind (straight_cost (flush_most os))) rest in
     IfOk-weaker c.behind-3.result (λ w. ways_of w ≡ ways_behind front (ways_of c.in_ok-behind.field-0))
-    (λ w. ways_of w ≡ step_ways bs os k (repeat own.local c.args.from own.below body)) (λ w e. e ∙ all) c.behind-3.ensures
+    (λ w. ways_of w ≡ step_ways calls bs os k (repeat own.local c.args.from own.below body)) (λ w e. e ∙ all) c.behind-3.ensures

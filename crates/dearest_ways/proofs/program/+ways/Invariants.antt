@@ -9,10 +9,12 @@ use Rattle.dearest_ways.proofs.program.+ways.Given as goal
 
 abbrev pub invariant-steps_ways-loop-step : goal.invariant-steps_ways-loop-step
 invariant-steps_ways-loop-step l =
+    let calls = l.calls in
     let left = steps_of (drop l.step-index l.steps) in
     let all = steps_of l.steps in
     record {
-      made : ways_further l.bounds l.waiting.items l.choices (ways_of l.ways) left ≡ steps_ways l.bounds l.initial.waiting.items l.initial.choices all;
+      made : ways_further calls l.bounds l.waiting.items l.choices (ways_of l.ways) left
+          ≡ steps_ways calls l.bounds l.initial.waiting.items l.initial.choices all;
       after : waiting_after l.waiting.items left ≡ waiting_after l.initial.waiting.items all;
       count : l.choices + program_choices left ≡ l.initial.choices + program_choices all;
       room : words_of left ≤ 0x7FFF;

@@ -1,28 +1,29 @@
-use Rattle.std.proofs.Common.{sym, ap, subst, arith}
-use Rattle.word_code.specs.array_versions.View.{steps_of}
-use Rattle.word_code.specs.array_versions.Form.{LocalsBelow, locals_of}
-use Rattle.word_code.proofs.Interface.{program_below}
-use Rattle.dearest_ways.specs.Ways.{program_choices}
-use Rattle.dearest_ways.proofs.Few.{program_few}
-use Rattle.dearest_ways.proofs.Priced.{whole_locals}
+use Rattle.std.proofs.Common.{◌≡◌, ◌∙◌, sym, ap, subst}
+use Rattle.std.proofs.lemmas.Result.{IfOk-weaker}
+use Rattle.word_code.specs.array_versions.Program.{Program}
+use Rattle.word_code.specs.array_versions.View.{program_of}
+use Rattle.code_paths.specs.Paths.{capped}
+use Rattle.code_costs.specs.Dearest.{most_spent}
+use Rattle.dearest_ways.specs.Calls.{CallsCost}
+use Rattle.dearest_ways.specs.Ways.{bare, IsDearestWay}
+use Rattle.dearest_ways.proofs.Bare.{with_bodies}
+use Rattle.dearest_ways.proofs.Costs.{dearest_costs}
 use Rattle.dearest_ways.proofs.program.dearest_way.Goals as goal
 
-pub steps_locals-requires : goal.steps_locals-requires
-steps_locals-requires c =
-    let p = steps_of c.args.program.now.steps.items in
-    subst (λ s. LocalsBelow 1016 (steps_of s)) (sym c.deref.ensures.value) (program_below 1016 p (whole_locals p c.requires.whole))
+pub returns-clause-way : goal.returns-clause-way
+returns-clause-way c =
+    let calls = c.args.calls.now in
+    let events = c.args.events in
+    let given = program_of c.args.program.now in
+    IfOk-weaker c.bare_way.result (λ w. IsDearestWay w events calls given) (λ w. (p : Program) → bare p ≡ given → IsDearestWay w events calls p)
+    (λ w is p e. with_bodies w events calls p (subst (IsDearestWay w events calls) (sym e) is)) c.bare_way.ensures
 
-pub emit_stack_set-requires : goal.emit_stack_set-requires
-emit_stack_set-requires c =
-    let p = steps_of c.args.program.now.steps.items in
-    omega (arith, c.steps_locals.ensures, ap (λ s. locals_of (steps_of s)) c.deref.ensures.value, whole_locals p c.requires.whole)
-
-pub block_ways-requires-clause-locals : goal.block_ways-requires-clause-locals
-block_ways-requires-clause-locals c =
-    let p = steps_of c.args.program.now.steps.items in
-    subst (λ s. LocalsBelow 1016 (steps_of s)) (sym c.deref-2.ensures.value) (program_below 1016 p (whole_locals p c.requires.whole))
-
-pub block_ways-requires-clause-few : goal.block_ways-requires-clause-few
-block_ways-requires-clause-few c =
-    let p = steps_of c.args.program.now.steps.items in
-    omega (arith, program_few p, c.requires.room, ap (λ s. program_choices (steps_of s)) c.deref-2.ensures.value)
+pub returns-clause-cycles : goal.returns-clause-cycles
+returns-clause-cycles c =
+    let calls = c.args.calls.now in
+    let events = c.args.events in
+    let given = program_of c.args.program.now in
+    IfOk-weaker c.bare_way.result (λ w. IsDearestWay w events calls given)
+    (λ w. (p : Program) → bare p ≡ given → CallsCost calls p → w.cycles ≡ capped (most_spent events p))
+    (λ w is p e costs. (with_bodies w events calls p (subst (IsDearestWay w events calls) (sym e) is)).cycles ∙ dearest_costs events calls p costs)
+    c.bare_way.ensures

@@ -3,7 +3,8 @@ use Rattle.fram_state.proofs.Answered.{none_before, some_below, excluded}
 use Rattle.fram_state.proofs.migration.first_unsettled.Goals as goal
 
 pub loop-i-preserved : goal.loop-i-preserved
-loop-i-preserved c = none_before c.loop-i.i c.loop-i.invariant (excluded c.is_unsettled.result _ c.is_unsettled.ensures c.if-is_unsettled.false)
+loop-i-preserved c =
+    none_before c.loop-i.i c.loop-i.invariant (excluded c.in_ok-is_unsettled.field-0 _ c.in_ok-is_unsettled.ensures c.if-branch.false)
 
 pub returns-clause-none : goal.returns-clause-none
 returns-clause-none c = λ i u.

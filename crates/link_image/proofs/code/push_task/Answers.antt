@@ -1,5 +1,7 @@
-use Rattle.link_image.proofs.Names.{◌≡◌, ◌∙◌, ◌+◌, ◌-◌, ◌*◌, ◌/◌, ◌++◌, ap, sym, subst, length, map, arith, reset_vector, repeated, filler, program_of}
+use Rattle.link_image.proofs.Names.{◌≡◌, ◌∙◌, ◌+◌, ◌-◌, ◌*◌, ◌/◌, ◌++◌, ℕ, List, ap, sym, subst, length, map, arith, reset_vector, repeated, filler, program_of}
 use Rattle.link_image.proofs.Names.{All, IsShort, chained, PartsInOrder, length-map}
+use Rattle.std.proofs.lemmas.Result.{on_ok_weaker}
+use Rattle.memory_map.specs.declared.place.Region.{Region}
 use Rattle.array_versions.specs.View.{programs_of}
 use Rattle.word_code.specs.Code.{code_of}
 use Rattle.linked_code.specs.Linked.{routine_parts}
@@ -32,11 +34,12 @@ push_routines-requires-clause-order c =
     let t = c.args.task.now in
     let old = c.args.words.now.items in
     let new = c.push_part.new.words.items in
-    let filling = λ a. words_in (repeated ((a - (c.args.start + 2 * length old)) / 2) filler) in
+    let filling : ℕ → List ℕ = λ a. words_in (repeated ((a - (c.args.start + 2 * length old)) / 2) filler) in
     let own = c.as_slice.ensures.value ∙ c.in_ok-emit.ensures.code
     ∙ ap (λ ms. ms ++ code_of c.args.events (program_of c.args.programs.now.own)) c.new-code.ensures.items in
-    let is = c.in_ok-push_part.ensures ∙ ap (λ r. old ++ (filling r.address ++ words_in c.as_slice.result.now)) c.code-at.ensures in
-    let behind = after_own c.args.start old new c.as_slice.result.now c.args.events t (programs_of c.args.programs.now) c.requires.even c.requires.order own is in
+    let is = c.in_ok-push_part.ensures ∙ ap (λ (r : Region). old ++ (filling r.address ++ words_in c.as_slice.result.now)) c.code-at.ensures in
+    let behind = after_own c.args.start old new c.as_slice.result.now c.args.events t (programs_of c.args.programs.now) c.requires.even c.requires.order own
+    is in
     let at = c.args.start + 2 * length new in
     subst (λ rs. PartsInOrder at (routine_parts rs (map program_of c.as_slice-2.result.now)) reset_vector) (sym c.routines.ensures)
     (subst (λ ps. PartsInOrder at (routine_parts t.routines (map program_of ps)) reset_vector) (sym c.as_slice-2.ensures.value) behind.0)
@@ -54,13 +57,14 @@ returns c =
     let t = c.args.task.now in
     let old = c.args.words.now.items in
     let new = c.push_part.new.words.items in
-    let filling = λ a. words_in (repeated ((a - (c.args.start + 2 * length old)) / 2) filler) in
+    let filling : ℕ → List ℕ = λ a. words_in (repeated ((a - (c.args.start + 2 * length old)) / 2) filler) in
     let own = c.as_slice.ensures.value ∙ c.in_ok-emit.ensures.code
     ∙ ap (λ ms. ms ++ code_of c.args.events (program_of c.args.programs.now.own)) c.new-code.ensures.items in
-    let is = c.in_ok-push_part.ensures ∙ ap (λ r. old ++ (filling r.address ++ words_in c.as_slice.result.now)) c.code-at.ensures in
-    let behind = after_own c.args.start old new c.as_slice.result.now c.args.events t (programs_of c.args.programs.now) c.requires.even c.requires.order own is in
+    let is = c.in_ok-push_part.ensures ∙ ap (λ (r : Region). old ++ (filling r.address ++ words_in c.as_slice.result.now)) c.code-at.ensures in
+    let behind = after_own c.args.start old new c.as_slice.result.now c.args.events t (programs_of c.args.programs.now) c.requires.even c.requires.order own
+    is in
     let at = c.args.start + 2 * length new in
-    c.in_ok-push_routines.ensures
+    on_ok_weaker c.push_routines.result (λ made. made
     ∙ ap (λ rs. new ++ words_in (chained at (routine_parts rs (map program_of c.as_slice-2.result.now)))) c.routines.ensures
     ∙ ap (λ ps. new ++ words_in (chained at (routine_parts t.routines (map program_of ps)))) c.as_slice-2.ensures.value
-    ∙ behind.1
+    ∙ behind.1) c.push_routines.ensures

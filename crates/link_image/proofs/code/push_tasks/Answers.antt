@@ -9,8 +9,9 @@ push_task-requires-clause-order c =
     let at = c.args.start + 2 * length c.loop-k.words.items in
     let order = next_order c.args.events c.args.tasks.now c.args.programs.now at c.loop-k.k c.index-tasks-k.result c.index-programs-k.result c.loop-k-test.true
     c.requires.count c.index-tasks-k.is c.index-programs-k.is c.loop-k.invariant.order in
-    let parts = order_split at reset_vector (parts_of_task c.args.events c.index-tasks-k.result (programs_of c.index-programs-k.result)) _ order in
-    weaker_order at _ reset_vector _ (order_end _ reset_vector _ parts.1) parts.0
+    let own = parts_of_task c.args.events c.index-tasks-k.result (programs_of c.index-programs-k.result) in
+    let parts = order_split at reset_vector own _ order in
+    weaker_order at _ reset_vector own (order_end _ reset_vector _ parts.1) parts.0
 
 pub push_task-requires-clause-emitted : goal.push_task-requires-clause-emitted
 push_task-requires-clause-emitted c =

@@ -23,8 +23,8 @@ word_by l code ds entry a = if a == reset_vector then l.boot.address
     else shared_word l.variables (map (λ d. initial_words d.extent) ds) a)
 
 -- the programs that were made are the bare ones
-pub code_words-code-requires-clause-places : goal.code_words-code-requires-clause-places
-code_words-code-requires-clause-places c =
+pub code_words-requires-clause-places : goal.code_words-requires-clause-places
+code_words-requires-clause-places c =
     let l = c.args.layout.now in
     let p = tree.program_of c.args.accepted.now.checked.source in
     let fits = c.requires.fits in
@@ -39,16 +39,16 @@ code_words-code-requires-clause-places c =
       high = fits.high;
     })
 
-pub code_words-code-requires-clause-count : goal.code_words-code-requires-clause-count
-code_words-code-requires-clause-count c =
+pub code_words-requires-clause-count : goal.code_words-requires-clause-count
+code_words-requires-clause-count c =
     let l = c.args.layout.now in
     let p = tree.program_of c.args.accepted.now.checked.source in
     let bare : map programs_of c.as_slice.result.now ≡ bare_programs l p = ap (map programs_of) c.as_slice.ensures.value ∙ c.in_ok-programs.ensures
     ∙ ap (λ ch. bare_programs l (tree.program_of ch.source)) c.checked-checked.ensures in
     bare_count p.functions l p.tasks l.tasks c.requires.same_tasks ∙ sym (ap length bare) ∙ length-map c.as_slice.result.now programs_of
 
-pub code_words-code-requires-clause-emitted : goal.code_words-code-requires-clause-emitted
-code_words-code-requires-clause-emitted c =
+pub code_words-requires-clause-emitted : goal.code_words-requires-clause-emitted
+code_words-requires-clause-emitted c =
     let l = c.args.layout.now in
     let p = tree.program_of c.args.accepted.now.checked.source in
     let bare : map programs_of c.as_slice.result.now ≡ bare_programs l p = ap (map programs_of) c.as_slice.ensures.value ∙ c.in_ok-programs.ensures

@@ -14,8 +14,7 @@ task_ifs-requires c =
     let p = program_of c.args.accepted.now.checked.source in
     let l = c.args.layout.now in
     let k = c.args.number in
-    let h = task_holds c.tasks_are_whole.ensures text p c.args.accepted.now.allow c.requires.laid_out.0 l c.privates_are_few.ensures c.requires.laid_out.1 k
-    c.requires.task in
+    let h = task_holds text p c.args.accepted.now.allow c.requires.laid_out.0 l c.requires.laid_out.1 k c.requires.task in
     let source = c.source-source.ensures ∙ ap (λ x. x.source) c.checked.ensures in
     let at = task_at c.args.accepted.now.checked.source.tasks.items k c.index-task.result.now h.task h.there
     (c.index-task.ensures ∙ ap (λ s. get_or s.tasks.items k c.index-task.result.now) source) in
@@ -28,8 +27,7 @@ returns c =
     let p = program_of c.args.accepted.now.checked.source in
     let l = c.args.layout.now in
     let k = c.args.number in
-    let h = task_holds c.tasks_are_whole.ensures text p c.args.accepted.now.allow c.requires.laid_out.0 l c.privates_are_few.ensures c.requires.laid_out.1 k
-    c.requires.task in
+    let h = task_holds text p c.args.accepted.now.allow c.requires.laid_out.0 l c.requires.laid_out.1 k c.requires.task in
     let source = c.source-source.ensures ∙ ap (λ x. x.source) c.checked.ensures in
     let at = task_at c.args.accepted.now.checked.source.tasks.items k c.index-task.result.now h.task h.there
     (c.index-task.ensures ∙ ap (λ s. get_or s.tasks.items k c.index-task.result.now) source) in

@@ -1,7 +1,7 @@
 use Rattle.std.proofs.Common.{◌≡◌, ◌∙◌, ◌<◌, ◌≤◌, ◌++◌, ◌∷◌, [], drop, length, map, sym, ap, arith}
 use Rattle.std.proofs.lemmas.List.{length-map, map-append}
 use Rattle.task_ast.specs.View.{program_of}
-use Rattle.array_versions.specs.View as word_program
+use Rattle.array_versions.specs.View.{programs_of}
 use Rattle.war_analysis.proofs.Interface.{element}
 use Rattle.condition_lines.specs.Conditions.{block_ifs}
 use Rattle.need_lines.specs.Rows.{row_of}
@@ -12,16 +12,16 @@ pub ifs_of-requires-clause-task : goal.ifs_of-requires-clause-task
 ifs_of-requires-clause-task c =
     let p = program_of c.args.accepted.now.checked.source in
     let l = c.args.layout.now in
-    let made = as_many l p.tasks l.tasks c.requires.laid_out.1.layout.tasks.count in
-    let count = length-map c.args.programs.now word_program.program_of in
+    let made = as_many p.functions l p.tasks l.tasks c.requires.laid_out.1.layout.tasks.count in
+    let count = length-map c.args.programs.now programs_of in
     omega (arith, c.loop-i-test.true, made, count, ap length c.requires.programs)
 
 pub need_by_lines-requires-clause-task : goal.need_by_lines-requires-clause-task
 need_by_lines-requires-clause-task c =
     let p = program_of c.args.accepted.now.checked.source in
     let l = c.args.layout.now in
-    let made = as_many l p.tasks l.tasks c.requires.laid_out.1.layout.tasks.count in
-    let count = length-map c.args.programs.now word_program.program_of in
+    let made = as_many p.functions l p.tasks l.tasks c.requires.laid_out.1.layout.tasks.count in
+    let count = length-map c.args.programs.now programs_of in
     omega (arith, c.loop-i-test.true, made, count, ap length c.requires.programs)
 
 pub need_by_lines-requires-clause-ifs : goal.need_by_lines-requires-clause-ifs
@@ -31,16 +31,16 @@ pub bounds-undo-i : goal.bounds-undo-i
 bounds-undo-i c =
     let p = program_of c.args.accepted.now.checked.source in
     let l = c.args.layout.now in
-    let made = as_many l p.tasks l.tasks c.requires.laid_out.1.layout.tasks.count in
-    let count = length-map c.args.programs.now word_program.program_of in
+    let made = as_many p.functions l p.tasks l.tasks c.requires.laid_out.1.layout.tasks.count in
+    let count = length-map c.args.programs.now programs_of in
     omega (arith, c.loop-i-test.true, made, count, ap length c.requires.programs, c.requires.undo.count)
 
 pub need_by_lines-requires-clause-undo : goal.need_by_lines-requires-clause-undo
 need_by_lines-requires-clause-undo c =
     let p = program_of c.args.accepted.now.checked.source in
     let l = c.args.layout.now in
-    let made = as_many l p.tasks l.tasks c.requires.laid_out.1.layout.tasks.count in
-    let count = length-map c.args.programs.now word_program.program_of in
+    let made = as_many p.functions l p.tasks l.tasks c.requires.laid_out.1.layout.tasks.count in
+    let count = length-map c.args.programs.now programs_of in
     c.requires.undo.each c.loop-i.i (record { boot = 0; start = 0; path = 0; commit = 0 })
     (omega (arith, c.loop-i-test.true, made, count, ap length c.requires.programs))
 
@@ -49,8 +49,8 @@ loop-i-preserved c =
     let text = c.args.accepted.now.text.items in
     let p = program_of c.args.accepted.now.checked.source in
     let l = c.args.layout.now in
-    let made = as_many l p.tasks l.tasks c.requires.laid_out.1.layout.tasks.count in
-    let count = length-map c.args.programs.now word_program.program_of in
+    let made = as_many p.functions l p.tasks l.tasks c.requires.laid_out.1.layout.tasks.count in
+    let count = length-map c.args.programs.now programs_of in
     let inside : c.loop-i.i < length p.tasks = omega (arith, c.loop-i-test.true, made, count, ap length c.requires.programs) in
     let t = element p.tasks c.loop-i.i inside in
     let one = c.in_ok-need_by_lines.field-0 in
@@ -70,7 +70,7 @@ returns c =
     let text = c.args.accepted.now.text.items in
     let p = program_of c.args.accepted.now.checked.source in
     let l = c.args.layout.now in
-    let made = as_many l p.tasks l.tasks c.requires.laid_out.1.layout.tasks.count in
-    let count = length-map c.args.programs.now word_program.program_of in
+    let made = as_many p.functions l p.tasks l.tasks c.requires.laid_out.1.layout.tasks.count in
+    let count = length-map c.args.programs.now programs_of in
     let all : length p.tasks ≤ c.loop-i.i = omega (arith, c.loop-i-test.false, made, count, ap length c.requires.programs) in
     sym (rows_end text p l c.loop-i.left.now c.loop-i.i (map row_of c.loop-i.needs.items) all) ∙ c.loop-i.invariant
