@@ -3,6 +3,7 @@
 use Rattle.std.proofs.Common.{◌≡◌, ◌<◌, ℕ, suc, List, [], Bool, true, if◌then◌else◌, Some, ap, ◌∙◌, sym}
 use Rattle.machine_effects.specs.msp_isa.declared.instructions.Instr.{Instr}
 use Rattle.machine_effects.specs.msp_step.declared.machine.Stop.{Stop}
+use Rattle.machine_effects.specs.msp_step.Registers.{Registers}
 use Rattle.machine_effects.specs.fram_board.Effects.{Effect}
 use Rattle.machine_effects.specs.Going.{Stops, Leads, Stalls}
 use Rattle.machine_effects.specs.Machine.{Code, MachineBoard, MachineOutcome, exec, step_with, undisturbed, astray}
@@ -13,11 +14,11 @@ use Rattle.code_forms.proofs.Agreeing as agreeing
 use Rattle.code_forms.proofs.Agreeing.{EachFront}
 
 -- a board at a form of a part, where SP may stand as it does
-pub record MayStand (may : MachineBoard → Bool) (part : KeptCode) (s : MachineBoard) : Type 0 where
+pub record MayStand (may : Registers → Bool) (part : KeptCode) (s : MachineBoard) : Type 0 where
   pub at : IsAtKept part s
-  pub may_be : may s ≡ true
+  pub may_be : may s.registers ≡ true
 
-module _ (may : MachineBoard → Bool) (whole : Code) (part : KeptCode) (is_part : IsPart part.code whole) where
+module _ (may : Registers → Bool) (whole : Code) (part : KeptCode) (is_part : IsPart part.code whole) where
   abbrev under_watch : MachineBoard → MachineOutcome
   under_watch = watched may (exec whole)
 
