@@ -2,6 +2,7 @@ mod Parts
 mod Linked
 mod Called
 mod Rooms
+mod Watched
 mod Stretches
 mod Above
 mod Reached
