@@ -4,6 +4,7 @@ mod Called
 mod Rooms
 mod Watched
 mod Stretches
+mod Stacked
 mod Above
 mod Reached
 mod Recovered

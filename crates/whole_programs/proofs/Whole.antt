@@ -71,7 +71,7 @@ module _ (program : CheckedProgram) (body : CheckedBlock) (p : Places) (task : T
     ways = way_of_task program body p task ground.stack formed even;
   }
 
-  fits_the_stack : FitsTheStack (uses_events program) (task_program program body p task ground.stack)
+  abbrev fits_the_stack : FitsTheStack (uses_events program) (task_program program body p task ground.stack)
   fits_the_stack = record {
     whole = whole;
     fits = λ e.
