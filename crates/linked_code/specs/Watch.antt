@@ -53,7 +53,8 @@ abbrev pub task_only : MemoryMap → TaskPlace → (low : ℕ) → Code → Kept
 task_only l t low code = record { code = only_at (λ a. is_in_task a t) code; low = low; high = stack_origin l.runtime.events }
 
 -- under watch it makes these effects within so many cycles, and comes to a jump
-pub record StackedRuns (l : MemoryMap) (programs : List TaskPrograms) (lows : List ℕ) (most : ℕ) (u : Core) (es : List Effect) (P : Core → Type 0) : Type 0 where
+pub record StackedRuns (l : MemoryMap) (programs : List TaskPrograms) (lows : List ℕ) (most : ℕ) (u : Core) (es : List Effect) (P : Core → Type 0)
+    : Type 0 where
   pub steps : ℕ
   pub cycles : ℕ
   pub within : cycles ≤ most

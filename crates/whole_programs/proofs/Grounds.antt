@@ -114,8 +114,8 @@ module _ (program : CheckedProgram) (body : CheckedBlock) (few : stack_of (summa
       (λ k l e. absurd (let no : None ≡ Some l = sym (ap (λ fs. slice_get (all_locals fs) k) is) ∙ e in cc))
 
   -- one whose functions and tasks fit where events are taken
-  fit_ground : uses_events program ≡ true → all_light (all_locals program.functions) ≡ true → task_fits (summaries program) (all_locals program.functions) body ≡ true
-      → Ground program body
+  fit_ground : uses_events program ≡ true → all_light (all_locals program.functions) ≡ true
+      → task_fits (summaries program) (all_locals program.functions) body ≡ true → Ground program body
   fit_ground takes light fits =
       let both = and_parts (nat_le (base + block_locals body) 256) (nat_le (stack_of (summaries program) body) 776) fits in
       let own = leb-true (base + block_locals body) 256 both.0 in
