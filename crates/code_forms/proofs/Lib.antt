@@ -5,4 +5,6 @@ mod Blocks
 mod Placed
 mod FromSp
 mod Stacks
+mod Agreeing
+mod Watched
 pub mod Interface

@@ -175,6 +175,10 @@ module _ (program : CheckedProgram) (body : CheckedBlock) (p : Places) (task : T
   abbrev words_of_stack : ℕ
   words_of_stack = stack_of (summaries program) body
 
+  -- no stack of the task, nor of what it calls, goes below this address
+  abbrev pub bottom : ℕ
+  bottom = stack.top - 2 * (words_of_stack - 16)
+
   frames : FramesStand program body
   frames = frames_stand program body task.calls task.below
 
@@ -279,7 +283,7 @@ module _ (program : CheckedProgram) (body : CheckedBlock) (p : Places) (task : T
     abbrev pub code_of : ℕ → Code
     code_of low = record {
       locals = IsOwn l.base (register_end l) (frame_begin h.place.frame low) low;
-      bounds = record { first = l.base; low = floor; framed = stack.framed };
+      bounds = record { first = l.base; low = floor; floor = bottom; framed = stack.framed };
       gives = true;
     }
 
@@ -381,6 +385,7 @@ module _ (program : CheckedProgram) (body : CheckedBlock) (p : Places) (task : T
     record IsCaller (c : Code) : Type 0 where
       registers : register_end l ≤ c.bounds.first
       high : ceiling ≤ c.bounds.low
+      floor_is : c.bounds.floor ≡ bottom
       framed_is : c.bounds.framed ≡ stack.framed
       sound : Sound (code_of c.bounds.low) program_of
 
@@ -397,11 +402,15 @@ module _ (program : CheckedProgram) (body : CheckedBlock) (p : Places) (task : T
           ordered = end_behind (is_light l) l.base l.own;
           registers = caller.registers;
           fits = fits;
+          floor = let is = caller.floor_is in let low = frames.within k h.known h.is h.reached in omega (arith, is, low);
           spare = record { fits = omega (arith, high) };
           parameters = λ n low. own_place c.bounds.low n caller.high (omega (arith, low, is));
           locals = caller.sound.0;
           ways = function_way;
-          deeper = subst (λ b. IsFormed (record { first = l.base; low = floor; framed = b }) true program_of) (sym caller.framed_is) caller.sound.1;
+          deeper =
+              subst (λ b. IsFormed (record { first = l.base; low = floor; floor = c.bounds.floor; framed = b }) true program_of) (sym caller.framed_is)
+              (subst (λ n. IsFormed (record { first = l.base; low = floor; floor = n; framed = stack.framed }) true program_of) (sym caller.floor_is)
+              caller.sound.1);
         }
       where
         fits : FrameFits c.bounds h.place.frame floor (room_of f.body)
@@ -457,6 +466,7 @@ module _ (program : CheckedProgram) (body : CheckedBlock) (p : Places) (task : T
         let caller : IsCaller j callee (code_of k h low) = record {
           registers = locals_of.callees j k h.known.function (l k h) (l j callee) made.1 h.is.function h.is.locals callee.is.locals made.2;
           high = below;
+          floor_is = refl;
           framed_is = refl;
           sound = sound j made.1 callee (floor k h) below;
         } in
@@ -507,7 +517,7 @@ module _ (program : CheckedProgram) (body : CheckedBlock) (p : Places) (task : T
   abbrev pub task_code : ℕ → Code
   task_code locals = record {
     locals = λ n. base ≤ n × n < locals;
-    bounds = record { first = base; low = stack.top - 2 * frame_of 0 body; framed = stack.framed };
+    bounds = record { first = base; low = stack.top - 2 * frame_of 0 body; floor = bottom; framed = stack.framed };
     gives = false;
   }
 
@@ -532,6 +542,7 @@ module _ (program : CheckedProgram) (body : CheckedBlock) (p : Places) (task : T
         let caller : IsCaller j callee (task_code locals) = record {
           registers = locals_of.callees_of_task body j (l j callee) callee.is.locals made.2;
           high = under;
+          floor_is = refl;
           framed_is = refl;
           sound = sound_below (suc j) j (omega arith) callee (stack.top - 2 * frame_of 0 body) under;
         } in

@@ -3,7 +3,8 @@ use Rattle.word_code.proofs.Names.{◌≡◌, ℕ, ◌+◌, ◌≤◌, Bool, tru
 use Rattle.word_code.proofs.Names.{local, set_local, update_local, truth, choose, repeat, holds, compares, both, either, fails, nothing, step, StepLocalsBelow}
 use Rattle.word_code.proofs.Names.{TestLocalsBelow, LocalsBelow, step_locals, test_locals, locals_of, Core, Form, SetStack, forms_bytes, Stands, Runs}
 use Rattle.word_code.proofs.Names.{stack_top, stack_base, stack_set, stack_cycles, stack_start, HasStackRoom, Code, IsTidy, IsWhole, FitsEvents, ◌<◌, ◌*◌, ◌%◌}
-use Rattle.word_code.proofs.Names.{StepEachLocal, TestEachLocal, EachLocal, inl, inr, local_address, both_ways, KeptCode, IsKept, rules_of, KeepsWithin, entry_stack}
+use Rattle.word_code.proofs.Names.{StepEachLocal, TestEachLocal, EachLocal, inl, inr, local_address, both_ways, KeptCode, IsKept, rules_of, KeepsWithin}
+use Rattle.word_code.proofs.Names.{entry_stack}
 use Rattle.word_code.proofs.Names.{subst, sym}
 use Rattle.word_code.proofs.Memory.{Owns, below_eight, from_eight}
 use Rattle.word_code.proofs.Stretches.{Setting, hop, nothing_run, dearer}

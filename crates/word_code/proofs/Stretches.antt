@@ -1,6 +1,7 @@
 -- Stretches of code that stays, with room for locals and a stack.
 use Rattle.word_code.proofs.Names.{subst, ◌≡◌, ℕ, ◌+◌, ◌≤◌, List, [], ◌++◌, Some, arith, forms_bytes, stands_front, stands_back, forms_bytes-append}
-use Rattle.word_code.proofs.Names.{Effect, Goes, Stops, At, stretch, KeptCode, CodeRules, rules_of, Core, Form, instruction_of, form_step, FormNeeds, Stands, AreStraight, forms_run}
+use Rattle.word_code.proofs.Names.{Effect, Goes, Stops, At, stretch, KeptCode, CodeRules, rules_of, Core, Form, instruction_of, form_step, FormNeeds, Stands}
+use Rattle.word_code.proofs.Names.{AreStraight, forms_run}
 use Rattle.word_code.proofs.Names.{FormsNeed, IsTidy, Runs, Starves, stack_top, stack_start, HasStackRoom, CallBounds, ◌%◌, ◌*◌, ◌<◌, Bool, true, false}
 use Rattle.array_versions.specs.msp_step.declared.machine.Stop.TheVariants as stop
 use Rattle.code_forms.proofs.Interface as blocks
