@@ -189,11 +189,12 @@ IsOwn own end from upto n = ((own ≤ n) × (n < end)) ⊎ ((8 ≤ n) × (from �
 pub record CallBounds : Type 0 where
   pub first : ℕ  -- the registers of all that it calls are below this local, its own are not
   pub low : ℕ  -- its stack stays at or above this address, that of what it calls is below
+  pub floor : ℕ  -- no stack of what it calls goes below this one
   pub framed : Bool  -- whether what it calls may have locals in RAM
 
 -- those of a program that calls nothing
 abbrev pub no_calls : CallBounds
-no_calls = record { first = 0; low = 0; framed = false }
+no_calls = record { first = 0; low = 0; floor = 0; framed = false }
 
 -- where the locals of a function begin in RAM: those of a light one nowhere
 abbrev pub frame_begin : Option ℕ → ℕ → ℕ
@@ -216,11 +217,12 @@ pub record IsCalled (Deeper : CallBounds → Type 0) (bounds : CallBounds) (fram
   pub ordered : own ≤ end
   pub registers : end ≤ bounds.first
   pub fits : FrameFits bounds frame lowest room
+  pub floor : bounds.floor ≤ lowest
   pub spare : HasStackRoom lowest 0
   pub parameters : (n : ℕ) → n < count → IsOwn own end (frame_begin frame bounds.low) bounds.low (first + n)
   pub locals : EachLocal (IsOwn own end (frame_begin frame bounds.low) bounds.low) body
   pub ways : EachWay room body (λ q. ⊥) (entry_place first count)
-  pub deeper : Deeper (record { first = own; low = lowest; framed = bounds.framed })
+  pub deeper : Deeper (record { first = own; low = lowest; floor = bounds.floor; framed = bounds.framed })
 
 abbrev mutual
   -- the body of each loop assigns no local that counts the loop's turns, so that there are as many as it says; each function that is called may be
@@ -328,6 +330,7 @@ pub record IsWhole (p : Program) : Type 0 where
   pub bounds : CallBounds  -- of its calls
   pub fits : HasStackRoom (stack_base locals) room
   pub lowest : bounds.low + 2 * room ≤ stack_base locals
+  pub floor : bounds.floor ≤ bounds.low
   pub registers : bounds.first ≤ 8
   pub low_locals : LocalsBelow locals p
   pub own_locals : EachLocal (λ n. bounds.first ≤ n) p

@@ -12,7 +12,7 @@ use Rattle.memory_map.specs.address_space.Limits.{event_vector}
 use Rattle.memory_map.specs.event_places.Places.{handler_place}
 use Rattle.runtime_code.proofs.machine_effects.Interface.{fram_after-append}
 use Rattle.runtime_code.specs.code_forms.Forms.{Core, Form, Branch}
-use Rattle.runtime_code.specs.code_forms.Code.{Stands, IsTidy, forms_bytes}
+use Rattle.runtime_code.specs.code_forms.Code.{Stands, IsTidy, forms_bytes, anywhere}
 use Rattle.runtime_code.proofs.code_forms.Interface.{stands_front, stands_back, forms_at, forms_behind}
 use Rattle.runtime_code.specs.runtime_effects.Stages.{opening_effects, copied_in}
 use Rattle.runtime_code.specs.Addresses.{gate_address, stack_origin}
@@ -40,10 +40,10 @@ pub enables : (code : Code) → IsTidy code → (events : Bool) (p : ℕ) (f : �
     → Comes code [] (with_events events 2) (with_events events 3) u (IsAt (gate_address events p) f l)
 enables code tidy true p f l u taken named h at =
     from_there u at (ends (straight code tidy interrupts_set (core_at p f l u) (tt, (tt, tt)) h
-    ((refl, λ e. refl), ((taken, record { vector = named refl; low = omega arith; high = omega arith }), tt)) refl)
+    ((refl, λ e. refl, (omega arith, omega arith)), ((taken, record { vector = named refl; low = omega arith; high = omega arith }), tt)) refl)
     (record { pc = omega arith; fram = refl; inputs = refl }))
 enables code tidy false p f l u taken named h at =
-    let e : p ≡ p + 0 = omega arith in nothing code u (IsAt (p + 0) f l) (subst (λ n. IsAt n f l u) e at)
+    let e : p ≡ p + 0 = omega arith in nothing (anywhere code) u (IsAt (p + 0) f l) (subst (λ n. IsAt n f l u) e at)
 
 -- a number below the end isn't the end
 not_at_end : (n : ℕ) → n < 0xFFFF → (n == 0xFFFF) ≡ false
@@ -99,7 +99,7 @@ module _ (code : Code) (m : MemoryMap) (commit : ℕ) (tasks : List TaskEntry) (
       → Comes code [] (with_events events 2 + 3) (with_events events 3 + 9) u (IsAt commit fram inputs)
   commits e named one =
       comes_on (enabled e named) (λ w j. comes_on (looked w one j)
-      (λ v k. form_comes code boot.tidy (Branch commit) v (record v { pc = commit }) [] 3 (IsAt commit fram inputs)
+      (λ v k. form_comes (anywhere code) boot.tidy (Branch commit) v (record v { pc = commit }) [] 3 (IsAt commit fram inputs)
       (ap code.at (k.pc ∙ omega arith) ∙ gated.1.1.0) boot.even_commit refl (record { pc = refl; fram = k.fram; inputs = k.inputs })))
 
   attempts : u.pc ≡ at → NamesHandler m fram → fram (word_place m Gate) < 0x10000 → fram (word_place m Gate) ≢ 1

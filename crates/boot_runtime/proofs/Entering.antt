@@ -7,7 +7,7 @@ use Rattle.runtime_code.specs.machine_effects.World.{put}
 use Rattle.runtime_code.specs.machine_effects.Inputs.{Inputs}
 use Rattle.runtime_code.specs.machine_effects.Machine.{Code}
 use Rattle.runtime_code.specs.code_forms.Forms.{Core, Move, Branch, Fram, ToFram}
-use Rattle.runtime_code.specs.code_forms.Code.{IsTidy, forms_bytes}
+use Rattle.runtime_code.specs.code_forms.Code.{IsTidy, forms_bytes, anywhere}
 use Rattle.runtime_code.proofs.code_forms.Interface.{forms_bytes-append}
 use Rattle.runtime_code.specs.runtime_effects.Places.{CopyPair}
 use Rattle.runtime_code.specs.runtime_effects.Stages.{copied_in}
@@ -49,14 +49,14 @@ copying xs f l = record { memory = f; inputs = l; effects = copied_in xs f; step
 
 pub copies_done : (code : Code) (tidy : IsTidy code) (sp : ℕ) (xs : List CopyPair) (f : ℕ → ℕ) (l : Inputs) → All ArePairWords xs
     → Does code sp (copies_in xs) (copying xs f l)
-copies_done code tidy sp [] f l ok p u h at = nothing code u _ (record { pc = at.pc ∙ omega arith; sp = at.sp; fram = at.fram; inputs = at.inputs })
+copies_done code tidy sp [] f l ok p u h at = nothing (anywhere code) u _ (record { pc = at.pc ∙ omega arith; sp = at.sp; fram = at.fram; inputs = at.inputs })
 copies_done code tidy sp (x ∷ xs) f l ok p u h at =
     let g = put f x.copy (f x.home) in
     let words = All-head ArePairWords x xs ok in
     let s = core_at p f l u in
     let next : Core = record s { pc = p + 6; fram = g } in
     from_there u (record { pc = at.pc; fram = at.fram; inputs = at.inputs }) (recounted (omega arith) (omega arith) (so_ends
-    (then_on (form_comes code tidy (Move (Fram x.home) (ToFram x.copy)) s next (Store x.copy (f x.home) ∷ []) 6 (λ v. v ≡ next) h.0
+    (then_on (form_comes (anywhere code) tidy (Move (Fram x.home) (ToFram x.copy)) s next (Store x.copy (f x.home) ∷ []) 6 (λ v. v ≡ next) h.0
     (words.home, words.copy) refl refl)
     (copies_done code tidy sp xs g l (All-tail ArePairWords x xs ok) (p + 6) next h.1 (record { pc = refl; sp = at.sp; fram = refl; inputs = refl })))
     (λ v k. record { pc = k.pc ∙ omega arith; sp = k.sp; fram = k.fram; inputs = k.inputs })))

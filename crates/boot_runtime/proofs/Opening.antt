@@ -10,7 +10,7 @@ use Rattle.runtime_code.specs.machine_effects.World.{put, fram_after}
 use Rattle.runtime_code.specs.machine_effects.Inputs.{Inputs}
 use Rattle.runtime_code.specs.machine_effects.Machine.{Code}
 use Rattle.runtime_code.specs.code_forms.Forms.{Core, Form, Update, Constant}
-use Rattle.runtime_code.specs.code_forms.Code.{Stands, IsTidy}
+use Rattle.runtime_code.specs.code_forms.Code.{Stands, IsTidy, anywhere}
 use Rattle.runtime_code.proofs.code_forms.Interface.{forms_at, forms_behind, stands_front}
 use Rattle.runtime_code.specs.runtime_effects.Stages.{is_at_end, clearing_if, cleared, count_cleared, counting_effects, opening_effects}
 use Rattle.runtime_code.specs.runtime_effects.Needs.{AreInFram}
@@ -74,7 +74,7 @@ module _ (code : Code) (tidy : IsTidy code) (m : MemoryMap) (places : AreInFram 
     -- behind the last one
     all_cleared : (x : Point) (u : Core) → IsAt (loop_ends clears_loop) x.memory l u
         → IsLeft m.versions.address (2 * m.versions.words) x.place (2 * 0) → Makes code turning 0 x u
-    all_cleared x u at r = nothing code u _ at
+    all_cleared x u at r = nothing (anywhere code) u _ at
 
   -- VER is compared with its end: on to the clearing, or over it
   pub looks_at_version : (p : ℕ) (b : Bool) (f : ℕ → ℕ) (l : Inputs) (u : Core) → p + 32 < 0x10000 → Stands code p (end_tested m)

@@ -5,7 +5,7 @@ use Rattle.code_costs.proofs.Names.{Describes, forward_most, runs_so, starves_so
 
 module _ (z : Setting) (pc : ℕ) (ms : List Form) (h : Stands z.code pc ms) where
   abbrev pub alone : Setting
-  alone = record z { code = placed z.code.events pc (instructions ms); tidy = tidy_alone z.code pc ms z.tidy h }
+  alone = record z { kept = record z.kept { code = placed z.code.events pc (instructions ms) }; tidy = tidy_alone z.code pc ms z.tidy h }
 
   pub stand : Stands alone.code pc ms
   stand = stands_alone z.code.events pc ms
@@ -55,10 +55,10 @@ module _ (z : Setting) (pc : ℕ) (ms : List Form) (h : Stands z.code pc ms) whe
   describes_out os q w u d = record { rest = d.rest; is = stands_out q _ u d.is; stack = d.stack; there = d.there; fits = d.fits }
 
   -- where it comes to alone
-  pub runs_there : {es : List Effect} {most : ℕ} {u : Core} {P Q : Core → Type 0} → u.pc ≡ pc → Runs alone.code es most u P → ((t : Core) → P t → Q t)
-      → Runs z.code es (forward_most ms most) u Q
+  pub runs_there : {es : List Effect} {most : ℕ} {u : Core} {P Q : Core → Type 0} → u.pc ≡ pc → Runs alone.kept es most u P → ((t : Core) → P t → Q t)
+      → Runs z.kept es (forward_most ms most) u Q
   runs_there {es} {most} {u} {P} {Q} at r f =
-      so_runs (runs_so z.code pc ms u (record { tidy = z.tidy; stands = h; begins = at }) es most P r) f
+      so_runs (runs_so z.kept pc ms u (record { tidy = z.tidy; stands = h; begins = at }) es most P r) f
 
   -- by how the program's part ends; nothing is left over of the bound but what follows
   pub reaches_there : (left next most bound : ℕ) (u : Core) (R Q : WordState → Core → Type 0) (es : List Effect) (e : End) → u.pc ≡ pc → most ≤ bound
@@ -71,5 +71,5 @@ module _ (z : Setting) (pc : ℕ) (ms : List Form) (h : Stands z.code pc ms) whe
       dearer z {most = forward_most ms bound} (omega arith) (runs_there at (dearer alone l a) (returned_out v w))
   reaches_there left next most bound u R Q es Short at l f a =
       dearer_stall z es (forward_most ms bound) (forward_most ms bound + next) u (omega arith)
-      (starves_so z.code pc ms u (record { tidy = z.tidy; stands = h; begins = at }) es bound (dearer_stall alone es most bound u l a))
+      (starves_so z.kept pc ms u (record { tidy = z.tidy; stands = h; begins = at }) es bound (dearer_stall alone es most bound u l a))
   reaches_there left next most bound u R Q es _ at l f a = tt

@@ -33,11 +33,11 @@ module _ (z : Setting) where
 
   -- code without effects behind what goes on
   pub then_more : (c next most : ℕ) (u : Core) (Q R : WordState → Core → Type 0) (es : List Effect) (e : End) → Reaches z (c + next) Q most u es e
-      → ((t : Core) (w : WordState) → Q w t → Runs z.code [] c t (R w)) → Reaches z next R most u es e
+      → ((t : Core) (w : WordState) → Q w t → Runs z.kept [] c t (R w)) → Reaches z next R most u es e
   then_more c next most u Q R es (GoesOn w) a f = record {
     spent = a.spent + c;
     within = let l = a.within in omega (arith, l);
-    runs = subst (λ l. Runs z.code l (a.spent + c) u (R w)) (append-nil es) (runs_on z a.runs (λ t h. f t w h));
+    runs = subst (λ l. Runs z.kept l (a.spent + c) u (R w)) (append-nil es) (runs_on z a.runs (λ t h. f t w h));
   }
   then_more c next most u Q R es (Jumps to w) a f = a
   then_more c next most u Q R es (Gives v w) a f = a
@@ -52,14 +52,14 @@ module _ (z : Setting) where
   on_way c next most u P Q R es (GoesOn w) go a p f =
       reach_more z next R (a.spent + c) most u (es ++ (go w).effects) (go w).end a.within
       (then_reach z next R a.spent c u (Q w) es (go w).effects (go w).end a.runs (λ t h. f t w p h))
-  on_way c next most u P Q R es (Jumps to w) go a p f = subst (λ l. Runs z.code l most u (HasJumped to w)) (sym (append-nil es)) a
-  on_way c next most u P Q R es (Gives v w) go a p f = subst (λ l. Runs z.code l most u (HasReturned z v w)) (sym (append-nil es)) a
-  on_way c next most u P Q R es Short go a p f = subst (λ l. Starves z.code l most u) (sym (append-nil es)) a
+  on_way c next most u P Q R es (Jumps to w) go a p f = subst (λ l. Runs z.kept l most u (HasJumped to w)) (sym (append-nil es)) a
+  on_way c next most u P Q R es (Gives v w) go a p f = subst (λ l. Runs z.kept l most u (HasReturned z v w)) (sym (append-nil es)) a
+  on_way c next most u P Q R es Short go a p f = subst (λ l. Starves z.kept l most u) (sym (append-nil es)) a
   on_way c next most u P Q R es _ go a p f = tt
 
   -- words that wait are pushed
   pub flushes : (os : List Waiting) (pc : ℕ) (w : WordState) (u : Core) → Stands z.code pc (flushed os) → Describes z os pc w u
-      → Runs z.code [] (flush_most os) u (StandsFor z (pc + forms_bytes (flushed os)) w)
+      → Runs z.kept [] (flush_most os) u (StandsFor z (pc + forms_bytes (flushed os)) w)
   flushes os pc w u h d =
       let ms = flushed os in
       let y = alone z pc ms h in

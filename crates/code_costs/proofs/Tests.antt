@@ -35,10 +35,10 @@ module _ (z : Setting) where
   asked : (when : Bool) (d : ℕ) (front : List Form) (k : Asking) (pc held failed : ℕ)
       → Forked z when d pc (front ++ (k.form ∷ decision when d k.met k.opposite)) held failed
       → {l : ℕ} (P : ℕ → Core → Type 0) (most : ℕ) (t : WordState) (u : Core) → l + k.reads + 5 ≤ most
-      → (let mid = pc + forms_bytes front in (Stands z.code pc front → Runs z.code [] l u (P mid))
+      → (let mid = pc + forms_bytes front in (Stands z.code pc front → Runs z.kept [] l u (P mid))
       → ((q : Core) → z.code.at mid ≡ Some (instruction_of k.form) → P mid q
-      → Runs z.code [] k.reads q (Decided z (mid + form_bytes k.form) t k.answer k.met k.opposite))
-      → Runs z.code [] most u (StandsFor z (if k.answer then held else failed) t))
+      → Runs z.kept [] k.reads q (Decided z (mid + form_bytes k.form) t k.answer k.met k.opposite))
+      → Runs z.kept [] most u (StandsFor z (if k.answer then held else failed) t))
   asked when d front k pc held failed s {l} P most t u le come asks =
       let last = decision when d k.met k.opposite in
       let mid = pc + forms_bytes front in
@@ -56,7 +56,7 @@ module _ (z : Setting) where
 
   asked_top : (when : Bool) (d : ℕ) (os : List Waiting) (pc held failed v : ℕ) (us : List ℕ) (w : WordState) (u : Core) → v < 0x10000 → w.stack ≡ v ∷ us
       → Forked z when d pc (holds_code os when d) held failed → Describes z os pc w u
-      → Runs z.code [] (8 + owed os) u (StandsFor z (if is_true v then held else failed) (with_stack us w))
+      → Runs z.kept [] (8 + owed os) u (StandsFor z (if is_true v then held else failed) (with_stack us w))
   asked_top when d os pc held failed v us w u small e s i =
       let t = with_stack us w in
       let ks = kept (below_top os) in
@@ -67,7 +67,7 @@ module _ (z : Setting) where
 
   asked_two : (when : Bool) (d : ℕ) (c : Comparison) (os : List Waiting) (pc held failed x y : ℕ) (us : List ℕ) (w : WordState) (u : Core) → x < 0x10000
       → y < 0x10000 → w.stack ≡ y ∷ (x ∷ us) → Forked z when d pc (compares_code os c when d) held failed → Describes z os pc w u
-      → Runs z.code [] (10 + owed os) u (StandsFor z (if compare_words c x y then held else failed) (with_stack us w))
+      → Runs z.kept [] (10 + owed os) u (StandsFor z (if compare_words c x y then held else failed) (with_stack us w))
   asked_two when d c os pc held failed x y us w u lx ly e s i =
       let t = with_stack us w in
       let under = below_top os in
@@ -91,7 +91,7 @@ module _ (z : Setting) where
 module _ (z : Setting) where
   asked_top_alone : (when : Bool) (d : ℕ) (os : List Waiting) (pc held failed v : ℕ) (us : List ℕ) (w : WordState) (u : Core) → v < 0x10000 → w.stack ≡ v ∷ us
       → Forked z when d pc (holds_code os when d) held failed → Describes z os pc w u
-      → Runs z.code [] (forward_most (holds_code os when d) (8 + owed os)) u (StandsFor z (if is_true v then held else failed) (with_stack us w))
+      → Runs z.kept [] (forward_most (holds_code os when d) (8 + owed os)) u (StandsFor z (if is_true v then held else failed) (with_stack us w))
   asked_top_alone when d os pc held failed v us w u small e k i =
       let all = holds_code os when d in
       let y = alone z pc all k.stands in
@@ -102,7 +102,7 @@ module _ (z : Setting) where
 
   asked_two_alone : (when : Bool) (d : ℕ) (c : Comparison) (os : List Waiting) (pc held failed x y : ℕ) (us : List ℕ) (w : WordState) (u : Core) → x < 0x10000
       → y < 0x10000 → w.stack ≡ y ∷ (x ∷ us) → Forked z when d pc (compares_code os c when d) held failed → Describes z os pc w u
-      → Runs z.code [] (forward_most (compares_code os c when d) (10 + owed os)) u
+      → Runs z.kept [] (forward_most (compares_code os c when d) (10 + owed os)) u
       (StandsFor z (if compare_words c x y then held else failed) (with_stack us w))
   asked_two_alone when d c os pc held failed x y us w u lx ly e k i =
       let all = compares_code os c when d in
@@ -128,7 +128,7 @@ module _ (z : Setting) where
       pub if_failed : Continues failed
 
     module _ (ways : Ways) where
-      by_answer : (b : Bool) (c : ℕ) (t : WordState) (u : Core) → Runs z.code [] c u (StandsFor z (if b then ways.held.at else ways.failed.at) t)
+      by_answer : (b : Bool) (c : ℕ) (t : WordState) (u : Core) → Runs z.kept [] c u (StandsFor z (if b then ways.held.at else ways.failed.at) t)
           → Ready bs ways.held.fits t → Ready bs ways.failed.fits t
           → (let x : Behaviour = if b then ways.held.does t else ways.failed.does t in
           Reaches z next Q (c + max ways.held.cost ways.failed.cost) u x.effects x.end)

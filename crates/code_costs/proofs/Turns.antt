@@ -16,8 +16,8 @@ module _ (z : Setting) where
   back_by : (near b : Bool) (pc d to : ℕ) (w : WordState) (t : Core) → nat_le d 511 ≡ near
       → (let ms : List Form = if near then Jump condition.NotEqual (1023 - d) ∷ [] else (Jump condition.Equal 2 ∷ Skip (0xFFFA - 2 * d) ∷ []) in
       Stands z.code pc ms → (if b then to + 2 * d else pc + forms_bytes ms) ≡ (if b then pc else to)
-      → Decided z pc w b condition.NotEqual condition.Equal t → Runs z.code [] 5 t (StandsFor z to w)
-      → Runs z.code [] (if near then 2 else 5) t (StandsFor z to w))
+      → Decided z pc w b condition.NotEqual condition.Equal t → Runs z.kept [] 5 t (StandsFor z to w)
+      → Runs z.kept [] (if near then 2 else 5) t (StandsFor z to w))
   back_by true true pc d to w t n h e k far =
       let l = near_is d n in
       let high = (z.tidy pc _ h.0).high in
@@ -27,7 +27,7 @@ module _ (z : Setting) where
 
   goes_back : (b : Bool) (pc d to : ℕ) (w : WordState) (t : Core) → (let back = jump_back condition.NotEqual condition.Equal d in Stands z.code pc back
       → (if b then to + 2 * d else pc + forms_bytes back) ≡ (if b then pc else to) → Decided z pc w b condition.NotEqual condition.Equal t
-      → Runs z.code [] (back_cycles d) t (StandsFor z to w))
+      → Runs z.kept [] (back_cycles d) t (StandsFor z to w))
   goes_back b pc d to w t h e k =
       back_by (nat_le d 511) b pc d to w t refl h e k (back_part z b pc d to condition.NotEqual condition.Equal w t h e k)
 
@@ -37,7 +37,7 @@ module _ (z : Setting) where
 
   raises : (pc n k below : ℕ) (w : WordState) (u : Core) → Owns z n → w.locals n ≡ Some k → k + 1 < 0x10000 → below < 0x10000
       → Stands z.code pc (turn_end n below) → StandsFor z pc w u
-      → Runs z.code [] (forward_most (turn_end n below) 10) u (Raised (pc + forms_bytes (turn_end n below)) n (k + 1) below w)
+      → Runs z.kept [] (forward_most (turn_end n below) 10) u (Raised (pc + forms_bytes (turn_end n below)) n (k + 1) below w)
   raises pc n k below w u lt q l lb h i =
       let ms = turn_end n below in
       let y = alone z pc ms h in
@@ -77,15 +77,15 @@ module _ (z : Setting) where
     jumps_back = stands_back z.code pc turn back h
 
     behind_body : (k : ℕ) (v : WordState) (t : Core) → v.locals n ≡ Some k → k + 1 < 0x10000 → StandsFor z (pc + forms_bytes body) v t
-        → Runs z.code [] (forward_most (turn_end n below) 10) t (Raised behind_turn n (k + 1) below v)
+        → Runs z.kept [] (forward_most (turn_end n below) 10) t (Raised behind_turn n (k + 1) below v)
     behind_body k v t q l i =
         let tail = stands_back z.code pc body (turn_end n below) inside in
         let e : pc + forms_bytes body + forms_bytes (turn_end n below) ≡ behind_turn = omega (arith, forms_bytes-append body (turn_end n below)) in
-        subst (λ p. Runs z.code [] (forward_most (turn_end n below) 10) t (Raised p n (k + 1) below v)) e
+        subst (λ p. Runs z.kept [] (forward_most (turn_end n below) 10) t (Raised p n (k + 1) below v)) e
         (raises (pc + forms_bytes body) n k below v t lt q l small tail i)
 
     last_turn : (k : ℕ) (v : WordState) (t : Core) → v.locals n ≡ Some k → k + 1 ≡ below → StandsFor z (pc + forms_bytes body) v t
-        → Runs z.code [] last t (StandsFor z end (with_local n (k + 1) v))
+        → Runs z.kept [] last t (StandsFor z end (with_local n (k + 1) v))
     last_turn k v t q e i =
         let to : behind_turn + forms_bytes back ≡ end = omega (arith, forms_bytes-append turn back) in
         let over : not ((k + 1) == below) ≡ false = ap not (eq-eqb (k + 1) below e) in
@@ -93,7 +93,7 @@ module _ (z : Setting) where
         (subst (λ b. Decided z behind_turn (with_local n (k + 1) v) b condition.NotEqual condition.Equal u) over j))
 
     next_turn : (k : ℕ) (v : WordState) (t : Core) → v.locals n ≡ Some k → k + 1 < below → StandsFor z (pc + forms_bytes body) v t
-        → Runs z.code [] last t (StandsFor z pc (with_local n (k + 1) v))
+        → Runs z.kept [] last t (StandsFor z pc (with_local n (k + 1) v))
     next_turn k v t q l i =
         let from : pc + 2 * size turn ≡ behind_turn = omega (arith, whole_size turn) in
         let more : not ((k + 1) == below) ≡ true = ap not (ne_eqb (k + 1) below (λ e. omega arith)) in
@@ -126,7 +126,7 @@ module _ (z : Setting) where
   -- a loop, where its code stands; by whether it makes a turn
   module _ (body : List Form) (pc n from below : ℕ) (cost : ℕ → ℕ) (run : WordState → Behaviour) (fit : ℕ → WordState → Type 0) where
     sets : (s : WordState) (u : Core) → Owns z n → Stands z.code pc (number_code n from) → StandsFor z pc s u
-        → Runs z.code [] (forward_most (number_code n from) 5) u (StandsFor z (pc + forms_bytes (number_code n from)) (with_local n from s))
+        → Runs z.kept [] (forward_most (number_code n from) 5) u (StandsFor z (pc + forms_bytes (number_code n from)) (with_local n from s))
     sets s u lt h i =
         let ms = number_code n from in
         let y = alone z pc ms h in
@@ -153,7 +153,7 @@ module _ (z : Setting) where
         (record {
           spent = forward_most start 5;
           within = omega arith;
-          runs = subst (λ p. Runs z.code [] (forward_most start 5) u (StandsFor z p (with_local n from s))) e set;
+          runs = subst (λ p. Runs z.kept [] (forward_most start 5) u (StandsFor z p (with_local n from s))) e set;
         })
     loop_reach true s u next c lt lb h i g doing keeps =
         let start = number_code n from in

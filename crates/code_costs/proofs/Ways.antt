@@ -23,6 +23,7 @@ use Rattle.code_costs.proofs.Names.{unary, binary, long, unary_cycles, long_cycl
 use Rattle.code_costs.proofs.Names.{Multiply}
 use Rattle.code_costs.proofs.Names.{Divide, Remainder, Plain, LongOperation, any_most}
 use Rattle.word_code.specs.array_versions.declared.operations.LongOperation.TheVariants as with_longs
+use Rattle.code_costs.proofs.Names.{anywhere, rules_of, IsKept, KeepsWithin, keeps_anywhere}
 use Rattle.code_costs.proofs.Names.{begun, EachLocal, FitsEvents, IsEntry, Owns, bounds_of, at_start, at_base, uncalled, uncalled_owns, IsFormed}
 use Rattle.code_costs.proofs.Names.{RoutinesStand, StepRoutinesStand, Code, length, with_stack, with_top, dearer_stall, Gives, call, give, called}
 use Rattle.code_costs.proofs.Names.{called_behind}
@@ -154,7 +155,7 @@ module _ (z : Setting) where
 
   -- over so many words in any case
   passes : (at d end : ℕ) (v : WordState) (t : Core) → Stands z.code at (pass_over d) → at + forms_bytes (pass_over d) + 2 * d ≡ end
-      → (at + forms_bytes (pass_over d) < 0x10000 → end < 0x10000) → StandsFor z at v t → Runs z.code [] (forward_most (pass_over d) 3) t (StandsFor z end v)
+      → (at + forms_bytes (pass_over d) < 0x10000 → end < 0x10000) → StandsFor z at v t → Runs z.kept [] (forward_most (pass_over d) 3) t (StandsFor z end v)
   passes at d end v t h e low i =
       let ms = pass_over d in
       let y = alone z at ms h in
@@ -477,7 +478,7 @@ mutual
 -- a whole program with its place in code, and where its stack begins
 module _ (z : Setting) (p : Program) (whole : IsWhole p) (of_words : OfWords p) (owned : EachLocal (Owns z) p) (room : whole.room ≡ z.room)
     (formed : IsFormed (bounds_of z) z.gives p × RoutinesStand z.code p) where
-  by_end : (pc most : ℕ) (u : Core) (es : List Effect) (e : End) → Reaches z 0 (λ v. StandsFor z pc v) most u es e → IsSound e → ComesTo z.code most u es e
+  by_end : (pc most : ℕ) (u : Core) (es : List Effect) (e : End) → Reaches z 0 (λ v. StandsFor z pc v) most u es e → IsSound e → ComesTo z.kept most u es e
   by_end pc most u es (GoesOn w) a g = g
   by_end pc most u es (Jumps to w) a g = a
   by_end pc most u es (Gives v w) a g = g
@@ -487,8 +488,8 @@ module _ (z : Setting) (p : Program) (whole : IsWhole p) (of_words : OfWords p) 
 
   -- behind what sets its stack the code keeps to its dearest way
   steps_keep : (at mid front : ℕ) → Stands z.code mid (block_code [] p) → (let u = z.entered in IsEntry z.code.events at u
-      → Runs z.code [] front u (HasStack mid z.top u)
-      → let b = behaviour p (started u.fram u.inputs) in ComesTo z.code (front + block_most [] p 0) u b.effects b.end)
+      → Runs z.kept [] front u (HasStack mid z.top u)
+      → let b = behaviour p (started u.fram u.inputs) in ComesTo z.kept (front + block_most [] p 0) u b.effects b.end)
   steps_keep at mid front h entry set =
       let u = z.entered in
       let s = started u.fram u.inputs in
@@ -513,26 +514,31 @@ module _ (z : Setting) (p : Program) (whole : IsWhole p) (of_words : OfWords p) 
 pub code_keeps_to_its_ways : CodeKeepsToItsWays
 code_keeps_to_its_ways code at p u tidy h routines whole fits o entry = by code.events refl h fits entry
   where
+    keeps : KeepsWithin (anywhere code) p whole
+    keeps = keeps_anywhere code p whole
+
     by : (events : Bool) → code.events ≡ events → Stands code at (code_of events p) → (events ≡ true → FitsEvents p whole) → IsEntry events at u
-        → let b = behaviour p (started u.fram u.inputs) in ComesTo code (most_spent events p) u b.effects b.end
+        → let b = behaviour p (started u.fram u.inputs) in ComesTo (anywhere code) (most_spent events p) u b.effects b.end
     by true e h fits entry =
         let b = at_start code p whole (fits refl) in
-        let z = uncalled code tidy u p whole b in
-        steps_keep z p whole o (uncalled_owns code tidy u p whole b) refl (whole.formed, routines) at at (forward_most (stack_set true (locals_of p)) 2) h
+        let z = uncalled (anywhere code) tidy u p whole keeps b in
+        steps_keep z p whole o (uncalled_owns (anywhere code) tidy u p whole keeps b) refl (whole.formed, routines) at at
+        (forward_most (stack_set true (locals_of p)) 2) h
         (subst (λ b. IsEntry b at u) (sym e) entry)
         (dearer z (omega arith) (nothing_run z (record { at = entry.pc; sp = entry.sp; fram = refl; inputs = refl; ram = refl; work = refl })))
     by false e h fits entry =
         let b = at_base code p whole e in
-        let z = uncalled code tidy u p whole b in
+        let z = uncalled (anywhere code) tidy u p whole keeps b in
         let locals = locals_of p in
         let top = stack_base locals in
         let front = stack_set false locals in
         let mid = at + forms_bytes front in
+        let stays : IsKept (rules_of (anywhere code)) top = (omega arith, omega arith) in
         let sets : Stands code at front = stands_front code at front (block_code [] p) h in
         let y = alone z at front sets in
-        let set : Runs code [] (forward_most front 2) u (HasStack mid top u) =
+        let set : Runs (anywhere code) [] (forward_most front 2) u (HasStack mid top u) =
         runs_there z at front sets entry.pc
-        (subst (λ n. Runs y.code [] 2 u (HasStack (n + forms_bytes front) top u)) entry.pc
-        (stack_part y locals u e entry.sp (subst (λ n. Stands y.code n front) (sym entry.pc) (stand z at front sets)))) (λ t j. j) in
-        steps_keep z p whole o (uncalled_owns code tidy u p whole b) refl (whole.formed, routines) at mid (forward_most front 2)
+        (subst (λ n. Runs y.kept [] 2 u (HasStack (n + forms_bytes front) top u)) entry.pc
+        (stack_part y locals u e stays entry.sp (subst (λ n. Stands y.code n front) (sym entry.pc) (stand z at front sets)))) (λ t j. j) in
+        steps_keep z p whole o (uncalled_owns (anywhere code) tidy u p whole keeps b) refl (whole.formed, routines) at mid (forward_most front 2)
         (stands_back code at front (block_code [] p) h) (subst (λ b. IsEntry b at u) (sym e) entry) set

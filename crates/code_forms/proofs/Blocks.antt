@@ -16,8 +16,8 @@ use Rattle.code_forms.specs.Forms.{ToIndexed, ToPointed, ToOutnum, ToOutdata, ta
 use Rattle.code_forms.specs.Forms.{EnableInterrupts, Sense, Jump, Skip, Branch, BranchIndexed, SkipBy, Call, Return, KeepStack, RestoreStack, instruction_of}
 use Rattle.code_forms.specs.Forms.{form_bytes}
 use Rattle.code_forms.specs.Forms.{sensed, form_step, FormNeeds}
-use Rattle.code_forms.specs.Code.{Stands, forms_bytes, IsStraight, AreStraight, forms_run, OfNext, FormsNeed, IsTidy, IsAtForm, OfState, StepsAreForms}
-use Rattle.code_forms.specs.Code.{Comes, Runs, Starves}
+use Rattle.code_forms.specs.Code.{Stands, forms_bytes, IsStraight, AreStraight, forms_run, OfNext, FormsNeed, IsTidy, IsAtKept, OfState, StepsAreKept}
+use Rattle.code_forms.specs.Code.{KeptCode, rules_of, ComesWithin, RunsWithin, StarvesWithin}
 use Rattle.code_forms.specs.Laws.{StraightCodeLeads}
 use Rattle.code_forms.proofs.Forms.{form_does}
 use Rattle.code_forms.proofs.Rules.{undisturbed_form}
@@ -120,49 +120,52 @@ carry_after es fs c d (At t) next = after_after es fs c d (next t)
 carry_after es fs c d (Halted price x) next = refl
 
 -- no step at all
-pub no_steps : (code : Code) (u : Core) (P : Core → Type 0) → P u → Comes code [] 0 0 u P
-no_steps code u P p = record { end = u; leads = stay (exec code) (board_of u); forms = λ n l. absurd (omega (arith, l)); holds = p }
+pub no_steps : (kept : KeptCode) (u : Core) (P : Core → Type 0) → P u → ComesWithin kept [] 0 0 u P
+no_steps kept u P p = record { end = u; leads = stay (exec kept.code) (board_of u); forms = λ n l. absurd (omega (arith, l)); holds = p }
 
 -- the forms of a stretch, and of what is behind it
-forms_on : (code : Code) (n m : ℕ) (es : List Effect) (c : ℕ) (u t : Core) → Leads (exec code) n es c (board_of u) (board_of t) → StepsAreForms code n u
-    → StepsAreForms code m t → StepsAreForms code (n + m) u
-forms_on code n m es c u t leads front back k l = by (nat_lt k n) refl
+forms_on : (kept : KeptCode) (n m : ℕ) (es : List Effect) (c : ℕ) (u t : Core) → Leads (exec kept.code) n es c (board_of u) (board_of t) → StepsAreKept kept n u
+    → StepsAreKept kept m t → StepsAreKept kept (n + m) u
+forms_on kept n m es c u t leads front back k l = by (nat_lt k n) refl
   where
-    by : (b : Bool) → nat_lt k n ≡ b → OfState (going (exec code) k (board_of u)).status (IsAtForm code)
+    by : (b : Bool) → nat_lt k n ≡ b → OfState (going (exec kept.code) k (board_of u)).status (IsAtKept kept)
     by true e = front k (ltb-true k n e)
     by false e =
         let from : n ≤ k = grind (arith, nat_tests) in
         let at : n + (k - n) ≡ k = omega (arith, from) in
-        subst (λ j. OfState (going (exec code) j (board_of u)).status (IsAtForm code)) at
-        (subst (λ r. OfState r.status (IsAtForm code)) (sym (leads.by (k - n))) (back (k - n) (omega (arith, l, from))))
+        subst (λ j. OfState (going (exec kept.code) j (board_of u)).status (IsAtKept kept)) at
+        (subst (λ r. OfState r.status (IsAtKept kept)) (sym (leads.by (k - n))) (back (k - n) (omega (arith, l, from))))
 
 -- a stretch of code, and another from where it ends
-pub comes_then : {code : Code} {es fs : List Effect} {n k c d : ℕ} {u : Core} {P Q : Core → Type 0} → (a : Comes code es n c u P)
-    → Comes code fs k d a.end Q → Comes code (es ++ fs) (n + k) (c + d) u Q
-comes_then {code} {es} {fs} {n} {k} {c} {d} {u} a b =
+pub comes_then : {kept : KeptCode} {es fs : List Effect} {n k c d : ℕ} {u : Core} {P Q : Core → Type 0} → (a : ComesWithin kept es n c u P)
+    → ComesWithin kept fs k d a.end Q → ComesWithin kept (es ++ fs) (n + k) (c + d) u Q
+comes_then {kept} {es} {fs} {n} {k} {c} {d} {u} a b =
     record {
       end = b.end;
-      leads = join (exec code) n k es fs c d (board_of u) (board_of a.end) (board_of b.end) a.leads b.leads;
-      forms = forms_on code n k es c u a.end a.leads a.forms b.forms;
+      leads = join (exec kept.code) n k es fs c d (board_of u) (board_of a.end) (board_of b.end) a.leads b.leads;
+      forms = forms_on kept n k es c u a.end a.leads a.forms b.forms;
       holds = b.holds;
     }
 
 -- and another from each state to which it may come
-pub comes_on : {code : Code} {es fs : List Effect} {n k c d : ℕ} {u : Core} {P Q : Core → Type 0} → Comes code es n c u P
-    → ((t : Core) → P t → Comes code fs k d t Q) → Comes code (es ++ fs) (n + k) (c + d) u Q
+pub comes_on : {kept : KeptCode} {es fs : List Effect} {n k c d : ℕ} {u : Core} {P Q : Core → Type 0} → ComesWithin kept es n c u P
+    → ((t : Core) → P t → ComesWithin kept fs k d t Q) → ComesWithin kept (es ++ fs) (n + k) (c + d) u Q
 comes_on a f = comes_then a (f a.end a.holds)
 
-module _ (code : Code) (tidy : IsTidy code) where
+module _ (kept : KeptCode) (tidy : IsTidy kept.code) where
+  abbrev code : Code
+  code = kept.code
+
   -- one form
-  pub does : (m : Form) (u : Core) → code.at u.pc ≡ Some (instruction_of m) → FormNeeds code.events m u
+  pub does : (m : Form) (u : Core) → code.at u.pc ≡ Some (instruction_of m) → FormNeeds (rules_of kept) m u
       → exec code (board_of u) ≡ outcome_of_core (form_step m u)
   does m u h k =
       ap (λ o. undisturbed code.events o (board_of u) (step_with o (board_of u))) h
-      ∙ ap (undisturbed code.events (Some (instruction_of m)) (board_of u)) (form_does code.events m u (tidy u.pc (instruction_of m) h) k)
-      ∙ undisturbed_form code.events m u k
+      ∙ ap (undisturbed code.events (Some (instruction_of m)) (board_of u)) (form_does (rules_of kept) m u (tidy u.pc (instruction_of m) h) k)
+      ∙ undisturbed_form (rules_of kept) m u k
 
-  block_on : (ms : List Form) (p k : ℕ) (o : CoreOutcome) → OfNext o (IsAt p) → OfNext o (FormsNeed code.events ms)
-      → ((t : Core) → t.pc ≡ p → FormsNeed code.events ms t → going (exec code) (length ms + k) (board_of t) ≡ carry (forms_run ms t)
+  block_on : (ms : List Form) (p k : ℕ) (o : CoreOutcome) → OfNext o (IsAt p) → OfNext o (FormsNeed (rules_of kept) ms)
+      → ((t : Core) → t.pc ≡ p → FormsNeed (rules_of kept) ms t → going (exec code) (length ms + k) (board_of t) ≡ carry (forms_run ms t)
       (λ v. going (exec code) k (board_of v)))
       → continued (outcome_of_core o) (going (exec code) (length ms + k)) ≡ carry (continued o (forms_run ms)) (λ v. going (exec code) k (board_of v))
   block_on ms p k (Goes fs d t) g w ih =
@@ -170,7 +173,7 @@ module _ (code : Code) (tidy : IsTidy code) where
       ∙ carry_after fs (forms_run ms t).effects d (forms_run ms t).cycles (forms_run ms t).status (λ v. going (exec code) k (board_of v))
   block_on ms p k (Stops es price x) g w ih = refl
 
-  block_all : (ms : List Form) (k : ℕ) (u : Core) → AreStraight ms → Stands code u.pc ms → FormsNeed code.events ms u
+  block_all : (ms : List Form) (k : ℕ) (u : Core) → AreStraight ms → Stands code u.pc ms → FormsNeed (rules_of kept) ms u
       → going (exec code) (length ms + k) (board_of u) ≡ carry (forms_run ms u) (λ v. going (exec code) k (board_of v))
   block_all [] k u st h w = ap (λ n. going (exec code) n (board_of u)) (zero-add k) ∙ sym (after_nothing (going (exec code) k (board_of u)))
   block_all (m ∷ ms) k u st h w =
@@ -180,41 +183,43 @@ module _ (code : Code) (tidy : IsTidy code) where
       (λ t e o. block_all ms k t st.1 (subst (λ p. Stands code p ms) (sym e) h.1) o)
 
   -- straight code ends where its forms do
-  pub block : (ms : List Form) (u t : Core) (es : List Effect) (c : ℕ) → AreStraight ms → Stands code u.pc ms → FormsNeed code.events ms u
+  pub block : (ms : List Form) (u t : Core) (es : List Effect) (c : ℕ) → AreStraight ms → Stands code u.pc ms → FormsNeed (rules_of kept) ms u
       → forms_run ms u ≡ stretch es c (At t) → Leads (exec code) (length ms) es c (board_of u) (board_of t)
   block ms u t es c st h w e = record { by = λ k. block_all ms k u st h w ∙ ap (λ r. carry r (λ v. going (exec code) k (board_of v))) e }
 
   -- what stands there is a form that has what it needs
-  at_form : (m : Form) (u : Core) → code.at u.pc ≡ Some (instruction_of m) → FormNeeds code.events m u → StepsAreForms code 1 u
+  at_form : (m : Form) (u : Core) → code.at u.pc ≡ Some (instruction_of m) → FormNeeds (rules_of kept) m u → StepsAreKept kept 1 u
   at_form m u h w zero l = record { form = m; core = u; is = refl; stands = h; needs = w }
   at_form m u h w (suc n) l = absurd (omega (arith, l))
 
-  behind_form : (ms : List Form) (p n : ℕ) (o : CoreOutcome) → OfNext o (IsAt p) → OfNext o (FormsNeed code.events ms)
-      → ((t : Core) → t.pc ≡ p → FormsNeed code.events ms t → OfState (going (exec code) n (board_of t)).status (IsAtForm code))
-      → OfState (continued (outcome_of_core o) (going (exec code) n)).status (IsAtForm code)
+  behind_form : (ms : List Form) (p n : ℕ) (o : CoreOutcome) → OfNext o (IsAt p) → OfNext o (FormsNeed (rules_of kept) ms)
+      → ((t : Core) → t.pc ≡ p → FormsNeed (rules_of kept) ms t → OfState (going (exec code) n (board_of t)).status (IsAtKept kept))
+      → OfState (continued (outcome_of_core o) (going (exec code) n)).status (IsAtKept kept)
   behind_form ms p n (Goes fs d t) g w ih = ih t g w
   behind_form ms p n (Stops es price x) g w ih = tt
 
   -- so is each form of straight code
-  at_forms : (ms : List Form) (u : Core) → AreStraight ms → Stands code u.pc ms → FormsNeed code.events ms u → StepsAreForms code (length ms) u
+  at_forms : (ms : List Form) (u : Core) → AreStraight ms → Stands code u.pc ms → FormsNeed (rules_of kept) ms u → StepsAreKept kept (length ms) u
   at_forms [] u st h w n l = absurd (omega (arith, l))
   at_forms (m ∷ ms) u st h w zero l = at_form m u h.0 w.0 0 (omega arith)
   at_forms (m ∷ ms) u st h w (suc n) l =
-      subst (λ o. OfState (continued o (going (exec code) n)).status (IsAtForm code)) (sym (does m u h.0 w.0))
+      subst (λ o. OfState (continued o (going (exec code) n)).status (IsAtKept kept)) (sym (does m u h.0 w.0))
       (behind_form ms (u.pc + form_bytes m) n (form_step m u) (goes_to m u st.0) w.1
       (λ t e k. at_forms ms t st.1 (subst (λ p. Stands code p ms) (sym e) h.1) k n (omega (arith, l))))
 
   pub straight_comes : (ms : List Form) (u t : Core) (es : List Effect) (c : ℕ) (P : Core → Type 0) → AreStraight ms → Stands code u.pc ms
-      → FormsNeed code.events ms u → forms_run ms u ≡ stretch es c (At t) → P t → Comes code es (length ms) c u P
+      → FormsNeed (rules_of kept) ms u → forms_run ms u ≡ stretch es c (At t) → P t → ComesWithin kept es (length ms) c u P
   straight_comes ms u t es c P st h w e p = record { end = t; leads = block ms u t es c st h w e; forms = at_forms ms u st h w; holds = p }
 
   -- within so many cycles
-  pub runs_within : {es : List Effect} {n c : ℕ} {u : Core} {P : Core → Type 0} (most : ℕ) → Comes code es n c u P → c ≤ most → Runs code es most u P
+  pub runs_within : {es : List Effect} {n c : ℕ} {u : Core} {P : Core → Type 0} (most : ℕ) → ComesWithin kept es n c u P → c ≤ most
+      → RunsWithin kept es most u P
   runs_within {es} {n} {c} most a l = record { steps = n; cycles = c; within = l; comes = a }
 
   -- one form, a jump too
-  pub form_comes : (m : Form) (u t : Core) (es : List Effect) (c : ℕ) (P : Core → Type 0) → code.at u.pc ≡ Some (instruction_of m) → FormNeeds code.events m u
-      → form_step m u ≡ Goes es c t → P t → Comes code es 1 c u P
+  pub form_comes : (m : Form) (u t : Core) (es : List Effect) (c : ℕ) (P : Core → Type 0) → code.at u.pc ≡ Some (instruction_of m)
+      → FormNeeds (rules_of kept) m u
+      → form_step m u ≡ Goes es c t → P t → ComesWithin kept es 1 c u P
   form_comes m u t es c P h w e p = record {
     end = t;
     leads = one_step (exec code) (board_of u) (board_of t) es c (does m u h w ∙ ap outcome_of_core e);
@@ -223,12 +228,12 @@ module _ (code : Code) (tidy : IsTidy code) where
   }
 
   pub hop : (m : Form) (most : ℕ) (u t : Core) (es : List Effect) (c : ℕ) (P : Core → Type 0) → code.at u.pc ≡ Some (instruction_of m)
-      → FormNeeds code.events m u
-      → form_step m u ≡ Goes es c t → c ≤ most → P t → Runs code es most u P
+      → FormNeeds (rules_of kept) m u
+      → form_step m u ≡ Goes es c t → c ≤ most → P t → RunsWithin kept es most u P
   hop m most u t es c P h w e l p = runs_within most (form_comes m u t es c P h w e p) l
 
-  pub runs_on : (most more : ℕ) (u : Core) (P Q : Core → Type 0) (es fs : List Effect) → Runs code es most u P
-      → ((t : Core) → P t → Runs code fs more t Q) → Runs code (es ++ fs) (most + more) u Q
+  pub runs_on : (most more : ℕ) (u : Core) (P Q : Core → Type 0) (es fs : List Effect) → RunsWithin kept es most u P
+      → ((t : Core) → P t → RunsWithin kept fs more t Q) → RunsWithin kept (es ++ fs) (most + more) u Q
   runs_on most more u P Q es fs a f =
       let b = f a.end a.holds in
       record {
@@ -238,20 +243,20 @@ module _ (code : Code) (tidy : IsTidy code) where
         comes = comes_then a.comes b.comes;
       }
 
-  pub dearer : (es : List Effect) (most more : ℕ) (u : Core) (P : Core → Type 0) → most ≤ more → Runs code es most u P → Runs code es more u P
+  pub dearer : (es : List Effect) (most more : ℕ) (u : Core) (P : Core → Type 0) → most ≤ more → RunsWithin kept es most u P → RunsWithin kept es more u P
   dearer es most more u P l a = record { steps = a.steps; cycles = a.cycles; within = omega (arith, a.within, l); comes = a.comes }
 
-  pub nothing : (u : Core) (P : Core → Type 0) → P u → Runs code [] 0 u P
-  nothing u P p = record { steps = 0; cycles = 0; within = omega arith; comes = no_steps code u P p }
+  pub nothing : (u : Core) (P : Core → Type 0) → P u → RunsWithin kept [] 0 u P
+  nothing u P p = record { steps = 0; cycles = 0; within = omega arith; comes = no_steps kept u P p }
 
   -- a stretch to a state that is known
-  pub then_to : (most more : ℕ) (u t : Core) (Q : Core → Type 0) (es fs : List Effect) → Runs code es most u (λ v. v ≡ t) → Runs code fs more t Q
-      → Runs code (es ++ fs) (most + more) u Q
-  then_to most more u t Q es fs a b = runs_on most more u (λ v. v ≡ t) Q es fs a (λ v e. subst (λ x. Runs code fs more x Q) (sym e) b)
+  pub then_to : (most more : ℕ) (u t : Core) (Q : Core → Type 0) (es fs : List Effect) → RunsWithin kept es most u (λ v. v ≡ t) → RunsWithin kept fs more t Q
+      → RunsWithin kept (es ++ fs) (most + more) u Q
+  then_to most more u t Q es fs a b = runs_on most more u (λ v. v ≡ t) Q es fs a (λ v e. subst (λ x. RunsWithin kept fs more x Q) (sym e) b)
 
   -- straight code that comes to a sensor with no reading left, and a stretch before such a place
-  pub starve : (m : Form) (most price : ℕ) (u : Core) (es : List Effect) → code.at u.pc ≡ Some (instruction_of m) → FormNeeds code.events m u
-      → form_step m u ≡ Stops es price stop.NoReading → price ≤ most → Starves code es most u
+  pub starve : (m : Form) (most price : ℕ) (u : Core) (es : List Effect) → code.at u.pc ≡ Some (instruction_of m) → FormNeeds (rules_of kept) m u
+      → form_step m u ≡ Stops es price stop.NoReading → price ≤ most → StarvesWithin kept es most u
   starve m most price u es h w e l =
       record {
         steps = 0;
@@ -263,8 +268,8 @@ module _ (code : Code) (tidy : IsTidy code) where
         forms = at_form m u h w;
       }
 
-  pub starves_on : (most more : ℕ) (u : Core) (P : Core → Type 0) (es fs : List Effect) → Runs code es most u P
-      → ((t : Core) → P t → Starves code fs more t) → Starves code (es ++ fs) (most + more) u
+  pub starves_on : (most more : ℕ) (u : Core) (P : Core → Type 0) (es fs : List Effect) → RunsWithin kept es most u P
+      → ((t : Core) → P t → StarvesWithin kept fs more t) → StarvesWithin kept (es ++ fs) (most + more) u
   starves_on most more u P es fs a f =
       let b = f a.end a.holds in
       record {
@@ -275,10 +280,10 @@ module _ (code : Code) (tidy : IsTidy code) where
             (arith, a.within, b.within);
         stalls = join_stall (exec code) a.steps b.steps es fs a.cycles b.cycles (board_of u)
             (board_of a.end) b.price stop.NoReading a.leads b.stalls;
-        forms = λ n l. forms_on code a.steps (suc b.steps) es a.cycles u a.end a.leads a.forms b.forms n (omega (arith, l));
+        forms = λ n l. forms_on kept a.steps (suc b.steps) es a.cycles u a.end a.leads a.forms b.forms n (omega (arith, l));
       }
 
-  pub dearer_starves : (es : List Effect) (most more : ℕ) (u : Core) → most ≤ more → Starves code es most u → Starves code es more u
+  pub dearer_starves : (es : List Effect) (most more : ℕ) (u : Core) → most ≤ more → StarvesWithin kept es most u → StarvesWithin kept es more u
   dearer_starves es most more u l a = record {
     steps = a.steps;
     cycles = a.cycles;
@@ -289,7 +294,7 @@ module _ (code : Code) (tidy : IsTidy code) where
   }
 
 pub straight_code_leads : StraightCodeLeads
-straight_code_leads code ms u t es c tidy st h w e = block code tidy ms u t es c st h w e
+straight_code_leads kept ms u t es c tidy st h w e = block kept tidy ms u t es c st h w e
 
 -- the machine at a status, or else this one
 abbrev pub end_of : Core → Status Core Stop → Core

@@ -45,8 +45,13 @@ use Rattle.code_forms.specs.Forms.{TargetNeeds, Move, Calculate, Compare, Update
 use Rattle.code_forms.specs.Forms.{SkipBy, instruction_of, flags_after, calculated, sensed, form_step, FormNeeds, IsNotMov, HasPushRoom, IsCodeAddress, IsSlot}
 use Rattle.code_forms.specs.Forms.{EnableInterrupts, Call, Return, KeepStack, RestoreStack, Modification, modified}
 use Rattle.instruction_forms.specs.declared.kinds.Modification.TheVariants as change
+use Rattle.code_forms.specs.Forms.{CodeRules}
 use Rattle.code_forms.specs.Laws.{FormsDoAsInstructions}
 use Rattle.code_forms.proofs.Registers.{set_pc, set_sp, set_work, get_work, high, number, set_flags, flags_back, enable, is_on, no_port}
+
+-- code without events of which nothing is said
+abbrev plain : CodeRules
+plain = record { events = false; low = 0; high = 0x10000 }
 
 -- the bus of an instruction that began with SP here, and sees this of the ring
 abbrev inside : ℕ → Option Look → Core → MachineBus
@@ -179,7 +184,7 @@ module _ (u : Core) (p : ℕ) where
       let s = seen_by looks u in
       rw (got b, e, read_slot s (first_look looks) (u.work (work_number b) + ring_place) refl at) refl
 
-  pub from_source : (x : Source) → SourceNeeds false x u
+  pub from_source : (x : Source) → SourceNeeds plain x u
       → source machine_bus (regs_in u p) Word (source_operand x) (begun x u) ≡ Completed (source_value x u, regs_in (source_read x u) p) (begun x u)
   from_source (Register b) h = rw (got b) refl
   from_source (Number n) h = refl
@@ -244,7 +249,7 @@ from_small (Slot b) = (omega arith, refl)
 dest_small : (d : Dst) → length (destination_row d).extension ≤ 1
 dest_small d = grind arith
 
-read_same : (x : Source) (u : Core) → SourceNeeds false x u → inside u.sp (ring_of x u) (source_read x u) ≡ begun x u
+read_same : (x : Source) (u : Core) → SourceNeeds plain x u → inside u.sp (ring_of x u) (source_read x u) ≡ begun x u
 read_same (Register b) u h = refl
 read_same (Number n) u h = refl
 read_same (Constant k) u h = refl
@@ -283,7 +288,7 @@ by_test : (b : Bool) (o p : MachineOutcome) → b ≡ false → (if b then o els
 by_test true o p e = absurd cc
 by_test false o p e = refl
 
-code_begun : (x : Source) (u : Core) (i : Instr) → SourceNeeds false x u → looks_there i ≡ source_looks (source_operand x)
+code_begun : (x : Source) (u : Core) (i : Instr) → SourceNeeds plain x u → looks_there i ≡ source_looks (source_operand x)
     → code_executed (board_of u) i
     ≡ step_behind (source_effects x u) (machine_outcome u.pc (cycles_of i) (effect machine_bus i (regs_in u u.pc) (begun x u)))
 code_begun (Register b) u i h e = by_test (looks_there i) _ _ e ∙ none_behind _
@@ -305,7 +310,7 @@ abbrev ext_of : Source → Core → ℕ
 ext_of x u = word_sum (word_sum u.pc 2) (2 * length (source_row (source_operand x)).extension)
 
 -- an instruction with two operands, up to its destination
-pub two : (op : TwoOp) (x : Source) (d : Dst) (u : Core) → IsCodeAddress u.pc → SourceNeeds false x u →
+pub two : (op : TwoOp) (x : Source) (d : Dst) (u : Core) → IsCodeAddress u.pc → SourceNeeds plain x u →
     two_operand_effect machine_bus op Word (source_operand x) d (regs_in u u.pc) (begun x u) ≡
     after_source machine_bus op Word (destination_location (regs_in (source_read x u)
     (u.pc + (2 + source_bytes x + 2 * length (destination_row d).extension))) (ext_of x u) d) (source_value x u)
@@ -368,7 +373,7 @@ ok_pc ToOutnum t p h = h
 ok_pc ToOutdata t p h = h
 
 -- an instruction with two operands, where the machine is on
-on_two : (op : TwoOp) (x : Source) (d : Dst) (u : Core) → IsCodeAddress u.pc → SourceNeeds false x u →
+on_two : (op : TwoOp) (x : Source) (d : Dst) (u : Core) → IsCodeAddress u.pc → SourceNeeds plain x u →
     step_with (Some (instr.Two op Word (source_operand x) d)) (board_of u) ≡
     step_behind (source_effects x u) (machine_outcome u.pc (cycles_of (instr.Two op Word (source_operand x) d)) (after_source machine_bus op Word
     (destination_location (regs_in (source_read x u) (u.pc + (2 + source_bytes x + 2 * length (destination_row d).extension))) (ext_of x u) d)
@@ -382,7 +387,7 @@ on_two op x d u c h =
     ∙ code_begun x u i h refl
     ∙ rw (two op x d u c h, read_same x u h) refl
 
-moves : (x : Source) (y : Target) (u : Core) → IsCodeAddress u.pc → SourceNeeds false x u → TargetNeeds y (source_read x u)
+moves : (x : Source) (y : Target) (u : Core) → IsCodeAddress u.pc → SourceNeeds plain x u → TargetNeeds y (source_read x u)
     → step_with (Some (instruction_of (Move x y))) (board_of u) ≡ outcome_of_core (form_step (Move x y) u)
 moves x y u c h k =
     let n : Core = record (source_read x u) { pc = u.pc + (2 + source_bytes x + 2 * length (destination_row (target_operand y)).extension) } in
@@ -441,7 +446,7 @@ read_flags (StackNext b) u = refl
 read_flags Head u = refl
 read_flags (Slot b) u = refl
 
-calculates : (op : TwoOp) (x : Source) (b : WorkRegister) (u : Core) → IsCodeAddress u.pc → IsNotMov op → SourceNeeds false x u
+calculates : (op : TwoOp) (x : Source) (b : WorkRegister) (u : Core) → IsCodeAddress u.pc → IsNotMov op → SourceNeeds plain x u
     → step_with (Some (instruction_of (Calculate op x b))) (board_of u) ≡ outcome_of_core (form_step (Calculate op x b) u)
 calculates op x b u c n h =
     let t : Core = record (source_read x u) { pc = u.pc + (2 + source_bytes x) } in
@@ -476,7 +481,7 @@ read_memory (StackNext b) u = refl
 read_memory Head u = refl
 read_memory (Slot b) u = refl
 
-compares : (x : Source) (a : ℕ) (u : Core) → IsCodeAddress u.pc → SourceNeeds false x u → IsPlace a
+compares : (x : Source) (a : ℕ) (u : Core) → IsCodeAddress u.pc → SourceNeeds plain x u → IsPlace a
     → step_with (Some (instruction_of (Compare x a))) (board_of u) ≡ outcome_of_core (form_step (Compare x a) u)
 compares x a u c h k =
     let t : Core = record (source_read x u) { pc = u.pc + (2 + source_bytes x + 2) } in
@@ -497,7 +502,7 @@ updated_half op v a ext pc c floor ring t n m h =
     let o = operated op Word (t.fram a) v t.flags in
     rw (n, read_fram (inside floor ring t) a h, flags_back t.enabled t.flags, with_new o.flags t t.pc, m, w, l, f, g) refl
 
-updates : (op : TwoOp) (x : Source) (a : ℕ) (u : Core) → IsCodeAddress u.pc → FormNeeds false (Update op x a) u
+updates : (op : TwoOp) (x : Source) (a : ℕ) (u : Core) → IsCodeAddress u.pc → FormNeeds plain (Update op x a) u
     → step_with (Some (instruction_of (Update op x a))) (board_of u) ≡ outcome_of_core (form_step (Update op x a) u)
 updates op x a u c h =
     let t : Core = record (source_read x u) { pc = u.pc + (2 + source_bytes x + 2) } in
@@ -509,7 +514,7 @@ updates op x a u c h =
     ∙ ap (λ f. out f t.flags) (read_memory x u) ∙ ap (λ g. out u.fram g) (read_flags x u))
 
 -- no operand that is written
-push_half : (x : Source) (u : Core) → IsCodeAddress u.pc → SourceNeeds false x u
+push_half : (x : Source) (u : Core) → IsCodeAddress u.pc → SourceNeeds plain x u
     → push_effect machine_bus Word (source_operand x) (regs_in u u.pc) (begun x u) ≡ pushed machine_bus Word (source_value x u)
     (regs_in (source_read x u) (u.pc + (2 + source_bytes x))) (inside u.sp (ring_of x u) (source_read x u))
 push_half x u c h =
@@ -526,7 +531,7 @@ push_half x u c h =
     (set_pc (u.pc + 2) t.sp (ext_of x u) (u.pc + (2 + source_bytes x)) t.enabled t.flags t.work p)
     ∙ ap (λ l. pushed machine_bus Word (source_value x u) (regs_in t (u.pc + (2 + source_bytes x))) l) (sym (read_same x u h))
 
-pushed_at : (v pc c floor : ℕ) (ring : Option Look) (t : Core) → HasPushRoom t.sp
+pushed_at : (v pc c floor : ℕ) (ring : Option Look) (t : Core) → HasPushRoom plain t.sp
     → machine_outcome pc c (pushed machine_bus Word v (regs_in t t.pc) (inside floor ring t)) ≡ Goes [] c
     (board_of (record t { sp = t.sp - 2; ram = put t.ram (t.sp - 2) v }))
 pushed_at v pc c floor ring t h =
@@ -537,7 +542,7 @@ pushed_at v pc c floor ring t h =
     let m : (t.sp - 2) / 2 * 2 ≡ t.sp - 2 = omega arith in
     rw (l, set_sp t.pc t.sp (t.sp - 2) (t.sp - 2) t.enabled t.flags t.work m, word, below, ram, g) refl
 
-pushes : (x : Source) (u : Core) → IsCodeAddress u.pc → FormNeeds false (Push x) u
+pushes : (x : Source) (u : Core) → IsCodeAddress u.pc → FormNeeds plain (Push x) u
     → step_with (Some (instruction_of (Push x))) (board_of u) ≡ outcome_of_core (form_step (Push x) u)
 unfolding effect
 pushes x u c h =
@@ -629,7 +634,7 @@ branches a u c h =
     on_two Mov (Number a) (dst.Reg reg.Pc) u c tt
     ∙ rw (set_pc (u.pc + 4) u.sp a a u.enabled u.flags u.work e) refl
 
-branches_indexed : (b : WorkRegister) (x : ℕ) (u : Core) → IsCodeAddress u.pc → FormNeeds false (BranchIndexed b x) u
+branches_indexed : (b : WorkRegister) (x : ℕ) (u : Core) → IsCodeAddress u.pc → FormNeeds plain (BranchIndexed b x) u
     → step_with (Some (instruction_of (BranchIndexed b x))) (board_of u) ≡ outcome_of_core (form_step (BranchIndexed b x) u)
 branches_indexed b x u c h =
     let a = u.fram (u.work (work_number b) + x) in
@@ -663,7 +668,7 @@ call_half a u c =
     ∙ ap (λ y. then_do y next) (from_source u (u.pc + 2) (Number a) tt)
     ∙ ap (λ r. called machine_bus a r (inside u.sp None u)) (set_pc (u.pc + 2) u.sp (ext_of (Number a) u) (u.pc + 4) u.enabled u.flags u.work behind)
 
-called_at : (a pc c floor : ℕ) (t : Core) → HasPushRoom t.sp → a % 2 ≡ 0
+called_at : (a pc c floor : ℕ) (t : Core) → HasPushRoom plain t.sp → a % 2 ≡ 0
     → machine_outcome pc c (called machine_bus a (regs_in t t.pc) (inside floor None t)) ≡ Goes [] c
     (board_of (record t { pc = a; sp = t.sp - 2; ram = put t.ram (t.sp - 2) t.pc }))
 called_at a pc c floor t h to =
@@ -683,7 +688,7 @@ called_at a pc c floor t h to =
       g,
     ) refl
 
-calls : (a : ℕ) (u : Core) → IsCodeAddress u.pc → FormNeeds false (Call a) u
+calls : (a : ℕ) (u : Core) → IsCodeAddress u.pc → FormNeeds plain (Call a) u
     → step_with (Some (instruction_of (Call a))) (board_of u) ≡ outcome_of_core (form_step (Call a) u)
 unfolding effect
 calls a u c h =
@@ -696,13 +701,13 @@ calls a u c h =
     ∙ code_begun (Number a) u (instruction_of (Call a)) tt refl
     ∙ ap (step_behind []) made
 
-returns : (u : Core) → IsCodeAddress u.pc → FormNeeds false Return u
+returns : (u : Core) → IsCodeAddress u.pc → FormNeeds plain Return u
     → step_with (Some (instruction_of Return)) (board_of u) ≡ outcome_of_core (form_step Return u)
 returns u c h =
     let v = u.ram u.sp in
     let even = h.2 in
     let e : v / 2 * 2 ≡ v = omega arith in
-    on_two Mov Popped (dst.Reg reg.Pc) u c (h.0, h.1)
+    on_two Mov Popped (dst.Reg reg.Pc) u c (h.0, h.1, h.3)
     ∙ rw (set_pc (u.pc + 2) (u.sp + 2) v v u.enabled u.flags u.work e) refl
 
 keeps_stack : (b : WorkRegister) (u : Core) → IsCodeAddress u.pc
@@ -721,13 +726,13 @@ keeps_stack b u c =
       up u (u.pc + 2) b u.sp,
     ) refl
 
-restores_stack : (u : Core) → IsCodeAddress u.pc → FormNeeds false RestoreStack u
+restores_stack : (u : Core) → IsCodeAddress u.pc → IsRam u.sp × (u.ram u.sp % 2 ≡ 0)
     → step_with (Some (instruction_of RestoreStack)) (board_of u) ≡ outcome_of_core (form_step RestoreStack u)
 restores_stack u c h =
     let v = u.ram u.sp in
-    let even = h.2 in
+    let even = h.1 in let high = h.0.high in
     let e : v / 2 * 2 ≡ v = omega arith in
-    on_two Mov Popped (dst.Reg (reg.Index index.Sp)) u c (h.0, λ q. absurd cc)
+    on_two Mov Popped (dst.Reg (reg.Index index.Sp)) u c (h.0, λ q. absurd cc, (omega arith, omega arith))
     ∙ rw (set_sp (u.pc + 2) (u.sp + 2) v v u.enabled u.flags u.work e) refl
 
 -- an operation on one register
@@ -784,38 +789,42 @@ modifies m b u c =
     let on = is_on u.pc u.sp u.enabled u.flags u.work in
     rw (on, modified_blind m b, modified_effect m b u c, modified_cycles m b) refl
 
--- what a source needs in code that may be interrupted it needs in other code
-needs_so : (events : Bool) (x : Source) (u : Core) → SourceNeeds events x u → SourceNeeds false x u
-needs_so events (Register b) u h = h
-needs_so events (Number n) u h = h
-needs_so events (Constant k) u h = h
-needs_so events (Fram a) u h = h
-needs_so events (Ram a) u h = h
-needs_so events (Pointed b) u h = h
-needs_so events (PointedNext b) u h = h
-needs_so events (Indexed b x) u h = h
-needs_so events Popped u h = (h.0, λ e. absurd cc)
-needs_so events (StackNext b) u h = h
-needs_so events Head u h = h
-needs_so events (Slot b) u h = h
+-- what a source needs in any code, it needs in code of which nothing is said
+needs_so : (rules : CodeRules) (x : Source) (u : Core) → SourceNeeds rules x u → SourceNeeds plain x u
+needs_so rules (Register b) u h = h
+needs_so rules (Number n) u h = h
+needs_so rules (Constant k) u h = h
+needs_so rules (Fram a) u h = h
+needs_so rules (Ram a) u h = h
+needs_so rules (Pointed b) u h = h
+needs_so rules (PointedNext b) u h = h
+needs_so rules (Indexed b x) u h = h
+needs_so rules Popped u h = let high = h.0.high in (h.0, λ e. absurd cc, (omega arith, omega arith))
+needs_so rules (StackNext b) u h = h
+needs_so rules Head u h = h
+needs_so rules (Slot b) u h = h
+
+-- so with room for a push
+room_so : (rules : CodeRules) (sp : ℕ) → HasPushRoom rules sp → HasPushRoom plain sp
+room_so rules sp h = let high = h.high in record { even = h.even; room = h.room; high = h.high; below = (omega arith, omega arith) }
 
 -- each form
 pub form_does : FormsDoAsInstructions
-form_does events (Move x y) u c h = moves x y u c (needs_so events x u h.0) h.1
-form_does events (Calculate op x b) u c h = calculates op x b u c h.0 (needs_so events x u h.1)
-form_does events (Compare x a) u c h = compares x a u c (needs_so events x u h.0) h.1
-form_does events (Update op x a) u c h = updates op x a u c (h.0, h.1, needs_so events x u h.2, h.3)
-form_does events (Push x) u c h = pushes x u c (needs_so events x u h.0, h.1)
-form_does events (Modify m b) u c h = modifies m b u c
-form_does events (SetStack n) u c h = sets_stack n u c h.0
-form_does events EnableInterrupts u c h = enables u c
-form_does events (Sense b) u c h = senses b u c
-form_does events (Jump k o) u c h = jumps k o u c
-form_does events (Skip n) u c h = skips n u c h
-form_does events (Branch a) u c h = branches a u c h
-form_does events (BranchIndexed b x) u c h = branches_indexed b x u c h
-form_does events (SkipBy b) u c h = skips_by b u c h
-form_does events (Call a) u c h = calls a u c h
-form_does events Return u c h = returns u c (h.0, λ e. absurd cc, h.2)
-form_does events (KeepStack b) u c h = keeps_stack b u c
-form_does events RestoreStack u c h = restores_stack u c (h.0, λ e. absurd cc, h.2)
+form_does rules (Move x y) u c h = moves x y u c (needs_so rules x u h.0) h.1
+form_does rules (Calculate op x b) u c h = calculates op x b u c h.0 (needs_so rules x u h.1)
+form_does rules (Compare x a) u c h = compares x a u c (needs_so rules x u h.0) h.1
+form_does rules (Update op x a) u c h = updates op x a u c (h.0, h.1, needs_so rules x u h.2, h.3)
+form_does rules (Push x) u c h = pushes x u c (needs_so rules x u h.0, room_so rules (source_read x u).sp h.1)
+form_does rules (Modify m b) u c h = modifies m b u c
+form_does rules (SetStack n) u c h = sets_stack n u c h.0
+form_does rules EnableInterrupts u c h = enables u c
+form_does rules (Sense b) u c h = senses b u c
+form_does rules (Jump k o) u c h = jumps k o u c
+form_does rules (Skip n) u c h = skips n u c h
+form_does rules (Branch a) u c h = branches a u c h
+form_does rules (BranchIndexed b x) u c h = branches_indexed b x u c h
+form_does rules (SkipBy b) u c h = skips_by b u c h
+form_does rules (Call a) u c h = calls a u c (h.0, room_so rules u.sp h.1)
+form_does rules Return u c h = let high = h.0.high in returns u c (h.0, λ e. absurd cc, h.2, (omega arith, omega arith))
+form_does rules (KeepStack b) u c h = keeps_stack b u c
+form_does rules RestoreStack u c h = restores_stack u c (h.0, h.2)

@@ -4,4 +4,7 @@ mod Rules
 mod Blocks
 mod Placed
 mod FromSp
+mod Stacks
+mod Agreeing
+mod Watched
 pub mod Interface

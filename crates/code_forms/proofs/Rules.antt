@@ -18,7 +18,7 @@ use Rattle.code_forms.specs.Forms.{PointedNext, Indexed, Popped, StackNext, Head
 use Rattle.code_forms.specs.Forms.{Target, ToRegister, ToFram, ToRam, ToIndexed, ToPointed, ToOutnum, ToOutdata, target_written}
 use Rattle.code_forms.specs.Forms.{Form, Move, Calculate, Compare, Update, Push, Modify, SetStack, EnableInterrupts, Sense, Jump, Skip, Branch, BranchIndexed}
 use Rattle.code_forms.specs.Forms.{SkipBy, instruction_of, source_value, source_bytes, target_bytes, source_effects, behind_source, sensed, form_step}
-use Rattle.code_forms.specs.Forms.{FormNeeds, Call, Return, KeepStack, RestoreStack}
+use Rattle.code_forms.specs.Forms.{FormNeeds, CodeRules, Call, Return, KeepStack, RestoreStack}
 use Rattle.machine_effects.specs.msp_cycles.Cycles.{cycles_of}
 use Rattle.code_forms.specs.Code.{OfNext}
 use Rattle.code_forms.specs.Laws.{CodeGoesUndisturbed, CodeStaysPrepared, CodeStaysOpen}
@@ -66,8 +66,8 @@ down i p is l =
 
 -- ---- a form that has what it needs breaks no rule
 
-abbrev IsKept : Bool → Option Instr → Core → Core → Type 0
-IsKept events i u t = is_exposed events i (board_of u) (board_of t) ≡ false
+abbrev IsUnexposed : Bool → Option Instr → Core → Core → Type 0
+IsUnexposed events i u t = is_exposed events i (board_of u) (board_of t) ≡ false
 
 -- where GIE stays, and with events SP is as it may be
 record StackKept (events : Bool) (i : Option Instr) (u t : Core) : Type 0 where
@@ -85,16 +85,16 @@ not_newly true true e = refl
 not_newly true false e = absurd cc
 not_newly false b e = refl
 
-kept : (events : Bool) (i : Option Instr) (u t : Core) → StackKept events i u t → IsKept events i u t
-kept true i u t h =
+is_kept : (events : Bool) (i : Option Instr) (u t : Core) → StackKept events i u t → IsUnexposed events i u t
+is_kept true i u t h =
     kept_by (is_interruptible (board_of t).registers) (is_interruptible (board_of u).registers) (keeps_stack i u.sp t.sp) (is_prepared (board_of t))
     (interruptible_is t.pc t.sp t.enabled t.flags t.work ∙ h.enabled ∙ sym (interruptible_is u.pc u.sp u.enabled u.flags u.work)) (h.stack refl)
-kept false i u t h =
+is_kept false i u t h =
     not_newly (is_interruptible (board_of t).registers) (is_interruptible (board_of u).registers)
     (interruptible_is t.pc t.sp t.enabled t.flags t.work ∙ h.enabled ∙ sym (interruptible_is u.pc u.sp u.enabled u.flags u.work))
 
-kept_next : (events : Bool) (i : Option Instr) (u : Core) (o : CoreOutcome) → OfNext o (StackKept events i u) → OfNext o (IsKept events i u)
-kept_next events i u (Goes es c t) h = kept events i u t h
+kept_next : (events : Bool) (i : Option Instr) (u : Core) (o : CoreOutcome) → OfNext o (StackKept events i u) → OfNext o (IsUnexposed events i u)
+kept_next events i u (Goes es c t) h = is_kept events i u t h
 kept_next events i u (Stops es price e) h = tt
 
 -- SP and GIE are as they were
@@ -102,19 +102,19 @@ all_stays : (events : Bool) (i : Option Instr) (u t : Core) → t.enabled ≡ u.
 all_stays events i u t g e = record { enabled = g; stack = λ h. subst (λ q. keeps_stack i u.sp q ≡ true) (sym e) (stays i u.sp) }
 
 -- behind a source
-read_kept : (events : Bool) (i : Option Instr) (x : Source) (u : Core) → SourceNeeds events x u → StackKept events i u (source_read x u)
-read_kept events i (Register b) u h = all_stays events i u (source_read (Register b) u) refl refl
-read_kept events i (Number n) u h = all_stays events i u (source_read (Number n) u) refl refl
-read_kept events i (Constant k) u h = all_stays events i u (source_read (Constant k) u) refl refl
-read_kept events i (Fram a) u h = all_stays events i u (source_read (Fram a) u) refl refl
-read_kept events i (Ram a) u h = all_stays events i u (source_read (Ram a) u) refl refl
-read_kept events i (Pointed b) u h = all_stays events i u (source_read (Pointed b) u) refl refl
-read_kept events i (PointedNext b) u h = all_stays events i u (source_read (PointedNext b) u) refl refl
-read_kept events i (Indexed b x) u h = all_stays events i u (source_read (Indexed b x) u) refl refl
-read_kept events i Popped u h = record { enabled = refl; stack = λ e. pops i u.sp (h.1 e) }
-read_kept events i (StackNext b) u h = all_stays events i u (source_read (StackNext b) u) refl refl
-read_kept events i Head u h = all_stays events i u (source_read Head u) refl refl
-read_kept events i (Slot b) u h = all_stays events i u (source_read (Slot b) u) refl refl
+read_kept : (rules : CodeRules) (i : Option Instr) (x : Source) (u : Core) → SourceNeeds rules x u → StackKept rules.events i u (source_read x u)
+read_kept rules i (Register b) u h = all_stays rules.events i u (source_read (Register b) u) refl refl
+read_kept rules i (Number n) u h = all_stays rules.events i u (source_read (Number n) u) refl refl
+read_kept rules i (Constant k) u h = all_stays rules.events i u (source_read (Constant k) u) refl refl
+read_kept rules i (Fram a) u h = all_stays rules.events i u (source_read (Fram a) u) refl refl
+read_kept rules i (Ram a) u h = all_stays rules.events i u (source_read (Ram a) u) refl refl
+read_kept rules i (Pointed b) u h = all_stays rules.events i u (source_read (Pointed b) u) refl refl
+read_kept rules i (PointedNext b) u h = all_stays rules.events i u (source_read (PointedNext b) u) refl refl
+read_kept rules i (Indexed b x) u h = all_stays rules.events i u (source_read (Indexed b x) u) refl refl
+read_kept rules i Popped u h = record { enabled = refl; stack = λ e. pops i u.sp (h.1 e) }
+read_kept rules i (StackNext b) u h = all_stays rules.events i u (source_read (StackNext b) u) refl refl
+read_kept rules i Head u h = all_stays rules.events i u (source_read Head u) refl refl
+read_kept rules i (Slot b) u h = all_stays rules.events i u (source_read (Slot b) u) refl refl
 
 -- what is done to other registers and to memory makes no difference to that
 kept_with : (events : Bool) (i : Option Instr) (u t v : Core) → v.enabled ≡ t.enabled → v.sp ≡ t.sp → StackKept events i u t → StackKept events i u v
@@ -141,10 +141,10 @@ kept_behind events i u t es (Goes (f ∷ fs) c v) h k = kept_with events i u t v
 kept_behind events i u t es (Stops fs price e) h k = tt
 
 -- SP behind a push, which may have taken its operand from the stack
-lowered : (x : Source) (u : Core) → HasPushRoom u.sp → keeps_stack (Some (instruction_of (Push x))) u.sp (u.sp - 2) ≡ true
+lowered : {rules : CodeRules} (x : Source) (u : Core) → HasPushRoom rules u.sp → keeps_stack (Some (instruction_of (Push x))) u.sp (u.sp - 2) ≡ true
 lowered x u h = let room = h.room.fits in down (Some (instruction_of (Push x))) u.sp refl (omega arith)
 
-push_kept : (x : Source) (u : Core) → HasPushRoom (source_read x u).sp
+push_kept : {rules : CodeRules} (x : Source) (u : Core) → HasPushRoom rules (source_read x u).sp
     → ((source_read x u).enabled ≡ u.enabled) × (keeps_stack (Some (instruction_of (Push x))) u.sp ((source_read x u).sp - 2) ≡ true)
 push_kept (Register b) u h = (refl, lowered (Register b) u h)
 push_kept (Number n) u h = (refl, lowered (Number n) u h)
@@ -175,7 +175,7 @@ prepared_there : (u : Core) → IsPrepared u → is_prepared (board_of u) ≡ tr
 prepared_there u h = let vector = h.vector in let low = h.low in let high = h.high in grind (arith, nat_tests)
 
 opened : (events : Bool) (u : Core) → events ≡ true → IsPrepared u
-    → IsKept events (Some (instruction_of EnableInterrupts)) u (record u { pc = u.pc + 2; enabled = true })
+    → IsUnexposed events (Some (instruction_of EnableInterrupts)) u (record u { pc = u.pc + 2; enabled = true })
 opened true u on h =
     let i = Some (instruction_of EnableInterrupts) in
     opened_by (is_interruptible (board_of (record u { pc = u.pc + 2; enabled = true })).registers) (is_interruptible (board_of u).registers)
@@ -184,57 +184,57 @@ opened true u on h =
 opened false u on h = absurd cc
 
 -- all that isn't done to the stack is done with SP and GIE as they are
-module _ (events : Bool) (u : Core) where
-  plain_kept : (m : Form) → OfNext (form_step m u) (StackKept events (Some (instruction_of m)) u)
-      → OfNext (form_step m u) (IsKept events (Some (instruction_of m)) u)
-  plain_kept m h = kept_next events (Some (instruction_of m)) u (form_step m u) h
+module _ (rules : CodeRules) (u : Core) where
+  plain_kept : (m : Form) → OfNext (form_step m u) (StackKept rules.events (Some (instruction_of m)) u)
+      → OfNext (form_step m u) (IsUnexposed rules.events (Some (instruction_of m)) u)
+  plain_kept m h = kept_next rules.events (Some (instruction_of m)) u (form_step m u) h
 
-  form_kept : (m : Form) → FormNeeds events m u → OfNext (form_step m u) (IsKept events (Some (instruction_of m)) u)
+  form_kept : (m : Form) → FormNeeds rules m u → OfNext (form_step m u) (IsUnexposed rules.events (Some (instruction_of m)) u)
   form_kept (Move x y) h =
       let i = Some (instruction_of (Move x y)) in
       let t : Core = record (source_read x u) { pc = u.pc + (2 + source_bytes x + target_bytes y) } in
-      plain_kept (Move x y) (kept_behind events i u t (source_effects x u) (target_written y (cycles_of (instruction_of (Move x y))) (source_value x u) t)
+      plain_kept (Move x y) (kept_behind rules.events i u t (source_effects x u) (target_written y (cycles_of (instruction_of (Move x y))) (source_value x u) t)
       (write_stays y (cycles_of (instruction_of (Move x y))) (source_value x u) t)
-      (kept_with events i u (source_read x u) t refl refl (read_kept events i x u h.0)))
+      (kept_with rules.events i u (source_read x u) t refl refl (read_kept rules i x u h.0)))
   form_kept (Calculate op x b) h =
       let i = Some (instruction_of (Calculate op x b)) in
-      plain_kept (Calculate op x b) (kept_with events i u (source_read x u) _ refl refl (read_kept events i x u h.1))
+      plain_kept (Calculate op x b) (kept_with rules.events i u (source_read x u) _ refl refl (read_kept rules i x u h.1))
   form_kept (Compare x a) h =
       let i = Some (instruction_of (Compare x a)) in
-      plain_kept (Compare x a) (kept_with events i u (source_read x u) _ refl refl (read_kept events i x u h.0))
+      plain_kept (Compare x a) (kept_with rules.events i u (source_read x u) _ refl refl (read_kept rules i x u h.0))
   form_kept (Update op x a) h =
       let i = Some (instruction_of (Update op x a)) in
-      plain_kept (Update op x a) (kept_with events i u (source_read x u) _ refl refl (read_kept events i x u h.2))
+      plain_kept (Update op x a) (kept_with rules.events i u (source_read x u) _ refl refl (read_kept rules i x u h.2))
   form_kept (Push x) h = let k = push_kept x u h.1 in plain_kept (Push x) (record { enabled = k.0; stack = λ e. k.1 })
-  form_kept (Modify m b) h = plain_kept (Modify m b) (all_stays events (Some (instruction_of (Modify m b))) u _ refl refl)
+  form_kept (Modify m b) h = plain_kept (Modify m b) (all_stays rules.events (Some (instruction_of (Modify m b))) u _ refl refl)
   form_kept (SetStack n) h =
       let i = Some (instruction_of (SetStack n)) in
       plain_kept (SetStack n)
       (record { enabled = refl; stack = λ e. subst (λ q. keeps_stack i u.sp q ≡ true) (sym (h.1 e)) (begins i u.sp) })
-  form_kept EnableInterrupts h = opened events u h.0 h.1
-  form_kept (Sense b) h = plain_kept (Sense b) (sense_kept events (Some (instruction_of (Sense b))) u.inputs.readings b u)
-  form_kept (Jump c o) h = plain_kept (Jump c o) (all_stays events (Some (instruction_of (Jump c o))) u _ refl refl)
-  form_kept (Skip n) h = plain_kept (Skip n) (all_stays events (Some (instruction_of (Skip n))) u _ refl refl)
-  form_kept (Branch a) h = plain_kept (Branch a) (all_stays events (Some (instruction_of (Branch a))) u _ refl refl)
-  form_kept (BranchIndexed b x) h = plain_kept (BranchIndexed b x) (all_stays events (Some (instruction_of (BranchIndexed b x))) u _ refl refl)
-  form_kept (SkipBy b) h = plain_kept (SkipBy b) (all_stays events (Some (instruction_of (SkipBy b))) u _ refl refl)
+  form_kept EnableInterrupts h = opened rules.events u h.0 h.1
+  form_kept (Sense b) h = plain_kept (Sense b) (sense_kept rules.events (Some (instruction_of (Sense b))) u.inputs.readings b u)
+  form_kept (Jump c o) h = plain_kept (Jump c o) (all_stays rules.events (Some (instruction_of (Jump c o))) u _ refl refl)
+  form_kept (Skip n) h = plain_kept (Skip n) (all_stays rules.events (Some (instruction_of (Skip n))) u _ refl refl)
+  form_kept (Branch a) h = plain_kept (Branch a) (all_stays rules.events (Some (instruction_of (Branch a))) u _ refl refl)
+  form_kept (BranchIndexed b x) h = plain_kept (BranchIndexed b x) (all_stays rules.events (Some (instruction_of (BranchIndexed b x))) u _ refl refl)
+  form_kept (SkipBy b) h = plain_kept (SkipBy b) (all_stays rules.events (Some (instruction_of (SkipBy b))) u _ refl refl)
   form_kept (Call a) h =
       let room = h.1.room.fits in
       plain_kept (Call a) (record { enabled = refl; stack = λ e. down (Some (instruction_of (Call a))) u.sp refl (omega arith) })
   form_kept Return h = plain_kept Return (record { enabled = refl; stack = λ e. pops (Some (instruction_of Return)) u.sp (h.1 e) })
-  form_kept (KeepStack b) h = plain_kept (KeepStack b) (all_stays events (Some (instruction_of (KeepStack b))) u _ refl refl)
+  form_kept (KeepStack b) h = plain_kept (KeepStack b) (all_stays rules.events (Some (instruction_of (KeepStack b))) u _ refl refl)
   form_kept RestoreStack h = plain_kept RestoreStack
       (record { enabled = refl; stack = λ e. let up = h.1 e in rises (Some (instruction_of RestoreStack)) u.sp (u.ram u.sp) up.0 up.1 })
 
-undisturbed_by : (events : Bool) (i : Option Instr) (u : Core) (o : CoreOutcome) → OfNext o (IsKept events i u)
+undisturbed_by : (events : Bool) (i : Option Instr) (u : Core) (o : CoreOutcome) → OfNext o (IsUnexposed events i u)
     → undisturbed events i (board_of u) (outcome_of_core o) ≡ outcome_of_core o
 undisturbed_by events i u (Goes es c t) h = ap (λ b. if b then Stops [] 0 (astray (board_of u)) else Goes es c (board_of t)) h
 undisturbed_by events i u (Stops es price e) h = refl
 
 -- so code does what the form does
-pub undisturbed_form : (events : Bool) (m : Form) (u : Core) → FormNeeds events m u
-    → undisturbed events (Some (instruction_of m)) (board_of u) (outcome_of_core (form_step m u)) ≡ outcome_of_core (form_step m u)
-undisturbed_form events m u h = undisturbed_by events (Some (instruction_of m)) u (form_step m u) (form_kept events u m h)
+pub undisturbed_form : (rules : CodeRules) (m : Form) (u : Core) → FormNeeds rules m u
+    → undisturbed rules.events (Some (instruction_of m)) (board_of u) (outcome_of_core (form_step m u)) ≡ outcome_of_core (form_step m u)
+undisturbed_form rules m u h = undisturbed_by rules.events (Some (instruction_of m)) u (form_step m u) (form_kept rules u m h)
 
 -- ---- what a step of code is by the rules
 

@@ -9,7 +9,7 @@ use Rattle.machine_effects.specs.Going.{Goes, Stops, Status, At, Halted, stretch
 use Rattle.machine_effects.specs.Machine.{Code, MachineBoard, exec}
 use Rattle.code_forms.specs.Forms.{Core, CoreOutcome, CoreStretch, board_of, Form, Move, Calculate, Compare, Update, Push, Modify, SetStack, Sense, Jump, Skip}
 use Rattle.code_forms.specs.Forms.{EnableInterrupts, Branch, BranchIndexed, SkipBy, Call, Return, KeepStack, RestoreStack, instruction_of, form_bytes}
-use Rattle.code_forms.specs.Forms.{form_step, FormNeeds}
+use Rattle.code_forms.specs.Forms.{form_step, FormNeeds, CodeRules}
 use Rattle.code_forms.specs.Forms.{IsCodeAddress}
 
 -- the forms stand in the code from this address on
@@ -78,22 +78,36 @@ abbrev pub OfNext : CoreOutcome → (Core → Type 0) → Type 0
 OfNext (Goes es c t) P = P t
 OfNext (Stops es price e) P = Unit {0}
 
--- what straight code needs, which may take events or not: each form, where it is come to
-abbrev pub FormsNeed : Bool → List Form → Core → Type 0
-FormsNeed events [] u = Unit {0}
-FormsNeed events (m ∷ ms) u = FormNeeds events m u × OfNext (form_step m u) (FormsNeed events ms)
+-- what straight code needs: each form, where it is come to
+abbrev pub FormsNeed : CodeRules → List Form → Core → Type 0
+FormsNeed rules [] u = Unit {0}
+FormsNeed rules (m ∷ ms) u = FormNeeds rules m u × OfNext (form_step m u) (FormsNeed rules ms)
 
 -- instructions stand at even addresses alone, with room behind them
 abbrev pub IsTidy : Code → Type 0
 IsTidy code = (p : ℕ) (i : Instr) → code.at p ≡ Some i → IsCodeAddress p
 
+-- code, and the addresses between which SP stays
+pub record KeptCode : Type 0 where
+  pub code : Code
+  pub low : ℕ
+  pub high : ℕ
+
+-- what it keeps to
+abbrev pub rules_of : KeptCode → CodeRules
+rules_of kept = record { events = kept.code.events; low = kept.low; high = kept.high }
+
+-- code of which it isn't said where SP stays
+abbrev pub anywhere : Code → KeptCode
+anywhere code = record { code = code; low = 0; high = 0x10000 }
+
 -- a machine that stands at a form, which has what it needs
-pub record IsAtForm (code : Code) (s : MachineBoard) : Type 0 where
+pub record IsAtKept (kept : KeptCode) (s : MachineBoard) : Type 0 where
   pub form : Form
   pub core : Core
   pub is : s ≡ board_of core
-  pub stands : code.at core.pc ≡ Some (instruction_of form)
-  pub needs : FormNeeds code.events form core
+  pub stands : kept.code.at core.pc ≡ Some (instruction_of form)
+  pub needs : FormNeeds (rules_of kept) form core
 
 -- a fact of the machine at a status
 abbrev pub OfState : Status MachineBoard Stop → (MachineBoard → Type 0) → Type 0
@@ -101,30 +115,47 @@ OfState (At s) P = P s
 OfState (Halted price x) P = Unit {0}
 
 -- in front of each of so many steps from u the machine stands at such a form
-abbrev pub StepsAreForms : Code → ℕ → Core → Type 0
-StepsAreForms code steps u = (n : ℕ) → n < steps → OfState (going (exec code) n (board_of u)).status (IsAtForm code)
+abbrev pub StepsAreKept : KeptCode → ℕ → Core → Type 0
+StepsAreKept kept steps u = (n : ℕ) → n < steps → OfState (going (exec kept.code) n (board_of u)).status (IsAtKept kept)
 
--- from u, the code makes exactly these effects in so many steps and cycles, and comes to a state with P
-pub record Comes (code : Code) (es : List Effect) (steps cycles : ℕ) (u : Core) (P : Core → Type 0) : Type 0 where
+-- from u, the code makes exactly these effects in so many steps and cycles, keeps SP between its addresses, and comes to a state with P
+pub record ComesWithin (kept : KeptCode) (es : List Effect) (steps cycles : ℕ) (u : Core) (P : Core → Type 0) : Type 0 where
   pub end : Core
-  pub leads : Leads (exec code) steps es cycles (board_of u) (board_of end)
-  pub forms : StepsAreForms code steps u
+  pub leads : Leads (exec kept.code) steps es cycles (board_of u) (board_of end)
+  pub forms : StepsAreKept kept steps u
   pub holds : P end
 
 -- the same in some number of steps, and at most so many cycles
-pub record Runs (code : Code) (es : List Effect) (most : ℕ) (u : Core) (P : Core → Type 0) : Type 0 where
+pub record RunsWithin (kept : KeptCode) (es : List Effect) (most : ℕ) (u : Core) (P : Core → Type 0) : Type 0 where
   pub steps : ℕ
   pub cycles : ℕ
   pub within : cycles ≤ most
-  pub comes : Comes code es steps cycles u P
+  pub comes : ComesWithin kept es steps cycles u P
   pub open comes use *
 
--- from u, the code makes these effects and comes to an instruction that wants a reading where none is left; what was spent and
+-- from u, the code makes these effects, keeps SP so, and comes to an instruction that wants a reading where none is left; what was spent and
 -- that instruction's price are within the bound
-pub record Starves (code : Code) (es : List Effect) (most : ℕ) (u : Core) : Type 0 where
+pub record StarvesWithin (kept : KeptCode) (es : List Effect) (most : ℕ) (u : Core) : Type 0 where
   pub steps : ℕ
   pub cycles : ℕ
   pub price : ℕ
   pub within : cycles + price ≤ most
-  pub stalls : Stalls (exec code) steps es cycles (board_of u) price stop.NoReading
-  pub forms : StepsAreForms code (suc steps) u
+  pub stalls : Stalls (exec kept.code) steps es cycles (board_of u) price stop.NoReading
+  pub forms : StepsAreKept kept (suc steps) u
+
+-- ---- the same of code of which it isn't said where SP stays
+
+abbrev pub IsAtForm : Code → MachineBoard → Type 0
+IsAtForm code = IsAtKept (anywhere code)
+
+abbrev pub StepsAreForms : Code → ℕ → Core → Type 0
+StepsAreForms code = StepsAreKept (anywhere code)
+
+abbrev pub Comes : Code → List Effect → (steps cycles : ℕ) → Core → (Core → Type 0) → Type 0
+Comes code = ComesWithin (anywhere code)
+
+abbrev pub Runs : Code → List Effect → (most : ℕ) → Core → (Core → Type 0) → Type 0
+Runs code = RunsWithin (anywhere code)
+
+abbrev pub Starves : Code → List Effect → (most : ℕ) → Core → Type 0
+Starves code = StarvesWithin (anywhere code)

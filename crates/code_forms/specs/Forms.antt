@@ -167,20 +167,30 @@ pub record IsSlot (a : ℕ) : Type 0 where
   pub low : ring_place ≤ a
   pub high : a < event_vector
 
--- what it needs, in code that may take events or not
-abbrev pub SourceNeeds : Bool → Source → Core → Type 0
-SourceNeeds events (Register b) u = Unit {0}
-SourceNeeds events (Number n) u = Unit {0}
-SourceNeeds events (Constant k) u = Unit {0}
-SourceNeeds events (Fram a) u = IsPlace a
-SourceNeeds events (Ram a) u = IsRam a × (u.sp ≤ a)
-SourceNeeds events (Pointed b) u = IsPlace (u.work (work_number b))
-SourceNeeds events (PointedNext b) u = IsPlace (u.work (work_number b))
-SourceNeeds events (Indexed b x) u = IsPlace (u.work (work_number b) + x)
-SourceNeeds events Popped u = IsRam u.sp × (events ≡ true → u.sp + 2 ≤ stack_start)
-SourceNeeds events (StackNext b) u = IsRam (u.work (work_number b)) × (u.sp ≤ u.work (work_number b))
-SourceNeeds events Head u = Unit {0}
-SourceNeeds events (Slot b) u = IsSlot (u.work (work_number b) + ring_place)
+-- what code keeps to: whether it may take events, and between which addresses SP stays
+pub record CodeRules : Type 0 where
+  pub events : Bool
+  pub low : ℕ
+  pub high : ℕ
+
+-- SP is between them
+abbrev pub IsKept : CodeRules → ℕ → Type 0
+IsKept rules sp = (rules.low ≤ sp) × (sp ≤ rules.high)
+
+-- what it needs, by the rules of its code
+abbrev pub SourceNeeds : CodeRules → Source → Core → Type 0
+SourceNeeds rules (Register b) u = Unit {0}
+SourceNeeds rules (Number n) u = Unit {0}
+SourceNeeds rules (Constant k) u = Unit {0}
+SourceNeeds rules (Fram a) u = IsPlace a
+SourceNeeds rules (Ram a) u = IsRam a × (u.sp ≤ a)
+SourceNeeds rules (Pointed b) u = IsPlace (u.work (work_number b))
+SourceNeeds rules (PointedNext b) u = IsPlace (u.work (work_number b))
+SourceNeeds rules (Indexed b x) u = IsPlace (u.work (work_number b) + x)
+SourceNeeds rules Popped u = IsRam u.sp × (rules.events ≡ true → u.sp + 2 ≤ stack_start) × IsKept rules (u.sp + 2)
+SourceNeeds rules (StackNext b) u = IsRam (u.work (work_number b)) × (u.sp ≤ u.work (work_number b))
+SourceNeeds rules Head u = Unit {0}
+SourceNeeds rules (Slot b) u = IsSlot (u.work (work_number b) + ring_place)
 
 -- the address in RAM at which it reads, if it does
 abbrev pub source_ram : Source → Core → Option ℕ
@@ -282,11 +292,12 @@ form_step Return u = Goes [] 3 (record u { pc = u.ram u.sp; sp = u.sp + 2 })
 form_step (KeepStack b) u = Goes [] 1 (record u { pc = u.pc + 2; work = put u.work (work_number b) u.sp })
 form_step RestoreStack u = Goes [] 2 (record u { pc = u.pc + 2; sp = u.ram u.sp })
 
--- room in RAM below SP for a word
-pub record HasPushRoom (sp : ℕ) : Type 0 where
+-- room in RAM below SP for a word, where code keeps SP
+pub record HasPushRoom (rules : CodeRules) (sp : ℕ) : Type 0 where
   pub even : sp % 2 ≡ 0
   pub room : HasStackRoom sp 1
   pub high : sp ≤ stack_top
+  pub below : IsKept rules (sp - 2)
 
 -- a handler is named, and has room in RAM below SP
 pub record IsPrepared (u : Core) : Type 0 where
@@ -299,26 +310,28 @@ abbrev pub IsNotMov : TwoOp → Type 0
 IsNotMov Mov = ⊥
 IsNotMov _ = Unit {0}
 
--- what a form needs, in code that may take events or not
-abbrev pub FormNeeds : Bool → Form → Core → Type 0
-FormNeeds events (Move x y) u = SourceNeeds events x u × TargetNeeds y (source_read x u)
-FormNeeds events (Calculate op x b) u = IsNotMov op × SourceNeeds events x u
-FormNeeds events (Compare x a) u = SourceNeeds events x u × IsPlace a
-FormNeeds events (Update op x a) u = IsNotMov op × (writes_destination op ≡ true) × SourceNeeds events x u × IsPlace a
-FormNeeds events (Push x) u = SourceNeeds events x u × HasPushRoom (source_read x u).sp
-FormNeeds events (Modify m b) u = Unit {0}
-FormNeeds events (SetStack n) u = (n % 2 ≡ 0) × (events ≡ true → n ≡ stack_start)
-FormNeeds events EnableInterrupts u = (events ≡ true) × IsPrepared u
-FormNeeds events (Sense b) u = Unit {0}
-FormNeeds events (Jump c offset) u = Unit {0}
-FormNeeds events (Skip n) u = n % 2 ≡ 0
-FormNeeds events (Branch a) u = a % 2 ≡ 0
-FormNeeds events (BranchIndexed b x) u = IsPlace (u.work (work_number b) + x) × (u.fram (u.work (work_number b) + x) % 2 ≡ 0)
-FormNeeds events (SkipBy b) u = u.work (work_number b) % 2 ≡ 0
-FormNeeds events (Call a) u = (a % 2 ≡ 0) × HasPushRoom u.sp
-FormNeeds events Return u = IsRam u.sp × (events ≡ true → u.sp + 2 ≤ stack_start) × (u.ram u.sp % 2 ≡ 0)
-FormNeeds events (KeepStack b) u = Unit {0}
-FormNeeds events RestoreStack u = IsRam u.sp × (events ≡ true → (u.sp ≤ u.ram u.sp) × (u.ram u.sp ≤ stack_start)) × (u.ram u.sp % 2 ≡ 0)
+-- what a form needs, by the rules of its code: behind each SP stands between their addresses
+abbrev pub FormNeeds : CodeRules → Form → Core → Type 0
+FormNeeds rules (Move x y) u = SourceNeeds rules x u × TargetNeeds y (source_read x u)
+FormNeeds rules (Calculate op x b) u = IsNotMov op × SourceNeeds rules x u
+FormNeeds rules (Compare x a) u = SourceNeeds rules x u × IsPlace a
+FormNeeds rules (Update op x a) u = IsNotMov op × (writes_destination op ≡ true) × SourceNeeds rules x u × IsPlace a
+FormNeeds rules (Push x) u = SourceNeeds rules x u × HasPushRoom rules (source_read x u).sp
+FormNeeds rules (Modify m b) u = Unit {0}
+FormNeeds rules (SetStack n) u = (n % 2 ≡ 0) × (rules.events ≡ true → n ≡ stack_start) × IsKept rules n
+FormNeeds rules EnableInterrupts u = (rules.events ≡ true) × IsPrepared u
+FormNeeds rules (Sense b) u = Unit {0}
+FormNeeds rules (Jump c offset) u = Unit {0}
+FormNeeds rules (Skip n) u = n % 2 ≡ 0
+FormNeeds rules (Branch a) u = a % 2 ≡ 0
+FormNeeds rules (BranchIndexed b x) u = IsPlace (u.work (work_number b) + x) × (u.fram (u.work (work_number b) + x) % 2 ≡ 0)
+FormNeeds rules (SkipBy b) u = u.work (work_number b) % 2 ≡ 0
+FormNeeds rules (Call a) u = (a % 2 ≡ 0) × HasPushRoom rules u.sp
+FormNeeds rules Return u =
+    IsRam u.sp × (rules.events ≡ true → u.sp + 2 ≤ stack_start) × (u.ram u.sp % 2 ≡ 0) × IsKept rules (u.sp + 2)
+FormNeeds rules (KeepStack b) u = Unit {0}
+FormNeeds rules RestoreStack u =
+    IsRam u.sp × (rules.events ≡ true → (u.sp ≤ u.ram u.sp) × (u.ram u.sp ≤ stack_start)) × (u.ram u.sp % 2 ≡ 0) × IsKept rules (u.ram u.sp)
 
 -- the address in RAM at which a form reads, if it does
 abbrev pub ram_read : Form → Core → Option ℕ

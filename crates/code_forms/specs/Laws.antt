@@ -9,7 +9,8 @@ use Rattle.machine_effects.specs.fram_board.Effects.{Effect}
 use Rattle.machine_effects.specs.Going.{Goes, Stops, At, stretch, Leads, going}
 use Rattle.machine_effects.specs.Machine.{Code, MachineBoard, MachineOutcome, IsLookingStep, exec, step_with, is_prepared, machine_powered}
 use Rattle.code_forms.specs.Forms.{Core, board_of, core_of, outcome_of_core, Form, instruction_of, form_step, FormNeeds, ram_read, IsCodeAddress}
-use Rattle.code_forms.specs.Code.{Stands, AreStraight, forms_run, FormsNeed, IsTidy, IsAtForm, OfState, StepsAreForms}
+use Rattle.code_forms.specs.Forms.{CodeRules, IsKept}
+use Rattle.code_forms.specs.Code.{Stands, AreStraight, forms_run, FormsNeed, IsTidy, KeptCode, rules_of, IsAtKept, OfState, StepsAreKept}
 use Rattle.code_forms.specs.Placed.{placed, words_of, instructions, Holds, AreInstructions}
 
 -- a machine that was powered up has its registers told apart
@@ -18,27 +19,36 @@ PoweredHasACore = (s : MachineBoard) (p : PowerState) → machine_powered s p �
 
 -- a form does as its instruction
 abbrev pub FormsDoAsInstructions : Type 0
-FormsDoAsInstructions = (events : Bool) (m : Form) (u : Core) → IsCodeAddress u.pc → FormNeeds events m u
+FormsDoAsInstructions = (rules : CodeRules) (m : Form) (u : Core) → IsCodeAddress u.pc → FormNeeds rules m u
     → step_with (Some (instruction_of m)) (board_of u) ≡ outcome_of_core (form_step m u)
 
 -- straight code leads where its forms do
 abbrev pub StraightCodeLeads : Type 0
-StraightCodeLeads = (code : Code) (ms : List Form) (u t : Core) (es : List Effect) (c : ℕ)
-    → IsTidy code → AreStraight ms → Stands code u.pc ms → FormsNeed code.events ms u
-    → forms_run ms u ≡ stretch es c (At t) → Leads (exec code) (length ms) es c (board_of u) (board_of t)
+StraightCodeLeads = (kept : KeptCode) (ms : List Form) (u t : Core) (es : List Effect) (c : ℕ)
+    → IsTidy kept.code → AreStraight ms → Stands kept.code u.pc ms → FormsNeed (rules_of kept) ms u
+    → forms_run ms u ≡ stretch es c (At t) → Leads (exec kept.code) (length ms) es c (board_of u) (board_of t)
 
 -- a machine that stands at a form which reads no word of RAM below SP
-pub record ReadsFromSp (code : Code) (s : MachineBoard) : Type 0 where
-  pub at : IsAtForm code s
+pub record ReadsFromSp (kept : KeptCode) (s : MachineBoard) : Type 0 where
+  pub at : IsAtKept kept s
   pub from : (a : ℕ) → ram_read at.form at.core ≡ Some a → at.core.sp ≤ a
 
 -- in front of each of so many steps from u it does
-abbrev pub StepsReadFromSp : Code → ℕ → Core → Type 0
-StepsReadFromSp code steps u = (n : ℕ) → n < steps → OfState (going (exec code) n (board_of u)).status (ReadsFromSp code)
+abbrev pub StepsReadFromSp : KeptCode → ℕ → Core → Type 0
+StepsReadFromSp kept steps u = (n : ℕ) → n < steps → OfState (going (exec kept.code) n (board_of u)).status (ReadsFromSp kept)
 
 -- where it stands at forms that have what they need, it does
 abbrev pub FormsReadFromSp : Type 0
-FormsReadFromSp = (code : Code) (steps : ℕ) (u : Core) → StepsAreForms code steps u → StepsReadFromSp code steps u
+FormsReadFromSp = (kept : KeptCode) (steps : ℕ) (u : Core) → StepsAreKept kept steps u → StepsReadFromSp kept steps u
+
+-- in front of each of so many steps from u, and behind the last, SP stands between the addresses of the code
+abbrev pub StepsKeepTheStack : KeptCode → ℕ → Core → Type 0
+StepsKeepTheStack kept steps u = (n : ℕ) → n ≤ steps → OfState (going (exec kept.code) n (board_of u)).status (λ s. IsKept (rules_of kept) (s.registers 1))
+
+-- where it stands at forms that have what they need it does, if it does at first
+abbrev pub FormsKeepTheStack : Type 0
+FormsKeepTheStack = (kept : KeptCode) (steps : ℕ) (u : Core) → IsTidy kept.code → StepsAreKept kept steps u → IsKept (rules_of kept) u.sp
+    → StepsKeepTheStack kept steps u
 
 -- forms stand where they are placed
 abbrev pub FormsStandWherePlaced : Type 0

@@ -1,7 +1,7 @@
 //! Laws of the forms. The functions do nothing: their contracts are the laws.
 
 ghost use Rattle.code_forms.specs.Laws.{PoweredHasACore, FormsDoAsInstructions, StraightCodeLeads, FormsReadFromSp, FormsStandWherePlaced, PlacedIsTidy};
-ghost use Rattle.code_forms.specs.Laws.{CodeInFramSteps, CodeGoesUndisturbed, CodeStaysPrepared, CodeStaysOpen};
+ghost use Rattle.code_forms.specs.Laws.{FormsKeepTheStack, CodeInFramSteps, CodeGoesUndisturbed, CodeStaysPrepared, CodeStaysOpen};
 
 /// A machine that was powered up has SR and R3 at 0, so that its registers can be told apart.
 pub fn powered_machine_has_a_core()
@@ -24,6 +24,12 @@ pub fn straight_code_leads()
 #[tactic(auto, using(crate::proofs::FromSp::forms_read_from_sp))]
 pub fn forms_read_from_sp()
     ensures { FormsReadFromSp }
+{}
+
+/// Where each form has what it needs, SP stays between the addresses that its code keeps to.
+#[tactic(auto, using(crate::proofs::Stacks::forms_keep_the_stack))]
+pub fn forms_keep_the_stack()
+    ensures { FormsKeepTheStack }
 {}
 
 /// Forms stand where they are placed, at even addresses with room behind them.

@@ -10,5 +10,6 @@ pub use instruction_forms::{
 };
 pub use laws::{
     code_in_fram_steps, code_keeps_the_rules_of_interrupts, forms_do_as_instructions,
-    forms_read_from_sp, placed_code_stands, powered_machine_has_a_core, straight_code_leads,
+    forms_keep_the_stack, forms_read_from_sp, placed_code_stands, powered_machine_has_a_core,
+    straight_code_leads,
 };

@@ -9,13 +9,13 @@ use Rattle.machine_effects.specs.Going.{Goes, Stops, Status, At, Halted, stretch
 use Rattle.machine_effects.specs.Machine.{MachineBoard, MachineOutcome, MachineStretch, Code, exec, step_with, undisturbed}
 use Rattle.machine_effects.proofs.Interface.{after_after, after_nothing}
 use Rattle.code_forms.specs.Forms.{Core, board_of, Form, instruction_of, form_bytes}
-use Rattle.code_forms.specs.Code.{Stands, IsTidy, IsAtForm, OfState}
+use Rattle.code_forms.specs.Code.{Stands, IsTidy, KeptCode, IsAtKept, OfState}
 use Rattle.code_forms.specs.Placed.{placed, placed_at, instructions}
 use Rattle.code_forms.proofs.Interface.{bytes_are, forms_stand}
 
 -- a board stands at forms in front of each of so many steps
-abbrev pub AtForms : Code → ℕ → MachineBoard → Type 0
-AtForms code n s = (k : ℕ) → k < n → OfState (going (exec code) k s).status (IsAtForm code)
+abbrev pub AtForms : KeptCode → ℕ → MachineBoard → Type 0
+AtForms kept n s = (k : ℕ) → k < n → OfState (going (exec kept.code) k s).status (IsAtKept kept)
 
 -- where the steps end
 abbrev pub carry_on : Status MachineBoard Stop → List Effect → ℕ → (MachineBoard → MachineStretch) → MachineStretch
@@ -28,18 +28,18 @@ carry_after es fs c d (At t) next = after_after es fs c d (next t)
 carry_after es fs c d (Halted price x) next = refl
 
 -- in front of the steps behind the first one
-pub forms_behind_step : (code : Code) (n : ℕ) (s t : MachineBoard) (es : List Effect) (c : ℕ) → exec code s ≡ Goes es c t → AtForms code (suc n) s
-    → AtForms code n t
-forms_behind_step code n s t es c e all k l =
-    subst (λ o. OfState (continued o (going (exec code) k)).status (IsAtForm code)) e (all (suc k) (omega (arith, l)))
+pub forms_behind_step : (kept : KeptCode) (n : ℕ) (s t : MachineBoard) (es : List Effect) (c : ℕ) → exec kept.code s ≡ Goes es c t → AtForms kept (suc n) s
+    → AtForms kept n t
+forms_behind_step kept n s t es c e all k l =
+    subst (λ o. OfState (continued o (going (exec kept.code) k)).status (IsAtKept kept)) e (all (suc k) (omega (arith, l)))
 
 -- in front of the first one
-pub first_form : (code : Code) (n : ℕ) (s : MachineBoard) → AtForms code (suc n) s → IsAtForm code s
-first_form code n s all = all 0 (omega arith)
+pub first_form : (kept : KeptCode) (n : ℕ) (s : MachineBoard) → AtForms kept (suc n) s → IsAtKept kept s
+first_form kept n s all = all 0 (omega arith)
 
 -- of fewer steps
-pub fewer_forms : (code : Code) (n m : ℕ) (s : MachineBoard) → m ≤ n → AtForms code n s → AtForms code m s
-fewer_forms code n m s l all k j = all k (omega (arith, l, j))
+pub fewer_forms : (kept : KeptCode) (n m : ℕ) (s : MachineBoard) → m ≤ n → AtForms kept n s → AtForms kept m s
+fewer_forms kept n m s l all k j = all k (omega (arith, l, j))
 
 -- ---- forms that stand somewhere, placed there alone
 
@@ -60,9 +60,16 @@ tidy_alone code p ms tidy h a i q = tidy a i (is_part code p ms a i h q)
 pub stands_alone : (events : Bool) (p : ℕ) (ms : List Form) → Stands (placed events p (instructions ms)) p ms
 stands_alone events p ms = forms_stand events ms p
 
-module _ (code : Code) (p : ℕ) (ms : List Form) (h : Stands code p ms) where
+module _ (kept : KeptCode) (p : ℕ) (ms : List Form) (h : Stands kept.code p ms) where
+  abbrev code : Code
+  code = kept.code
+
   abbrev alone : Code
   alone = placed code.events p (instructions ms)
+
+  -- SP staying where it does
+  abbrev apart : KeptCode
+  apart = record kept { code = alone }
 
   -- at a form of theirs both step alike
   same_at : (s : MachineBoard) (u : Core) (m : Form) → s ≡ board_of u → alone.at u.pc ≡ Some (instruction_of m) → exec code s ≡ exec alone s
@@ -72,41 +79,41 @@ module _ (code : Code) (p : ℕ) (ms : List Form) (h : Stands code p ms) where
       let other : code.at (s.registers 0) ≡ Some (instruction_of m) = is_part code p ms (s.registers 0) (instruction_of m) h one in
       ap (λ o. undisturbed code.events o s (step_with o s)) other ∙ sym (ap (λ o. undisturbed code.events o s (step_with o s)) one)
 
-  same_step : (s : MachineBoard) → IsAtForm alone s → exec code s ≡ exec alone s
+  same_step : (s : MachineBoard) → IsAtKept apart s → exec code s ≡ exec alone s
   same_step s k = same_at s k.core k.form k.is k.stands
 
-  same_by : (n k : ℕ) (s : MachineBoard) (o : MachineOutcome) → exec alone s ≡ o → AtForms alone (suc n) s
-      → ((t : MachineBoard) → AtForms alone n t → (let r = going (exec alone) n t in
+  same_by : (n k : ℕ) (s : MachineBoard) (o : MachineOutcome) → exec alone s ≡ o → AtForms apart (suc n) s
+      → ((t : MachineBoard) → AtForms apart n t → (let r = going (exec alone) n t in
       going (exec code) (n + k) t ≡ carry_on r.status r.effects r.cycles (going (exec code) k)))
       → (let r = continued o (going (exec alone) n) in
       continued o (going (exec code) (n + k)) ≡ carry_on r.status r.effects r.cycles (going (exec code) k))
   same_by n k s (Goes es c t) e all ih =
       let r = going (exec alone) n t in
-      ap (after_effects es c) (ih t (forms_behind_step alone n s t es c e all)) ∙ carry_after es r.effects c r.cycles r.status (going (exec code) k)
+      ap (after_effects es c) (ih t (forms_behind_step apart n s t es c e all)) ∙ carry_after es r.effects c r.cycles r.status (going (exec code) k)
   same_by n k s (Stops es price x) e all ih = refl
 
   -- so many steps at forms of theirs are made alike, and then the code goes on
-  same_then : (n k : ℕ) (s : MachineBoard) → AtForms alone n s → (let r = going (exec alone) n s in
+  same_then : (n k : ℕ) (s : MachineBoard) → AtForms apart n s → (let r = going (exec alone) n s in
       going (exec code) (n + k) s ≡ carry_on r.status r.effects r.cycles (going (exec code) k))
   same_then zero k s all = ap (λ j. going (exec code) j s) (zero-add k) ∙ sym (after_nothing (going (exec code) k s))
   same_then (suc n) k s all =
       ap (λ j. going (exec code) j s) (suc-add n k)
-      ∙ ap (λ o. continued o (going (exec code) (n + k))) (same_step s (first_form alone n s all))
+      ∙ ap (λ o. continued o (going (exec code) (n + k))) (same_step s (first_form apart n s all))
       ∙ same_by n k s (exec alone s) refl all (λ t rest. same_then n k t rest)
 
-  going_by : (n : ℕ) (s : MachineBoard) (o : MachineOutcome) → exec alone s ≡ o → AtForms alone (suc n) s
-      → ((t : MachineBoard) → AtForms alone n t → going (exec code) n t ≡ going (exec alone) n t)
+  going_by : (n : ℕ) (s : MachineBoard) (o : MachineOutcome) → exec alone s ≡ o → AtForms apart (suc n) s
+      → ((t : MachineBoard) → AtForms apart n t → going (exec code) n t ≡ going (exec alone) n t)
       → continued o (going (exec code) n) ≡ continued o (going (exec alone) n)
-  going_by n s (Goes es c t) e all ih = ap (after_effects es c) (ih t (forms_behind_step alone n s t es c e all))
+  going_by n s (Goes es c t) e all ih = ap (after_effects es c) (ih t (forms_behind_step apart n s t es c e all))
   going_by n s (Stops es price x) e all ih = refl
 
-  same_going : (n : ℕ) (s : MachineBoard) → AtForms alone n s → going (exec code) n s ≡ going (exec alone) n s
+  same_going : (n : ℕ) (s : MachineBoard) → AtForms apart n s → going (exec code) n s ≡ going (exec alone) n s
   same_going zero s all = refl
   same_going (suc n) s all =
-      ap (λ o. continued o (going (exec code) n)) (same_step s (first_form alone n s all))
+      ap (λ o. continued o (going (exec code) n)) (same_step s (first_form apart n s all))
       ∙ going_by n s (exec alone s) refl all (λ t rest. same_going n t rest)
 
-  form_there : (s : MachineBoard) → IsAtForm alone s → IsAtForm code s
+  form_there : (s : MachineBoard) → IsAtKept apart s → IsAtKept kept s
   form_there s k = record {
     form = k.form;
     core = k.core;
@@ -115,14 +122,14 @@ module _ (code : Code) (p : ℕ) (ms : List Form) (h : Stands code p ms) where
     needs = k.needs;
   }
 
-  of_state : (st : Status MachineBoard Stop) → OfState st (IsAtForm alone) → OfState st (IsAtForm code)
+  of_state : (st : Status MachineBoard Stop) → OfState st (IsAtKept apart) → OfState st (IsAtKept kept)
   of_state (At s) k = form_there s k
   of_state (Halted price x) k = tt
 
-  pub forms_there : (n : ℕ) (s : MachineBoard) → AtForms alone n s → AtForms code n s
+  pub forms_there : (n : ℕ) (s : MachineBoard) → AtForms apart n s → AtForms kept n s
   forms_there n s all k l =
-      let q = same_going k s (fewer_forms alone n k s (omega (arith, l)) all) in
-      subst (λ r. OfState r.status (IsAtForm code)) (sym q) (of_state (going (exec alone) k s).status (all k l))
+      let q = same_going k s (fewer_forms apart n k s (omega (arith, l)) all) in
+      subst (λ r. OfState r.status (IsAtKept kept)) (sym q) (of_state (going (exec alone) k s).status (all k l))
 
   -- where the steps lead, without more behind them
   leads_there : (n c : ℕ) (es : List Effect) (s t : MachineBoard) → Leads (exec alone) n es c s t → going (exec alone) n s ≡ stretch es c (At t)
@@ -131,12 +138,12 @@ module _ (code : Code) (p : ℕ) (ms : List Form) (h : Stands code p ms) where
       let all : c + 0 ≡ c = omega arith in
       ap (λ j. going (exec alone) j s) none ∙ a.by 0 ∙ ap (λ l. stretch l (c + 0) (At t)) (append-nil es) ∙ ap (λ d. stretch es d (At t)) all
 
-  pub leads_so : (n c : ℕ) (es : List Effect) (s t : MachineBoard) → AtForms alone n s → Leads (exec alone) n es c s t → Leads (exec code) n es c s t
+  pub leads_so : (n c : ℕ) (es : List Effect) (s t : MachineBoard) → AtForms apart n s → Leads (exec alone) n es c s t → Leads (exec code) n es c s t
   leads_so n c es s t all a = record {
     by = λ k. same_then n k s all ∙ ap (λ r. carry_on r.status r.effects r.cycles (going (exec code) k)) (leads_there n c es s t a);
   }
 
-  pub stalls_so : (n c : ℕ) (es : List Effect) (s : MachineBoard) (price : ℕ) (x : Stop) → AtForms alone (suc n) s
+  pub stalls_so : (n c : ℕ) (es : List Effect) (s : MachineBoard) (price : ℕ) (x : Stop) → AtForms apart (suc n) s
       → Stalls (exec alone) n es c s price x → Stalls (exec code) n es c s price x
   stalls_so n c es s price x all a = record {
     by = λ k.

@@ -18,7 +18,7 @@ use Rattle.code_forms.specs.Forms.{Core, CoreOutcome, board_of, outcome_of_core,
 use Rattle.code_forms.specs.Forms.{Jump, Skip}
 use Rattle.code_forms.specs.Forms.{Branch, BranchIndexed, SkipBy, Call, Return, KeepStack, RestoreStack, EnableInterrupts, instruction_of, form_bytes}
 use Rattle.code_forms.specs.Forms.{form_step}
-use Rattle.code_forms.specs.Code.{forms_bytes, IsStraight, OfNext, IsTidy, Runs, Starves}
+use Rattle.code_forms.specs.Code.{forms_bytes, IsStraight, OfNext, IsTidy, KeptCode, RunsWithin, StarvesWithin}
 use Rattle.code_forms.specs.Placed.{placed, placed_at, instructions}
 use Rattle.code_forms.proofs.Interface.{bytes_are, does}
 use Rattle.code_paths.specs.Paths.{form_cycles, dearer_way, behind_form, dearest_from, dearest, goes_forward, all_forward, is_forward, forward_most}
@@ -74,9 +74,12 @@ nothing_before : (p a : ℕ) (ms : List Form) → a < p → placed_at p (instruc
 nothing_before p a [] l = refl
 nothing_before p a (m ∷ ms) l = placed_by p a m ms (a == p) refl l (nothing_before (p + form_bytes m) a ms (omega (arith, l)))
 
-module _ (events : Bool) (p : ℕ) (all : List Form) (tidy : IsTidy (placed events p (instructions all))) where
+module _ (kept : KeptCode) (p : ℕ) (all : List Form) (tidy : IsTidy (placed kept.code.events p (instructions all))) where
   abbrev alone : Code
-  alone = placed events p (instructions all)
+  alone = placed kept.code.events p (instructions all)
+
+  abbrev apart : KeptCode
+  apart = record kept { code = alone }
 
   -- from an address on these forms stand, and nothing else
   abbrev Suffix : ℕ → List Form → Type 0
@@ -96,24 +99,24 @@ module _ (events : Bool) (p : ℕ) (all : List Form) (tidy : IsTidy (placed even
       ∙ ap (λ b. if b then Some (instruction_of m) else placed_at (q + 2 * length (encoding (instruction_of m))) (instructions ms) q) (eq-eqb q q refl)
 
   -- where nothing stands no step is at a form
-  no_step : (n a : ℕ) (u : Core) (most : ℕ) → alone.at a ≡ None → u.pc ≡ a → AtForms alone n (board_of u) → steps_cost (exec alone) n (board_of u) ≤ most
+  no_step : (n a : ℕ) (u : Core) (most : ℕ) → alone.at a ≡ None → u.pc ≡ a → AtForms apart n (board_of u) → steps_cost (exec alone) n (board_of u) ≤ most
   no_step zero a u most none at forms = omega arith
   no_step (suc n) a u most none at forms =
-      let k = first_form alone n (board_of u) forms in
+      let k = first_form apart n (board_of u) forms in
       let there : u.pc ≡ k.core.pc = ap (λ s. s.registers 0) k.is in
       let some : alone.at a ≡ Some (instruction_of k.form) = ap alone.at (sym at ∙ there) ∙ k.stands in
       absurd (cc (none, some))
 
   -- what is known of the code behind a form
   record Rest (ms : List Form) (next n : ℕ) : Type 0 where
-    within : (b : ℕ) (t : Core) → t.pc ≡ next + b → AtForms alone n (board_of t) → steps_cost (exec alone) n (board_of t) ≤ dearest_from ms b
+    within : (b : ℕ) (t : Core) → t.pc ≡ next + b → AtForms apart n (board_of t) → steps_cost (exec alone) n (board_of t) ≤ dearest_from ms b
 
   -- a straight form is made, and then what is behind it
   straight_on : (n : ℕ) (m : Form) (ms : List Form) (next : ℕ) (u : Core) (o : CoreOutcome) → exec alone (board_of u) ≡ outcome_of_core o
-      → CostsSo o (form_cycles m) → OfNext o (λ t. t.pc ≡ next) → Rest ms next n → AtForms alone (suc n) (board_of u)
+      → CostsSo o (form_cycles m) → OfNext o (λ t. t.pc ≡ next) → Rest ms next n → AtForms apart (suc n) (board_of u)
       → outcome_cost (outcome_of_core o) (steps_cost (exec alone) n) ≤ form_cycles m + dearest_from ms 0
   straight_on n m ms next u (Goes es c t) e cost at rest forms =
-      let behind = rest.within 0 t (at ∙ omega arith) (forms_behind_step alone n (board_of u) (board_of t) es c e forms) in
+      let behind = rest.within 0 t (at ∙ omega arith) (forms_behind_step apart n (board_of u) (board_of t) es c e forms) in
       omega (arith, cost, behind)
   straight_on n m ms next u (Stops es price x) e cost at rest forms = omega (arith, cost)
 
@@ -129,7 +132,7 @@ module _ (events : Bool) (p : ℕ) (all : List Form) (tidy : IsTidy (placed even
 
   -- a jump leads behind it, or forward
   jump_on : (n : ℕ) (c : Condition) (o : ℕ) (ms : List Form) (q : ℕ) (u t : Core) (met : Bool) → is_met c u.flags ≡ met → o < 512 → p ≤ q
-      → q + 2 < 0x10000 → q < p + 0x8000 → t.pc ≡ (if met then word_sum (q + 2) (2 * o) else q + 2) → Rest ms (q + 2) n → AtForms alone n (board_of t)
+      → q + 2 < 0x10000 → q < p + 0x8000 → t.pc ≡ (if met then word_sum (q + 2) (2 * o) else q + 2) → Rest ms (q + 2) n → AtForms apart n (board_of t)
       → steps_cost (exec alone) n (board_of t) ≤ dearer_way c (dearest_from ms (2 * o)) (dearest_from ms 0)
   jump_on n c o ms q u t false e few low high far at rest forms =
       let behind = rest.within 0 t (at ∙ omega arith) forms in
@@ -156,7 +159,7 @@ module _ (events : Bool) (p : ℕ) (all : List Form) (tidy : IsTidy (placed even
     -- a step at a form with the instruction of this one
     one_straight : (k : Form) (u : Core) → IsStraight m → instruction_of k ≡ instruction_of m → u.pc ≡ q
         → exec alone (board_of u) ≡ outcome_of_core (form_step k u)
-        → AtForms alone (suc n) (board_of u)
+        → AtForms apart (suc n) (board_of u)
         → outcome_cost (outcome_of_core (form_step k u)) (steps_cost (exec alone) n) ≤ form_cycles m + dearest_from ms 0
     one_straight k u straight same at e forms =
         let k_straight = straight_by_pc k (ap writes_pc same ∙ straight_leaves_pc m straight) in
@@ -169,7 +172,7 @@ module _ (events : Bool) (p : ℕ) (all : List Form) (tidy : IsTidy (placed even
   -- a step at the front of these forms
   one_step : (n : ℕ) (m : Form) (ms : List Form) (q : ℕ) → p ≤ q → q + 2 < 0x10000 → q < p + 0x8000 → Rest ms (q + form_bytes m) n
       → goes_forward m ≡ true → (k : Form) (u : Core) → instruction_of k ≡ instruction_of m → u.pc ≡ q
-      → exec alone (board_of u) ≡ outcome_of_core (form_step k u) → AtForms alone (suc n) (board_of u)
+      → exec alone (board_of u) ≡ outcome_of_core (form_step k u) → AtForms apart (suc n) (board_of u)
       → outcome_cost (outcome_of_core (form_step k u)) (steps_cost (exec alone) n) ≤ form_cycles m + behind_form m (dearest_from ms)
   one_step n (Jump c o) ms q low high far rest forward k u same at e forms =
       let is = jump_by_instruction k c o same in
@@ -180,7 +183,7 @@ module _ (events : Bool) (p : ℕ) (all : List Form) (tidy : IsTidy (placed even
       ∙ ap (λ d. if is_met c u.flags then word_sum (q + 2) d else q + 2) (forward_distance o forward) in
       let e' : exec alone (board_of u) ≡ Goes [] 2 (board_of t) = e ∙ ap (λ x. outcome_of_core (form_step x u)) is in
       let behind = jump_on n c o ms q u t (is_met c u.flags) refl few low high far there rest
-      (forms_behind_step alone n (board_of u) (board_of t) [] 2 e' forms) in
+      (forms_behind_step apart n (board_of u) (board_of t) [] 2 e' forms) in
       subst (λ x. outcome_cost (outcome_of_core (form_step x u)) (steps_cost (exec alone) n) ≤ form_cycles (Jump c o) + behind_form (Jump c o)
       (dearest_from ms))
       (sym is) (omega (arith, behind))
@@ -207,22 +210,22 @@ module _ (events : Bool) (p : ℕ) (all : List Form) (tidy : IsTidy (placed even
   -- so many steps, from so many bytes behind the front of these forms on
   abbrev SpendsWithin : List Form → Type 0
   SpendsWithin ms = (n q b : ℕ) (u : Core) → Suffix q ms → all_forward ms ≡ true → p ≤ q → q + forms_bytes ms ≤ p + 0x8000 → u.pc ≡ q + b
-      → AtForms alone n (board_of u) → steps_cost (exec alone) n (board_of u) ≤ dearest_from ms b
+      → AtForms apart n (board_of u) → steps_cost (exec alone) n (board_of u) ≤ dearest_from ms b
 
   module _ (m : Form) (ms : List Form) (ih : SpendsWithin ms) where
     -- at the front, or behind it
     spends_by : (n q b : ℕ) (u : Core) (front : Bool) → (b == 0) ≡ front → Suffix q (m ∷ ms) → all_forward (m ∷ ms) ≡ true
-        → p ≤ q → q + forms_bytes (m ∷ ms) ≤ p + 0x8000 → u.pc ≡ q + b → AtForms alone n (board_of u)
+        → p ≤ q → q + forms_bytes (m ∷ ms) ≤ p + 0x8000 → u.pc ≡ q + b → AtForms apart n (board_of u)
         → steps_cost (exec alone) n (board_of u) ≤ (if front then form_cycles m + behind_form m (dearest_from ms) else dearest_from ms (b - form_bytes m))
     spends_by zero q b u front e h forward low high at forms = omega arith
     spends_by (suc n) q b u true e h forward low high at forms =
         let zero_is = eqb-true b 0 e in
-        let k = first_form alone n (board_of u) forms in
+        let k = first_form apart n (board_of u) forms in
         let there : u.pc ≡ k.core.pc = ap (λ s. s.registers 0) k.is in
         let here : k.core.pc ≡ q = omega (arith, there, at, zero_is) in
         let stands : alone.at q ≡ Some (instruction_of k.form) = ap alone.at (sym here) ∙ k.stands in
         let same : instruction_of k.form ≡ instruction_of m = same_Some _ _ (sym stands ∙ suffix_front q m ms h) in
-        let made : exec alone (board_of k.core) ≡ outcome_of_core (form_step k.form k.core) = does alone tidy k.form k.core k.stands k.needs in
+        let made : exec alone (board_of k.core) ≡ outcome_of_core (form_step k.form k.core) = does apart tidy k.form k.core k.stands k.needs in
         let both = and_parts (goes_forward m) (all_forward ms) forward in
         let some = no_form m in
         let place = (tidy q (instruction_of m) (suffix_front q m ms h)).high in
@@ -230,7 +233,7 @@ module _ (events : Bool) (p : ℕ) (all : List Form) (tidy : IsTidy (placed even
           within = λ c t a f. ih n (q + form_bytes m) c t (suffix_behind q m ms h) both.1 (omega (arith, low)) (omega (arith, high)) a f;
         } in
         let one = one_step n m ms q low (omega (arith, place)) (omega (arith, high, some)) rest both.0 k.form k.core same here made
-        (subst (AtForms alone (suc n)) k.is forms) in
+        (subst (AtForms apart (suc n)) k.is forms) in
         let cost : steps_cost (exec alone) (suc n) (board_of u) ≡ outcome_cost (outcome_of_core (form_step k.form k.core)) (steps_cost (exec alone) n) =
         ap (λ s. outcome_cost (exec alone s) (steps_cost (exec alone) n)) k.is ∙ ap (λ o. outcome_cost o (steps_cost (exec alone) n)) made in
         omega (arith, one, cost)
@@ -260,16 +263,16 @@ module _ (events : Bool) (p : ℕ) (all : List Form) (tidy : IsTidy (placed even
 
 -- ---- as a part of other code
 
-module _ (code : Code) (at : ℕ) (ms : List Form) (u : Core) (k : BeginsCode code at ms u) where
-  abbrev by_itself : Code
-  by_itself = placed code.events at (instructions ms)
+module _ (kept : KeptCode) (at : ℕ) (ms : List Form) (u : Core) (k : BeginsCode kept.code at ms u) where
+  abbrev by_itself : KeptCode
+  by_itself = record kept { code = placed kept.code.events at (instructions ms) }
 
   -- from its front on
-  from_front : (n : ℕ) → is_forward ms ≡ true → AtForms by_itself n (board_of u) → steps_cost (exec by_itself) n (board_of u) ≤ dearest ms
+  from_front : (n : ℕ) → is_forward ms ≡ true → AtForms by_itself n (board_of u) → steps_cost (exec by_itself.code) n (board_of u) ≤ dearest ms
   from_front n forward forms =
       let both = and_parts (all_forward ms) (nat_lt (forms_bytes ms) 0x8000) forward in
       let short : forms_bytes ms < 0x8000 = ltb-true (forms_bytes ms) 0x8000 both.1 in
-      spends code.events at ms (tidy_alone code at ms k.tidy k.stands) ms n at 0 u (λ a l. refl) both.0 (omega arith) (omega (arith, short))
+      spends kept at ms (tidy_alone kept.code at ms k.tidy k.stands) ms n at 0 u (λ a l. refl) both.0 (omega arith) (omega (arith, short))
       (k.begins ∙ omega arith) forms
 
   -- within the cycles of its path, or as many as are known
@@ -278,12 +281,12 @@ module _ (code : Code) (at : ℕ) (ms : List Form) (u : Core) (k : BeginsCode co
   path_or true most spent e l f = f e
   path_or false most spent e l f = l
 
-  pub runs_so : (es : List Effect) (most : ℕ) (P : Core → Type 0) → Runs by_itself es most u P → Runs code es (forward_most ms most) u P
+  pub runs_so : (es : List Effect) (most : ℕ) (P : Core → Type 0) → RunsWithin by_itself es most u P → RunsWithin kept es (forward_most ms most) u P
   runs_so es most P a =
       let last : a.steps ≡ a.steps + 0 = omega arith in
-      let cycles : (going (exec by_itself) a.steps (board_of u)).cycles ≡ a.cycles + 0 =
-      ap (λ j. (going (exec by_itself) j (board_of u)).cycles) last ∙ ap (λ r. r.cycles) (a.leads.by 0) in
-      let made = cycles_cost (exec by_itself) a.steps (board_of u) in
+      let cycles : (going (exec by_itself.code) a.steps (board_of u)).cycles ≡ a.cycles + 0 =
+      ap (λ j. (going (exec by_itself.code) j (board_of u)).cycles) last ∙ ap (λ r. r.cycles) (a.leads.by 0) in
+      let made = cycles_cost (exec by_itself.code) a.steps (board_of u) in
       let path : is_forward ms ≡ true → a.cycles ≤ dearest ms = λ e. let spent = from_front a.steps e a.forms in omega (arith, spent, made, cycles) in
       record {
         steps = a.steps;
@@ -292,32 +295,32 @@ module _ (code : Code) (at : ℕ) (ms : List Form) (u : Core) (k : BeginsCode co
         comes =
             record {
               end = a.end;
-              leads = leads_so code at ms k.stands a.steps a.cycles es (board_of u) (board_of a.end) a.forms a.leads;
-              forms = forms_there code at ms k.stands a.steps (board_of u) a.forms;
+              leads = leads_so kept at ms k.stands a.steps a.cycles es (board_of u) (board_of a.end) a.forms a.leads;
+              forms = forms_there kept at ms k.stands a.steps (board_of u) a.forms;
               holds = a.holds;
             };
       }
 
-  pub starves_so : (es : List Effect) (most : ℕ) → Starves by_itself es most u → Starves code es (forward_most ms most) u
+  pub starves_so : (es : List Effect) (most : ℕ) → StarvesWithin by_itself es most u → StarvesWithin kept es (forward_most ms most) u
   starves_so es most a =
       let n = suc a.steps in
       let last : n ≡ a.steps + suc 0 = omega arith in
-      let there : going (exec by_itself) n (board_of u) ≡ stretch es a.cycles (Halted a.price stop.NoReading) =
-      ap (λ j. going (exec by_itself) j (board_of u)) last ∙ a.stalls.by 0 in
-      let made = halted_cost (exec by_itself) n a.price stop.NoReading (board_of u) (ap (λ r. r.status) there) in
-      let cycles : (going (exec by_itself) n (board_of u)).cycles ≡ a.cycles = ap (λ r. r.cycles) there in
+      let there : going (exec by_itself.code) n (board_of u) ≡ stretch es a.cycles (Halted a.price stop.NoReading) =
+      ap (λ j. going (exec by_itself.code) j (board_of u)) last ∙ a.stalls.by 0 in
+      let made = halted_cost (exec by_itself.code) n a.price stop.NoReading (board_of u) (ap (λ r. r.status) there) in
+      let cycles : (going (exec by_itself.code) n (board_of u)).cycles ≡ a.cycles = ap (λ r. r.cycles) there in
       let path : is_forward ms ≡ true → a.cycles + a.price ≤ dearest ms = λ e. let spent = from_front n e a.forms in omega (arith, spent, made, cycles) in
       record {
         steps = a.steps;
         cycles = a.cycles;
         price = a.price;
         within = path_or (is_forward ms) most (a.cycles + a.price) refl a.within path;
-        stalls = stalls_so code at ms k.stands a.steps a.cycles es (board_of u) a.price stop.NoReading a.forms a.stalls;
-        forms = forms_there code at ms k.stands n (board_of u) a.forms;
+        stalls = stalls_so kept at ms k.stands a.steps a.cycles es (board_of u) a.price stop.NoReading a.forms a.stalls;
+        forms = forms_there kept at ms k.stands n (board_of u) a.forms;
       }
 
 pub runs_keep_to_paths : RunsKeepToPaths
-runs_keep_to_paths code at ms u end es most k a = runs_so code at ms u k es most (λ t. t ≡ end) a
+runs_keep_to_paths kept at ms u end es most k a = runs_so kept at ms u k es most (λ t. t ≡ end) a
 
 pub starving_keeps_to_paths : StarvingKeepsToPaths
-starving_keeps_to_paths code at ms u es most k a = starves_so code at ms u k es most a
+starving_keeps_to_paths kept at ms u es most k a = starves_so kept at ms u k es most a

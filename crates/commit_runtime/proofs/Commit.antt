@@ -10,7 +10,7 @@ use Rattle.runtime_code.specs.machine_effects.Inputs.{Inputs}
 use Rattle.runtime_code.specs.machine_effects.Machine.{Code, IsPlace}
 use Rattle.runtime_code.proofs.machine_effects.Interface.{fram_after-append, all_behind}
 use Rattle.runtime_code.specs.code_forms.Forms.{Core, Branch}
-use Rattle.runtime_code.specs.code_forms.Code.{Stands, IsTidy, forms_bytes}
+use Rattle.runtime_code.specs.code_forms.Code.{Stands, IsTidy, forms_bytes, anywhere}
 use Rattle.runtime_code.proofs.code_forms.Interface.{stands_front, forms_at, forms_behind}
 use Rattle.runtime_code.specs.runtime_effects.Places.{CopyPair, run_pairs, entries_from, listed}
 use Rattle.runtime_code.specs.runtime_effects.Stages.{copied_home, sends, emits_sent, tail_moved, commit_closed, commit_effects}
@@ -122,7 +122,7 @@ module _ (code : Code) (tidy : IsTidy code) (m : MemoryMap) (places : AreInFram 
 
     -- behind the last one
     all_home : (x : Point) (u : Core) → IsAt (loop_ends copies_loop) x.memory l u → AreNext 0 x u.work → Makes code turning 0 x u
-    all_home x u at r = nothing code u _ at
+    all_home x u at r = nothing (anywhere code) u _ at
 
   -- the listed words go home
   copy_part : (p : ℕ) (f : ℕ → ℕ) (l : Inputs) (u : Core) → p + 40 < 0x10000 → Stands code p (copies_begin m) → Stands code (p + 4) (copy_loop m)
@@ -164,7 +164,8 @@ module _ (code : Code) (tidy : IsTidy code) (m : MemoryMap) (places : AreInFram 
       subst (λ k. Comes code (es k) 4 17 u (IsAt start (fram_after (es k) f) l)) at.next_number
       (from_there u at.at (then_on (straight code tidy (closing m) s (tt, (tt, (tt, tt))) (stands_front code p (closing m) (Branch start ∷ []) h)
       ((places.words NextTask, places.words CurrentTask), ((tt, places.words Base), ((tt, places.words Gate), tt))) refl)
-      (form_comes code tidy (Branch start) closed (record closed { pc = start }) [] 3 (IsAt start (fram_after (es (u.work 7)) f) l) h.1.1.1.0 even refl
+      (form_comes (anywhere code) tidy (Branch start) closed (record closed { pc = start }) [] 3 (IsAt start (fram_after (es (u.work 7)) f) l) h.1.1.1.0
+      even refl
       (record { pc = refl; fram = refl; inputs = refl }))))
 
   -- all of them, with a word for TAIL

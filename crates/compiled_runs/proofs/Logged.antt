@@ -7,6 +7,7 @@ use Rattle.machine_effects.specs.Inputs.{Look, Inputs, InputsAreWords, no_inputs
 use Rattle.machine_effects.specs.Machine.{Code, MachineBoard}
 use Rattle.machine_effects.proofs.Interface.{code_changes_by_effects, fram_after-append}
 use Rattle.code_forms.specs.Forms.{Core, board_of}
+use Rattle.code_forms.specs.Code.{anywhere}
 use Rattle.cost_bound.specs.Summaries.{summaries}
 use Rattle.cost_bound.specs.Allowance.{list_of}
 use Rattle.cost_bound.specs.Counts.{emits_of}
@@ -306,7 +307,7 @@ module _ (p : CheckedProgram) (l : MemoryMap) (logs : l.runtime.logging ≡ Undo
       made (record {
         state = s;
         accepted = accepted;
-        arrival = record { core = u; front = []; steps = 0; cycles = 0; comes = no_steps code u (IsAt (attempt_start l) u.fram u.inputs) there };
+        arrival = record { core = u; front = []; steps = 0; cycles = 0; comes = no_steps (anywhere code) u (IsAt (attempt_start l) u.fram u.inputs) there };
         words = words;
         settled = settled;
         few = omega arith;

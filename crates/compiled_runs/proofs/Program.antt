@@ -5,6 +5,7 @@ use Rattle.machine_effects.specs.World.{World, fram_after, world_after}
 use Rattle.machine_effects.specs.Inputs.{InputsAreWords}
 use Rattle.machine_effects.specs.Machine.{Code, MachineBoard}
 use Rattle.code_forms.specs.Forms.{Core, board_of}
+use Rattle.code_forms.specs.Code.{anywhere}
 use Rattle.crash_rules.proofs.Interface.{world_fram}
 use Rattle.source_values.specs.Runs.{CheckedProgram, State}
 use Rattle.array_versions.specs.Behaviour.{Behaviour, behaviour, started}
@@ -99,7 +100,15 @@ module _ (source : Source) where
   from_start b k =
       let u = k.core in
       let here : IsAt (attempt_start l) u.fram u.inputs u = record { pc = k.pc; fram = refl; inputs = refl } in
-      record { core = u; is = k.is; steps = 0; cycles = 0; within = omega arith; comes = no_steps code u (IsAt (attempt_start l) u.fram u.inputs) here }
+      record {
+        core = u;
+        is = k.is;
+        steps = 0;
+        cycles = 0;
+        within = omega arith;
+        comes = no_steps (anywhere code) u (IsAt (attempt_start l) u.fram u.inputs)
+            here;
+      }
 
   abbrev cost : ℕ → ℕ
   cost k = costs.cost k

@@ -7,7 +7,7 @@ use Rattle.address_space.specs.Limits.{stack_start}
 use Rattle.msp_step.specs.Step.{is_interruptible}
 use Rattle.machine_effects.specs.alp_words.declared.Flags.{Flags}
 use Rattle.code_forms.specs.Forms.{Form, SetStack, EnableInterrupts, Core, board_of, register_file}
-use Rattle.code_forms.specs.Code.{Stands}
+use Rattle.code_forms.specs.Code.{Stands, anywhere}
 use Rattle.code_forms.specs.Placed.{instructions, placed}
 use Rattle.code_forms.proofs.Interface.{stands_front, does, forms_stand, code_stays_open}
 use Rattle.memory_map.specs.declared.runtime.Logging.{Logging}
@@ -93,9 +93,9 @@ module _ (p : CheckedProgram) (l : MemoryMap) (fits : CodeFits l (lowered l p)) 
       let u1 : Core = record u { pc = u.pc + 4; sp = stack_start } in
       let u2 : Core = record u1 { pc = u1.pc + 2; enabled = true } in
       let one : exec code (board_of u) ≡ Goes [] 2 (board_of u1) =
-      does code tidy (SetStack stack_start) u (ap code.at boots.pc ∙ boot_stands.0) (refl, λ e. refl) in
+      does (anywhere code) tidy (SetStack stack_start) u (ap code.at boots.pc ∙ boot_stands.0) (refl, λ e. refl, (omega arith, omega arith)) in
       let two : exec code (board_of u1) ≡ Goes [] 1 (board_of u2) =
-      does code tidy EnableInterrupts u1 (ap (λ a. code.at (a + 4)) boots.pc ∙ boot_stands.1.0)
+      does (anywhere code) tidy EnableInterrupts u1 (ap (λ a. code.at (a + 4)) boots.pc ∙ boot_stands.1.0)
       (on, record { vector = boots.named on; low = omega arith; high = omega arith }) in
       let from : (going (exec code) (suc (suc n)) (board_of u)).status ≡ At t = ap (λ v. (going (exec code) (suc (suc n)) v).status) (sym boots.is) ∙ h in
       let behind_one : (going (exec code) (suc n) (board_of u1)).status ≡ At t =

@@ -2,7 +2,9 @@ mod Parts
 mod Linked
 mod Called
 mod Rooms
+mod Watched
 mod Stretches
+mod Stacked
 mod Above
 mod Reached
 mod Recovered

@@ -71,14 +71,14 @@ commit_are : (logging : Logging) (l : MemoryMap) → AreInstructions (instructio
 commit_are Redo l = commit_is_code l (start_by Redo l)
 commit_are Undo l = undo_commit_is_code l (start_by Undo l)
 
-boot_length : (l : MemoryMap) (programs : List TaskPrograms) → CodeFits l programs → part_end (boot_part l) ≤ l.commit.address
+pub boot_length : (l : MemoryMap) (programs : List TaskPrograms) → CodeFits l programs → part_end (boot_part l) ≤ l.commit.address
 boot_length l programs f =
     let a = boot_short l.runtime.logging l in
     let b = code_bytes (boot_part l).forms in
     let c = f.boot in let d = (apart_of l f.rules).commit in
     omega (arith, a, b, c, d)
 
-commit_length : (l : MemoryMap) (programs : List TaskPrograms) → CodeFits l programs → part_end (commit_part l) ≤ l.code.address
+pub commit_length : (l : MemoryMap) (programs : List TaskPrograms) → CodeFits l programs → part_end (commit_part l) ≤ l.code.address
 commit_length l programs f =
     let a = commit_short l.runtime.logging l in
     let b = code_bytes (commit_part l).forms in

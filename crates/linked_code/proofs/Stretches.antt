@@ -1,6 +1,7 @@
 -- The stretches of linked code: the body of a task, whichever the runtime is; and under redo from the boot to the start of an attempt and to the commit,
 -- from there to a task, and the commit.
 use Rattle.std.proofs.Common.{◌≡◌, ◌<◌, ◌≤◌, ◌+◌, ◌*◌, ℕ, zero, suc, Bool, true, false, List, [], ◌∷◌, length, map, get_or, refl, sym, ap, ◌∙◌, subst, arith}
+use Rattle.std.proofs.Common.{Some, slice_get}
 use Rattle.std.proofs.lemmas.Option.{slice_get-get_or}
 use Rattle.boot_runtime.specs.fram_board.Effects.{Effect, Store}
 use Rattle.boot_runtime.specs.machine_effects.World.{put, fram_after}
@@ -57,7 +58,7 @@ programs_count (t ∷ ts) [] f = absurd f
 programs_count (t ∷ ts) (p ∷ ps) f = let e = programs_count ts ps f.1 in omega (arith, e)
 
 -- the boot leaves SP where a task's code is entered
-origin_is_entry : (events : Bool) → stack_origin events ≡ entry_stack events
+pub origin_is_entry : (events : Bool) → stack_origin events ≡ entry_stack events
 origin_is_entry true = refl
 origin_is_entry false = refl
 
@@ -69,6 +70,15 @@ fits_at [] (p ∷ ps) k f l = absurd f
 fits_at (t ∷ ts) [] k f l = absurd f
 fits_at (t ∷ ts) (p ∷ ps) zero f l = f.0
 fits_at (t ∷ ts) (p ∷ ps) (suc k) f l = fits_at ts ps k f.1 (omega arith)
+
+-- the same where its place and its program are known
+pub task_fits : (ts : List TaskPlace) (ps : List TaskPrograms) (k : ℕ) (t : TaskPlace) (p : TaskPrograms) → ProgramsFit ts ps → slice_get ts k ≡ Some t
+    → slice_get ps k ≡ Some p → TaskFits t p
+task_fits [] ps k t p f a b = absurd (cc (a))
+task_fits (u ∷ ts) [] k t p f a b = absurd (cc (b))
+task_fits (u ∷ ts) (q ∷ ps) zero t p f a b = let d : u ≡ t = cc a in let e : q ≡ p = cc b in
+    subst (λ x. TaskFits x p) d (subst (λ y. TaskFits u y) e f.0)
+task_fits (u ∷ ts) (q ∷ ps) (suc k) t p f a b = task_fits ts ps k t p f.1 a b
 
 module _ (l : MemoryMap) (programs : List TaskPrograms) (fits : CodeFits l programs) (whole : ProgramsAreWhole l.runtime.events programs) where
   abbrev pub code : Code

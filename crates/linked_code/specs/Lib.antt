@@ -1,5 +1,6 @@
 pub mod Parts
 pub mod Linked
+pub mod Watch
 pub mod Laws
 pub mod Rooms
 pub use Rattle.boot_runtime.specs.text_parts as text_parts

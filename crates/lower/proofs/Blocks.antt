@@ -788,7 +788,8 @@ module _ (z : Scene) (known : KnownAgree z) where
         loop_does x.variable from below (lowered_block (code_places z) z.fs.bodies body) (run_block z.fs.meanings body) (block_emits z.fs.emits body)
         (λ v. block_count (stores_in v) (is_store_to v) body) fits.0
         (λ some. record {
-          does = λ turn. block_does body turn fits.1 admits (λ v k. writes v (loop_writes v (z.fs.sums v) (known_goes_on v (z.fs.sums v) (known.go_on v)) x from tested below stepped body some k));
+          does = λ turn. block_does body turn fits.1 admits (λ v k. writes v
+              (loop_writes v (z.fs.sums v) (known_goes_on v (z.fs.sums v) (known.go_on v)) x from tested below stepped body some k));
           emitted = block_emitted z.fs.meanings z.fs.emits known.up_to body;
         }) here
     statement_does (t.emit e) here fits admits writes =
@@ -879,4 +880,5 @@ module _ (z : Scene) (known : KnownAgree z) where
         } in
         subst Q there.stack_kept
         (block_does more behind fits.1 admits.1 (λ v k. writes v
-        (others_write v (z.fs.sums v) (known_goes_on v (z.fs.sums v) (known.go_on v)) s more (runs_go_on_along_paths z.fs.meanings s (answered_by answers m) n is) k)))))
+        (others_write v (z.fs.sums v) (known_goes_on v (z.fs.sums v) (known.go_on v)) s more
+        (runs_go_on_along_paths z.fs.meanings s (answered_by answers m) n is) k)))))

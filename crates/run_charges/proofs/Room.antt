@@ -25,10 +25,10 @@ use Rattle.run_charges.specs.View.{looks_in}
 use Rattle.run_charges.specs.Moments.{IsMomentFrom, PowersUp, Instructs, Serves, AreMoments}
 use Rattle.run_charges.specs.Charges.{AreInstructionMoments, IsInstruction, observed, program_steps}
 use Rattle.run_charges.specs.Fronts.{ChargeFront, board_behind, board_behind_all, AreChargesFrom}
-use Rattle.run_charges.specs.Laws.{Accepts, HasRoom, StackHasRoom, InterruptsStayOn}
+use Rattle.run_charges.specs.Laws.{Accepts, HasRoom, StackHasRoom, InterruptsStayOn, BoardsAreWatched}
 use Rattle.run_charges.proofs.Charges.{front_charges, run_front}
 use Rattle.run_charges.proofs.Moments.{nothing_seen, are_behind, are_front, whole_behind}
-use Rattle.run_charges.proofs.Running.{PlacedProgram, Machine}
+use Rattle.run_charges.proofs.Running.{PlacedProgram, Machine, may_stand, goes_as}
 use Rattle.run_charges.proofs.Reaching.{instructions_reach, looks_see}
 use Rattle.run_charges.proofs.Programs.{last_behind, Ready, ready_on, running, reach, ready_behind, front_reached}
 use Rattle.run_charges.proofs.Fronts.{placed_program, ready_there, programs_run}
@@ -72,12 +72,34 @@ module _ (on : PlacedProgram) where
       charges_have_room (board_behind f) k fs (ready_behind on f.before h here f.start c.start ms c.instructions c.moments)
       (has_room (board_behind f) [] (reach on f.before h here f.start c.start ms c.instructions c.moments).end) all.1
 
+  -- in front of the handler the board's registers are as they may be
+  abbrev IsWatched : BoardValue → Type 0
+  IsWatched b = registers_of b.cpu 0 < handler_place → on.is.may (registers_of b.cpu) ≡ true
+
+  is_watched : (b : BoardValue) (more : List Look) → Machine on b more → IsWatched b
+  is_watched b more x low = by x.stands
+    where
+      by : StandsAs b x.u → on.is.may (registers_of b.cpu) ≡ true
+      by (AtCode shows) = ap on.is.may (sym shows.registers) ∙ may_stand on x.u (x.leaves 1)
+      by (InHandler from at shows interrupted inside) = absurd (let high = handler_is_high from at b inside in omega (arith, low, high))
+
+  charges_are_watched : (b : BoardValue) (h : History) (fs : List ChargeFront) → Ready on b h → IsWatched b → AreChargesFrom b fs
+      → IsWatched (board_behind_all b fs)
+  charges_are_watched b h [] ready watched all = watched
+  charges_are_watched b h (f ∷ fs) ready watched all =
+      let c = all.0 in
+      let ms = f.instructions in
+      let here = ready_on on b f.before h c.follows ready in
+      let k = observed on.marks ms (behind_boot h) in
+      charges_are_watched (board_behind f) k fs (ready_behind on f.before h here f.start c.start ms c.instructions c.moments)
+      (is_watched (board_behind f) [] (reach on f.before h here f.start c.start ms c.instructions c.moments).end) all.1
+
   -- the program's machine goes on accepting them
   module _ (events : on.events ≡ true) where
     step_stays : (u t : MachineBoard) (es : List Effect) (c : ℕ) → step u ≡ Goes es c t → is_interruptible u.registers ≡ true
         → is_interruptible t.registers ≡ true
     step_stays u t es c e accepts =
-        code_stays_open (placed on.events on.place on.instructions) u t es c events (ap (λ f. f u) (sym on.is.steps) ∙ e) accepts
+        code_stays_open (placed on.events on.place on.instructions) u t es c events (goes_as on u t es c e) accepts
 
     stays_by : (n : ℕ) (u t : MachineBoard) (o : MachineOutcome) → step u ≡ o → (continued o (going step n)).status ≡ At t
         → is_interruptible u.registers ≡ true
@@ -123,6 +145,14 @@ stack_has_room c cs b r ms rest run e marks h stands closed accepts =
     let there : last_board b ms ≡ board_behind_all b all.charges = ap (last_board b) all.moments ∙ last_behind b all.charges in
     let first : IsRoomy on b = λ now. let no : true ≡ false = sym now ∙ closed in absurd cc in
     subst (λ (y : BoardValue). Accepts y → HasRoom y) (sym there) (charges_have_room on b h all.charges ready first all.follow) accepts
+
+pub boards_are_watched : (c : Program) → BoardsAreWatched c
+boards_are_watched c cs b r ms rest run e marks h stands first =
+    let on = placed_program c marks b h stands in
+    let ready = ready_there c marks b h stands cs r run in
+    let all = front_charges b ms (run_front cs b r ms rest (programs_run c cs b r run marks h stands) e) in
+    let there : last_board b ms ≡ board_behind_all b all.charges = ap (last_board b) all.moments ∙ last_behind b all.charges in
+    subst (IsWatched on) (sym there) (charges_are_watched on b h all.charges ready first all.follow)
 
 -- moments leave a whole board of words
 all_whole : (b : BoardValue) (ms : List Moment) → IsWhole b → IsOfWords b → AreMoments b ms → IsWhole (last_board b ms) × IsOfWords (last_board b ms)

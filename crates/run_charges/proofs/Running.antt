@@ -29,7 +29,7 @@ use Rattle.machine_effects.specs.World.{fram_after, EachStore}
 use Rattle.machine_effects.specs.Going.{Goes, Stops, At, stretch, after_effects, continued, going}
 use Rattle.machine_effects.specs.Inputs.{Look, SeeWords, look_effects}
 use Rattle.machine_effects.specs.Machine.{Code, MachineBoard, MachineOutcome, MachineStretch, IsStepBy, NoInstruction, Executes, code_executed, standing}
-use Rattle.machine_effects.specs.Machine.{step_with, undisturbed, exec, fram_of}
+use Rattle.machine_effects.specs.Machine.{step_with, undisturbed, exec, fram_of, astray}
 use Rattle.machine_effects.specs.Machine.{machine_bus, machine_opened, word_in, is_prepared, in_stack}
 use Rattle.machine_effects.specs.View.{machine_with, IsWhole, IsOfWords, looks_at, seen_at_pc, IsBusFault}
 use Rattle.machine_effects.specs.Laws.{KeepsTheHandler}
@@ -133,10 +133,36 @@ module _ (on : PlacedProgram) where
     pub words : IsOfWords b
     pub machine : (more : List Look) → SeeWords more → Machine b more
 
+  -- a step by whether it is under watch
+  abbrev step_by : MachineBoard → Bool → MachineOutcome
+  step_by s b = if b then exec code s else Stops [] 0 (astray s)
+
+  stepped : (s : MachineBoard) (b : Bool) → on.is.may s.registers ≡ b → step s ≡ step_by s b
+  stepped s b e = ap (λ f. f s) on.is.steps ∙ ap (step_by s) e
+
+  -- where it leaves the code its registers are as they may be
+  pub may_stand : (s : MachineBoard) → Leaves (going step 1 s) → on.is.may s.registers ≡ true
+  may_stand s l = by (on.is.may s.registers) refl
+    where
+      by : (b : Bool) → on.is.may s.registers ≡ b → b ≡ true
+      by true e = refl
+      by false e = absurd (l.stands 0 _ _ (ap (λ o. (continued o (going step 0)).status) (stepped s false e)))
+
+  -- and it is one of the code
+  leaves_as : (s : MachineBoard) → Leaves (going step 1 s) → step s ≡ exec code s
+  leaves_as s l = stepped s true (may_stand s l)
+
+  -- so is one that is made
+  pub goes_as : (s t : MachineBoard) (es : List Effect) (c : ℕ) → step s ≡ Goes es c t → exec code s ≡ Goes es c t
+  goes_as s t es c e = by (on.is.may s.registers) refl
+    where
+      by : (b : Bool) → on.is.may s.registers ≡ b → exec code s ≡ Goes es c t
+      by true q = sym (stepped s true q) ∙ e
+      by false q = absurd (let no : Stops [] 0 (astray s) ≡ Goes es c t = sym (stepped s false q) ∙ e in cc)
+
   -- a step that leaves the code isn't astray, and each access is served
   no_hole : (s : MachineBoard) → Leaves (going step 1 s) → IsNoHole (exec code s)
-  no_hole s l es price pc word e =
-      l.stands price pc word (ap (λ o. (continued o (going step 0)).status) (ap (λ f. f s) on.is.steps ∙ e))
+  no_hole s l es price pc word e = l.stands price pc word (ap (λ o. (continued o (going step 0)).status) (leaves_as s l ∙ e))
 
   no_fault : (s : MachineBoard) (o : MachineOutcome) → Leaves (going step 1 s) → step s ≡ o → IsBusFault o → ⊥
   no_fault s (Goes es c t) l e h = h
@@ -225,7 +251,7 @@ module _ (on : PlacedProgram) where
           record {
             at = e ∙ ap (λ x. Some x) (sym same);
             below = omega (arith, same_pc, below, high);
-            step_is = ap (λ x. code_executed u x) same ∙ made ∙ ap (λ f. f u) (sym on.is.steps);
+            step_is = ap (λ x. code_executed u x) same ∙ made ∙ sym (leaves_as u leaves);
           }
 
       pub is_code : IsCode b u i
@@ -254,7 +280,7 @@ module _ (on : PlacedProgram) where
       pub is_off : (f : Stop) → f ≡ e → IsStopped machine_bus (registers_of b.cpu) (machine_opened s) f → step u ≡ Stops [] 0 f
       is_off stop.Off same k =
           let bit : off_bit u.registers ≡ 1 = ap off_bit shows.registers ∙ k in
-          ap (λ f. f u) on.is.steps
+          leaves_as u leaves
           ∙ ap (λ n. undisturbed code.events (code.at pc) u (if n == 1 then Stops [] 0 stop.Off else standing (code.at pc) u)) bit
       is_off (stop.Illegal at w) same k = absurd (absent (ap off_bit shows.registers ∙ k.0))
       is_off (stop.Bus at a) same k = absurd (absent (ap off_bit shows.registers ∙ k.0))
@@ -346,7 +372,7 @@ module _ (on : PlacedProgram) where
   -- a step of the program's that is made leaves its machine
   module _ (u next : MachineBoard) (es : List Effect) (c : ℕ) (goes : step u ≡ Goes es c next) where
     exec_goes : exec code u ≡ Goes es c next
-    exec_goes = ap (λ f. f u) (sym on.is.steps) ∙ goes
+    exec_goes = goes_as u next es c goes
 
     stores_so : next.fram ≡ fram_after es u.fram
     stores_so = (subst (λ (o : MachineOutcome). ChangesByEffects u o) exec_goes (code_changes_by_effects code u)).0

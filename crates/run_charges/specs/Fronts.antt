@@ -11,6 +11,8 @@ use Rattle.machine_effects.specs.Going.{going}
 use Rattle.machine_effects.specs.Machine.{MachineBoard, MachineStretch, exec, machine_powered}
 use Rattle.machine_effects.specs.View.{IsMachineOfWords}
 use Rattle.machine_effects.specs.Runs.{action_cycles, last_board}
+use Rattle.msp_step.specs.Registers.{Registers}
+use Rattle.code_forms.specs.Watch.{watched}
 use Rattle.code_forms.specs.Placed.{placed, words_of, AreInstructions, LeavesCode}
 use Rattle.crash_rules.specs.Model.{IsElsewhere, Marks}
 use Rattle.crash_rules.specs.History.{History}
@@ -89,14 +91,15 @@ charges_of (c ∷ cs) = record { powered = outside_with (looks_in c.instructions
 abbrev pub NamesHandler : Bool → (ℕ → ℕ) → Type 0
 NamesHandler events fram = events ≡ true → fram event_vector ≡ handler_place
 
--- a program that is instructions placed in FRAM from p on, in front of the handler, which takes events or doesn't; and which boards a power-up
--- leaves where the reset vector is its entry
+-- a program that is instructions placed in FRAM from p on, in front of the handler, which takes events or doesn't, and goes astray where its registers
+-- aren't as they may be; and which boards a power-up leaves where the reset vector is its entry
 pub record IsPlacedProgram (c : Program) (events : Bool) (p : ℕ) (is : List Instr) (entry : ℕ) : Type 0 where
   pub instructions : AreInstructions is
   pub even : p % 2 ≡ 0
   pub low : fram_first ≤ p
   pub high : p + 2 * length (words_of is) ≤ handler_place
-  pub steps : c.step ≡ exec (placed events p is)
+  pub may : Registers → Bool
+  pub steps : c.step ≡ watched may (exec (placed events p is))
   pub powers : (s : MachineBoard) (q : PowerState) → IsMachineOfWords s → IsPowerState q → s.fram reset_vector ≡ entry → NamesHandler events s.fram
       → c.IsPoweredUp (machine_powered s q)
 

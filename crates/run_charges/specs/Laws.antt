@@ -104,6 +104,13 @@ StackHasRoom c = (cs : List BoardCharge) (b : BoardValue) (r : RunOutcome) (ms r
     → (marks : Marks) (h : History) → StandsIn c marks b h → is_interruptible (registers_of b.cpu) ≡ false
     → Accepts (last_board b ms) → HasRoom (last_board b ms)
 
+-- at each boundary of a run at which the handler doesn't run the registers are as those of the program may be, where they are at first
+abbrev pub BoardsAreWatched : Program → Type 0
+BoardsAreWatched c = (cs : List BoardCharge) (b : BoardValue) (r : RunOutcome) (ms rest : List Moment) → IsRunOfWords cs b r → r.moments ≡ ms ++ rest
+    → (marks : Marks) (h : History) → (stands : StandsIn c marks b h)
+    → (registers_of b.cpu 0 < handler_place → stands.placed.may (registers_of b.cpu) ≡ true)
+    → registers_of (last_board b ms).cpu 0 < handler_place → stands.placed.may (registers_of (last_board b ms).cpu) ≡ true
+
 -- once it accepts them in a charge, it does so at each later boundary of that at which the handler doesn't run
 abbrev pub InterruptsStayOn : Program → Type 0
 InterruptsStayOn c = (cs : List BoardCharge) (b : BoardValue) (r : RunOutcome) (before : List Moment) (boot : Moment) (first more rest : List Moment)

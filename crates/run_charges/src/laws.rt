@@ -1,6 +1,7 @@
 //! Laws of a run and its charges. The functions do nothing: their contracts are the laws.
 
 ghost use Rattle.run_charges.specs.Laws.{FrontsAreCharges, ProgramsRun, ProgramsRunAlone, FrontsAreCharged, HandlersAreBrief, StackHasRoom, InterruptsStayOn};
+ghost use Rattle.run_charges.specs.Laws.{BoardsAreWatched};
 
 use crash_rules::Compiled;
 
@@ -25,4 +26,9 @@ pub fn fronts_are_charged<S: Compiled>()
 pub fn interrupts_have_room<S: Compiled>()
     ensures stack { StackHasRoom S.program }
     ensures stay { InterruptsStayOn S.program }
+{}
+
+/// At each boundary of a run at which the handler doesn't run the registers are as those of the program may be.
+pub fn boards_are_watched<S: Compiled>()
+    ensures { BoardsAreWatched S.program }
 {}

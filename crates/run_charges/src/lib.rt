@@ -4,4 +4,4 @@
 
 mod laws;
 
-pub use laws::{fronts_are_charged, fronts_are_charges, interrupts_have_room};
+pub use laws::{boards_are_watched, fronts_are_charged, fronts_are_charges, interrupts_have_room};

@@ -14,7 +14,7 @@ use Rattle.runtime_effects.specs.machine_effects.Going.{Goes, At, stretch}
 use Rattle.runtime_effects.specs.machine_effects.Machine.{Code, IsPlace}
 use Rattle.runtime_effects.proofs.machine_effects.Interface.{fram_after-append}
 use Rattle.code_forms.specs.Forms.{Core, Form, Compare, Jump, Constant, instruction_of}
-use Rattle.code_forms.specs.Code.{Stands, AreStraight, forms_run, forms_bytes, FormsNeed, IsTidy}
+use Rattle.code_forms.specs.Code.{Stands, AreStraight, forms_run, forms_bytes, FormsNeed, IsTidy, rules_of, anywhere}
 use Rattle.code_forms.proofs.Interface.{end_of, comes_on, straight_comes, form_comes}
 use Rattle.runtime_code.specs.Counted.{over, size}
 use Rattle.runtime_code.specs.Comes.{Comes, IsAt}
@@ -67,17 +67,18 @@ moved_to e a = so_ends a (λ v h. record { pc = h.pc ∙ e; fram = h.fram; input
 
 module _ (code : Code) (tidy : IsTidy code) where
   -- straight code
-  pub straight : (ms : List Form) (u : Core) → AreStraight ms → Stands code u.pc ms → FormsNeed code.events ms u → (forms_run ms u).status ≡ At (behind ms u)
+  pub straight : (ms : List Form) (u : Core) → AreStraight ms → Stands code u.pc ms → FormsNeed (rules_of (anywhere code)) ms u → (forms_run ms u).status
+      ≡ At (behind ms u)
       → Comes code (forms_run ms u).effects (length ms) (forms_run ms u).cycles u (λ v. v ≡ behind ms u)
   straight ms u st h w e =
       let r = forms_run ms u in
-      straight_comes code tidy ms u (behind ms u) r.effects r.cycles (λ v. v ≡ behind ms u) st h w (ap (stretch r.effects r.cycles) e) refl
+      straight_comes (anywhere code) tidy ms u (behind ms u) r.effects r.cycles (λ v. v ≡ behind ms u) st h w (ap (stretch r.effects r.cycles) e) refl
 
   -- a jump, by whether its condition is met
   pub jumps : (c : Condition) (o to next : ℕ) (b : Bool) (u : Core) → code.at u.pc ≡ Some (instruction_of (Jump c o)) → word_sum (u.pc + 2) (distance o) ≡ to
       → u.pc + 2 ≡ next → is_met c u.flags ≡ b → Comes code [] 1 2 u (λ v. v ≡ record u { pc = if b then to else next })
   jumps c o to next b u h there here met =
-      form_comes code tidy (Jump c o) u (record u { pc = if b then to else next }) [] 2 (λ v. v ≡ record u { pc = if b then to else next }) h tt
+      form_comes (anywhere code) tidy (Jump c o) u (record u { pc = if b then to else next }) [] 2 (λ v. v ≡ record u { pc = if b then to else next }) h tt
       (ap (λ x. Goes [] 2 (record u { pc = if x then word_sum (u.pc + 2) (distance o) else u.pc + 2 })) met
       ∙ ap (λ x. Goes [] 2 (record u { pc = if b then x else u.pc + 2 })) there
       ∙ ap (λ x. Goes [] 2 (record u { pc = if b then to else x })) here)

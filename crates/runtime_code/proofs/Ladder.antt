@@ -1,5 +1,6 @@
 -- The ladder and the stubs, whatever is done in them.
-use Rattle.std.proofs.Common.{◌≡◌, ℕ, zero, suc, ◌+◌, ◌*◌, ◌%◌, ◌<◌, List, [], ◌∷◌, length, get_or, Some, refl, sym, ap, ◌∙◌, subst, arith, Bool, true, false}
+use Rattle.std.proofs.Common.{◌≡◌, ℕ, zero, suc, ◌+◌, ◌*◌, ◌%◌, ◌<◌, ◌≤◌, List, [], ◌∷◌, length, get_or, Some, refl, sym, ap, ◌∙◌, subst, arith, Bool, true}
+use Rattle.std.proofs.Common.{false}
 use Rattle.std.proofs.Common.{append-nil}
 use Rattle.std.specs.List.{All}
 use Rattle.std.proofs.lemmas.List.Elements.{All-head, All-tail, All-get_or}
@@ -13,7 +14,7 @@ use Rattle.runtime_effects.specs.memory_map.declared.words.RuntimeWord.TheVarian
 use Rattle.runtime_effects.specs.memory_map.MemoryMap.{MemoryMap, word_place}
 use Rattle.runtime_effects.specs.address_space.Limits.{stack_start}
 use Rattle.code_forms.specs.Forms.{Core, Form, Branch, SkipBy, R4, instruction_of}
-use Rattle.code_forms.specs.Code.{Stands, IsTidy, forms_bytes}
+use Rattle.code_forms.specs.Code.{Stands, IsTidy, forms_bytes, anywhere}
 use Rattle.code_forms.proofs.Interface.{stands_front, stands_back, form_comes, comes_on}
 use Rattle.runtime_code.specs.Addresses.{stack_origin}
 use Rattle.runtime_code.specs.Comes.{Comes, IsAt, Enters}
@@ -113,6 +114,10 @@ origin_is_start : (events : Bool) → events ≡ true → stack_origin events �
 origin_is_start true e = refl
 origin_is_start false e = absurd (cc (e))
 
+origin_is_low : (events : Bool) → stack_origin events ≤ 0x10000
+origin_is_low true = omega arith
+origin_is_low false = omega arith
+
 module _ (code : Code) (tidy : IsTidy code) where
   -- to where the rung of the task that CUR names leads
   dispatched : (m : MemoryMap) (p q : ℕ) (ss : List Rung) (f : ℕ → ℕ) (l : Inputs) (u : Core) → HasLadder code m p q ss → IsAt p f l u
@@ -131,10 +136,12 @@ module _ (code : Code) (tidy : IsTidy code) where
       let even = rung_even (stub_at q ss k) (rung_in ss k).code (rung_in ss k).body (stub_is_even q ss k h.even h.each)
       (All-get_or IsRung ss k (record { body = []; bytes = 0; code = 0 }) named h.each).even in
       from_there u at (then_on
-      (straight code tidy (task_found m) s (tt, (tt, (tt, (tt, tt)))) (stands_front code p (task_found m) (SkipBy R4 ∷ []) h.dispatches)
-      ((origin_is_even m.runtime.events, λ e. origin_is_start m.runtime.events (sym h.events ∙ e)), ((h.current, tt), ((tt, tt), ((tt, tt), tt)))) refl)
-      (then_on (form_comes code tidy (SkipBy R4) found skipped [] 2 (λ v. v ≡ skipped) h.dispatches.1.1.1.1.0 (omega (arith, far)) refl refl)
-      (form_comes code tidy (Branch to) skipped (record skipped { pc = to }) [] 3 (Enters to (stack_origin m.runtime.events) f l)
+      (straight code tidy (task_found m) s (tt, (tt, (tt, (tt, tt)))) (stands_front code p (task_found m) (SkipBy R4 ∷ []) h.dispatches) (
+        (origin_is_even m.runtime.events, λ e. origin_is_start m.runtime.events (sym h.events ∙ e), (omega arith, origin_is_low m.runtime.events)),
+        ((h.current, tt), ((tt, tt), ((tt, tt), tt))),
+      ) refl)
+      (then_on (form_comes (anywhere code) tidy (SkipBy R4) found skipped [] 2 (λ v. v ≡ skipped) h.dispatches.1.1.1.1.0 (omega (arith, far)) refl refl)
+      (form_comes (anywhere code) tidy (Branch to) skipped (record skipped { pc = to }) [] 3 (Enters to (stack_origin m.runtime.events) f l)
       (ap code.at there ∙ rung_stands code ss (p + 14) q k h.rungs named) even refl (record { pc = refl; sp = refl; fram = refl; inputs = refl }))))
 
   -- from where a rung leads to the task's code, through its stub where it has one
@@ -145,7 +152,7 @@ module _ (code : Code) (tidy : IsTidy code) where
       recounted (omega arith) (omega arith) (so_ends (does to u tt at) (λ v k. record { pc = k.pc ∙ omega arith; sp = k.sp; fram = k.fram; inputs = k.inputs }))
   entered (m ∷ ms) stub to sp d u even h does at =
       let leaves : (v : Core) → Entered sp d (stub + forms_bytes (m ∷ ms)) v → Comes code [] 1 3 v (Entered sp d to) = λ v k.
-      form_comes code tidy (Branch to) v (record v { pc = to }) [] 3 (Entered sp d to)
+      form_comes (anywhere code) tidy (Branch to) v (record v { pc = to }) [] 3 (Entered sp d to)
       (ap code.at k.pc ∙ (stands_back code stub (m ∷ ms) (Branch to ∷ []) h).0) even refl (record { pc = refl; sp = k.sp; fram = k.fram; inputs = k.inputs }) in
       subst (λ x. Comes code x (d.steps + 1) (d.cycles + 3) u (Entered sp d to)) (append-nil d.effects)
       (comes_on (does stub u (stands_front code stub (m ∷ ms) (Branch to ∷ []) h) at) leaves)

@@ -14,7 +14,7 @@ use Rattle.runtime_effects.specs.machine_effects.Going.{Goes}
 use Rattle.runtime_effects.specs.machine_effects.Machine.{Code}
 use Rattle.runtime_effects.proofs.machine_effects.Interface.{zero_flag, put_other}
 use Rattle.code_forms.specs.Forms.{Core, Form, Move, Calculate, Constant, Number, ToRegister, R4, R5}
-use Rattle.code_forms.specs.Code.{Stands, IsTidy, forms_bytes}
+use Rattle.code_forms.specs.Code.{Stands, IsTidy, forms_bytes, anywhere}
 use Rattle.code_forms.proofs.Interface.{stands_front, stands_back, form_comes, comes_on}
 use Rattle.runtime_code.specs.Comes.{Comes, IsAt}
 use Rattle.runtime_code.specs.Counted.{counted, loop_end, over_loop, back_to_turn, if_any}
@@ -142,7 +142,7 @@ module _ (code : Code) (tidy : IsTidy code) (loop : Loop code) where
       let s : Core = record (tested u) { pc = p + 2 + 2 } in
       let there : p + 2 + 2 + 4 ≡ p + 8 = omega arith in
       then_on (test false u e (zero_flag (u.work 4) l some))
-      (form_comes code tidy (Move (Number address) (ToRegister R5)) s (begun u) [] 2 (λ v. v ≡ begun u) stands.1.1.0 (tt, tt)
+      (form_comes (anywhere code) tidy (Move (Number address) (ToRegister R5)) s (begun u) [] 2 (λ v. v ≡ begun u) stands.1.1.0 (tt, tt)
       (ap (λ x. Goes [] 2 (record s { pc = x; work = put u.work 5 address })) there) refl)
 
   -- the state behind a count

@@ -8,7 +8,7 @@ use Rattle.runtime_effects.specs.memory_map.MemoryMap.{MemoryMap, word_place}
 use Rattle.runtime_effects.specs.Stages.{sends, emits_sent}
 use Rattle.runtime_effects.specs.Needs.{AreInFram}
 use Rattle.code_forms.specs.Forms.{Core}
-use Rattle.code_forms.specs.Code.{Stands, IsTidy}
+use Rattle.code_forms.specs.Code.{Stands, IsTidy, anywhere}
 use Rattle.code_forms.proofs.Interface.{stands_front, forms_behind, no_steps}
 use Rattle.runtime_code.specs.Comes.{Comes, IsAt}
 use Rattle.runtime_code.specs.Counted.{if_any}
@@ -78,7 +78,7 @@ module _ (code : Code) (tidy : IsTidy code) (m : MemoryMap) (places : AreInFram 
 
     -- behind the last one
     all_sent : (x : Next) (u : Core) → IsAt (loop_ends sends_loop) f l u → IsNext 0 x u.work → Makes code turning 0 x u
-    all_sent x u at r = let small = r.small in no_steps code u _ (record { at = at; next_number = r.number ∙ omega (arith, small) })
+    all_sent x u at r = let small = r.small in no_steps (anywhere code) u _ (record { at = at; next_number = r.number ∙ omega (arith, small) })
 
   -- the emitted words are sent
   pub sends_are_made : (p : ℕ) (f : ℕ → ℕ) (l : Inputs) (u : Core) → p + 40 < 0x10000 → Stands code p (sending m) → f (word_place m EmitCount) ≤ m.emits.words

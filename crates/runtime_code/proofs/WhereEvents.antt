@@ -5,7 +5,7 @@ use Rattle.runtime_effects.specs.machine_effects.Machine.{Code, IsPlace}
 use Rattle.runtime_effects.specs.memory_map.MemoryMap.{where_events, with_events}
 use Rattle.runtime_effects.specs.memory_map.event_places.Places.{tail_place, count_place, sent_place}
 use Rattle.code_forms.specs.Forms.{Core, Form}
-use Rattle.code_forms.specs.Code.{Stands, forms_bytes}
+use Rattle.code_forms.specs.Code.{Stands, forms_bytes, anywhere}
 use Rattle.code_forms.specs.Placed.{instructions, AreInstructions}
 use Rattle.code_forms.proofs.Interface.{stands_back, no_steps}
 use Rattle.runtime_code.specs.Comes.{Comes}
@@ -56,4 +56,4 @@ pub where_comes : (code : Code) (events : Bool) (ms : List Form) (es : List Effe
     → let is = where_events events es in Comes code is (with_events events steps) (with_events events cycles) u (Q (p + with_events events bytes) is)
 where_comes code true ms es steps cycles bytes p Q u made h at = made h
 where_comes code false ms es steps cycles bytes p Q u made h at =
-    let e : p ≡ p + 0 = omega arith in no_steps code u _ (subst (λ n. Q n [] u) e at)
+    let e : p ≡ p + 0 = omega arith in no_steps (anywhere code) u _ (subst (λ n. Q n [] u) e at)

@@ -2,7 +2,6 @@
 ghost use Rattle.std.specs.Prelude.{◌≡◌, ◌≤◌, IfOk, IfErr, IfSome, Some, option_map};
 ghost use Rattle.plain_commands.specs.alp_io.Shelf.{NeverFall};
 ghost use Rattle.plain_commands.specs.source_report.task_ast.View.{program_of};
-ghost use Rattle.plain_commands.specs.source_meaning.Plain.{IsPlain};
 ghost use Rattle.fram_state.specs.declared.migration.MigrateFault.{MigrateFault};
 ghost use Rattle.fram_state.specs.Suits.{Suits};
 ghost use Rattle.fram_state.specs.Migrated.{IsStateOf, IsMigrated, IsFault};
@@ -142,7 +141,6 @@ fn check_suits<'t>(
     source: &Accepted,
     image: &Image,
 ) -> Result<(), Failure<'t>>
-    requires plain { IsPlain (program_of source.now.checked.source) }
     ensures suits { IfOk result (λ _. Suits source.now.text.items (program_of source.now.checked.source) image.now) }
     ensures refused { IfErr result (FailsRefused file.now (λ r. (r ≡ other_source)
         × (Suits source.now.text.items (program_of source.now.checked.source) image.now → ⊥))) }
@@ -181,8 +179,6 @@ fn migrated_of<'t>(
     texts: EditionTexts<'t>,
     said: Said,
 ) -> Result<State, Failure<'t>>
-    requires old_plain { IsPlain (program_of said.source.checked.source) }
-    requires new_plain { IsPlain (program_of said.new_source.checked.source) }
     requires old { IsStateOf said.source.text.items (program_of said.source.checked.source) said.state }
     requires new { Suits said.new_source.text.items (program_of said.new_source.checked.source) said.new_image }
     ensures migrated { IfOk result (λ s. OfEditions said (λ old new. IsMigrated old new said.state.receiver s)) }

@@ -9,7 +9,7 @@ use Rattle.runtime_code.specs.machine_effects.Inputs.{Inputs}
 use Rattle.runtime_code.specs.machine_effects.Machine.{Code}
 use Rattle.runtime_code.proofs.machine_effects.Interface.{fram_after-append, fram_untouched}
 use Rattle.runtime_code.specs.code_forms.Forms.{Core, Form, Branch}
-use Rattle.runtime_code.specs.code_forms.Code.{Stands, forms_bytes}
+use Rattle.runtime_code.specs.code_forms.Code.{Stands, forms_bytes, anywhere}
 use Rattle.runtime_code.proofs.code_forms.Interface.{stands_front, stands_back, forms_behind}
 use Rattle.runtime_code.specs.runtime_effects.Needs.{IsOutOf}
 use Rattle.runtime_code.specs.Addresses.{gate_address, stack_origin}
@@ -86,7 +86,7 @@ module _ (code : Code) (m : MemoryMap) (commit : ℕ) (tasks : List LoggedTask) 
       → Comes code [] (with_events events 2 + 3) (with_events events 3 + 9) u (IsAt commit fram inputs)
   commits e named one =
       comes_on (enabled e named) (λ w j. comes_on (looked w one j)
-      (λ v k. form_comes code boot.tidy (Branch commit) v (record v { pc = commit }) [] 3 (IsAt commit fram inputs)
+      (λ v k. form_comes (anywhere code) boot.tidy (Branch commit) v (record v { pc = commit }) [] 3 (IsAt commit fram inputs)
       (ap code.at (k.pc ∙ omega arith) ∙ gated.1.1.0) boot.even_commit refl (record { pc = refl; fram = k.fram; inputs = k.inputs })))
 
   passes : u.pc ≡ at → NamesHandler m fram → fram (word_place m Gate) < 0x10000 → fram (word_place m Gate) ≢ 1

@@ -7,7 +7,7 @@ use Rattle.runtime_code.specs.machine_effects.Inputs.{Inputs}
 use Rattle.runtime_code.specs.machine_effects.Machine.{Code}
 use Rattle.runtime_code.proofs.machine_effects.Interface.{fram_after-append, fram_untouched}
 use Rattle.runtime_code.specs.code_forms.Forms.{Core, Branch}
-use Rattle.runtime_code.specs.code_forms.Code.{Stands, IsTidy}
+use Rattle.runtime_code.specs.code_forms.Code.{Stands, IsTidy, anywhere}
 use Rattle.runtime_code.proofs.code_forms.Interface.{stands_front, forms_behind}
 use Rattle.runtime_code.specs.runtime_effects.Stages.{emits_sent, tail_moved}
 use Rattle.runtime_code.specs.runtime_effects.Needs.{AreInFram}
@@ -42,7 +42,8 @@ module _ (code : Code) (tidy : IsTidy code) (m : MemoryMap) (places : AreInFram 
       subst (λ k. Comes code (es k) 5 21 u (IsAt start (fram_after (es k) f) l)) at.next_number
       (from_there u at.at (then_on (straight code tidy (closing m) s (tt, (tt, (tt, (tt, tt)))) (stands_front code p (closing m) (Branch start ∷ []) h)
       ((places.words NextTask, places.words CurrentTask), ((tt, places.words Base), ((tt, places.words ListLength), ((tt, places.words Gate), tt)))) refl)
-      (form_comes code tidy (Branch start) closed (record closed { pc = start }) [] 3 (IsAt start (fram_after (es (u.work 7)) f) l) h.1.1.1.1.0 even refl
+      (form_comes (anywhere code) tidy (Branch start) closed (record closed { pc = start }) [] 3 (IsAt start (fram_after (es (u.work 7)) f) l) h.1.1.1.1.0
+      even refl
       (record { pc = refl; fram = refl; inputs = refl }))))
 
   -- behind the sends

@@ -8,7 +8,7 @@ use Rattle.runtime_code.specs.machine_effects.Inputs.{Inputs}
 use Rattle.runtime_code.specs.machine_effects.Machine.{Code, IsPlace}
 use Rattle.runtime_code.proofs.machine_effects.Interface.{put_same, put_other, fram_after-append}
 use Rattle.runtime_code.specs.code_forms.Forms.{Core, Branch}
-use Rattle.runtime_code.specs.code_forms.Code.{Stands, IsTidy, forms_bytes}
+use Rattle.runtime_code.specs.code_forms.Code.{Stands, IsTidy, forms_bytes, anywhere}
 use Rattle.runtime_code.proofs.code_forms.Interface.{forms_bytes-append, stands_front, stands_back}
 use Rattle.runtime_code.specs.runtime_effects.Needs.{AreInFram}
 use Rattle.runtime_code.specs.Comes.{Comes, Enters}
@@ -124,7 +124,7 @@ module _ (code : Code) (tidy : IsTidy code) (m : MemoryMap) (places : AreInFram 
   pub logs_done : (i : ℕ) (xs : List ℕ) (f : ℕ → ℕ) (l : Inputs) → f (word_place m ListLength) ≡ i → i + length xs ≤ m.entries → All (IsLoggable m) xs
       → Does code sp (logs_in m i xs) (logging m xs f l)
   logs_done i [] f l count few ok p u h at =
-      nothing code u _ (record { pc = at.pc ∙ omega arith; sp = at.sp; fram = at.fram; inputs = at.inputs })
+      nothing (anywhere code) u _ (record { pc = at.pc ∙ omega arith; sp = at.sp; fram = at.fram; inputs = at.inputs })
   logs_done i (a ∷ rest) f l count few ok p u h at =
       let is = All-head (IsLoggable m) a rest ok in
       let lt : i < m.entries = omega (arith, few) in

@@ -6,7 +6,7 @@ use Rattle.runtime_code.specs.machine_effects.Inputs.{Inputs}
 use Rattle.runtime_code.specs.machine_effects.Machine.{Code, IsPlace}
 use Rattle.runtime_code.proofs.machine_effects.Interface.{put_other}
 use Rattle.runtime_code.specs.code_forms.Forms.{Core}
-use Rattle.runtime_code.specs.code_forms.Code.{Stands, IsTidy}
+use Rattle.runtime_code.specs.code_forms.Code.{Stands, IsTidy, anywhere}
 use Rattle.runtime_code.proofs.code_forms.Interface.{forms_at, forms_behind}
 use Rattle.runtime_code.specs.runtime_effects.Needs.{AreInFram}
 use Rattle.runtime_code.specs.Comes.{Comes, IsAt}
@@ -150,7 +150,7 @@ module _ (code : Code) (tidy : IsTidy code) (m : MemoryMap) (places : AreInFram 
 
     -- behind the last one
     all_back : (f : ℕ → ℕ) (u : Core) → IsAt (loop_ends backs) f l u → CanPutBack 0 f → Makes code turning 0 f u
-    all_back f u at r = nothing code u _ at
+    all_back f u at r = nothing (anywhere code) u _ at
 
   -- the recovery, of 36 bytes
   pub recovers : (p : ℕ) (f : ℕ → ℕ) (l : Inputs) (u : Core) → p + 40 < 0x10000 → Stands code p (recovering m) → CanRecover m f → IsAt p f l u

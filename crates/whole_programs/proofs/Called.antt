@@ -1,9 +1,9 @@
 -- The functions of a task: each may be called where it is, its locals and its stack below those of its caller; its body is sound, and each way through
 -- it ends by giving a word.
 use Rattle.std.proofs.Common.{◌≡◌, ℕ, zero, suc, ◌+◌, ◌-◌, ◌*◌, ◌%◌, ◌<◌, ◌≤◌, ◌||◌, Bool, true, false, not, nat_eq, nat_lt, if◌then◌else◌}
-use Rattle.std.proofs.Common.{List, [], ◌∷◌, length, map, take, Option, Some, None, IsSomeAnd, slice_get, slice_index_or, refl, sym, ap, subst, ◌∙◌}
-use Rattle.std.proofs.Common.{◌⊎◌, inl, inr, ⊎_elim, arith, ltb-true}
-use Rattle.std.proofs.lemmas.Bool.{cases_lt}
+use Rattle.std.proofs.Common.{List, [], ◌∷◌, length, take, Option, Some, None, IsSomeAnd, slice_get, slice_index_or, refl, sym, ap, subst, ◌∙◌}
+use Rattle.std.proofs.Common.{inl, inr, ⊎_elim, arith, ltb-true}
+use Rattle.std.proofs.lemmas.Bool.{cases_lt, or_right}
 use Rattle.std.proofs.lemmas.Bool.Decides.{nat_tests}
 use Rattle.std.proofs.lemmas.List.{take-take, length-take-le}
 use Rattle.std.proofs.lemmas.Option.{same_Some, slice_get_within}
@@ -32,7 +32,7 @@ use Rattle.checked_trees.specs.WellFormed.{HasParameters, IsWellFormed, IsWellFo
 use Rattle.checked_trees.proofs.Interface.{not_given, safe_paths}
 use Rattle.whole_programs.proofs.Placed.{PlacesOfWords, routine_words}
 use Rattle.whole_programs.proofs.Rooms.{room_of, has_room}
-use Rattle.whole_programs.proofs.Fit.{OfCalls, each_call, or_second, Setting, IsFitBlock}
+use Rattle.whole_programs.proofs.Fit.{OfCalls, each_call, Setting, IsFitBlock}
 use Rattle.whole_programs.proofs.Ways.{at, Covers, body_way, task_way}
 use Rattle.whole_programs.proofs.Steps.{Code, Sound, StepSound, block_sound}
 
@@ -104,7 +104,7 @@ entered_by : (first n x : ℕ) → x < suc n → (x < n → entered first n (fir
 entered_by first n x l in_front = ⊎_elim before last (cases_lt x n)
   where
     before : x < n → (nat_eq (first + x) (first + n) || entered first n (first + x)) ≡ true
-    before low = or_second (nat_eq (first + x) (first + n)) (entered first n (first + x)) (in_front low)
+    before low = or_right (nat_eq (first + x) (first + n)) (entered first n (first + x)) (in_front low)
 
     last : n ≤ x → (nat_eq (first + x) (first + n) || entered first n (first + x)) ≡ true
     last high =
@@ -174,6 +174,10 @@ module _ (program : CheckedProgram) (body : CheckedBlock) (p : Places) (task : T
 
   abbrev words_of_stack : ℕ
   words_of_stack = stack_of (summaries program) body
+
+  -- no stack of the task, nor of what it calls, goes below this address
+  abbrev pub bottom : ℕ
+  bottom = stack.top - 2 * (words_of_stack - 16)
 
   frames : FramesStand program body
   frames = frames_stand program body task.calls task.below
@@ -248,7 +252,7 @@ module _ (program : CheckedProgram) (body : CheckedBlock) (p : Places) (task : T
   task_callee j count made =
       let of = there j count made.0 in
       here j of.function of.at
-      (or_second (some_called_from (λ k. block_calls k body) (λ s. s.reaches j) 0 (summaries program)) (block_calls j body) made.2)
+      (or_right (some_called_from (λ k. block_calls k body) (λ s. s.reaches j) 0 (summaries program)) (block_calls j body) made.2)
 
   -- ---- one function
 
@@ -279,7 +283,7 @@ module _ (program : CheckedProgram) (body : CheckedBlock) (p : Places) (task : T
     abbrev pub code_of : ℕ → Code
     code_of low = record {
       locals = IsOwn l.base (register_end l) (frame_begin h.place.frame low) low;
-      bounds = record { first = l.base; low = floor; framed = stack.framed };
+      bounds = record { first = l.base; low = floor; floor = bottom; framed = stack.framed };
       gives = true;
     }
 
@@ -381,6 +385,7 @@ module _ (program : CheckedProgram) (body : CheckedBlock) (p : Places) (task : T
     record IsCaller (c : Code) : Type 0 where
       registers : register_end l ≤ c.bounds.first
       high : ceiling ≤ c.bounds.low
+      floor_is : c.bounds.floor ≡ bottom
       framed_is : c.bounds.framed ≡ stack.framed
       sound : Sound (code_of c.bounds.low) program_of
 
@@ -397,11 +402,15 @@ module _ (program : CheckedProgram) (body : CheckedBlock) (p : Places) (task : T
           ordered = end_behind (is_light l) l.base l.own;
           registers = caller.registers;
           fits = fits;
+          floor = let is = caller.floor_is in let low = frames.within k h.known h.is h.reached in omega (arith, is, low);
           spare = record { fits = omega (arith, high) };
           parameters = λ n low. own_place c.bounds.low n caller.high (omega (arith, low, is));
           locals = caller.sound.0;
           ways = function_way;
-          deeper = subst (λ b. IsFormed (record { first = l.base; low = floor; framed = b }) true program_of) (sym caller.framed_is) caller.sound.1;
+          deeper =
+              subst (λ b. IsFormed (record { first = l.base; low = floor; floor = c.bounds.floor; framed = b }) true program_of) (sym caller.framed_is)
+              (subst (λ n. IsFormed (record { first = l.base; low = floor; floor = n; framed = stack.framed }) true program_of) (sym caller.floor_is)
+              caller.sound.1);
         }
       where
         fits : FrameFits c.bounds h.place.frame floor (room_of f.body)
@@ -457,6 +466,7 @@ module _ (program : CheckedProgram) (body : CheckedBlock) (p : Places) (task : T
         let caller : IsCaller j callee (code_of k h low) = record {
           registers = locals_of.callees j k h.known.function (l k h) (l j callee) made.1 h.is.function h.is.locals callee.is.locals made.2;
           high = below;
+          floor_is = refl;
           framed_is = refl;
           sound = sound j made.1 callee (floor k h) below;
         } in
@@ -507,7 +517,7 @@ module _ (program : CheckedProgram) (body : CheckedBlock) (p : Places) (task : T
   abbrev pub task_code : ℕ → Code
   task_code locals = record {
     locals = λ n. base ≤ n × n < locals;
-    bounds = record { first = base; low = stack.top - 2 * frame_of 0 body; framed = stack.framed };
+    bounds = record { first = base; low = stack.top - 2 * frame_of 0 body; floor = bottom; framed = stack.framed };
     gives = false;
   }
 
@@ -532,6 +542,7 @@ module _ (program : CheckedProgram) (body : CheckedBlock) (p : Places) (task : T
         let caller : IsCaller j callee (task_code locals) = record {
           registers = locals_of.callees_of_task body j (l j callee) callee.is.locals made.2;
           high = under;
+          floor_is = refl;
           framed_is = refl;
           sound = sound_below (suc j) j (omega arith) callee (stack.top - 2 * frame_of 0 body) under;
         } in

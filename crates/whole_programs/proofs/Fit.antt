@@ -1,7 +1,7 @@
 -- What a body has of which the word program is made: it is well-formed, its expressions have room, its locals are its own, what is asked of its calls
 -- holds of each, and it ends as it may.
-use Rattle.std.proofs.Common.{◌≡◌, ℕ, ◌==◌, ◌<◌, ◌||◌, Bool, true, false, List, Some, None, refl, ap, ◌∙◌, arith, eq-eqb}
-use Rattle.std.proofs.lemmas.Bool.{and_parts}
+use Rattle.std.proofs.Common.{◌≡◌, ℕ, ◌==◌, ◌<◌, ◌||◌, Bool, true, List, Some, None, refl, arith, eq-eqb}
+use Rattle.std.proofs.lemmas.Bool.{and_parts, or_left, or_right}
 use Rattle.task_ast.specs.Tree as t
 use Rattle.task_ast.specs.Calls.{CallsAreBelow, ValuesCallBelow, StatementCallsBelow, ChoiceCallsBelow, BlockCallsBelow}
 use Rattle.task_ast.specs.Paths.{CheckedExpression, CheckedValues, CheckedStatement, CheckedChoice, CheckedBlock, CheckedFunction}
@@ -81,16 +81,6 @@ mutual
   any_calls t.no_value = tt
   any_calls (t.value e more) = (any_call e, any_calls more)
 
-or_first : (a b : Bool) → a ≡ true → (a || b) ≡ true
-or_first a b h = ap (λ c. c || b) h
-
-pub or_second : (a b : Bool) → b ≡ true → (a || b) ≡ true
-or_second a b h = ap (λ c. a || c) h ∙ anyway a
-  where
-    anyway : (c : Bool) → (c || true) ≡ true
-    anyway true = refl
-    anyway false = refl
-
 -- a text calls those of the first n functions that it names, with as many values as they have parameters
 module _ (functions : List CheckedFunction) (n : ℕ) (P : OfCalls) where
   -- what holds of each function that a text calls
@@ -98,10 +88,10 @@ module _ (functions : List CheckedFunction) (n : ℕ) (P : OfCalls) where
   Holds calls = (k count : ℕ) → HasParameters functions k count → k < n → calls k ≡ true → P k count
 
   first_holds : (f g : ℕ → Bool) → Holds (λ k. f k || g k) → Holds f
-  first_holds f g h k count has low calls = h k count has low (or_first (f k) (g k) calls)
+  first_holds f g h k count has low calls = h k count has low (or_left (f k) (g k) calls)
 
   second_holds : (f g : ℕ → Bool) → Holds (λ k. f k || g k) → Holds g
-  second_holds f g h k count has low calls = h k count has low (or_second (f k) (g k) calls)
+  second_holds f g h k count has low calls = h k count has low (or_right (f k) (g k) calls)
 
   mutual
     each_of_expression : (e : CheckedExpression) → ExpressionCounts functions e → CallsAreBelow n e → Holds (λ k. expression_calls k e)
@@ -114,7 +104,7 @@ module _ (functions : List CheckedFunction) (n : ℕ) (P : OfCalls) where
     each_of_expression t.next_event counts low h = tt
     each_of_expression (t.call f values) counts low h = (
       h f.function (values_in values) counts.0 low.0
-          (or_first (f.function == f.function) (values_call f.function values) (eq-eqb f.function f.function refl)),
+          (or_left (f.function == f.function) (values_call f.function values) (eq-eqb f.function f.function refl)),
       each_of_values values counts.1 low.1 (second_holds (λ k. f.function == k) (λ k. values_call k values) h),
     )
     each_of_expression (t.unary op e) counts low h = each_of_expression e counts low h

@@ -15,6 +15,7 @@ use Rattle.function_locals.specs.Events.{all_light, task_fits, tasks_fit, has_no
 use Rattle.function_locals.proofs.Interface.{locals_stand}
 use Rattle.array_versions.specs.Form.{stack_base}
 use Rattle.whole_programs.proofs.Rooms.{room_of}
+use Rattle.whole_programs.specs.Laws.{stack_entry}
 use Rattle.whole_programs.proofs.Called.{Stack}
 
 -- ---- lists
@@ -54,6 +55,7 @@ pub record HasEventRoom (top low locals room : ℕ) (framed : Bool) : Type 0 whe
 -- a task's own locals are below a number; its stack has room below them, and above those of all that it calls
 pub record Ground (program : CheckedProgram) (body : CheckedBlock) : Type 0 where
   pub stack : Stack program body
+  pub begins : stack.top ≡ stack_entry (uses_events program)
   pub locals : ℕ
   pub below : (n : ℕ) → n < 256 → n < block_locals body → base_of (all_locals program.functions) body + n < locals
   pub fits : HasStackRoom (stack_base locals) (room_of body)
@@ -65,10 +67,10 @@ module _ (program : CheckedProgram) (body : CheckedBlock) (few : stack_of (summa
   base = base_of (all_locals program.functions) body
 
   -- below the room for the most locals, where what it calls has none in RAM
-  low_ground : ((n : ℕ) → n < 256 → n < block_locals body → base + n < 256)
+  low_ground : uses_events program ≡ true → ((n : ℕ) → n < 256 → n < block_locals body → base + n < 256)
       → ((k : ℕ) (f : CheckedFunction) → slice_get program.functions k ≡ Some f → stack_of (summaries program) body ≤ 776)
       → ((k : ℕ) (l : FunctionLocals) → slice_get (all_locals program.functions) k ≡ Some l → is_light l ≡ true) → Ground program body
-  low_ground below spare light = record {
+  low_ground takes below spare light = record {
     stack = record {
       top = stack_start;
       framed = false;
@@ -76,6 +78,7 @@ module _ (program : CheckedProgram) (body : CheckedBlock) (few : stack_of (summa
       whole = λ e. absurd (let no : false ≡ true = e in cc);
       light = λ e. light;
     };
+    begins = sym (ap stack_entry takes);
     locals = 256;
     below = below;
     fits = record { fits = omega arith };
@@ -84,8 +87,8 @@ module _ (program : CheckedProgram) (body : CheckedBlock) (few : stack_of (summa
   }
 
   -- at the end of RAM
-  high_ground : (uses_events program ≡ true → ⊥) → Ground program body
-  high_ground none =
+  high_ground : uses_events program ≡ false → Ground program body
+  high_ground takes =
       let registers = (locals_stand program.functions).few_of_task body in record {
         stack = record {
           top = 0x2400;
@@ -94,29 +97,30 @@ module _ (program : CheckedProgram) (body : CheckedBlock) (few : stack_of (summa
           whole = λ e. refl;
           light = λ e. absurd (let no : true ≡ false = e in cc);
         };
+        begins = sym (ap stack_entry takes);
         locals = base + block_locals body;
         below = λ n l own. omega (arith, own);
         fits = record { fits = omega (arith, few, registers) };
         lowest = omega (arith, few, registers);
-        events = λ e. absurd (none e);
+        events = λ e. absurd (let no : true ≡ false = sym e ∙ takes in cc);
       }
 
   -- a source without functions
-  bare_ground : program.functions ≡ [] → Ground program body
-  bare_ground is =
+  bare_ground : uses_events program ≡ true → program.functions ≡ [] → Ground program body
+  bare_ground takes is =
       let none : base ≡ 0 = ap (λ fs. base_of (all_locals fs) body) is in
-      low_ground (λ n l own. omega (arith, l, none))
+      low_ground takes (λ n l own. omega (arith, l, none))
       (λ k f e. absurd (let no : None ≡ Some f = sym (ap (λ fs. slice_get fs k) is) ∙ e in cc))
       (λ k l e. absurd (let no : None ≡ Some l = sym (ap (λ fs. slice_get (all_locals fs) k) is) ∙ e in cc))
 
   -- one whose functions and tasks fit where events are taken
-  fit_ground : all_light (all_locals program.functions) ≡ true → task_fits (summaries program) (all_locals program.functions) body ≡ true
-      → Ground program body
-  fit_ground light fits =
+  fit_ground : uses_events program ≡ true → all_light (all_locals program.functions) ≡ true
+      → task_fits (summaries program) (all_locals program.functions) body ≡ true → Ground program body
+  fit_ground takes light fits =
       let both = and_parts (nat_le (base + block_locals body) 256) (nat_le (stack_of (summaries program) body) 776) fits in
       let own = leb-true (base + block_locals body) 256 both.0 in
       let low = leb-true (stack_of (summaries program) body) 776 both.1 in
-      low_ground (λ n l inside. omega (arith, inside, own)) (λ k f e. low) (λ k l e. light_at (all_locals program.functions) k l light e)
+      low_ground takes (λ n l inside. omega (arith, inside, own)) (λ k f e. low) (λ k l e. light_at (all_locals program.functions) k l light e)
 
 -- each task of a source that fits where it takes events has its ground
 pub ground : (program : CheckedProgram) → fits_events program ≡ true → greatest (stack_of (summaries program)) program.tasks ≤ 1000
@@ -131,8 +135,8 @@ ground program fits within k task e = by (has_none program.functions) refl (uses
 
     by : (none : Bool) → has_none program.functions ≡ none → (events : Bool) → uses_events program ≡ events
         → (none || (not events || (all_light locals && tasks_fit (summaries program) locals program.tasks))) ≡ true → Ground program task.body
-    by true none events takes h = bare_ground program task.body few (none_is program.functions none)
-    by false some false takes h = high_ground program task.body few (λ e. let no : true ≡ false = sym e ∙ takes in cc)
+    by none is false takes h = high_ground program task.body few takes
+    by true none true takes h = bare_ground program task.body few takes (none_is program.functions none)
     by false some true takes h =
         let both = and_parts (all_light locals) (tasks_fit (summaries program) locals program.tasks) h in
-        fit_ground program task.body few both.0 (fits_at (summaries program) locals program.tasks k task both.1 e)
+        fit_ground program task.body few takes both.0 (fits_at (summaries program) locals program.tasks k task both.1 e)

@@ -30,7 +30,7 @@ use Rattle.lower.specs.Seen.{some_path_writes, map_seen, task_seen}
 use Rattle.lower.specs.Lowered.{routine_bodies, task_places, lowered_task, lowered_tasks}
 use Rattle.lower.proofs.Interface.{privates_seen, seen_all, seen_laid_out, first_seen, routines_seen}
 use Rattle.checked_trees.specs.WellFormed.{IsWellFormed}
-use Rattle.whole_programs.specs.Laws.{IsLaidOutText, TasksAreWhole, ProgramsAreWhole, CallsAreTheirs, RoutinesAreLow}
+use Rattle.whole_programs.specs.Laws.{IsLaidOutText, TasksAreWhole, ProgramsAreWhole, CallsAreTheirs, RoutinesAreLow, KeepsToWords, TasksKeepTheirStacks}
 use Rattle.whole_programs.proofs.Rooms.{room_of}
 use Rattle.whole_programs.proofs.Called.{Task, place_low_locals, task_code, task_program, task_sound, way_of_task}
 use Rattle.whole_programs.proofs.Grounds.{below_greatest, Ground, ground}
@@ -61,6 +61,7 @@ module _ (program : CheckedProgram) (body : CheckedBlock) (p : Places) (task : T
     bounds = (task_code program body p task ground.stack ground.locals).bounds;
     fits = ground.fits;
     lowest = ground.lowest;
+    floor = omega arith;
     registers = (locals_stand program.functions).few_of_task body;
     low_locals =
         each_local_as (λ n. base ≤ n × n < ground.locals) (λ n. n < ground.locals) (λ n h. h.1) (task_program program body p task ground.stack) sound.0;
@@ -70,13 +71,16 @@ module _ (program : CheckedProgram) (body : CheckedBlock) (p : Places) (task : T
     ways = way_of_task program body p task ground.stack formed even;
   }
 
-  fits_the_stack : FitsTheStack (uses_events program) (task_program program body p task ground.stack)
+  abbrev fits_the_stack : FitsTheStack (uses_events program) (task_program program body p task ground.stack)
   fits_the_stack = record {
     whole = whole;
     fits = λ e.
         let room = ground.events e in
         record { low = room.high; room = room.room_is; lowest = room.lowest; light = room.light };
   }
+
+  keeps_to_words : KeepsToWords (uses_events program) (stack_of (summaries program) body) (task_program program body p task ground.stack)
+  keeps_to_words = record { fits = fits_the_stack; floor = let begins = ground.begins in omega (arith, begins) }
 
 -- what holds of the program of each function holds of all
 all_map : (g : RoutinePlace → Program) (rs : List RoutinePlace) → ((j : ℕ) (r : RoutinePlace) → slice_get rs j ≡ Some r → LocalsBelow 1016 (g r))
@@ -146,6 +150,15 @@ module _ (text : List ℕ) (program : CheckedProgram) (allow : Allow) (plans : L
         (sound program task.body p is_task has_ground formed first even).2,
       )
 
+  pub words_of_task : KeepsToWords l.runtime.events (stack_of (summaries program) task.body) (lowered_task program.functions l t task.body).own
+  words_of_task =
+      let formed = task_checked text program laid.accepted.checks k task e in
+      let first : own.first ≡ base_of (all_locals program.functions) task.body = first_seen l.runtime.logging t ∙ stands.first in
+      let even = (even_of l laid.layout.rules).commit in
+      let events : uses_events program ≡ l.runtime.events = sym (ap (λ r. r.events) laid.layout.runtime) in
+      subst (λ b. KeepsToWords b (stack_of (summaries program) task.body) (lowered_task program.functions l t task.body).own) events
+      (keeps_to_words program task.body p is_task has_ground formed first even)
+
   pub calls_of_task : CallsAmong t.routines (lowered_task program.functions l t task.body).routines (lowered_task program.functions l t task.body).own
   calls_of_task =
       subst (λ rs. CallsAmong rs (lowered_task program.functions l t task.body).routines (lowered_task program.functions l t task.body).own)
@@ -165,6 +178,9 @@ calls_are_theirs text program allow plans l laid k task t e f = calls_of_task te
 
 pub tasks_are_whole : TasksAreWhole
 tasks_are_whole text program allow plans l laid k task t e f = task_is_whole text program allow plans l laid k task t e f
+
+pub tasks_keep_their_stacks : TasksKeepTheirStacks
+tasks_keep_their_stacks text program allow plans l laid k task t e f = words_of_task text program allow plans l laid k task t e f
 
 -- what holds of each task's program by number holds of all
 all_lowered : (P : TaskPrograms → Type 0) (fs : List CheckedFunction) (l : MemoryMap) (tasks : List CheckedTask) (layouts : List TaskPlace)

@@ -1,12 +1,18 @@
 //! Laws of the word programs of accepted sources. The functions do nothing: their contracts are the laws.
 
 ghost use Rattle.whole_programs.specs.Laws.{TasksAreWhole, ProgramsAreWhole, CallsAreTheirs, RoutinesAreLow, PrivatesAreFew};
+ghost use Rattle.whole_programs.specs.Laws.{TasksKeepTheirStacks};
 
 /// The word program of each task of an accepted source is whole, and its numbers are words: whatever its layout, there is
 /// room for its locals and its stack, it reads no local before it has assigned it, and each way through it ends in the jump
 /// to the commit.
 pub fn tasks_are_whole()
     ensures { TasksAreWhole }
+{}
+
+/// The stack of each task, and those of what it calls, stay within the words of its stack, of which 16 are left to handlers.
+pub fn tasks_keep_their_stacks()
+    ensures { TasksKeepTheirStacks }
 {}
 
 /// The same of the programs of all tasks.

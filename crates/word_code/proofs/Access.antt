@@ -43,7 +43,7 @@ module _ (z : Setting) where
   module _ (size over pc : ℕ) (l : size < 0x10000) (h : Stands z.code pc (check_code size over)) where
     pub check_part : (b : Bool) (to i : ℕ) (w : WordState) (t : Core) → nat_lt i size ≡ b → i < 0x10000
         → (let behind = pc + forms_bytes (check_code size over) in (if b then behind else sum16 behind (distance over)) ≡ to) → t.work 4 ≡ i
-        → StandsFor z pc w t → Runs z.code [] 4 t (Holds z (AreThese t.work) to w)
+        → StandsFor z pc w t → Runs z.kept [] 4 t (Holds z (AreThese t.work) to w)
     check_part b to i w t lt r e v k =
         let m = Calculate op.Cmp (number_source size) R4 in
         let mid = pc + form_bytes m in
@@ -79,7 +79,7 @@ module _ (z : Setting) where
 
     -- the index is not below the length
     pub checked_past : (i : ℕ) (w : WordState) (t : Core) → forms_bytes ms + 2 ≡ 2 * over → over ≤ 511 → nat_lt i size ≡ false → i < 0x10000
-        → Has z R4 pc w i t → Runs z.code [] 5 t (Has z R4 (beyond + 4) w 0)
+        → Has z R4 pc w i t → Runs z.kept [] 5 t (Has z R4 (beyond + 4) w 0)
     checked_past i w t far near lt r k =
         let high = (z.tidy (beyond + 2) _ zero_stands.1.0).high in
         let to : sum16 within (distance over) ≡ beyond + 2 = ap (sum16 within) (near_distance over near) ∙ omega (arith, far) in
@@ -89,13 +89,13 @@ module _ (z : Setting) where
         (λ s. record { is = s; held = refl }))
 
     -- it is
-    pub checked_within : (i : ℕ) (w : WordState) (t : Core) → nat_lt i size ≡ true → i < 0x10000 → Has z R4 pc w i t → Runs z.code [] 4 t (Has z R4 within w i)
+    pub checked_within : (i : ℕ) (w : WordState) (t : Core) → nat_lt i size ≡ true → i < 0x10000 → Has z R4 pc w i t → Runs z.kept [] 4 t (Has z R4 within w i)
     checked_within i w t lt r k =
         so_runs (check_part size over pc l check_stands true within i w t lt r refl k.held k.is)
         (λ u j. record { is = j.is; held = ap (λ (f : ℕ → ℕ). f 4) j.held ∙ k.held })
 
     -- what the code has made goes over the 0
-    pub over_zero : (v : ℕ) (w : WordState) (t : Core) → Has z R4 beyond w v t → Runs z.code [] 2 t (Has z R4 (beyond + 4) w v)
+    pub over_zero : (v : ℕ) (w : WordState) (t : Core) → Has z R4 beyond w v t → Runs z.kept [] 2 t (Has z R4 (beyond + 4) w v)
     over_zero v w t k =
         let high = (z.tidy (beyond + 2) _ zero_stands.1.0).high in
         let to : sum16 (beyond + 2) (distance 1) ≡ beyond + 4 = omega arith in
@@ -105,7 +105,7 @@ module _ (z : Setting) where
 
   -- at an index below the length it is a word of FRAM
   fetch_part : (base pc i : ℕ) (w : WordState) (t : Core) → IsPlace (2 * i + base) → Stands z.code pc (fetch_code base) → Has z R4 pc w i t
-      → Runs z.code [] 4 t (Has z R4 (pc + 6) w (w.fram (2 * i + base)))
+      → Runs z.kept [] 4 t (Has z R4 (pc + 6) w (w.fram (2 * i + base)))
   fetch_part base pc i w t f h k =
       route z pc (fetch_code base) h 0 (starts z k.is) (k.held, refl, refl, refl) (on 2 ∷ []) 4 _ (_, ((tt, tt), ((doubled_fits i base f, tt), tt)), (refl, tt))
       refl refl (λ s. record { is = s; held = ap (λ v. w.fram (v + base)) (twice i base (address_small f)) })
@@ -119,24 +119,24 @@ module _ (z : Setting) where
   -- by whether the index is surely below the length
   pub past_end : (b : Bool) (base size pc i : ℕ) (w : WordState) (t : Core) → Indexed size pc i w t → Stands z.code pc (element_code b base size)
       → (b ≡ true → nat_lt i size ≡ true) → nat_lt i size ≡ false
-      → Runs z.code [] 10 t (Has z R4 (pc + forms_bytes (element_code b base size)) w 0)
+      → Runs z.kept [] 10 t (Has z R4 (pc + forms_bytes (element_code b base size)) w 0)
   past_end true base size pc i w t k h sure below = absurd (both_ways (nat_lt i size) below (sure refl))
   past_end false base size pc i w t k h sure below =
       let ms = fetch_code base in
       dearer z (omega arith)
-      (subst (λ p. Runs z.code [] 5 t (Has z R4 p w 0)) (checked_end size 4 pc ms k.small h)
+      (subst (λ p. Runs z.kept [] 5 t (Has z R4 p w 0)) (checked_end size 4 pc ms k.small h)
       (checked_past size 4 pc ms k.small h i w t refl (omega arith) below k.index k.held))
 
   pub before_end : (b : Bool) (base size pc i : ℕ) (w : WordState) (t : Core) → Indexed size pc i w t → Stands z.code pc (element_code b base size)
       → nat_lt i size ≡ true → IsPlace (2 * i + base)
-      → Runs z.code [] 10 t (Has z R4 (pc + forms_bytes (element_code b base size)) w (w.fram (2 * i + base)))
+      → Runs z.kept [] 10 t (Has z R4 (pc + forms_bytes (element_code b base size)) w (w.fram (2 * i + base)))
   before_end true base size pc i w t k h lt f = dearer z (omega arith) (fetch_part base pc i w t f h k.held)
   before_end false base size pc i w t k h lt f =
       let l = k.small in
       let v = w.fram (2 * i + base) in
       let ms = fetch_code base in
       let at = within size 4 pc ms l h in
-      subst (λ p. Runs z.code [] 10 t (Has z R4 p w v)) (checked_end size 4 pc ms l h)
+      subst (λ p. Runs z.kept [] 10 t (Has z R4 p w v)) (checked_end size 4 pc ms l h)
       (runs_on z (checked_within size 4 pc ms l h i w t lt k.index k.held) (λ u j. runs_on z (fetch_part base at i w u f (within_stands size 4 pc ms l h) j)
       (λ q n. over_zero size 4 pc ms l h v w q n)))
 
@@ -212,7 +212,7 @@ module _ (z : Setting) where
 
     -- by whether it has one word
     entry_by : (b : Bool) → (words == 1) ≡ b → Stands z.code pc (code_by b)
-        → Runs z.code entry 26 u (StandsFor z (pc + forms_bytes (code_by b)) (stored count counted three))
+        → Runs z.kept entry 26 u (StandsFor z (pc + forms_bytes (code_by b)) (stored count counted three))
     entry_by true e h =
         let g1 = subst IsPlace (sym first) f1 in let g2 = subst IsPlace (sym second) f2 in let g4 = subst IsPlace (sym third) f4 in
         dearer z (omega arith)

@@ -124,7 +124,7 @@ module _ (z : Setting) where
 
   value_part : (m v pc : ℕ) (os : List Waiting) (vs : List ℕ) (w : WordState) (u : Core) → m < z.own → w.stack ≡ v ∷ vs
       → (let form = Move (source_from (top_of os)) (ToRegister (local_register m)) in Stands z.code pc (form ∷ []) → Describes z os pc w u
-      → Runs z.code [] (load_cycles (top_of os)) u (Waits z (below_top os) (pc + forms_bytes (form ∷ [])) (with_stack vs w) (IsPassed m v u.work)))
+      → Runs z.kept [] (load_cycles (top_of os)) u (Waits z (below_top os) (pc + forms_bytes (form ∷ [])) (with_stack vs w) (IsPassed m v u.work)))
   value_part m v pc os vs w u low e h d =
       let x = source_from (top_of os) in
       let under = below_top os in
@@ -163,7 +163,7 @@ module _ (z : Setting) where
 
   values_part : (first : ℕ) (words vs : List ℕ) (os : List Waiting) (pc : ℕ) (w : WordState) (u : Core) → ((j : ℕ) → j < length words → first + j < z.own)
       → w.stack ≡ words ++ vs → (let n = length words in Stands z.code pc (values_code first n os) → Describes z os pc w u
-      → Runs z.code [] (values_cycles n os) u
+      → Runs z.kept [] (values_cycles n os) u
       (Waits z (below_words n os) (pc + forms_bytes (values_code first n os)) (with_stack vs w) (ArePassed first words u.work)))
   values_part first [] vs os pc w u low e h d =
       let same : pc ≡ pc + 0 = omega arith in
@@ -183,7 +183,7 @@ module _ (z : Setting) where
       let own = low n (omega arith) in
       let few = z.few in let ordered = z.ordered in
       let behind = subst (λ p. Stands z.code p rest) front h.1 in
-      subst (λ p. Runs z.code [] (load_cycles (top_of os) + values_cycles n under) u
+      subst (λ p. Runs z.kept [] (load_cycles (top_of os) + values_cycles n under) u
       (Waits z (below_words n under) p (with_stack vs w) (ArePassed first (v ∷ words) u.work))) end
       (runs_on z (value_part m v pc os (words ++ vs) w u own e (h.0, tt) d) (λ t k.
       so_runs (values_part first words vs under mid (with_stack (words ++ vs) w) t (λ j l. low j (omega (arith, l))) refl behind k.is) (λ q j. record {
@@ -212,7 +212,7 @@ module _ (z : Setting) where
 
     abbrev pub callee : (top : ℕ) (t : Core) → Enters top t → Setting
     callee top t e = record {
-      code = z.code;
+      kept = z.kept;
       tidy = z.tidy;
       own = x.own;
       registers = x.end;
@@ -221,6 +221,7 @@ module _ (z : Setting) where
       room = x.room;
       top = top;
       low = x.lowest;
+      bottom = z.bottom;
       framed = z.framed;
       gives = true;
       entered = t;
@@ -228,16 +229,20 @@ module _ (z : Setting) where
       few = let r : x.end ≤ z.own = x.registers in let o = z.ordered in let f = z.few in omega (arith, r);
       even = e.even;
       high = let h = e.high in let i = z.high in omega (arith, h);
+      within = let h = e.high in let i = z.within in omega (arith, h);
       start = λ k. let s = callee_start top e.high k in omega (arith, s);
       above = e.above;
       inside = let d = z.deep in let h = z.high in omega (arith, d);
       deep = e.deep;
+      floor = x.floor;
+      lowest = z.lowest;
       roomy = record { fits = let s = x.spare.fits in let d = e.deep in omega (arith, s, d) };
       light = z.light;
       returns = λ k. record {
         outside = e.outside;
         high = let h = e.high in let i = z.high in omega (arith, h);
         start = callee_start top e.high;
+        within = let h = e.high in let i = z.within in omega (arith, h);
         even = e.back;
       };
     }
@@ -282,13 +287,13 @@ module _ (z : Setting) where
       -- behind its code, by how its body ends: so many cycles are spent behind its return
       pub call_ends : (last most behind end : ℕ) (s : WordState) (es : List Effect) (b : End) → FollowsEnd inner last most t es b
           → ((v : ℕ) (w : WordState) (q : Core) → HasReturned inner v w q
-          → Runs z.code [] behind q (Describes z (waiting.R4 ∷ []) end (record w { stack = v ∷ s.stack; locals = s.locals })))
+          → Runs z.kept [] behind q (Describes z (waiting.R4 ∷ []) end (record w { stack = v ∷ s.stack; locals = s.locals })))
           → (let all = called_behind s (behaves es b) in
           Reaches z 3 (Describes z (waiting.R4 ∷ []) end) (most + (behind + 3)) t all.effects all.end)
       call_ends last most behind end s es (Gives v w) a f =
           record { spent = most + behind; within = omega arith; runs = runs_on z a (λ q h. f v w q h) }
       call_ends last most behind end s es Short a f =
-          subst (λ l. Starves z.code l (most + (behind + 3)) t) (sym (append-nil es)) (dearer_stall z es most (most + (behind + 3)) t (omega arith) a)
+          subst (λ l. Starves z.kept l (most + (behind + 3)) t) (sym (append-nil es)) (dearer_stall z es most (most + (behind + 3)) t (omega arith) a)
       call_ends last most behind end s es _ a f = tt
 
   -- the caller's stack stays above what it leaves to others
@@ -310,7 +315,7 @@ module _ (z : Setting) where
     pass_part : ((j : ℕ) → j < length words → first + j < z.own) → w.stack ≡ words ++ vs
         → (let n = length words in let under = below_words n os in let ms = values_code first n os ++ flushed under in
         Stands z.code pc ms → Describes z os pc w u
-        → Runs z.code [] (values_cycles n os + owed under) u (AreThere first words (pc + forms_bytes ms) (with_stack vs w)))
+        → Runs z.kept [] (values_cycles n os + owed under) u (AreThere first words (pc + forms_bytes ms) (with_stack vs w)))
     pass_part low e h d =
         let n = length words in
         let under = below_words n os in
@@ -408,24 +413,26 @@ module _ (z : Setting) where
 
   -- the word that is given is in R4, and nothing else is on the stack
   give_hop : (pc v : ℕ) (w : WordState) (t : Core) → z.gives ≡ true → w.stack ≡ [] → Stands z.code pc (Return ∷ []) → With (StandsFor z pc w) (HasWord R4 v) t
-      → Runs z.code [] 3 t (HasReturned z v w)
+      → Runs z.kept [] 3 t (HasReturned z v w)
   give_hop pc v w t gives none h k =
       let i = k.is in
       let back = z.returns gives in
       let high = back.high in let parity = z.even in let roomy = z.roomy.fits in
+      let within = back.within in let deep = z.deep in let floor = z.floor in let lowest = z.lowest in
       let sp : t.sp ≡ z.top = omega (arith, i.memory.depth, ap (length {A = ℕ}) none) in
       let word : t.ram t.sp ≡ z.entered.ram z.top = ap t.ram sp ∙ i.memory.keeps.ram_words z.top (omega arith) back.outside in
       hop z Return 3 t (record t { pc = t.ram t.sp; sp = t.sp + 2 }) [] 3 (HasReturned z v w) (ap z.code.at i.at ∙ h.0) (
         record { even = omega (arith, sp); low = omega (arith, sp); high = omega (arith, sp) },
         λ k. (let start = back.start k in omega (arith, sp, start)),
         ap (λ a. a % 2) word ∙ back.even,
+        (omega (arith, sp), omega (arith, sp)),
       ) refl (omega arith)
       (record { pc = word; sp = ap (λ n. n + 2) sp; result = k.held; fram = i.fram; inputs = i.inputs; keeps = i.memory.keeps })
 
   -- where nothing waits below the top
   give_from : (v pc : ℕ) (os : List Waiting) (w : WordState) (u : Core) → z.gives ≡ true → w.stack ≡ v ∷ [] → below_top os ≡ []
       → Stands z.code pc (give_code os) → Describes z os pc w u
-      → Runs z.code [] (load_cycles (top_of os) + 3) u (HasReturned z v (with_stack [] w))
+      → Runs z.kept [] (load_cycles (top_of os) + 3) u (HasReturned z v (with_stack [] w))
   give_from v pc os w u gives e under h d =
       let front = four_from (top_of os) in
       let mid = pc + forms_bytes front in

@@ -5,7 +5,7 @@ use Rattle.word_code.proofs.Names.{to_register, source_operand, TwoOp, IsNotMov,
 use Rattle.word_code.proofs.Names.{◌∷◌, Some, refl, sym, ap, ap₂, ◌∙◌, subst, arith, Bool, true, false, if◌then◌else◌, not-not, Flags, Word, Condition, is_met}
 use Rattle.word_code.proofs.Names.{R4, Core, Constant, Form, Calculate, instruction_of, Stands, forms_bytes, Runs, Comparison, Above, SignedAbove, CommonBit}
 use Rattle.word_code.proofs.Names.{List, ◌++◌, stands_back, forms_bytes-append, is_true, compare_words, WordState, Behaviour, compare_form, holding}
-use Rattle.word_code.proofs.Names.{failing, jump_over, decision}
+use Rattle.word_code.proofs.Names.{failing, jump_over, decision, rules_of}
 use Rattle.word_code.proofs.Middles.{IsRead, calculate}
 use Rattle.word_code.proofs.Follows.{stands_elsewhere, StandsFor, Follows, then_end}
 use Rattle.word_code.proofs.Registers.{Holds, Has, line, equal_flag}
@@ -59,7 +59,7 @@ module _ (z : Setting) where
   -- the jump alone
   module _ (w : WordState) (t : Core) where
     pub decision_part : (when b : Bool) (pc d held failed : ℕ) (met opposite : Condition) → Forked when d pc (decision when d met opposite) held failed
-        → pc < 0x10000 → Decided z pc w b met opposite t → Runs z.code [] 5 t (StandsFor z (if b then held else failed) w)
+        → pc < 0x10000 → Decided z pc w b met opposite t → Runs z.kept [] 5 t (StandsFor z (if b then held else failed) w)
     decision_part true true pc d held failed met opposite k l i =
         let low = stands_low z pc (jump_over met opposite d) k.stands l in
         over_part z true pc d held met opposite w t k.stands k.fork.holds (omega (arith, k.fork.room low, k.fork.holds)) i
@@ -78,7 +78,7 @@ module _ (z : Setting) where
   -- the code that follows where it is decided, and the way that is taken
   module _ {when : Bool} {pc d held failed : ℕ} {met opposite : Condition} (k : Forked when d pc (decision when d met opposite) held failed)
       (low : pc < 0x10000) where
-    pub decided_follows : (b : Bool) (n end m o : ℕ) (w : WordState) (u : Core) (x y : Behaviour) → Runs z.code [] n u (Decided z pc w b met opposite)
+    pub decided_follows : (b : Bool) (n end m o : ℕ) (w : WordState) (u : Core) (x y : Behaviour) → Runs z.kept [] n u (Decided z pc w b met opposite)
         → ((t : Core) → StandsFor z held w t → Follows z end m t x) → ((t : Core) → StandsFor z failed w t → Follows z end o t y)
         → Follows z end (n + 5 + (if b then m else o)) u (if b then x else y)
     decided_follows true n end m o w u x y r f g =
@@ -92,7 +92,7 @@ module _ (z : Setting) where
   zero_test = Calculate op.Cmp (Constant konst.Zero) R4
 
   pub holds_part : (pc v : ℕ) (w : WordState) (t : Core) → v < 0x10000 → z.code.at pc ≡ Some (instruction_of zero_test) → Has z R4 pc w v t
-      → Runs z.code [] 1 t (Decided z (pc + 2) w (is_true v) condition.NotEqual condition.Equal)
+      → Runs z.kept [] 1 t (Decided z (pc + 2) w (is_true v) condition.NotEqual condition.Equal)
   holds_part pc v w t l h k =
       let zero : ((t.work 4 + 65535 + 1) % 65536 == 0) ≡ (v == 0) = ap (λ x. (x + 65535 + 1) % 65536 == 0) k.held ∙ equal_flag v 0 l (omega arith) in
       line z (zero_test ∷ []) 1 (pc + 2) _ k.is (tt, tt) (h, tt) ((tt, tt), tt) refl refl (omega (arith, k.is.at))
@@ -109,8 +109,8 @@ module _ (z : Setting) where
   flags_part : (o : TwoOp) (x : Source) (b : WorkRegister) (c pc : ℕ) {l r : ℕ} {w : WordState} {t : Core} (f : Flags) → IsNotMov o
       × (writes_destination o ≡ false)
       → source_cycles to_register (source_operand x) ≤ c
-      → (let m = Calculate o x b in z.code.at pc ≡ Some (instruction_of m) → StandsFor z pc w t → IsRead z.code.events x b l r t t
-      → flags_after (operated o Word l r t.flags).flags t.flags ≡ f → Runs z.code [] c t (HasFlags (pc + form_bytes m) w f))
+      → (let m = Calculate o x b in z.code.at pc ≡ Some (instruction_of m) → StandsFor z pc w t → IsRead (rules_of z.kept) x b l r t t
+      → flags_after (operated o Word l r t.flags).flags t.flags ≡ f → Runs z.kept [] c t (HasFlags (pc + form_bytes m) w f))
   flags_part o x b c pc {l} {r} {w} {t} f reads price h i k made =
       calculate z o x b c t false _ reads.0 reads.1 price (ap z.code.at i.at ∙ h) k (record {
         is = stands_elsewhere z pc (pc + form_bytes (Calculate o x b)) w t _ i (ap (λ n. n + (2 + source_bytes x)) i.at) refl refl refl refl refl;
@@ -119,14 +119,14 @@ module _ (z : Setting) where
 
   -- R5, the right side, with R4
   turned_part : (pc x y : ℕ) (w : WordState) (t : Core) → z.code.at pc ≡ Some (instruction_of (Calculate op.Cmp (Register R4) R5))
-      → Holds z (Aiming true (Register R5) x y w.fram) pc w t → Runs z.code [] 1 t (HasFlags (pc + 2) w (difference_flags y x))
+      → Holds z (Aiming true (Register R5) x y w.fram) pc w t → Runs z.kept [] 1 t (HasFlags (pc + 2) w (difference_flags y x))
   turned_part pc x y w t h k =
       line z (Calculate op.Cmp (Register R4) R5 ∷ []) 1 (pc + 2) _ k.is (tt, tt) (h, tt) ((tt, tt), tt) refl refl (omega (arith, k.is.at))
       (λ s. record { is = s; flags = ap₂ difference_flags (k.held.gives.word t k.is.fram refl) k.held.four })
 
   compare_part : (c : Comparison) (o : Option Waiting) (pc x y : ℕ) (w : WordState) (t : Core)
       → (let s = compare_source c o in let m = compare_form c s in z.code.at pc ≡ Some (instruction_of m) → Holds z (Aiming true s x y w.fram) pc w t
-      → Runs z.code [] (reading_cycles (compare_stays (is_turned c) o)) t (HasFlags (pc + form_bytes m) w (compared_flags c x y)))
+      → Runs z.kept [] (reading_cycles (compare_stays (is_turned c) o)) t (HasFlags (pc + form_bytes m) w (compared_flags c x y)))
   compare_part CommonBit o pc x y w t h k =
       let s = right_source o in
       flags_part op.Bit s R4 (reading_cycles (stays o)) pc _ (tt, refl) (reading_price (stays o) o) h k.is
@@ -140,7 +140,7 @@ module _ (z : Setting) where
 
   pub compares_part : (c : Comparison) (o : Option Waiting) (pc x y : ℕ) (w : WordState) (t : Core) → x < 0x10000 → y < 0x10000
       → (let s = compare_source c o in let m = compare_form c s in z.code.at pc ≡ Some (instruction_of m) → Holds z (Aiming true s x y w.fram) pc w t
-      → Runs z.code [] (reading_cycles (compare_stays (is_turned c) o)) t (Decided z (pc + form_bytes m) w (compare_words c x y) (holding c) (failing c)))
+      → Runs z.kept [] (reading_cycles (compare_stays (is_turned c) o)) t (Decided z (pc + form_bytes m) w (compare_words c x y) (holding c) (failing c)))
   compares_part c o pc x y w t l m h k =
       so_runs (compare_part c o pc x y w t h k) (λ s j.
       let met = ap (is_met (holding c)) j.flags ∙ compare_met c x y l m in

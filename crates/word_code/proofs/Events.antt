@@ -104,7 +104,7 @@ module _ (z : Setting) where
 
     -- nothing waits
     none_part : first head_place < 0x10000 → (at == first head_place) ≡ true
-        → Runs z.code (seen (Store answer_place 0 ∷ [])) 25 t (Has z R4 end (stored answer_place 0 left) 0)
+        → Runs z.kept (seen (Store answer_place 0 ∷ [])) 25 t (Has z R4 end (stored answer_place 0 left) 0)
     none_part small e =
         let equal = equal_is true small e in
         look_route z pc event_code h 0 (starts z i) (refl, refl, refl, refl) (on 7 ∷ jump false ∷ on 2 ∷ jump true ∷ [])
@@ -119,7 +119,7 @@ module _ (z : Setting) where
     -- a word does
     word_part : first head_place < 0x10000 → (at == first head_place) ≡ false
         → (let n = (w.fram count_place + 1) % 0x10000 in
-        Runs z.code (seen (Store answer_place word ∷ Store count_place n ∷ [])) 28 t (Has z R4 end (stored count_place n (stored answer_place word left)) word))
+        Runs z.kept (seen (Store answer_place word ∷ Store count_place n ∷ [])) 28 t (Has z R4 end (stored count_place n (stored answer_place word left)) word))
     word_part small e =
         let n = (w.fram count_place + 1) % 0x10000 in
         let equal = equal_is false small e in

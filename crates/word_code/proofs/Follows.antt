@@ -24,10 +24,10 @@ pub record HasReturned (z : Setting) (v : ℕ) (w : WordState) (u : Core) : Type
 
 -- what a stretch of code does, by how the program's part ends
 abbrev pub FollowsEnd : Setting → ℕ → ℕ → Core → List Effect → End → Type 0
-FollowsEnd z pc most u es (GoesOn w) = Runs z.code es most u (StandsFor z pc w)
-FollowsEnd z pc most u es (Jumps to w) = Runs z.code es most u (HasJumped to w)
-FollowsEnd z pc most u es (Gives v w) = Runs z.code es most u (HasReturned z v w)
-FollowsEnd z pc most u es Short = Starves z.code es most u
+FollowsEnd z pc most u es (GoesOn w) = Runs z.kept es most u (StandsFor z pc w)
+FollowsEnd z pc most u es (Jumps to w) = Runs z.kept es most u (HasJumped to w)
+FollowsEnd z pc most u es (Gives v w) = Runs z.kept es most u (HasReturned z v w)
+FollowsEnd z pc most u es Short = Starves z.kept es most u
 FollowsEnd z pc most u es Strays = Unit {0}
 FollowsEnd z pc most u es Broken = Unit {0}
 
@@ -54,7 +54,7 @@ more_cycles z pc most more u es _ l a = tt
 
 -- behind a stretch
 pub then_end : (z : Setting) (pc : ℕ) {most : ℕ} (more : ℕ) {u : Core} {P : Core → Type 0} {es : List Effect} (fs : List Effect) (e : End)
-    → Runs z.code es most u P → ((t : Core) → P t → FollowsEnd z pc more t fs e) → FollowsEnd z pc (most + more) u (es ++ fs) e
+    → Runs z.kept es most u P → ((t : Core) → P t → FollowsEnd z pc more t fs e) → FollowsEnd z pc (most + more) u (es ++ fs) e
 then_end z pc more fs (GoesOn w) a b = runs_on z a b
 then_end z pc more fs (Jumps to w) a b = runs_on z a b
 then_end z pc more fs (Gives v w) a b = runs_on z a b
@@ -69,18 +69,18 @@ module _ (z : Setting) (pc pc' most : ℕ) (more : WordState → ℕ) where
       → Follows z pc' (most + spent_on e more) u (behind_effects es (on_end e go))
   then_way u P es (GoesOn w) go a p b = then_end z pc' (more w) (go w).effects (go w).end a (λ t h. b t w p h)
   then_way u P es (Jumps to w) go a p b =
-      subst (λ l. Runs z.code l (most + 0) u (HasJumped to w)) (sym (append-nil es)) (dearer z (omega arith) a)
+      subst (λ l. Runs z.kept l (most + 0) u (HasJumped to w)) (sym (append-nil es)) (dearer z (omega arith) a)
   then_way u P es (Gives v w) go a p b =
-      subst (λ l. Runs z.code l (most + 0) u (HasReturned z v w)) (sym (append-nil es)) (dearer z (omega arith) a)
+      subst (λ l. Runs z.kept l (most + 0) u (HasReturned z v w)) (sym (append-nil es)) (dearer z (omega arith) a)
   then_way u P es Short go a p b =
-      subst (λ l. Starves z.code l (most + 0) u) (sym (append-nil es)) (dearer_stall z es most (most + 0) u (omega arith) a)
+      subst (λ l. Starves z.kept l (most + 0) u) (sym (append-nil es)) (dearer_stall z es most (most + 0) u (omega arith) a)
   then_way u P es _ go a p b = tt
 
 -- one more stretch where the program goes on
 pub then_hop : (z : Setting) (pc pc' most more : ℕ) (u : Core) (es : List Effect) (e : End) → FollowsEnd z pc most u es e
-    → ((t : Core) (w : WordState) → StandsFor z pc w t → Runs z.code [] more t (StandsFor z pc' w)) → FollowsEnd z pc' (most + more) u es e
+    → ((t : Core) (w : WordState) → StandsFor z pc w t → Runs z.kept [] more t (StandsFor z pc' w)) → FollowsEnd z pc' (most + more) u es e
 then_hop z pc pc' most more u es (GoesOn w) a b =
-    subst (λ l. Runs z.code l (most + more) u (StandsFor z pc' w)) (append-nil es) (runs_on z a (λ t h. b t w h))
+    subst (λ l. Runs z.kept l (most + more) u (StandsFor z pc' w)) (append-nil es) (runs_on z a (λ t h. b t w h))
 then_hop z pc pc' most more u es (Jumps to w) a b = more_cycles z pc most (most + more) u es (Jumps to w) (omega arith) a
 then_hop z pc pc' most more u es (Gives v w) a b = more_cycles z pc most (most + more) u es (Gives v w) (omega arith) a
 then_hop z pc pc' most more u es Short a b = more_cycles z pc most (most + more) u es Short (omega arith) a
@@ -119,14 +119,14 @@ memory_as z pc w u vs e i = subst (λ l. Memory z u.sp u.ram (local_words u.work
 pub record Pays (z : Setting) (es : List Effect) (owed most : ℕ) (u : Core) (P : Core → Type 0) : Type 0 where
   pub spent : ℕ
   pub within : spent + owed ≤ most
-  pub runs : Runs z.code es spent u P
+  pub runs : Runs z.kept es spent u P
 
 -- what a stretch of code does, by how the program's part ends; where that goes on, by what the machine is for the state there
 abbrev pub Reaches : Setting → ℕ → (WordState → Core → Type 0) → ℕ → Core → List Effect → End → Type 0
 Reaches z owed Q most u es (GoesOn w) = Pays z es owed most u (Q w)
-Reaches z owed Q most u es (Jumps to w) = Runs z.code es most u (HasJumped to w)
-Reaches z owed Q most u es (Gives v w) = Runs z.code es most u (HasReturned z v w)
-Reaches z owed Q most u es Short = Starves z.code es most u
+Reaches z owed Q most u es (Jumps to w) = Runs z.kept es most u (HasJumped to w)
+Reaches z owed Q most u es (Gives v w) = Runs z.kept es most u (HasReturned z v w)
+Reaches z owed Q most u es Short = Starves z.kept es most u
 Reaches z owed Q most u es Strays = Unit {0}
 Reaches z owed Q most u es Broken = Unit {0}
 
@@ -140,7 +140,7 @@ reach_more z owed Q most more u es Short l a = dearer_stall z es most more u l a
 reach_more z owed Q most more u es _ l a = tt
 
 -- where it comes to, exactly
-exactly : (z : Setting) (es : List Effect) (most : ℕ) (u : Core) (P : Core → Type 0) (a : Runs z.code es most u P) → Runs z.code es most u (λ t. t ≡ a.end)
+exactly : (z : Setting) (es : List Effect) (most : ℕ) (u : Core) (P : Core → Type 0) (a : Runs z.kept es most u P) → Runs z.kept es most u (λ t. t ≡ a.end)
 exactly z es most u P a =
     record {
       steps = a.steps;
@@ -149,19 +149,19 @@ exactly z es most u P a =
       comes = record { end = a.end; leads = a.leads; forms = a.forms; holds = refl };
     }
 
-pays_on : (z : Setting) (owed most more : ℕ) (u : Core) (P Q : Core → Type 0) (es fs : List Effect) → Runs z.code es most u P
+pays_on : (z : Setting) (owed most more : ℕ) (u : Core) (P Q : Core → Type 0) (es fs : List Effect) → Runs z.kept es most u P
     → ((t : Core) → P t → Pays z fs owed more t Q) → Pays z (es ++ fs) owed (most + more) u Q
 pays_on z owed most more u P Q es fs a b =
     let c = b a.end a.holds in
     record {
       spent = most + c.spent;
       within = omega (arith, c.within);
-      runs = runs_on z (exactly z es most u P a) (λ t e. subst (λ x. Runs z.code fs c.spent x Q) (sym e) c.runs);
+      runs = runs_on z (exactly z es most u P a) (λ t e. subst (λ x. Runs z.kept fs c.spent x Q) (sym e) c.runs);
     }
 
 -- behind a stretch
 pub then_reach : (z : Setting) (owed : ℕ) (Q : WordState → Core → Type 0) (most more : ℕ) (u : Core) (P : Core → Type 0) (es fs : List Effect) (e : End)
-    → Runs z.code es most u P → ((t : Core) → P t → Reaches z owed Q more t fs e) → Reaches z owed Q (most + more) u (es ++ fs) e
+    → Runs z.kept es most u P → ((t : Core) → P t → Reaches z owed Q more t fs e) → Reaches z owed Q (most + more) u (es ++ fs) e
 then_reach z owed Q most more u P es fs (GoesOn w) a b = pays_on z owed most more u P (Q w) es fs a b
 then_reach z owed Q most more u P es fs (Jumps to w) a b = runs_on z a b
 then_reach z owed Q most more u P es fs (Gives v w) a b = runs_on z a b
@@ -178,11 +178,11 @@ module _ (z : Setting) (owed owed' : ℕ) (Q Q' : WordState → Core → Type 0)
       reach_more z owed' Q' (a.spent + (owed + more w)) (most + more w) u (es ++ (go w).effects) (go w).end (omega (arith, a.within))
       (then_reach z owed' Q' a.spent (owed + more w) u (Q w) es (go w).effects (go w).end a.runs (λ t h. b t w p h))
   reach_way most more u P es (Jumps to w) go a p b =
-      subst (λ l. Runs z.code l (most + 0) u (HasJumped to w)) (sym (append-nil es)) (dearer z (omega arith) a)
+      subst (λ l. Runs z.kept l (most + 0) u (HasJumped to w)) (sym (append-nil es)) (dearer z (omega arith) a)
   reach_way most more u P es (Gives v w) go a p b =
-      subst (λ l. Runs z.code l (most + 0) u (HasReturned z v w)) (sym (append-nil es)) (dearer z (omega arith) a)
+      subst (λ l. Runs z.kept l (most + 0) u (HasReturned z v w)) (sym (append-nil es)) (dearer z (omega arith) a)
   reach_way most more u P es Short go a p b =
-      subst (λ l. Starves z.code l (most + 0) u) (sym (append-nil es)) (dearer_stall z es most (most + 0) u (omega arith) a)
+      subst (λ l. Starves z.kept l (most + 0) u) (sym (append-nil es)) (dearer_stall z es most (most + 0) u (omega arith) a)
   reach_way most more u P es _ go a p b = tt
 
 -- where no word waits it is the same
@@ -196,9 +196,9 @@ reaches z Q pc most u es _ f a = tt
 
 -- and where those that wait are pushed then
 pub then_follows : (z : Setting) (owed pc most : ℕ) (Q : WordState → Core → Type 0) (u : Core) (es : List Effect) (e : End) → Reaches z owed Q most u es e
-    → ((t : Core) (w : WordState) → Q w t → Runs z.code [] owed t (StandsFor z pc w)) → FollowsEnd z pc most u es e
+    → ((t : Core) (w : WordState) → Q w t → Runs z.kept [] owed t (StandsFor z pc w)) → FollowsEnd z pc most u es e
 then_follows z owed pc most Q u es (GoesOn w) a b =
-    dearer z a.within (subst (λ l. Runs z.code l (a.spent + owed) u (StandsFor z pc w)) (append-nil es) (runs_on z a.runs (λ t h. b t w h)))
+    dearer z a.within (subst (λ l. Runs z.kept l (a.spent + owed) u (StandsFor z pc w)) (append-nil es) (runs_on z a.runs (λ t h. b t w h)))
 then_follows z owed pc most Q u es (Jumps to w) a b = a
 then_follows z owed pc most Q u es (Gives v w) a b = a
 then_follows z owed pc most Q u es Short a b = a

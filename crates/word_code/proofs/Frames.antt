@@ -4,7 +4,7 @@ use Rattle.word_code.proofs.Names.{length, get_or, Some, refl, sym, ap, ◌∙�
 use Rattle.word_code.proofs.Names.{work_number, Core, R4, Register, ToRegister, ToRam, Move, Push, SetStack, Call, KeepStack, RestoreStack, StackNext}
 use Rattle.word_code.proofs.Names.{form_bytes, Stands, forms_bytes, Runs, IsRam, stands_front, stands_back, forms_bytes-append}
 use Rattle.word_code.proofs.Names.{WordState, Behaviour, with_stack, called_behind, called, Program, IsCalled, IsFormed, IsOwn, Waiting, flushed, length-append}
-use Rattle.word_code.proofs.Names.{local_register, local_address, local_target, frame_code, framed_call}
+use Rattle.word_code.proofs.Names.{local_register, local_address, local_target, frame_code, framed_call, IsKept, rules_of}
 use Rattle.word_code.specs.declared.waiting.Waiting.TheVariants as waiting
 use Rattle.word_code.proofs.Stretches.{Setting, bounds_of, hop, runs_on, so_runs, nothing_run}
 use Rattle.word_code.proofs.Memory.{local_words, local_word, register_at, register_put, below_eight, from_eight, StackIs, stack_same, stack_upper, address_same}
@@ -72,7 +72,7 @@ module _ (z : Setting) where
     -- to a register
     to_register : (u : Core) (behind pc m v : ℕ) (words : List ℕ) (t : Core) → m < 8 → m < end
         → (let form = Move (StackNext R4) (ToRegister (local_register m)) in Stands z.code pc (form ∷ [])
-        → Filling u behind frame pc (v ∷ words) t → Runs z.code [] 5 t (Moved own end frame u behind (pc + 2) m v words t))
+        → Filling u behind frame pc (v ∷ words) t → Runs z.kept [] 5 t (Moved own end frame u behind (pc + 2) m v words t))
     to_register u behind pc m v words t small less h k =
         let r = work_number (local_register m) in
         let form = Move (StackNext R4) (ToRegister (local_register m)) in
@@ -114,7 +114,7 @@ module _ (z : Setting) where
     -- to RAM
     to_ram : (u : Core) (behind pc m v : ℕ) (words : List ℕ) (t : Core) → 8 ≤ m → frame ≤ local_address m → local_address m < z.low
         → (let form = Move (StackNext R4) (ToRam (local_address m)) in Stands z.code pc (form ∷ [])
-        → Filling u behind frame pc (v ∷ words) t → Runs z.code [] 5 t (Moved own end frame u behind (pc + 4) m v words t))
+        → Filling u behind frame pc (v ∷ words) t → Runs z.kept [] 5 t (Moved own end frame u behind (pc + 4) m v words t))
     to_ram u behind pc m v words t eight from upto h k =
         let a = local_address m in
         let form = Move (StackNext R4) (ToRam a) in
@@ -164,7 +164,7 @@ module _ (z : Setting) where
     -- by where the local stands
     move_by : (b : Bool) (u : Core) (behind pc m v : ℕ) (words : List ℕ) (t : Core) → nat_lt m 8 ≡ b → Own own end frame m
         → (let form = Move (StackNext R4) (if b then ToRegister (local_register m) else ToRam (local_address m)) in Stands z.code pc (form ∷ [])
-        → Filling u behind frame pc (v ∷ words) t → Runs z.code [] 5 t (Moved own end frame u behind (pc + form_bytes form) m v words t))
+        → Filling u behind frame pc (v ∷ words) t → Runs z.kept [] 5 t (Moved own end frame u behind (pc + form_bytes form) m v words t))
     move_by true u behind pc m v words t e (inl own) h k = to_register u behind pc m v words t (below_eight m e) own.1 h k
     move_by true u behind pc m v words t e (inr at) h k = absurd (let low = below_eight m e in let l = at.0 in omega arith)
     move_by false u behind pc m v words t e (inl own) h k =
@@ -173,7 +173,7 @@ module _ (z : Setting) where
 
     fill_part : (u : Core) (behind pc first : ℕ) (words : List ℕ) (t : Core) → ((j : ℕ) → j < length words → Own own end frame (first + j))
         → (let n = length words in Stands z.code pc (frame_code first n) → Filling u behind frame pc words t
-        → Runs z.code [] (5 * n) t (Filled own end frame u behind (pc + forms_bytes (frame_code first n)) first words t))
+        → Runs z.kept [] (5 * n) t (Filled own end frame u behind (pc + forms_bytes (frame_code first n)) first words t))
     fill_part u behind pc first [] t owns h k =
         let same : pc ≡ pc + 0 = omega arith in
         nothing_run z (record { filling = subst (λ p. Filling u behind frame p [] t) same k; have = tt; others = λ n own l. refl })
@@ -186,8 +186,8 @@ module _ (z : Setting) where
         let there : mid + forms_bytes rest ≡ pc + forms_bytes (form ∷ rest) = omega arith in
         let cycles : 5 + 5 * n ≡ 5 * length (v ∷ words) = omega arith in
         let is : Own own end frame m = owns n (omega arith) in
-        subst (λ c. Runs z.code [] c t (Filled own end frame u behind (pc + forms_bytes (form ∷ rest)) first (v ∷ words) t)) cycles
-        (subst (λ p. Runs z.code [] (5 + 5 * n) t (Filled own end frame u behind p first (v ∷ words) t)) there
+        subst (λ c. Runs z.kept [] c t (Filled own end frame u behind (pc + forms_bytes (form ∷ rest)) first (v ∷ words) t)) cycles
+        (subst (λ p. Runs z.kept [] (5 + 5 * n) t (Filled own end frame u behind p first (v ∷ words) t)) there
         (runs_on z (move_by (nat_lt m 8) u behind pc m v words t refl is (h.0, tt) k) (λ q j.
         so_runs (fill_part u behind mid first words q (λ i l. owns i (omega (arith, l))) h.1 j.filling) (λ r i. record {
           filling = i.filling;
@@ -199,9 +199,10 @@ module _ (z : Setting) where
 
   -- SP of the caller is kept, and SP set
   module _ (frame : ℕ) (words vs : List ℕ) (pc : ℕ) (w : WordState) (u : Core) where
-    frame_part : frame % 2 ≡ 0 → (z.code.events ≡ false) → w.stack ≡ words ++ vs → Stands z.code pc (KeepStack R4 ∷ SetStack frame ∷ [])
-        → StandsFor z pc w u → Runs z.code [] 3 u (Filling u (u.sp + 2 * length words) frame (pc + 6) words)
-    frame_part even none e h i =
+    frame_part : frame % 2 ≡ 0 → IsKept (rules_of z.kept) frame → (z.code.events ≡ false) → w.stack ≡ words ++ vs
+        → Stands z.code pc (KeepStack R4 ∷ SetStack frame ∷ [])
+        → StandsFor z pc w u → Runs z.kept [] 3 u (Filling u (u.sp + 2 * length words) frame (pc + 6) words)
+    frame_part even stays none e h i =
         let t : Core = record u { pc = u.pc + 2; work = put u.work 4 u.sp } in
         let q : Core = record t { pc = u.pc + 2 + 4; sp = frame } in
         let m = subst (λ l. Memory z u.sp u.ram (local_words u.work) l w.locals) e i.memory in
@@ -209,9 +210,9 @@ module _ (z : Setting) where
         let at : t.pc ≡ pc + 2 = omega (arith, i.at) in
         let four : q.work 4 ≡ u.sp = put_same u.work 4 u.sp in
         runs_on z (hop z (KeepStack R4) 1 u t [] 1 (λ s. s ≡ t) (ap z.code.at i.at ∙ h.0) tt refl (omega arith) refl) (λ s same.
-        subst (λ s. Runs z.code [] 2 s (Filling u (u.sp + 2 * length words) frame (pc + 6) words)) (sym same)
+        subst (λ s. Runs z.kept [] 2 s (Filling u (u.sp + 2 * length words) frame (pc + 6) words)) (sym same)
         (hop z (SetStack frame) 2 t q [] 2 (Filling u (u.sp + 2 * length words) frame (pc + 6) words) (ap z.code.at at ∙ h.1.0)
-        (even, λ k. absurd (cc (k, none))) refl (omega arith)
+        (even, λ k. absurd (cc (k, none)), stays) refl (omega arith)
         (record {
           at = omega (arith, i.at);
           sp = refl;
@@ -233,6 +234,13 @@ module _ (z : Setting) where
     -- the frame has room for the caller's SP and the return address
     frame_room : 0x1C00 + 36 ≤ f
     frame_room = let spare = x.spare.fits in let fits : x.lowest + 2 * (x.room + 2) ≤ f = x.fits.3 in omega (arith, spare, fits)
+
+    -- SP stays in the stack there
+    frame_stays : (sp : ℕ) → f ≤ sp + 4 → sp ≤ f → IsKept (rules_of z.kept) sp
+    frame_stays sp low high =
+        let floor = x.floor in let lowest = z.lowest in let fits : x.lowest + 2 * (x.room + 2) ≤ f = x.fits.3 in
+        let below : f ≤ z.low = x.fits.2 in let deep = z.deep in let within = z.within in
+        (omega (arith, fits, low), omega (arith, below, high))
 
     -- what the caller has behind the call, in front of it: FRAM, the inputs, and its memory without the values
     record Suspended (behind : ℕ) (w : WordState) (u : Core) : Type 0 where
@@ -270,6 +278,7 @@ module _ (z : Setting) where
         let top = t1.sp - 2 in
         let four : t.work 4 ≡ behind = omega (arith, i.next) in
         let room = frame_room in
+        let stays = frame_stays in
         let parity : f % 2 ≡ 0 = x.fits.1 in let below : f ≤ z.low = x.fits.2 in let fits : x.lowest + 2 * (x.room + 2) ≤ f = x.fits.3 in
         let deep = z.deep in let high = z.high in let low = i.low in let less = i.high in
         let at = (z.tidy pc _ h.0).even in
@@ -290,13 +299,32 @@ module _ (z : Setting) where
         let starts = begins z (Some f) first count body x top t2 e entry words w refl refl (c.fram ∙ s.fram) (c.inputs ∙ s.inputs) have in
         let all = called_behind w b in
         let after : WordState → Core → Type 0 = Describes z (waiting.R4 ∷ []) (pc + 8) in
+        let depth = s.memory.depth in let floor = z.floor in let lowest = z.lowest in let within = z.within in
         let even_behind : behind % 2 ≡ 0 = omega (arith, four, i.even) in
         let low_behind : z.low ≤ behind = omega (arith, four) in
         let at1 : t1.pc ≡ pc + 2 = omega (arith, i.at) in
-        let pushed = hop z (Push (Register R4)) 3 t t1 [] 3 (λ q. q ≡ t1) (ap z.code.at i.at ∙ h.0)
-        (tt, record { even = omega (arith, sp); room = record { fits = omega (arith, sp) }; high = omega (arith, sp) }) refl (omega arith) refl in
-        let hopped = hop z (Call entry) 5 t1 t2 [] 5 (λ q. q ≡ t2) (ap z.code.at at1 ∙ h.1.0)
-        (even, record { even = omega (arith, sp); room = record { fits = omega (arith, sp) }; high = omega (arith, sp) }) refl (omega arith) refl in
+        let pushed = hop z (Push (Register R4)) 3 t t1 [] 3 (λ q. q ≡ t1) (ap z.code.at i.at ∙ h.0) (
+          tt,
+          record {
+            even = omega (arith, sp);
+            room = record { fits = omega (arith, sp) };
+            high = omega (arith, sp);
+            below = stays saved
+                (omega (arith, sp)) (omega (arith, sp));
+          },
+        )
+        refl (omega arith) refl in
+        let hopped = hop z (Call entry) 5 t1 t2 [] 5 (λ q. q ≡ t2) (ap z.code.at at1 ∙ h.1.0) (
+          even,
+          record {
+            even = omega (arith, sp);
+            room = record { fits = omega (arith, sp) };
+            high = omega (arith, sp);
+            below = stays top
+                (omega (arith, sp)) (omega (arith, sp));
+          },
+        )
+        refl (omega arith) refl in
         let reached = call_ends z (Some f) first count body x top t2 e last cost 2 (pc + 8) w b.effects b.end (runs top t2 e starts) (λ v v' q r.
         let there : q.sp ≡ saved = omega (arith, r.sp, sp) in
         let word : q.ram q.sp ≡ behind = ap q.ram there ∙ r.keeps.ram_words saved (omega (arith, sp)) (λ l. omega (arith, l, sp)) ∙ kept ∙ four in
@@ -307,6 +335,7 @@ module _ (z : Setting) where
           record { even = omega (arith, there, sp); low = omega (arith, there, sp); high = omega (arith, there, sp) },
           λ k. absurd (let light = z.light k in let framed : z.framed ≡ true = x.fits.0 in (cc)),
           ap (λ n. n % 2) word ∙ even_behind,
+          subst (IsKept (rules_of z.kept)) (sym word) (omega (arith, low_behind, floor), omega (arith, depth, within)),
         ) refl (omega arith)
         (record {
           rest = w.stack;
@@ -365,7 +394,7 @@ module _ (z : Setting) where
         subst (λ p. Reaches z 3 (Describes z (waiting.R4 ∷ []) p) (16 + 5 * n + cost) u all.effects all.end) end
         (reach_more z 3 after most (16 + 5 * n + cost) u all.effects all.end (omega arith)
         (then_reach z 3 after 3 (5 * n + (13 + cost)) u (Filling u behind f mid words) [] all.effects all.end
-        (frame_part f words vs pc w u x.fits.1 (no_events z.code.events refl) stack (h.0, (h.1.0, tt)) i) (λ t k.
+        (frame_part f words vs pc w u x.fits.1 (frame_stays f (omega arith) (omega arith)) (no_events z.code.events refl) stack (h.0, (h.1.0, tt)) i) (λ t k.
         then_reach z 3 after (5 * n) (13 + cost) t (Filled x.own x.end f u behind call_at first words t) [] all.effects all.end
         (fill_part x.own x.end f x.registers x.fits.2 low u behind mid first words t (λ j l. x.parameters j (omega (arith, l, few)))
         (stands_front z.code mid moves last_forms rest) k) (λ q j.

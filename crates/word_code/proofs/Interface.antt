@@ -8,7 +8,7 @@ pub use Rattle.word_code.proofs.Jumps.{whole_size}
 pub use Rattle.word_code.proofs.Lengths.{code_short, routine_short, inner_takes, pass_takes, test_takes, turn_end_takes}
 pub use Rattle.word_code.proofs.UpdateBytes.{inside_bytes, reads_bytes}
 -- The code of a word program does what the program does, within the cycles of the way that it takes.
-pub use Rattle.word_code.proofs.Whole.{code_does_as_program}
+pub use Rattle.word_code.proofs.Whole.{code_does_as_program, code_keeps_to_the_stack, keeps_anywhere}
 -- The locals that a program names are below a number where the greatest of them is.
 pub use Rattle.word_code.proofs.Locals.{program_below, program_least}
 -- The code of a program has each fact that all forms of tasks' code have: they are instructions, and name no word of RAM below the stack.

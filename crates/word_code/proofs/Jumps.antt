@@ -43,7 +43,7 @@ module _ (z : Setting) where
   over_by : (near b : Bool) (pc d to : ℕ) (met opposite : Condition) (w : WordState) (t : Core) → nat_le d 511 ≡ near
       → (let ms : List Form = if near then Jump met d ∷ [] else (Jump opposite 2 ∷ Skip (2 * d) ∷ []) in Stands z.code pc ms
       → (if b then pc + forms_bytes ms + 2 * d else pc + forms_bytes ms) ≡ to → to < 0x10000 → Decided pc w b met opposite t
-      → Runs z.code [] 5 t (StandsFor z to w))
+      → Runs z.kept [] 5 t (StandsFor z to w))
   over_by true true pc d to met opposite w t n h e l k =
       let far = near_distance d (near_is d n) in
       dearer z (omega arith) (jump_to z met d pc to true w t h.0 k.holds (ap (λ x. sum16 (pc + 2) x) far ∙ omega (arith, e)) k.is)
@@ -58,13 +58,13 @@ module _ (z : Setting) where
 
   pub over_part : (b : Bool) (pc d to : ℕ) (met opposite : Condition) (w : WordState) (t : Core)
       → (let ms = jump_over met opposite d in Stands z.code pc ms → (if b then pc + forms_bytes ms + 2 * d else pc + forms_bytes ms) ≡ to → to < 0x10000
-      → Decided pc w b met opposite t → Runs z.code [] 5 t (StandsFor z to w))
+      → Decided pc w b met opposite t → Runs z.kept [] 5 t (StandsFor z to w))
   over_part b pc d to met opposite w t h e l k = over_by (nat_le d 511) b pc d to met opposite w t refl h e l k
 
   -- over so many words in any case; by whether there are any, and few
   pass_by : (empty near : Bool) (pc d to : ℕ) (w : WordState) (t : Core) → (d == 0) ≡ empty → nat_le d 511 ≡ near
       → (let ms : List Form = if empty then [] else if near then Jump condition.Always d ∷ [] else (Skip (2 * d) ∷ []) in Stands z.code pc ms
-      → pc + forms_bytes ms + 2 * d ≡ to → (pc + forms_bytes ms < 0x10000 → to < 0x10000) → StandsFor z pc w t → Runs z.code [] 3 t (StandsFor z to w))
+      → pc + forms_bytes ms + 2 * d ≡ to → (pc + forms_bytes ms < 0x10000 → to < 0x10000) → StandsFor z pc w t → Runs z.kept [] 3 t (StandsFor z to w))
   pass_by true near pc d to w t n m h e low i =
       let nothing = eqb-true d 0 n in
       let here : pc ≡ to = omega (arith, e, nothing) in
@@ -80,13 +80,13 @@ module _ (z : Setting) where
       skip_to z (2 * d) pc to w t h.0 (omega arith) (omega (arith, e)) i
 
   pub pass_part : (pc d to : ℕ) (w : WordState) (t : Core) → Stands z.code pc (pass_over d) → pc + forms_bytes (pass_over d) + 2 * d ≡ to
-      → (pc + forms_bytes (pass_over d) < 0x10000 → to < 0x10000) → StandsFor z pc w t → Runs z.code [] 3 t (StandsFor z to w)
+      → (pc + forms_bytes (pass_over d) < 0x10000 → to < 0x10000) → StandsFor z pc w t → Runs z.kept [] 3 t (StandsFor z to w)
   pass_part pc d to w t h e low i = pass_by (d == 0) (nat_le d 511) pc d to w t refl refl h e low i
 
   -- back over so many words where it holds; by whether they are few
   back_by : (near b : Bool) (pc d to : ℕ) (met opposite : Condition) (w : WordState) (t : Core) → nat_le d 511 ≡ near
       → (let ms : List Form = if near then Jump met (1023 - d) ∷ [] else (Jump opposite 2 ∷ Skip (0xFFFA - 2 * d) ∷ []) in Stands z.code pc ms
-      → (if b then to + 2 * d else pc + forms_bytes ms) ≡ (if b then pc else to) → Decided pc w b met opposite t → Runs z.code [] 5 t (StandsFor z to w))
+      → (if b then to + 2 * d else pc + forms_bytes ms) ≡ (if b then pc else to) → Decided pc w b met opposite t → Runs z.kept [] 5 t (StandsFor z to w))
   back_by true true pc d to met opposite w t n h e k =
       let l = near_is d n in
       let high = (z.tidy pc _ h.0).high in
@@ -104,5 +104,5 @@ module _ (z : Setting) where
 
   pub back_part : (b : Bool) (pc d to : ℕ) (met opposite : Condition) (w : WordState) (t : Core) → Stands z.code pc (jump_back met opposite d)
       → (if b then to + 2 * d else pc + forms_bytes (jump_back met opposite d)) ≡ (if b then pc else to) → Decided pc w b met opposite t
-      → Runs z.code [] 5 t (StandsFor z to w)
+      → Runs z.kept [] 5 t (StandsFor z to w)
   back_part b pc d to met opposite w t h e k = back_by (nat_le d 511) b pc d to met opposite w t refl h e k

@@ -66,7 +66,7 @@ module _ (z : Setting) (place : ArrayPlace) (list : ListPlace) (p : ℕ) (h : St
   mark_part : (i : ℕ) (w : WordState) (t : Core) → HoldsWords w.fram → IsPlace (2 * i + place.versions) → IsPlace list.cln
       → 2 * i + place.elements < 0x10000 → 2 * i + place.copies < 0x10000 → StandsFor z (p + 0) w t → t.work 4 ≡ 2 * i → t.work 6 ≡ w.fram list.ver
       → (let m = 2 * i + place.versions in let y = stored m (w.fram list.ver) w in let n = y.fram list.cln in
-      Runs z.code (Store m (w.fram list.ver) ∷ []) 13 t (Tested 6 n (2 * i + place.elements) (2 * i + place.copies) (n == 0) y))
+      Runs z.kept (Store m (w.fram list.ver) ∷ []) 13 t (Tested 6 n (2 * i + place.elements) (2 * i + place.copies) (n == 0) y))
   mark_part i w t wl fm fc eh ch is four six =
       let m = 2 * i + place.versions in
       let y = stored m (w.fram list.ver) w in
@@ -81,7 +81,7 @@ module _ (z : Setting) (place : ArrayPlace) (list : ListPlace) (p : ℕ) (h : St
   entry_part : (w : WordState) (home copy : ℕ) (t : Core) → (let a = 6 * w.fram list.cln + list.list in
       let u = stored (a + 4) 1 (stored (a + 2) copy (stored a home w)) in let v = (u.fram list.cln + 1) % 0x10000 in
       IsPlace list.cln → IsPlace a → IsPlace (a + 2) → IsPlace (a + 4) → Found 27 (6 * w.fram list.cln) home copy w t
-      → Runs z.code (Store a home ∷ Store (a + 2) copy ∷ Store (a + 4) 1 ∷ Store list.cln v ∷ []) 16 t (StandsFor z (p + 92) (stored list.cln v u)))
+      → Runs z.kept (Store a home ∷ Store (a + 2) copy ∷ Store (a + 4) 1 ∷ Store list.cln v ∷ []) 16 t (StandsFor z (p + 92) (stored list.cln v u)))
   entry_part w home copy t fc f1 f2 f4 j =
       let n = 6 * w.fram list.cln in
       let a = n + list.list in
@@ -99,7 +99,7 @@ module _ (z : Setting) (place : ArrayPlace) (list : ListPlace) (p : ℕ) (h : St
 
   -- the entry's code, behind code that brings it its place
   entry_follows : (most : ℕ) (w : WordState) (home copy : ℕ) (t : Core)
-      → (is_place (6 * w.fram list.cln + list.list) ≡ true → Runs z.code [] most t (Found 27 (6 * w.fram list.cln) home copy w))
+      → (is_place (6 * w.fram list.cln + list.list) ≡ true → Runs z.kept [] most t (Found 27 (6 * w.fram list.cln) home copy w))
       → Follows z (p + 92) (most + 16) t (entry_stored list.cln list.list home copy 1 w)
   entry_follows most w home copy t comes =
       let a = 6 * w.fram list.cln + list.list in
@@ -110,7 +110,7 @@ module _ (z : Setting) (place : ArrayPlace) (list : ListPlace) (p : ℕ) (h : St
   -- R5 becomes where the last entry stands; whether its homes end right before the home
   home_part : (n : ℕ) (w : WordState) (home copy : ℕ) (t : Core) → home < 0x10000 → (let a = 6 * n + list.list in IsPlace a → IsPlace (a + 4)
       → Tested 6 (suc n) home copy false w t
-      → Runs z.code [] 15 t (Tested 16 (6 * n) home copy ((2 * w.fram (a + 4) + w.fram a) % 0x10000 == home) w))
+      → Runs z.kept [] 15 t (Tested 16 (6 * n) home copy ((2 * w.fram (a + 4) + w.fram a) % 0x10000 == home) w))
   home_part n w home copy t small f1 f4 k =
       let a = 6 * n + list.list in
       let high = address_small f1 in
@@ -129,7 +129,7 @@ module _ (z : Setting) (place : ArrayPlace) (list : ListPlace) (p : ℕ) (h : St
 
   -- whether its copies end right before the copy
   copy_part : (q : ℕ) (w : WordState) (home copy : ℕ) (t : Core) → copy < 0x10000 → (let a = q + list.list in IsPlace (a + 2) → IsPlace (a + 4)
-      → Tested 16 q home copy true w t → Runs z.code [] 10 t (Tested 21 q home copy ((2 * w.fram (a + 4) + w.fram (a + 2)) % 0x10000 == copy) w))
+      → Tested 16 q home copy true w t → Runs z.kept [] 10 t (Tested 21 q home copy ((2 * w.fram (a + 4) + w.fram (a + 2)) % 0x10000 == copy) w))
   copy_part q w home copy t small f2 f4 k =
       let a = q + list.list in
       let words : q + word_sum list.list 4 ≡ a + 4 = at_offset q list.list 4 (address_small f4) in
@@ -145,7 +145,7 @@ module _ (z : Setting) (place : ArrayPlace) (list : ListPlace) (p : ℕ) (h : St
 
   -- the entry has a word more
   longer_part : (q : ℕ) (w : WordState) (home copy : ℕ) (t : Core) → (let c = q + list.list + 4 in let v = (w.fram c + 1) % 0x10000 in IsPlace c
-      → Tested 21 q home copy true w t → Runs z.code (Store c v ∷ []) 12 t (StandsFor z (p + 92) (stored c v w)))
+      → Tested 21 q home copy true w t → Runs z.kept (Store c v ∷ []) 12 t (StandsFor z (p + 92) (stored c v w)))
   longer_part q w home copy t f4 k =
       let c = q + list.list + 4 in
       let v = (w.fram c + 1) % 0x10000 in

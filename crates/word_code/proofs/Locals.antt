@@ -3,7 +3,9 @@ use Rattle.word_code.proofs.Names.{◌≡◌, ℕ, ◌+◌, ◌≤◌, Bool, tru
 use Rattle.word_code.proofs.Names.{local, set_local, update_local, truth, choose, repeat, holds, compares, both, either, fails, nothing, step, StepLocalsBelow}
 use Rattle.word_code.proofs.Names.{TestLocalsBelow, LocalsBelow, step_locals, test_locals, locals_of, Core, Form, SetStack, forms_bytes, Stands, Runs}
 use Rattle.word_code.proofs.Names.{stack_top, stack_base, stack_set, stack_cycles, stack_start, HasStackRoom, Code, IsTidy, IsWhole, FitsEvents, ◌<◌, ◌*◌, ◌%◌}
-use Rattle.word_code.proofs.Names.{StepEachLocal, TestEachLocal, EachLocal, inl, inr, local_address, both_ways}
+use Rattle.word_code.proofs.Names.{StepEachLocal, TestEachLocal, EachLocal, inl, inr, local_address, both_ways, KeptCode, IsKept, rules_of, KeepsWithin}
+use Rattle.word_code.proofs.Names.{entry_stack}
+use Rattle.word_code.proofs.Names.{subst, sym}
 use Rattle.word_code.proofs.Memory.{Owns, below_eight, from_eight}
 use Rattle.word_code.proofs.Stretches.{Setting, hop, nothing_run, dearer}
 
@@ -78,6 +80,10 @@ mutual
 
 -- ---- code that nothing called: the registers from its own on are its own, and so is RAM from below its locals on
 
+pub high_enough : (events : Bool) → stack_start ≤ entry_stack events
+high_enough true = omega arith
+high_enough false = omega arith
+
 -- where the stack of a whole program begins, and how many locals it has at most
 pub record Begins (code : Code) (p : Program) (whole : IsWhole p) : Type 0 where
   pub locals : ℕ
@@ -85,6 +91,7 @@ pub record Begins (code : Code) (p : Program) (whole : IsWhole p) : Type 0 where
   pub even : top % 2 ≡ 0
   pub start : code.events ≡ true → top ≤ stack_start
   pub low : top ≤ stack_base locals
+  pub within : top ≤ entry_stack code.events
   pub deep : whole.bounds.low + 2 * whole.room ≤ top
   pub roomy : HasStackRoom top whole.room
   pub light : code.events ≡ true → whole.bounds.framed ≡ false
@@ -99,6 +106,7 @@ at_start code p whole fit =
       even = refl;
       start = λ k. omega arith;
       low = fit.low;
+      within = high_enough code.events;
       deep = fit.lowest;
       roomy = fit.room;
       light = λ k. fit.light;
@@ -117,16 +125,18 @@ at_base code p whole none =
       even = omega arith;
       start = λ k. absurd (both_ways code.events none k);
       low = omega arith;
+      within = subst (λ e. stack_base (locals_of p) ≤ entry_stack e) (sym none) (omega arith);
       deep = omega (arith, lowest, least);
       roomy = record { fits = omega (arith, room, least) };
       light = λ k. absurd (both_ways code.events none k);
       named = program_below (locals_of p) p (omega arith);
     }
 
-module _ (code : Code) (tidy : IsTidy code) (u : Core) (p : Program) (whole : IsWhole p) (b : Begins code p whole) where
+module _ (kept : KeptCode) (tidy : IsTidy kept.code) (u : Core) (p : Program) (whole : IsWhole p) (keeps : KeepsWithin kept p whole)
+    (b : Begins kept.code p whole) where
   abbrev pub uncalled : Setting
   uncalled = record {
-    code = code;
+    kept = kept;
     tidy = tidy;
     own = whole.bounds.first;
     registers = 8;
@@ -135,6 +145,7 @@ module _ (code : Code) (tidy : IsTidy code) (u : Core) (p : Program) (whole : Is
     room = whole.room;
     top = b.top;
     low = whole.bounds.low;
+    bottom = whole.bounds.floor;
     framed = whole.bounds.framed;
     gives = false;
     entered = u;
@@ -142,10 +153,13 @@ module _ (code : Code) (tidy : IsTidy code) (u : Core) (p : Program) (whole : Is
     few = omega arith;
     even = b.even;
     high = let low = b.low in omega arith;
+    within = let low = b.within in let high = keeps.high in omega arith;
     start = b.start;
     above = λ l. b.low;
     inside = omega arith;
     deep = b.deep;
+    floor = whole.floor;
+    lowest = keeps.low;
     roomy = b.roomy;
     light = b.light;
     returns = λ e. absurd (both_ways false refl e);
@@ -177,19 +191,21 @@ pub record HasStack (pc top : ℕ) (u t : Core) : Type 0 where
   pub ram : t.ram ≡ u.ram
   pub work : t.work ≡ u.work
 
-set_by : (z : Setting) (locals : ℕ) (b : Bool) (u : Core) → z.code.events ≡ false → nat_lt 8 locals ≡ b → u.sp ≡ stack_top
+set_by : (z : Setting) (locals : ℕ) (b : Bool) (u : Core) → z.code.events ≡ false → IsKept (rules_of z.kept) (stack_base locals) → nat_lt 8 locals ≡ b
+    → u.sp ≡ stack_top
     → (let ms : List Form = if b then SetStack (stack_base locals) ∷ [] else [] in Stands z.code u.pc ms
-    → Runs z.code [] stack_cycles u (HasStack (u.pc + forms_bytes ms) (stack_base locals) u))
-set_by z locals true u none e sp h =
+    → Runs z.kept [] stack_cycles u (HasStack (u.pc + forms_bytes ms) (stack_base locals) u))
+set_by z locals true u none stays e sp h =
     let base = stack_base locals in
     let even : base % 2 ≡ 0 = omega arith in
     let t : Core = record u { pc = u.pc + 4; sp = base } in
-    hop z (SetStack base) 2 u t [] 2 (HasStack (u.pc + 4) base u) h.0 (even, λ k. absurd (cc (k, none))) refl (omega arith)
+    hop z (SetStack base) 2 u t [] 2 (HasStack (u.pc + 4) base u) h.0 (even, λ k. absurd (cc (k, none)), stays) refl (omega arith)
     (record { at = refl; sp = refl; fram = refl; inputs = refl; ram = refl; work = refl })
-set_by z locals false u none e sp h =
+set_by z locals false u none stays e sp h =
     let few : locals ≤ 8 = grind (arith, nat_tests) in
     dearer z (omega arith) (nothing_run z (record { at = omega arith; sp = omega (arith, sp, few); fram = refl; inputs = refl; ram = refl; work = refl }))
 
-pub stack_part : (z : Setting) (locals : ℕ) (u : Core) → z.code.events ≡ false → u.sp ≡ stack_top → Stands z.code u.pc (stack_set false locals)
-    → Runs z.code [] stack_cycles u (HasStack (u.pc + forms_bytes (stack_set false locals)) (stack_base locals) u)
-stack_part z locals u none sp h = set_by z locals (nat_lt 8 locals) u none refl sp h
+pub stack_part : (z : Setting) (locals : ℕ) (u : Core) → z.code.events ≡ false → IsKept (rules_of z.kept) (stack_base locals) → u.sp ≡ stack_top
+    → Stands z.code u.pc (stack_set false locals)
+    → Runs z.kept [] stack_cycles u (HasStack (u.pc + forms_bytes (stack_set false locals)) (stack_base locals) u)
+stack_part z locals u none stays sp h = set_by z locals (nat_lt 8 locals) u none stays refl sp h

@@ -40,7 +40,7 @@ module _ (z : Setting) (place : LoggedPlace) (p : ℕ) where
   Keeps i v r end word =
       let e = 2 * i + place.elements in
       (w : WordState) (t : Core) → IsPlace e → HoldsWords w.fram → HasTwo z (p + 46) w (2 * i) v t
-      → Runs z.code (Store e (word w) ∷ []) r t (StandsFor z end (stored e (word w) w))
+      → Runs z.kept (Store e (word w) ∷ []) r t (StandsFor z end (stored e (word w) w))
 
 -- what the log of an element does, by the FRAM in front of it; the code's word for twice the index is that
 module _ (place : LoggedPlace) (list : ListPlace) (i offset : ℕ) (same : offset ≡ 2 * i) (w : WordState) (wl : HoldsWords w.fram)
@@ -138,7 +138,7 @@ module _ (z : Setting) (place : LoggedPlace) (list : ListPlace) (p : ℕ) (h : S
     offset_is = twice i place.elements (address_small fe)
 
     -- the version word is the attempt's number
-    again : (w.fram list.ver == w.fram (2 * i + place.versions)) ≡ true → Runs z.code [] 9 t (HasTwo z (p + 46) w (2 * i) v)
+    again : (w.fram list.ver == w.fram (2 * i + place.versions)) ≡ true → Runs z.kept [] 9 t (HasTwo z (p + 46) w (2 * i) v)
     again b =
         route z p code h 0 (starts z j.is) (j.held.four, j.held.five, refl, refl) (on 3 ∷ jump true ∷ []) 9 _ (
           _,
@@ -159,7 +159,7 @@ module _ (z : Setting) (place : LoggedPlace) (list : ListPlace) (p : ℕ) (h : S
     -- it isn't: the element is logged
     first_time : (w.fram list.ver == w.fram (2 * i + place.versions)) ≡ false → IsPlace list.cln → (f1 : IsPlace (list.list + 4 * w.fram list.cln))
         → (f2 : IsPlace (list.list + 4 * w.fram list.cln + 2)) → (let x = (i + i + 0) % 0x10000 in
-        Runs z.code (logging place list i x offset_is w wl fe f1 f2) 37 t (HasTwo z (p + 46) (logged place list i x offset_is w wl fe f1 f2) (2 * i) v))
+        Runs z.kept (logging place list i x offset_is w wl fe f1 f2) 37 t (HasTwo z (p + 46) (logged place list i x offset_is w wl fe f1 f2) (2 * i) v))
     first_time b fc f1 f2 =
         let x = (i + i + 0) % 0x10000 in
         let y = logged place list i x offset_is w wl fe f1 f2 in
@@ -232,7 +232,7 @@ module _ (z : Setting) (o : PlainOperation) (place : LoggedPlace) (list : ListPl
         ap (λ q. (w.fram list.ver + (0xFFFF - w.fram q) + 1) % 0x10000 == 0) there
         ∙ equal_flag (w.fram list.ver) (w.fram (2 * k + place.versions)) (wl list.ver) (wl (2 * k + place.versions)) ∙ e
 
-    known_again : (w.fram list.ver == w.fram (2 * k + place.versions)) ≡ true → Runs z.code [] 8 t (Has z R5 (p + 48) w v)
+    known_again : (w.fram list.ver == w.fram (2 * k + place.versions)) ≡ true → Runs z.kept [] 8 t (Has z R5 (p + 48) w v)
     known_again b =
         route z p looked looked_stands 0 (starts z j.is) (refl, j.held, refl, refl) (on 2 ∷ jump true ∷ []) 8 _
         (_, ((fv, tt), ((tt, subst IsPlace (sym there) fm), tt)), (refl, (refl, known_marked b, refl, tt))) refl refl
@@ -240,7 +240,7 @@ module _ (z : Setting) (o : PlainOperation) (place : LoggedPlace) (list : ListPl
 
     known_time : (w.fram list.ver == w.fram (2 * k + place.versions)) ≡ false → IsPlace list.cln → (f1 : IsPlace (list.list + 4 * w.fram list.cln))
         → (f2 : IsPlace (list.list + 4 * w.fram list.cln + 2)) → (let x = word_sum k k in
-        Runs z.code (logging place list k x known_same w wl fe f1 f2) 38 t (Has z R5 (p + 48) (logged place list k x known_same w wl fe f1 f2) v))
+        Runs z.kept (logging place list k x known_same w wl fe f1 f2) 38 t (Has z R5 (p + 48) (logged place list k x known_same w wl fe f1 f2) v))
     known_time b fc f1 f2 =
         let x = word_sum k k in
         let y = logged place list k x known_same w wl fe f1 f2 in
@@ -271,15 +271,15 @@ module _ (z : Setting) (o : PlainOperation) (place : LoggedPlace) (list : ListPl
   -- the element by one instruction
   known_stored : (y : WordState) (u : Core) → HoldsWords y.fram → IsPlace (2 * k + place.elements) → Has z R5 (p + 48) y v u
       → (let e = 2 * k + place.elements in let x = plain_word o (y.fram e) v in
-      Runs z.code (Store e x ∷ []) 6 u (StandsFor z (p + 52) (stored e x y)))
+      Runs z.kept (Store e x ∷ []) 6 u (StandsFor z (p + 52) (stored e x y)))
   known_stored y u yl fe g =
       let c = word_sum place.elements (word_sum k k) in
       let at : c ≡ 2 * k + place.elements = known_place k place.elements (address_small fe) in
       let both : ArrayPlace = record { elements = place.elements; copies = place.elements; versions = place.versions; length = place.length } in
       let update = Update (plain_instruction o) (Register R5) c ∷ [] in
       let end : p + 48 + 4 ≡ p + 52 = omega arith in
-      subst (λ n. let x = plain_word o (y.fram n) v in Runs z.code (Store n x ∷ []) 6 u (StandsFor z (p + 52) (stored n x y))) at
-      (subst (λ q. let x = plain_word o (y.fram c) v in Runs z.code (Store c x ∷ []) 6 u (StandsFor z q (stored c x y))) end
+      subst (λ n. let x = plain_word o (y.fram n) v in Runs z.kept (Store n x ∷ []) 6 u (StandsFor z (p + 52) (stored n x y))) at
+      (subst (λ q. let x = plain_word o (y.fram c) v in Runs z.kept (Store c x ∷ []) 6 u (StandsFor z q (stored c x y))) end
       (place_part z o (Register R5) 1 (omega arith) both list c (p + 48) v y u (omega arith) (yl c) lv (subst IsPlace (sym at) fe)
       (stands_back z.code p looked update h).0 g.is (five_gives false v y.fram u.work g.held)))
 
@@ -439,7 +439,7 @@ module _ (z : Setting) (bs : List Bound) (place : LoggedPlace) (list : ListPlace
     (l : AreWords (v ∷ (i ∷ rest))) where
   -- the right side to R5, all below it and the index being pushed
   right_five : (q : Waiting) (k : ℕ) (os : List Waiting) → (let ws = q ∷ (waiting.Number k ∷ os) in Stands z.code pc (right_to_five ws)
-      → Describes z ws pc w u → Runs z.code [] (owed os + load_cycles (Some q)) u
+      → Describes z ws pc w u → Runs z.kept [] (owed os + load_cycles (Some q)) u
       (Waits z (waiting.Number k ∷ []) (pc + forms_bytes (right_to_five ws)) (with_stack (i ∷ rest) w) (HasWord R5 v)))
   right_five q k os h d =
       let mid = pc + forms_bytes (flushed os) in

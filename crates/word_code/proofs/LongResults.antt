@@ -202,7 +202,7 @@ module _ (z : Setting) where
   -- the top goes
   dropped_part : (os : List Waiting) (pc : ℕ) (w : WordState) (v : ℕ) (vs : List ℕ) (u : Core) → w.stack ≡ v ∷ vs → Stands z.code pc (dropped (top_of os))
       → Describes z os pc w u
-      → Runs z.code [] (pop_cycles (top_of os)) u (Describes z (below_top os) (pc + forms_bytes (dropped (top_of os))) (with_stack vs w))
+      → Runs z.kept [] (pop_cycles (top_of os)) u (Describes z (below_top os) (pc + forms_bytes (dropped (top_of os))) (with_stack vs w))
   dropped_part [] pc w v vs u e h d = so_runs (five_part z [] pc w v vs u e h d) (λ t k. k.is)
   dropped_part (o ∷ os) pc w v vs u e h d =
       let same : pc ≡ pc + 0 = omega arith in
@@ -210,7 +210,7 @@ module _ (z : Setting) where
 
   -- the top stays, and the word below it goes
   high_part : (os : List Waiting) (pc : ℕ) (w : WordState) (v y : ℕ) (vs : List ℕ) (u : Core) → w.stack ≡ v ∷ (y ∷ vs) → Stands z.code pc (high_code os)
-      → Describes z os pc w u → Runs z.code [] (high_cycles_of os) u (Describes z (high_behind os) (pc + forms_bytes (high_code os)) (with_stack (v ∷ vs) w))
+      → Describes z os pc w u → Runs z.kept [] (high_cycles_of os) u (Describes z (high_behind os) (pc + forms_bytes (high_code os)) (with_stack (v ∷ vs) w))
   high_part [] pc w v y vs u e h d =
       let left = with_stack (y ∷ vs) w in
       let room : length vs < z.room = omega (arith, d.fits, ap (length {A = ℕ}) e) in

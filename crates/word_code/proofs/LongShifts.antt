@@ -23,7 +23,7 @@ module _ (z : Setting) where
   -- what forms make of a long below this number
   abbrev pub LongTurns : List Form → ℕ → ℕ → (ℕ → ℕ) → Type 0
   LongTurns ms c most f = (pc n : ℕ) (w : WordState) (t : Core) → n < most → Stands z.code pc ms → HasLong n pc w t
-      → Runs z.code [] c t (HasLong (f n) (pc + forms_bytes ms) w)
+      → Runs z.kept [] c t (HasLong (f n) (pc + forms_bytes ms) w)
 
   -- forms behind forms
   turns_on : {most c d : ℕ} (ms more : List Form) (g f : ℕ → ℕ) (next : ℕ) → ((n : ℕ) → n < most → g n < next) → LongTurns ms c most g
@@ -35,7 +35,7 @@ module _ (z : Setting) where
   as_value : {c most : ℕ} (ms : List Form) (d : ℕ) (f g : ℕ → ℕ) → c ≤ d → ((n : ℕ) → n < most → f n ≡ g n) → LongTurns ms c most f
       → LongTurns ms d most g
   as_value {c} {most} ms d f g l e a pc n w t s h i =
-      dearer z l (subst (λ v. Runs z.code [] c t (HasLong v (pc + forms_bytes ms) w)) (e n s) (a pc n w t s h i))
+      dearer z l (subst (λ v. Runs z.kept [] c t (HasLong v (pc + forms_bytes ms) w)) (e n s) (a pc n w t s h i))
 
   -- forms so many times
   times_part : (most : ℕ) (ms : List Form) (g : ℕ → ℕ) → ((n : ℕ) → n < most → g n < most) → LongTurns ms 2 most g → (k : ℕ)

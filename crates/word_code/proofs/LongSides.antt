@@ -35,7 +35,7 @@ seven_spare : IsSpare R7
 seven_spare = record { locals = λ f y. refl; four = λ f y. refl; six = λ f y. refl }
 
 register_shows : (b : WorkRegister) (v : ℕ) (f g : ℕ → ℕ) → g (work_number b) ≡ v → ShowsOn b (Register b) v f g
-register_shows b v f g e = record { word = λ s a l. ap (λ ws. get_or ws 0 0) l ∙ e; needs = λ events s. tt; quiet = λ s. refl; still = λ s. refl }
+register_shows b v f g e = record { word = λ s a l. ap (λ ws. get_or ws 0 0) l ∙ e; needs = λ rules s. tt; quiet = λ s. refl; still = λ s. refl }
 
 -- those words are the same where that register and those of the locals are
 side_same : (b : WorkRegister) (f g : ℕ → ℕ) → f (work_number b) ≡ g (work_number b) → ((n : ℕ) → 8 ≤ n → f n ≡ g n) → side_words b f ≡ side_words b g
@@ -129,7 +129,7 @@ module _ (z : Setting) where
       → rests (top_of os) ≡ stay → w.stack ≡ v ∷ vs
       → (let ms : List Form = if stay then [] else (Move (source_from (top_of os)) (ToRegister b) ∷ []) in
       let x : Source = if stay then source_from (top_of os) else (Register b) in Stands z.code pc ms → Describes z os pc w u
-      → Runs z.code [] (side_cycles stay (top_of os)) u (Waits z (below_top os) (pc + forms_bytes ms) (with_stack vs w) (IsAside b x v w.fram u.work)))
+      → Runs z.kept [] (side_cycles stay (top_of os)) u (Waits z (below_top os) (pc + forms_bytes ms) (with_stack vs w) (IsAside b x v w.fram u.work)))
   side_by true b [] pc w v vs u spare r e h d = absurd (let q = r in (cc))
   side_by true b (o ∷ os) pc w v vs u spare r e h d =
       let k = drop_part z o os pc w v vs u e d in
@@ -153,7 +153,7 @@ module _ (z : Setting) where
   -- both
   right_part : (os : List Waiting) (pc : ℕ) (w : WordState) (b : Pair) (vs : List ℕ) (u : Core) → w.stack ≡ b.high ∷ (b.low ∷ vs)
       → (let ms = side_from R7 (top_of os) ++ side_from R5 (top_of (below_top os)) in Stands z.code pc ms → Describes z os pc w u
-      → Runs z.code [] (right_cycles os) u (Waits z (below_two os) (pc + forms_bytes ms) (with_stack vs w)
+      → Runs z.kept [] (right_cycles os) u (Waits z (below_two os) (pc + forms_bytes ms) (with_stack vs w)
       (ShowsLong (low_source os) (high_source os) b w.fram)))
   right_part os pc w b vs u e h d =
       let under = below_top os in
@@ -177,14 +177,14 @@ module _ (z : Setting) where
   six_move : (os : List Waiting) (pc : ℕ) (w : WordState) (v : ℕ) (vs : List ℕ) (u : Core) → w.stack ≡ v ∷ vs → in_six (top_of (below_top os)) ≡ false
       → any_held (below_two os) ≡ false
       → (let m = Move (source_from (top_of os)) (ToRegister R6) in Stands z.code pc (m ∷ []) → Describes z os pc w u
-      → Runs z.code [] (load_cycles (top_of os)) u (Waits z (below_top os) (pc + forms_bytes (m ∷ [])) (with_stack vs w) (IsLoaded R6 v u.work)))
+      → Runs z.kept [] (load_cycles (top_of os)) u (Waits z (below_top os) (pc + forms_bytes (m ∷ [])) (with_stack vs w) (IsLoaded R6 v u.work)))
   six_move os pc w v vs u e apart none h d =
       move_part z R6 (top_of os) (below_top os) pc w v vs u (λ f y. refl) (λ f y. low_same w.fram w.locals f y (below_top os) apart none) h
       (take_part z os pc w v vs u e d)
 
   six_part : (os : List Waiting) (pc : ℕ) (w : WordState) (v : ℕ) (vs : List ℕ) (u : Core) → w.stack ≡ v ∷ vs → in_six (top_of (below_top os)) ≡ false
       → any_held (below_two os) ≡ false → Stands z.code pc (six_from (top_of os)) → Describes z os pc w u
-      → Runs z.code [] (load_cycles (top_of os)) u
+      → Runs z.kept [] (load_cycles (top_of os)) u
       (Waits z (below_top os) (pc + forms_bytes (six_from (top_of os))) (with_stack vs w) (IsLoaded R6 v u.work))
   six_part (waiting.R6 ∷ os) pc w v vs u e apart none h d =
       let k = take_part z (waiting.R6 ∷ os) pc w v vs u e d in
@@ -198,7 +198,7 @@ module _ (z : Setting) where
 
   pair_part : (os : List Waiting) (pc : ℕ) (w : WordState) (a : Pair) (vs : List ℕ) (u : Core) → w.stack ≡ a.high ∷ (a.low ∷ vs)
       → in_six (top_of (below_top os)) ≡ false → any_held (below_two os) ≡ false → Stands z.code pc (pair_from os) → Describes z os pc w u
-      → Runs z.code [] (pair_cycles os) u (Waits z (below_two os) (pc + forms_bytes (pair_from os)) (with_stack vs w) (IsPaired a u.work))
+      → Runs z.kept [] (pair_cycles os) u (Waits z (below_two os) (pc + forms_bytes (pair_from os)) (with_stack vs w) (IsPaired a u.work))
   pair_part os pc w a vs u e apart none h d =
       let under = below_top os in
       let first = six_from (top_of os) in
@@ -214,14 +214,14 @@ module _ (z : Setting) where
         };
       }))
 
-  only_pair : {os : List Waiting} {pc n : ℕ} {w : WordState} {a : Pair} {g : ℕ → ℕ} {u : Core} → Runs z.code [] n u (Waits z os pc w (IsPaired a g))
-      → Runs z.code [] n u (Waits z os pc w (HasPair a))
+  only_pair : {os : List Waiting} {pc n : ℕ} {w : WordState} {a : Pair} {g : ℕ → ℕ} {u : Core} → Runs z.kept [] n u (Waits z os pc w (IsPaired a g))
+      → Runs z.kept [] n u (Waits z os pc w (HasPair a))
   only_pair x = so_runs x (λ t k. record { is = k.is; held = k.held.held })
 
   -- with words below it that may wait in registers
   pub pair_to_registers_part : (os : List Waiting) (pc : ℕ) (w : WordState) (a : Pair) (vs : List ℕ) (u : Core) → w.stack ≡ a.high ∷ (a.low ∷ vs)
       → in_six (top_of (below_top os)) ≡ false → Stands z.code pc (pair_to_registers os) → Describes z os pc w u
-      → Runs z.code [] (clear_cycles (below_two os) + pair_cycles os) u
+      → Runs z.kept [] (clear_cycles (below_two os) + pair_cycles os) u
       (Waits z (kept (below_two os)) (pc + forms_bytes (pair_to_registers os)) (with_stack vs w) (HasPair a))
   pair_to_registers_part [] pc w a vs u e apart h d = only_pair (pair_part [] pc w a vs u e refl refl h d)
   pair_to_registers_part (o ∷ []) pc w a vs u e apart h d = only_pair (pair_part (o ∷ []) pc w a vs u e refl refl h d)
@@ -235,7 +235,7 @@ module _ (z : Setting) where
       → w.stack ≡ b.high ∷ (b.low ∷ (a.high ∷ (a.low ∷ vs))) → in_six (top_of (below_top (below_two os))) ≡ false
       → any_held (below_two (below_two os)) ≡ false
       → (let ms = (side_from R7 (top_of os) ++ side_from R5 (top_of (below_top os))) ++ pair_from (below_two os) in Stands z.code pc ms
-      → Describes z os pc w u → Runs z.code [] (right_cycles os + pair_cycles (below_two os)) u
+      → Describes z os pc w u → Runs z.kept [] (right_cycles os + pair_cycles (below_two os)) u
       (Waits z (below_two (below_two os)) (pc + forms_bytes ms) (with_stack vs w) (HasLongs (low_source os) (high_source os) a b w.fram)))
   long_loads os pc w a b vs u e apart none h d =
       let under = below_two os in
@@ -264,7 +264,7 @@ module _ (z : Setting) where
   pub long_sides_part : (os : List Waiting) (pc : ℕ) (w : WordState) (a b : Pair) (vs : List ℕ) (u : Core)
       → w.stack ≡ b.high ∷ (b.low ∷ (a.high ∷ (a.low ∷ vs))) → in_six (top_of (below_top (below_two os))) ≡ false → Stands z.code pc (long_sides os)
       → Describes z os pc w u → (let under = below_two (below_two os) in
-      Runs z.code [] (clear_cycles under + (right_cycles os + pair_cycles (below_two os))) u
+      Runs z.kept [] (clear_cycles under + (right_cycles os + pair_cycles (below_two os))) u
       (Waits z (kept under) (pc + forms_bytes (long_sides os)) (with_stack vs w) (HasLongs (low_source os) (high_source os) a b w.fram)))
   long_sides_part [] pc w a b vs u e apart h d = dearer z (omega arith) (long_loads [] pc w a b vs u e refl refl h d)
   long_sides_part (o ∷ []) pc w a b vs u e apart h d = dearer z (omega arith) (long_loads (o ∷ []) pc w a b vs u e refl refl h d)

@@ -29,7 +29,7 @@ module _ (z : Setting) where
   -- behind the addition the local is compared
   compare_raised : (r : WorkRegister) (pc n k below : ℕ) (w : WordState) (t : Core) → k < 0x10000 → below < 0x10000
       → (let m = Calculate op.Cmp (number_source below) r in z.code.at pc ≡ Some (instruction_of m) → Has z r pc (with_local n k w) k t
-      → Runs z.code [] 2 t (Raised (pc + form_bytes m) n k below w))
+      → Runs z.kept [] 2 t (Raised (pc + form_bytes m) n k below w))
   compare_raised r pc n k below w t l lb h i =
       let end = pc + form_bytes (Calculate op.Cmp (number_source below) r) in
       so_runs (compare_number z r pc k below (with_local n k w) t l lb i.held i.is h)
@@ -38,7 +38,7 @@ module _ (z : Setting) where
   raise_by : (b : Bool) (pc n k below : ℕ) (w : WordState) (u : Core) → nat_lt n 8 ≡ b → Owns z n → w.locals n ≡ Some k → k + 1 < 0x10000 → below < 0x10000
       → (let ms : List Form = if b then Calculate op.Add (Constant konst.One) (local_register n) ∷ Calculate op.Cmp (number_source below)
       (local_register n) ∷ [] else (ram_turn_end n below) in Stands z.code pc ms → StandsFor z pc w u
-      → Runs z.code [] 10 u (Raised (pc + forms_bytes ms) n (k + 1) below w))
+      → Runs z.kept [] 10 u (Raised (pc + forms_bytes ms) n (k + 1) below w))
   raise_by true pc n k below w u b lt q l lb h i =
       let to = local_register n in
       let r = work_number to in
@@ -61,7 +61,7 @@ module _ (z : Setting) where
             };
         held = put_same u.work r ((u.work r + 1 + 0) % 0x10000) ∙ next;
       }) in
-      subst (λ p. Runs z.code [] 10 u (Raised p n (k + 1) below w)) end (dearer z (omega arith)
+      subst (λ p. Runs z.kept [] 10 u (Raised p n (k + 1) below w)) end (dearer z (omega arith)
       (runs_on z added (λ t j. compare_raised to (pc + 2) n (k + 1) below w t l lb h.1.0 j)))
   raise_by false pc n k below w u b lt q l lb h i =
       let a = local_address n in
@@ -86,11 +86,11 @@ module _ (z : Setting) where
             };
         held = next;
       }) in
-      subst (λ p. Runs z.code [] 10 u (Raised p n (k + 1) below w)) end (runs_on z added
+      subst (λ p. Runs z.kept [] 10 u (Raised p n (k + 1) below w)) end (runs_on z added
       (λ t j. compare_raised R4 (pc + 10) n (k + 1) below w t l lb (form_at z.code pc 3 all last h refl) j))
 
   pub raise_part : (pc n k below : ℕ) (w : WordState) (u : Core) → Owns z n → w.locals n ≡ Some k → k + 1 < 0x10000 → below < 0x10000
-      → Stands z.code pc (turn_end n below) → StandsFor z pc w u → Runs z.code [] 10 u (Raised (pc + forms_bytes (turn_end n below)) n (k + 1) below w)
+      → Stands z.code pc (turn_end n below) → StandsFor z pc w u → Runs z.kept [] 10 u (Raised (pc + forms_bytes (turn_end n below)) n (k + 1) below w)
   raise_part pc n k below w u lt q l lb h i = raise_by (nat_lt n 8) pc n k below w u refl lt q l lb h i
 
   -- turns of a body, where they stand; `fit` says of a state that so many turns can be made from it
@@ -120,14 +120,14 @@ module _ (z : Setting) where
 
     -- behind the body: on to the end, or back for another turn
     behind_body : (k : ℕ) (v : WordState) (t : Core) → v.locals n ≡ Some k → k + 1 < 0x10000 → StandsFor z (pc + forms_bytes body) v t
-        → Runs z.code [] 10 t (Raised behind_turn n (k + 1) below v)
+        → Runs z.kept [] 10 t (Raised behind_turn n (k + 1) below v)
     behind_body k v t q l i =
         let tail = stands_back z.code pc body (turn_end n below) inside in
         let e : pc + forms_bytes body + forms_bytes (turn_end n below) ≡ behind_turn = omega (arith, forms_bytes-append body (turn_end n below)) in
-        subst (λ p. Runs z.code [] 10 t (Raised p n (k + 1) below v)) e (raise_part (pc + forms_bytes body) n k below v t lt q l small tail i)
+        subst (λ p. Runs z.kept [] 10 t (Raised p n (k + 1) below v)) e (raise_part (pc + forms_bytes body) n k below v t lt q l small tail i)
 
     last_turn : (k : ℕ) (v : WordState) (t : Core) → v.locals n ≡ Some k → k + 1 ≡ below → StandsFor z (pc + forms_bytes body) v t
-        → Runs z.code [] 15 t (StandsFor z end (with_local n (k + 1) v))
+        → Runs z.kept [] 15 t (StandsFor z end (with_local n (k + 1) v))
     last_turn k v t q e i =
         let to : behind_turn + forms_bytes back ≡ end = omega (arith, forms_bytes-append turn back) in
         let over : not ((k + 1) == below) ≡ false = ap not (eq-eqb (k + 1) below e) in
@@ -135,7 +135,7 @@ module _ (z : Setting) where
         (with_local n (k + 1) v) u jumps_back to (subst (λ b. Decided z behind_turn (with_local n (k + 1) v) b condition.NotEqual condition.Equal u) over j))
 
     next_turn : (k : ℕ) (v : WordState) (t : Core) → v.locals n ≡ Some k → k + 1 < below → StandsFor z (pc + forms_bytes body) v t
-        → Runs z.code [] 15 t (StandsFor z pc (with_local n (k + 1) v))
+        → Runs z.kept [] 15 t (StandsFor z pc (with_local n (k + 1) v))
     next_turn k v t q l i =
         let from : pc + 2 * size turn ≡ behind_turn = omega (arith, whole_size turn) in
         let more : not ((k + 1) == below) ≡ true = ap not (ne_eqb (k + 1) below (λ e. omega arith)) in

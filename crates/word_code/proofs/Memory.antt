@@ -3,7 +3,7 @@ use Rattle.word_code.proofs.Names.{◌≡◌, ℕ, zero, suc, ◌+◌, ◌-◌, 
 use Rattle.word_code.proofs.Names.{arith}
 use Rattle.word_code.proofs.Names.{Bool, true, false, nat_eq, nat_lt, eq-eqb, ne_eqb, if◌then◌else◌, nat_tests, same_Some, put, IsPlace, IsRam}
 use Rattle.word_code.proofs.Names.{stack_start, put_same, put_other, work_number, HasPushRoom, is_place, assigned, local_register, local_address, eqb-true}
-use Rattle.word_code.proofs.Names.{IsOwn, inl, inr}
+use Rattle.word_code.proofs.Names.{IsOwn, inl, inr, IsKept, rules_of}
 use Rattle.word_code.proofs.Stretches.{Setting}
 pub use Rattle.array_versions.specs.alp_words.Words.{AreWords, HoldsWords}
 
@@ -155,15 +155,21 @@ module _ (z : Setting) where
       subst (λ n. Memory z n ram regs rest ls) same (drop_memory (sp + 2) words (pop_memory m))
 
   pub pop_needs : {sp v : ℕ} {ram : ℕ → ℕ} {words vs : List ℕ} {ls : ℕ → Option ℕ} → Memory z sp ram words (v ∷ vs) ls
-      → IsRam sp × (z.code.events ≡ true → sp + 2 ≤ stack_start)
+      → IsRam sp × (z.code.events ≡ true → sp + 2 ≤ stack_start) × IsKept (rules_of z.kept) (sp + 2)
   pop_needs m =
       let d = m.depth in let f = m.fits in let r = z.roomy.fits in let e = z.even in let b = z.deep in let high = z.high in
-      (record { even = omega arith; low = omega arith; high = omega arith }, λ h. let s = z.start h in omega arith)
+      let floor = z.floor in let lowest = z.lowest in let within = z.within in (
+        record { even = omega arith; low = omega arith; high = omega arith },
+        λ h. (let s = z.start h in omega arith),
+        (omega arith, omega arith),
+      )
 
-  pub push_needs : {sp : ℕ} {ram : ℕ → ℕ} {words vs : List ℕ} {ls : ℕ → Option ℕ} → Memory z sp ram words vs ls → length vs < z.room → HasPushRoom sp
+  pub push_needs : {sp : ℕ} {ram : ℕ → ℕ} {words vs : List ℕ} {ls : ℕ → Option ℕ} → Memory z sp ram words vs ls → length vs < z.room
+      → HasPushRoom (rules_of z.kept) sp
   push_needs m l =
       let d = m.depth in let r = z.roomy.fits in let e = z.even in let b = z.deep in let h = z.high in
-      record { even = omega arith; room = record { fits = omega arith }; high = omega arith }
+      let floor = z.floor in let lowest = z.lowest in let within = z.within in
+      record { even = omega arith; room = record { fits = omega arith }; high = omega arith; below = (omega arith, omega arith) }
 
   pub local_needs : (n : ℕ) → nat_lt n 8 ≡ false → Owns z n → IsRam (local_address n)
   local_needs n e own = (in_frame n e own).ram

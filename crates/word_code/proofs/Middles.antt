@@ -1,6 +1,6 @@
 -- Operations on registers: what each leaves, and the steps that they are.
 use Rattle.word_code.proofs.Names.{source_effects, if◌then◌else◌, ◌≤◌, IsNotMov, writes_destination, TwoOp, Bool, Calculate, Goes, Some, Source}
-use Rattle.word_code.proofs.Names.{SourceNeeds, cycles_of}
+use Rattle.word_code.proofs.Names.{SourceNeeds, cycles_of, CodeRules, rules_of}
 use Rattle.word_code.proofs.Names.{flags_after, instruction_of, put, source_bytes, source_cycles, source_operand, source_read, source_value, subst, sym}
 use Rattle.word_code.proofs.Names.{to_register, true, work_number, ◌≡◌, ℕ, ◌+◌, ◌-◌, ◌%◌, ◌<◌, List, [], refl, ap, ap₂, ◌∙◌, arith, Flags, Word, operated}
 use Rattle.word_code.proofs.Names.{WorkRegister, R4, R5, Core, Form, Stands, forms_bytes, Runs, Negate, Complement, PlainOperation, Add, Subtract, Plain}
@@ -20,8 +20,8 @@ plain_needs Add = (tt, refl)
 plain_needs _ = (tt, refl)
 
 -- an operation reads these words in a register and from a source, and the machine is left so
-pub record IsRead (events : Bool) (x : Source) (b : WorkRegister) (l r : ℕ) (t s : Core) : Type 0 where
-  pub needs : SourceNeeds events x t
+pub record IsRead (rules : CodeRules) (x : Source) (b : WorkRegister) (l r : ℕ) (t s : Core) : Type 0 where
+  pub needs : SourceNeeds rules x t
   pub quiet : source_effects x t ≡ []
   pub still : source_read x t ≡ s
   pub left : s.work (work_number b) ≡ l
@@ -32,11 +32,11 @@ module _ (z : Setting) where
     -- an operation on a register: its value is written or not, and its flags are
     pub calculate : {l r : ℕ} {t : Core} (s : Core) (writes : Bool) (P : Core → Type 0) → IsNotMov o
         → writes_destination o ≡ writes → source_cycles to_register (source_operand x) ≤ c → z.code.at t.pc ≡ Some (instruction_of (Calculate o x b))
-        → IsRead z.code.events x b l r t s → (let does = operated o Word l r t.flags in P (record s {
+        → IsRead (rules_of z.kept) x b l r t s → (let does = operated o Word l r t.flags in P (record s {
           pc = t.pc + (2 + source_bytes x);
           flags = flags_after does.flags s.flags;
           work = if writes then put s.work (work_number b) does.value else s.work;
-        })) → Runs z.code [] c t P
+        })) → Runs z.kept [] c t P
     calculate {l} {r} {t} s writes P reads e price h k p =
         let n = work_number b in
         let cost = cycles_of (instruction_of (Calculate o x b)) in
@@ -51,11 +51,11 @@ module _ (z : Setting) where
     -- what an operation makes of the two is written
     pub plain_step : {l r : ℕ} {t : Core} (s : Core) (P : Core → Type 0) → l < 0x10000
         → r < 0x10000 → source_cycles to_register (source_operand x) ≤ c → z.code.at t.pc ≡ Some (instruction_of (Calculate (plain_instruction o) x b))
-        → IsRead z.code.events x b l r t s → ((f : Flags) → P (record s {
+        → IsRead (rules_of z.kept) x b l r t s → ((f : Flags) → P (record s {
           pc = t.pc + (2 + source_bytes x);
           flags = f;
           work = put s.work (work_number b) (plain_word o l r);
-        })) → Runs z.code [] c t P
+        })) → Runs z.kept [] c t P
     plain_step {l} {r} {t} s P ll lr price h k p =
         let needs = plain_needs o in
         let f = flags_after (operated (plain_instruction o) Word l r t.flags).flags s.flags in
@@ -65,12 +65,12 @@ module _ (z : Setting) where
   -- what forms leave of the values in R4 and R5
   abbrev pub BinaryMiddle : List Form → WorkRegister → ℕ → (ℕ → ℕ → ℕ) → Type 0
   BinaryMiddle ms b c f = (pc x y : ℕ) (w : WordState) (t : Core) → x < 0x10000 → y < 0x10000 → Stands z.code pc ms → HasTwo z pc w x y t
-      → Runs z.code [] c t (Has z b (pc + forms_bytes ms) w (f x y))
+      → Runs z.kept [] c t (Has z b (pc + forms_bytes ms) w (f x y))
 
   -- the same of the value in R5
   abbrev pub UnaryMiddle : List Form → ℕ → (ℕ → ℕ) → Type 0
   UnaryMiddle ms c f = (pc y : ℕ) (w : WordState) (t : Core) → y < 0x10000 → Stands z.code pc ms → Has z R5 pc w y t
-      → Runs z.code [] c t (Has z R4 (pc + forms_bytes ms) w (f y))
+      → Runs z.kept [] c t (Has z R4 (pc + forms_bytes ms) w (f y))
 
   -- what it makes of R4 and R5
   made : (o : PlainOperation) (pc x y : ℕ) (w : WordState) (t : Core) → x < 0x10000 → y < 0x10000 → HasTwo z pc w x y t

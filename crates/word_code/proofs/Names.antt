@@ -33,11 +33,12 @@ pub use Rattle.array_versions.specs.msp_step.Effect.{word_sum as sum16, distance
 -- forms of instructions
 pub use Rattle.code_forms.proofs.Interface.{stands_at, stands_front, stands_back, end_of, forms_bytes-append, form_small, bytes_are, form_at, forms_at}
 pub use Rattle.code_forms.proofs.Interface.{forms_behind, first_forms}
-pub use Rattle.code_forms.specs.Code.{Stands, forms_bytes, forms_run, Runs, Starves, AreStraight, FormsNeed, IsTidy}
+pub use Rattle.code_forms.specs.Code.{Stands, forms_bytes, forms_run, RunsWithin as Runs, StarvesWithin as Starves, AreStraight, FormsNeed, IsTidy, KeptCode}
+pub use Rattle.code_forms.specs.Code.{rules_of, anywhere}
 pub use Rattle.code_forms.specs.Forms.{R4, R5, Core, Number, Constant, ToRegister, ToIndexed, Form, Move, Calculate, Update, form_bytes, Register}
 pub use Rattle.code_forms.specs.Forms.{instruction_of, Push, Fram, Ram, ToFram, Source, Jump, Skip, Branch, source_bytes, ToRam, target_bytes, WorkRegister, R6}
 pub use Rattle.code_forms.specs.Forms.{R7, work_number, Indexed, HasPushRoom, source_operand, source_value, source_read, source_effects, SourceNeeds}
-pub use Rattle.code_forms.specs.Forms.{board_of, Modify, sensed}
+pub use Rattle.code_forms.specs.Forms.{board_of, Modify, sensed, CodeRules, IsKept}
 pub use Rattle.code_forms.specs.Forms.{Call, Return, KeepStack, RestoreStack, StackNext}
 pub use Rattle.code_forms.specs.Forms.{flags_after, form_step, FormNeeds, IsNotMov, SetStack}
 pub use Rattle.code_forms.specs.Placed.{instructions, words_of as instruction_words, AreInstructions}
@@ -93,7 +94,8 @@ pub use Rattle.word_code.specs.Code.{known_update, known_index, update_at, local
 pub use Rattle.word_code.specs.Code.{word_code, first_code, is_bounded, ram_turn_end, multiply_turn, divide_middle, divide_turn, known_element, attempt_form}
 pub use Rattle.word_code.specs.Code.{below_words, values_code, light_call, frame_code, framed_call, call_code, give_code, routine_code}
 pub use Rattle.word_code.specs.Laws.{StepRoutinesStand, TestRoutinesStand, RoutinesStand}
-pub use Rattle.word_code.specs.Laws.{HasJumped, CodeIsInstructions, CodeHasItsBytes, CodeHasItsWords, IsWithin, RunsStayWithin, StarvingStaysWithin, ComesTo}
-pub use Rattle.word_code.specs.Laws.{IsEntry, CodeDoesAsProgram}
+pub use Rattle.word_code.specs.Laws.{HasJumped, CodeIsInstructions, CodeHasItsBytes, CodeHasItsWords, IsWithin, RunsStayWithin, StarvingStaysWithin}
+pub use Rattle.word_code.specs.Laws.{ComesToWithin as ComesTo}
+pub use Rattle.word_code.specs.Laws.{IsEntry, KeepsWithin, CodeKeepsToTheStack, CodeDoesAsProgram}
 pub use Rattle.word_code.specs.declared.bounds.Bound.{Bound}
 pub use Rattle.word_code.specs.declared.waiting.Waiting.{Waiting}

@@ -7,7 +7,7 @@ use Rattle.word_code.proofs.Names.{source_cycles, to_register, to_memory, push, 
 use Rattle.word_code.proofs.Names.{Constant, source_operand, source_bytes, source_value, source_read, SourceNeeds, ToRegister, Form, Move, Calculate, Push}
 use Rattle.word_code.proofs.Names.{HasPushRoom, instruction_of, form_bytes, Stands, forms_bytes, Runs, WordState, with_stack, pushed, Waiting, number_source}
 use Rattle.word_code.proofs.Names.{waiting_source, flushed, top_of, source_from, below_top, any_held, cleared, kept, four_from, five_from, top_to_four}
-use Rattle.word_code.proofs.Names.{top_to_five}
+use Rattle.word_code.proofs.Names.{top_to_five, CodeRules, rules_of}
 use Rattle.array_versions.specs.msp_step.msp_isa.declared.instructions.TwoOp.TheVariants as op
 use Rattle.array_versions.specs.msp_step.msp_isa.declared.operands.Konst.TheVariants as konst
 use Rattle.word_code.specs.declared.waiting.Waiting.TheVariants as waiting
@@ -169,11 +169,11 @@ pub source_quiet : (o : Waiting) (u : Core) → source_effects (waiting_source o
 source_quiet (waiting.Number n) u = number_cases (λ s. source_effects s u ≡ []) n refl (λ k e. refl)
 source_quiet _ u = refl
 
-pub source_needs : (events : Bool) (owns : ℕ → Type 0) (locals : ℕ → Option ℕ) (o : Waiting) (u : Core) → IsThere owns locals o
-    → SourceNeeds events (waiting_source o) u
-source_needs events owns locals (waiting.Number n) u h = number_cases (λ s. SourceNeeds events s u) n tt (λ k e. tt)
-source_needs events owns locals (waiting.Fram a) u h = h
-source_needs events owns locals _ u h = tt
+pub source_needs : (rules : CodeRules) (owns : ℕ → Type 0) (locals : ℕ → Option ℕ) (o : Waiting) (u : Core) → IsThere owns locals o
+    → SourceNeeds rules (waiting_source o) u
+source_needs rules owns locals (waiting.Number n) u h = number_cases (λ s. SourceNeeds rules s u) n tt (λ k e. tt)
+source_needs rules owns locals (waiting.Fram a) u h = h
+source_needs rules owns locals _ u h = tt
 
 -- the flags of a register that is compared with a number
 pub record IsCompared (x k : ℕ) (f : Flags) : Type 0 where
@@ -193,7 +193,7 @@ pub record Top (z : Setting) (x : Source) (os : List Waiting) (pc : ℕ) (w : Wo
   pub at : u.pc ≡ pc
   pub fram : u.fram ≡ w.fram
   pub value : source_value x u ≡ v
-  pub needs : SourceNeeds z.code.events x u
+  pub needs : SourceNeeds (rules_of z.kept) x u
   pub quiet : source_effects x u ≡ []
   pub left : Describes z os pc (with_stack vs w) (source_read x u)
   pub same : (source_read x u).work ≡ u.work
@@ -239,7 +239,7 @@ module _ (z : Setting) where
   -- ---- pushes
 
   push_waiting : (o : Waiting) (pc : ℕ) (w : WordState) (u : Core) → StandsFor z pc w u → IsThere (Owns z) w.locals o → length w.stack < z.room
-      → z.code.at pc ≡ Some (instruction_of (Push (waiting_source o))) → Runs z.code [] (owed_by o) u
+      → z.code.at pc ≡ Some (instruction_of (Push (waiting_source o))) → Runs z.kept [] (owed_by o) u
       (Holds z (AreThese u.work) (pc + forms_bytes (Push (waiting_source o) ∷ [])) (pushed (waiting_word w.fram w.locals u.work o) w))
   push_waiting o pc w u i h s c =
       let x = waiting_source o in
@@ -248,7 +248,7 @@ module _ (z : Setting) where
       let after : Core → Core = λ t. record t { pc = u.pc + (2 + source_bytes x); sp = t.sp - 2; ram = put t.ram (t.sp - 2) (source_value x u) } in
       let still = source_still o u in
       hop z (Push x) (owed_by o) u (after u) [] price _ (ap z.code.at i.at ∙ c)
-      (source_needs z.code.events (Owns z) w.locals o u h, subst (λ (t : Core). HasPushRoom t.sp) (sym still) (push_needs z i.memory s))
+      (source_needs (rules_of z.kept) (Owns z) w.locals o u h, subst (λ (t : Core). HasPushRoom (rules_of z.kept) t.sp) (sym still) (push_needs z i.memory s))
       (ap (λ es. Goes es price (after (source_read x u))) (source_quiet o u) ∙ ap (λ t. Goes [] price (after t)) still) (push_cycles o)
       (record {
         is =
@@ -264,7 +264,7 @@ module _ (z : Setting) where
       })
 
   flush_run : (os : List Waiting) (pc : ℕ) (w : WordState) (u : Core) → StandsFor z pc w u → AllByRecursion (IsThere (Owns z) w.locals) os
-      → length os + length w.stack ≤ z.room → Stands z.code pc (flushed os) → Runs z.code [] (owed os) u
+      → length os + length w.stack ≤ z.room → Stands z.code pc (flushed os) → Runs z.kept [] (owed os) u
       (Holds z (AreThese u.work) (pc + forms_bytes (flushed os)) (with_stack (waiting_words w.fram w.locals u.work os ++ w.stack) w))
   flush_run [] pc w u i t l h =
       let e : pc ≡ pc + 0 = omega arith in
@@ -286,7 +286,7 @@ module _ (z : Setting) where
 
   -- those behind others are pushed
   pub flush_under : (front back : List Waiting) (pc : ℕ) (w : WordState) (u : Core) → Describes z (front ++ back) pc w u → Stands z.code pc (flushed back)
-      → Runs z.code [] (owed back) u (Waits z front (pc + forms_bytes (flushed back)) w (AreThese u.work))
+      → Runs z.kept [] (owed back) u (Waits z front (pc + forms_bytes (flushed back)) w (AreThese u.work))
   flush_under front back pc w u d h =
       let P = IsThere (Owns z) w.locals in
       let words = waiting_words w.fram w.locals u.work in
@@ -315,15 +315,15 @@ module _ (z : Setting) where
 
   -- all are pushed
   pub flush_part : (os : List Waiting) (pc : ℕ) (w : WordState) (u : Core) → Describes z os pc w u → Stands z.code pc (flushed os)
-      → Runs z.code [] (owed os) u (StandsFor z (pc + forms_bytes (flushed os)) w)
+      → Runs z.kept [] (owed os) u (StandsFor z (pc + forms_bytes (flushed os)) w)
   flush_part os pc w u d h =
       so_runs (flush_under [] os pc w u d h) (λ t k. bare (pc + forms_bytes (flushed os)) w t k.is)
 
   clear_by : (b : Bool) (front back : List Waiting) (pc : ℕ) (w : WordState) (u : Core) → Describes z (front ++ back) pc w u
       → (let ms : List Form = if b then flushed back else [] in Stands z.code pc ms
-      → Runs z.code [] (if b then owed back else 0) u (Waits z (front ++ (if b then [] else back)) (pc + forms_bytes ms) w (AreThese u.work)))
+      → Runs z.kept [] (if b then owed back else 0) u (Waits z (front ++ (if b then [] else back)) (pc + forms_bytes ms) w (AreThese u.work)))
   clear_by true front back pc w u d h =
-      subst (λ os. Runs z.code [] (owed back) u (Waits z os (pc + forms_bytes (flushed back)) w (AreThese u.work))) (sym (append-nil front))
+      subst (λ os. Runs z.kept [] (owed back) u (Waits z os (pc + forms_bytes (flushed back)) w (AreThese u.work))) (sym (append-nil front))
       (flush_under front back pc w u d h)
   clear_by false front back pc w u d h =
       let e : pc ≡ pc + 0 = omega arith in
@@ -331,7 +331,7 @@ module _ (z : Setting) where
 
   -- those behind others are pushed where one of them waits in a register
   pub clear_under : (front back : List Waiting) (pc : ℕ) (w : WordState) (u : Core) → Describes z (front ++ back) pc w u → Stands z.code pc (cleared back)
-      → Runs z.code [] (clear_cycles back) u (Waits z (front ++ kept back) (pc + forms_bytes (cleared back)) w (AreThese u.work))
+      → Runs z.kept [] (clear_cycles back) u (Waits z (front ++ kept back) (pc + forms_bytes (cleared back)) w (AreThese u.work))
   clear_under front back pc w u d h = clear_by (any_held back) front back pc w u d h
 
   -- ---- the top
@@ -357,7 +357,7 @@ module _ (z : Setting) where
         at = d.is.at;
         fram = d.is.fram;
         value = source_word o pc (with_stack d.rest w) u d.is d.there.0 ∙ sym (head_is q);
-        needs = source_needs z.code.events (Owns z) w.locals o u d.there.0;
+        needs = source_needs (rules_of z.kept) (Owns z) w.locals o u d.there.0;
         quiet = source_quiet o u;
         left = subst (λ t. Describes z os pc (with_stack vs w) t) (sym still)
             (record { rest = d.rest; is = d.is; stack = tail_is q; there = d.there.1; fits = omega (arith, d.fits, ap (length {A = ℕ}) e) });
@@ -372,7 +372,7 @@ module _ (z : Setting) where
         at = i.at;
         fram = i.fram;
         value = source_word (waiting.Number k) pc w u i tt;
-        needs = source_needs z.code.events (Owns z) w.locals (waiting.Number k) u tt;
+        needs = source_needs (rules_of z.kept) (Owns z) w.locals (waiting.Number k) u tt;
         quiet = source_quiet (waiting.Number k) u;
         left = subst (λ t. Describes z [] pc w t) (sym still) (dressed pc w u i);
         same = ap (λ (t : Core). t.work) still;
@@ -392,7 +392,7 @@ module _ (z : Setting) where
       → ((f : ℕ → ℕ) (y : ℕ) → local_words (put f (work_number b) y) ≡ local_words f)
       → ((f : ℕ → ℕ) (y : ℕ) → waiting_words w.fram w.locals (put f (work_number b) y) os ≡ waiting_words w.fram w.locals f os)
       → (let m = Move (source_from o) (ToRegister b) in Stands z.code pc (m ∷ []) → Top z (source_from o) os pc w v vs u
-      → Runs z.code [] (load_cycles o) u (Waits z os (pc + forms_bytes (m ∷ [])) (with_stack vs w) (IsLoaded b v u.work)))
+      → Runs z.kept [] (load_cycles o) u (Waits z os (pc + forms_bytes (m ∷ [])) (with_stack vs w) (IsLoaded b v u.work)))
   move_part b o os pc w v vs u clean spare h k =
       let x = source_from o in
       let m = Move x (ToRegister b) in
@@ -415,31 +415,31 @@ module _ (z : Setting) where
   -- the last word that waits comes to R5
   pub to_five_part : (o : Option Waiting) (pc : ℕ) (w : WordState) (v : ℕ) (vs : List ℕ) (u : Core)
       → (let m = Move (source_from o) (ToRegister R5) in Stands z.code pc (m ∷ []) → Top z (source_from o) [] pc w v vs u
-      → Runs z.code [] (load_cycles o) u (Has z R5 (pc + form_bytes m) (with_stack vs w) v))
+      → Runs z.kept [] (load_cycles o) u (Has z R5 (pc + form_bytes m) (with_stack vs w) v))
   to_five_part o pc w v vs u h k =
       let m = Move (source_from o) (ToRegister R5) in
       let end : pc + forms_bytes (m ∷ []) ≡ pc + form_bytes m = omega arith in
-      subst (λ n. Runs z.code [] (load_cycles o) u (Has z R5 n (with_stack vs w) v)) end
+      subst (λ n. Runs z.kept [] (load_cycles o) u (Has z R5 n (with_stack vs w) v)) end
       (so_runs (move_part R5 o [] pc w v vs u (λ f y. refl) (λ f y. refl) h k)
       (λ t j. record { is = bare (pc + forms_bytes (m ∷ [])) (with_stack vs w) t j.is; held = j.held.value }))
 
   pub five_part : (os : List Waiting) (pc : ℕ) (w : WordState) (v : ℕ) (vs : List ℕ) (u : Core) → w.stack ≡ v ∷ vs
       → Stands z.code pc (five_from (top_of os)) → Describes z os pc w u
-      → Runs z.code [] (load_cycles (top_of os)) u (Waits z (below_top os) (pc + forms_bytes (five_from (top_of os))) (with_stack vs w) (IsLoaded R5 v u.work))
+      → Runs z.kept [] (load_cycles (top_of os)) u (Waits z (below_top os) (pc + forms_bytes (five_from (top_of os))) (with_stack vs w) (IsLoaded R5 v u.work))
   five_part os pc w v vs u e h d =
       move_part R5 (top_of os) (below_top os) pc w v vs u (λ f y. refl) (λ f y. words_same w.fram w.locals (put f 5 y) f (below_top os) refl refl) h
       (take_part os pc w v vs u e d)
 
   four_move : (os : List Waiting) (pc : ℕ) (w : WordState) (v : ℕ) (vs : List ℕ) (u : Core) → w.stack ≡ v ∷ vs → any_held (below_top os) ≡ false
       → (let m = Move (source_from (top_of os)) (ToRegister R4) in Stands z.code pc (m ∷ []) → Describes z os pc w u
-      → Runs z.code [] (load_cycles (top_of os)) u (Waits z (below_top os) (pc + forms_bytes (m ∷ [])) (with_stack vs w) (IsLoaded R4 v u.work)))
+      → Runs z.kept [] (load_cycles (top_of os)) u (Waits z (below_top os) (pc + forms_bytes (m ∷ [])) (with_stack vs w) (IsLoaded R4 v u.work)))
   four_move os pc w v vs u e none h d =
       move_part R4 (top_of os) (below_top os) pc w v vs u (λ f y. refl) (λ f y. words_kept w.fram w.locals (put f 4 y) f (below_top os) none) h
       (take_part os pc w v vs u e d)
 
   pub four_part : (os : List Waiting) (pc : ℕ) (w : WordState) (v : ℕ) (vs : List ℕ) (u : Core) → w.stack ≡ v ∷ vs → any_held (below_top os) ≡ false
       → Stands z.code pc (four_from (top_of os)) → Describes z os pc w u
-      → Runs z.code [] (load_cycles (top_of os)) u (Waits z (below_top os) (pc + forms_bytes (four_from (top_of os))) (with_stack vs w) (IsLoaded R4 v u.work))
+      → Runs z.kept [] (load_cycles (top_of os)) u (Waits z (below_top os) (pc + forms_bytes (four_from (top_of os))) (with_stack vs w) (IsLoaded R4 v u.work))
   four_part (waiting.R4 ∷ os) pc w v vs u e none h d =
       let k = take_part (waiting.R4 ∷ os) pc w v vs u e d in
       let same : pc ≡ pc + 0 = omega arith in
@@ -454,16 +454,16 @@ module _ (z : Setting) where
   pub behind_cleared : (front back : List Waiting) (more : List Form) (n pc : ℕ) (w : WordState) (u : Core) (P : ℕ → Core → Type 0)
       → Describes z (front ++ back) pc w u → Stands z.code pc (cleared back ++ more)
       → (let mid = pc + forms_bytes (cleared back) in ((t : Core) → Stands z.code mid more → Describes z (front ++ kept back) mid w t
-      → Runs z.code [] n t (P (mid + forms_bytes more))) → Runs z.code [] (clear_cycles back + n) u (P (pc + forms_bytes (cleared back ++ more))))
+      → Runs z.kept [] n t (P (mid + forms_bytes more))) → Runs z.kept [] (clear_cycles back + n) u (P (pc + forms_bytes (cleared back ++ more))))
   behind_cleared front back more n pc w u P d h f =
       two_parts z (cleared back) more pc P h (clear_under front back pc w u d) (λ t s k. f t s k.is)
 
   only_has : {b : WorkRegister} {os : List Waiting} {pc v n : ℕ} {w : WordState} {g : ℕ → ℕ} {u : Core}
-      → Runs z.code [] n u (With (Describes z os pc w) (IsLoaded b v g)) → Runs z.code [] n u (With (Describes z os pc w) (HasWord b v))
+      → Runs z.kept [] n u (With (Describes z os pc w) (IsLoaded b v g)) → Runs z.kept [] n u (With (Describes z os pc w) (HasWord b v))
   only_has a = so_runs a (λ t k. record { is = k.is; held = k.held.value })
 
   pub top_to_four_part : (os : List Waiting) (pc : ℕ) (w : WordState) (v : ℕ) (vs : List ℕ) (u : Core) → w.stack ≡ v ∷ vs → Stands z.code pc (top_to_four os)
-      → Describes z os pc w u → Runs z.code [] (clear_cycles (below_top os) + load_cycles (top_of os)) u
+      → Describes z os pc w u → Runs z.kept [] (clear_cycles (below_top os) + load_cycles (top_of os)) u
       (Waits z (kept (below_top os)) (pc + forms_bytes (top_to_four os)) (with_stack vs w) (HasWord R4 v))
   top_to_four_part [] pc w v vs u e h d = only_has (four_part [] pc w v vs u e refl h d)
   top_to_four_part (o ∷ os) pc w v vs u e h d =
@@ -471,7 +471,7 @@ module _ (z : Setting) where
       (λ t s k. only_has (four_part (o ∷ kept os) (pc + forms_bytes (cleared os)) w v vs t e (none_held os) s k))
 
   pub top_to_five_part : (os : List Waiting) (pc : ℕ) (w : WordState) (v : ℕ) (vs : List ℕ) (u : Core) → w.stack ≡ v ∷ vs → Stands z.code pc (top_to_five os)
-      → Describes z os pc w u → Runs z.code [] (clear_cycles (below_top os) + load_cycles (top_of os)) u
+      → Describes z os pc w u → Runs z.kept [] (clear_cycles (below_top os) + load_cycles (top_of os)) u
       (Waits z (kept (below_top os)) (pc + forms_bytes (top_to_five os)) (with_stack vs w) (HasWord R5 v))
   top_to_five_part [] pc w v vs u e h d = only_has (five_part [] pc w v vs u e h d)
   top_to_five_part (o ∷ os) pc w v vs u e h d =
@@ -480,7 +480,7 @@ module _ (z : Setting) where
 
   -- the top for a statement, all others being pushed
   pub below_part : (os : List Waiting) (pc : ℕ) (w : WordState) (v : ℕ) (vs : List ℕ) (u : Core) → w.stack ≡ v ∷ vs → Stands z.code pc (flushed (below_top os))
-      → Describes z os pc w u → Runs z.code [] (owed (below_top os)) u (Top z (source_from (top_of os)) [] (pc + forms_bytes (flushed (below_top os))) w v vs)
+      → Describes z os pc w u → Runs z.kept [] (owed (below_top os)) u (Top z (source_from (top_of os)) [] (pc + forms_bytes (flushed (below_top os))) w v vs)
   below_part [] pc w v vs u e h d =
       let same : pc ≡ pc + 0 = omega arith in
       nothing_run z (subst (λ n. Top z (source_from None) [] n w v vs u) same (take_part [] pc w v vs u e d))
@@ -517,12 +517,12 @@ module _ (z : Setting) where
 
   pub compare_number : (b : WorkRegister) (pc x k : ℕ) (w : WordState) (t : Core) → x < 0x10000 → k < 0x10000 → t.work (work_number b) ≡ x
       → StandsFor z pc w t → (let m = Calculate op.Cmp (number_source k) b in z.code.at pc ≡ Some (instruction_of m)
-      → Runs z.code [] 2 t (Flagged z (AreThese t.work) (IsCompared x k) (pc + form_bytes m) w))
+      → Runs z.kept [] 2 t (Flagged z (AreThese t.work) (IsCompared x k) (pc + form_bytes m) w))
   compare_number b pc x k w t l r v i =
       let zero = ap (λ y. (y + (0xFFFF - k) + 1) % 0x10000 == 0) v ∙ equal_flag x k l r in
       let carry = ap (λ y. nat_le 0x10000 (y + (0xFFFF - k) + 1)) v ∙ no_borrow x k l r in
       let P : Source → Type 0 = λ s. let m = Calculate op.Cmp s b in z.code.at pc ≡ Some (instruction_of m)
-      → Runs z.code [] 2 t (Flagged z (AreThese t.work) (IsCompared x k) (pc + form_bytes m) w) in
+      → Runs z.kept [] 2 t (Flagged z (AreThese t.work) (IsCompared x k) (pc + form_bytes m) w) in
       number_cases P k
       (λ h. line z (Calculate op.Cmp (Number k) b ∷ []) 2 (pc + 4) _ i (tt, tt) (h, tt) ((tt, tt), tt) refl refl (omega (arith, i.at))
       (λ s. record { all = record { is = s; held = refl }; flag = record { zero = zero; carry = carry } }))

@@ -81,7 +81,7 @@ module _ (z : Setting) where
   -- so they go on waiting
   pub keep_beside : (x : Option Waiting) (a pc v : ℕ) (os : List Waiting) (vs : List ℕ) (w : WordState) (u : Core) → any_at a os ≡ false → is_place a ≡ true
       → (let ms = Move (source_from x) (ToFram a) ∷ [] in Stands z.code pc ms → Top z (source_from x) os pc w v vs u
-      → Runs z.code (Store a v ∷ []) (store_cycles x) u (Describes z os (pc + forms_bytes ms) (stored a v (with_stack vs w))))
+      → Runs z.kept (Store a v ∷ []) (store_cycles x) u (Describes z os (pc + forms_bytes ms) (stored a v (with_stack vs w))))
   keep_beside x a pc v os vs w u f g h k =
       let s = source_from x in
       let m = Move s (ToFram a) in
@@ -111,7 +111,7 @@ module _ (z : Setting) where
   set_by : (b : Bool) (s : Source) (most n v pc : ℕ) (vs : List ℕ) (w : WordState) (u : Core) → nat_lt n 8 ≡ b → Owns z n
       → (source_cycles to_register (source_operand s) ≤ most) × (source_cycles to_memory (source_operand s) ≤ most)
       → (let ms = Move s (if b then ToRegister (local_register n) else ToRam (local_address n)) ∷ [] in Stands z.code pc ms → Top z s [] pc w v vs u
-      → Runs z.code [] most u (StandsFor z (pc + forms_bytes ms) (with_local n v (with_stack vs w))))
+      → Runs z.kept [] most u (StandsFor z (pc + forms_bytes ms) (with_local n v (with_stack vs w))))
   set_by true s most n v pc vs w u e lt price_is h k =
       let m = Move s (ToRegister (local_register n)) in
       let t = source_read s u in
@@ -136,13 +136,13 @@ module _ (z : Setting) where
 
   pub set_part : (x : Option Waiting) (n v pc : ℕ) (vs : List ℕ) (w : WordState) (u : Core) → Owns z n
       → (let ms = Move (source_from x) (local_target n) ∷ [] in Stands z.code pc ms → Top z (source_from x) [] pc w v vs u
-      → Runs z.code [] (store_cycles x) u (StandsFor z (pc + forms_bytes ms) (with_local n v (with_stack vs w))))
+      → Runs z.kept [] (store_cycles x) u (StandsFor z (pc + forms_bytes ms) (with_local n v (with_stack vs w))))
   set_part x n v pc vs w u lt h k =
       set_by (nat_lt n 8) (source_from x) (store_cycles x) n v pc vs w u refl lt (omega (arith, load_price x, load_less x), store_price x) h k
 
   -- a local's first number
   pub local_number : (n k pc : ℕ) (w : WordState) (u : Core) → Owns z n → Stands z.code pc (number_code n k) → StandsFor z pc w u
-      → Runs z.code [] 5 u (StandsFor z (pc + forms_bytes (number_code n k)) (with_local n k w))
+      → Runs z.kept [] 5 u (StandsFor z (pc + forms_bytes (number_code n k)) (with_local n k w))
   local_number n k pc w u lt h i =
       set_by (nat_lt n 8) (number_source k) 5 n k pc w.stack w u refl lt
       (number_price to_register k 5 (omega arith) (omega arith), number_price to_memory k 5 (omega arith) (omega arith)) h (number_top z k pc w u i)

@@ -76,7 +76,7 @@ module _ (z : Setting) where
 
     -- a turn, up to the jump back
     turn : (even : Bool) (a b acc : ℕ) (w : WordState) (t : Core) → (bit_and b 1 == 0) ≡ even → Factors a b acc w t
-        → Runs z.code [] 7 t (Flagged z (λ f. Work ((a + a) % 0x10000) (b / 2) (sum even a acc) (f 7) f) (IsZero (b / 2 == 0)) (p + 12) w)
+        → Runs z.kept [] 7 t (Flagged z (λ f. Work ((a + a) % 0x10000) (b / 2) (sum even a acc) (f 7) f) (IsZero (b / 2 == 0)) (p + 12) w)
     turn true a b acc w t e i =
         dearer z (omega arith) (route z p multiply_turn h 0 i.is i.held (on 1 ∷ jump true ∷ on 3 ∷ []) 6 _
         (_, free 1, (refl, (refl, e, refl, (_, ((tt, tt), ((tt, tt), (tt, tt))), (refl, tt))))) refl refl
@@ -92,7 +92,7 @@ module _ (z : Setting) where
     -- behind a turn: out where nothing is left, else back
     leave : (n a b next : ℕ) (w : WordState) (t : Core) (k : Bool) → (b == 0) ≡ k → next < 0x10000
         → Flagged z (λ f. Work a b next (f 7) f) (IsZero (b == 0)) (p + 12) w t
-        → ((b ≡ 0 → ⊥) → (u : Core) → Factors a b next w u → Runs z.code [] (n * 9) u (Result a b next w)) → Runs z.code [] (2 + n * 9) t (Result a b next w)
+        → ((b ≡ 0 → ⊥) → (u : Core) → Factors a b next w u → Runs z.kept [] (n * 9) u (Result a b next w)) → Runs z.kept [] (2 + n * 9) t (Result a b next w)
     leave n a b next w t true e small j again =
         let nothing : next ≡ (next + a * b) % 0x10000 = sym (ap (λ q. (next + a * q) % 0x10000) (eqb-true b 0 e) ∙ no_more a next small) in
         dearer z (omega arith) (route z p multiply_turn h 6 j.all.is j.all.held (jump false ∷ []) 2 _ (refl, ap not (j.flag ∙ e), refl, tt) refl refl
@@ -103,28 +103,28 @@ module _ (z : Setting) where
         (λ s. record { is = s; held = (refl, refl, refl, refl) }))
         (λ u i. again (not_zero b e) u i)
 
-    loop : (n a b acc : ℕ) (w : WordState) (t : Core) → b < 2 ^ suc n → acc < 0x10000 → Factors a b acc w t → Runs z.code [] (suc n * 9) t (Result a b acc w)
+    loop : (n a b acc : ℕ) (w : WordState) (t : Core) → b < 2 ^ suc n → acc < 0x10000 → Factors a b acc w t → Runs z.kept [] (suc n * 9) t (Result a b acc w)
     loop zero a b acc w t l small i =
         let even = bit_and b 1 == 0 in
-        subst (λ v. Runs z.code [] (7 + (2 + 0 * 9)) t (Has z R6 (p + 14) w v)) (same_product even a b acc refl)
+        subst (λ v. Runs z.kept [] (7 + (2 + 0 * 9)) t (Has z R6 (p + 14) w v)) (same_product even a b acc refl)
         (runs_on z (turn even a b acc w t refl i) (λ u j.
         leave zero ((a + a) % 0x10000) (b / 2) (sum even a acc) w u (b / 2 == 0) refl (sum_small even a acc small) j (λ ne v k. elim (ne (omega arith)) [ ])))
     loop (suc m) a b acc w t l small i =
         let even = bit_and b 1 == 0 in
-        dearer z (omega arith) (subst (λ v. Runs z.code [] (7 + (2 + suc m * 9)) t (Has z R6 (p + 14) w v)) (same_product even a b acc refl)
+        dearer z (omega arith) (subst (λ v. Runs z.kept [] (7 + (2 + suc m * 9)) t (Has z R6 (p + 14) w v)) (same_product even a b acc refl)
         (runs_on z (turn even a b acc w t refl i) (λ u j.
         leave (suc m) ((a + a) % 0x10000) (b / 2) (sum even a acc) w u (b / 2 == 0) refl (sum_small even a acc small) j
         (λ ne v k. loop m ((a + a) % 0x10000) (b / 2) (sum even a acc) w v (halved_below m b l) (sum_small even a acc small) k))))
 
   -- a product by a word of so few bits
   pub multiply_within : (turns pc x y : ℕ) (w : WordState) (t : Core) → x < 0x10000 → y < 2 ^ suc turns → Stands z.code pc (binary_middle Multiply)
-      → HasTwo z pc w x y t → Runs z.code [] (1 + suc turns * 9) t (Has z R6 (pc + forms_bytes (binary_middle Multiply)) w (binary_word Multiply x y))
+      → HasTwo z pc w x y t → Runs z.kept [] (1 + suc turns * 9) t (Has z R6 (pc + forms_bytes (binary_middle Multiply)) w (binary_word Multiply x y))
   multiply_within turns pc x y w t a b h i =
       let ms = Move (Constant konst.Zero) (ToRegister R6) ∷ [] in
       let most = 1 + suc turns * 9 in
       let e : pc + 2 + 14 ≡ pc + forms_bytes (binary_middle Multiply) = omega arith in
       let is_zero : (0 + x * y) % 0x10000 ≡ (x * y) % 0x10000 = omega arith in
-      subst (λ n. Runs z.code [] most t (Has z R6 n w ((x * y) % 0x10000))) e (subst (λ v. Runs z.code [] most t (Has z R6 (pc + 2 + 14) w v)) is_zero
+      subst (λ n. Runs z.kept [] most t (Has z R6 n w ((x * y) % 0x10000))) e (subst (λ v. Runs z.kept [] most t (Has z R6 (pc + 2 + 14) w v)) is_zero
       (runs_on z (line z ms 1 (pc + 2) (Holds z (λ f. Work x y 0 (f 7) f) (pc + 2) w) i.is (tt, tt) (h.0, tt) ((tt, tt), tt) refl refl (omega (arith, i.is.at))
       (λ s. record { is = s; held = (i.held.four, i.held.five, refl, refl) }))
       (λ u j. loop (pc + 2) h.1 turns x y 0 w u b (omega arith) (record { is = starts z j.is; held = j.held }))))

@@ -230,7 +230,7 @@ module _ (z : Setting) where
 
     -- a turn, by whether there is a carry, and whether the divisor goes in
     turn_by : (c k : Bool) (x r j : ℕ) (t : Core) → nat_le 0x10000 (longer x r) ≡ c → over x r d ≡ k → r < 0x10000 → j < 16
-        → (k ≡ true → longer x r - d < 0x10000) → InHand 0 x r (suc j) t → Runs z.code [] 10 t (Turned k x r j)
+        → (k ≡ true → longer x r - d < 0x10000) → InHand 0 x r (suc j) t → Runs z.kept [] 10 t (Turned k x r j)
     turn_by true true x r j t e f lr lj fits i =
         let count = counted j lj in
         let rest = rest_is x d r lr ld f (fits refl) in
@@ -254,7 +254,7 @@ module _ (z : Setting) where
 
     -- a turn, with what it keeps
     turn : (j x r q P : ℕ) (t : Core) → 0 < P → j < 16 → Dividing a d x r q (2 * P) → InHand 0 x r (suc j) t
-        → Runs z.code [] 10 t (Turned (over x r d) x r j)
+        → Runs z.kept [] 10 t (Turned (over x r d) x r j)
     turn j x r q P t po lj g i =
         let lr = rest_small a d x r q (2 * P) (omega arith) g in
         turn_by (nat_le 0x10000 (longer x r)) (over x r d) x r j t refl refl (omega (arith, lr)) lj
@@ -262,7 +262,7 @@ module _ (z : Setting) where
 
     -- so many turns
     loop : (j x r q : ℕ) (t : Core) → j < 16 → Dividing a d x r q (2 * 2 ^ j) → InHand 0 x r (suc j) t
-        → Runs z.code [] (suc j * 12) t (InHand 18 (quotient a d) (remainder a d) 0)
+        → Runs z.kept [] (suc j * 12) t (InHand 18 (quotient a d) (remainder a d) 0)
     loop zero x r q t lj g i =
         let b = over x r d in
         let n = step_by b a d x r q 1 refl g in
@@ -284,12 +284,12 @@ module _ (z : Setting) where
         (λ u k. loop j (out_x b x) (out_r b x d r) (2 * q) u (omega arith) next k))
 
   all_turns : (pc x y : ℕ) (w : WordState) (t : Core) → x < 0x10000 → y < 0x10000 → Stands z.code pc divide_middle → HasTwo z pc w x y t
-      → Runs z.code [] 195 t (Holds z (Work (quotient x y) y (remainder x y) 0) (pc + 24) w)
+      → Runs z.kept [] 195 t (Holds z (Work (quotient x y) y (remainder x y) 0) (pc + 24) w)
   all_turns pc x y w t a b h i =
       let heads : List Form = Move (Constant konst.Zero) (ToRegister R6) ∷ Move (Number 16) (ToRegister R7) ∷ [] in
       let end : pc + 6 + 18 ≡ pc + 24 = omega arith in
       let turns = forms_behind z.code pc 2 divide_middle h in
-      subst (λ n. Runs z.code [] 195 t (Holds z (Work (quotient x y) y (remainder x y) 0) n w)) end
+      subst (λ n. Runs z.kept [] 195 t (Holds z (Work (quotient x y) y (remainder x y) 0) n w)) end
       (runs_on z (line z heads 3 (pc + 6) (Holds z (Work x y 0 16) (pc + 6) w) i.is (tt, (tt, tt)) (h.0, (h.1.0, tt)) ((tt, tt), ((tt, tt), tt)) refl refl
       (omega (arith, i.is.at)) (λ s. record { is = s; held = (i.held.four, i.held.five, refl, refl) }))
       (λ u k. loop (pc + 6) turns x y a b w 15 x 0 1 u (omega arith) (starts x y a) (record { is = begins z k.is; held = k.held })))

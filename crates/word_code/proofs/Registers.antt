@@ -2,7 +2,7 @@
 use Rattle.word_code.proofs.Names.{sym, subst, ◌≡◌, ℕ, ◌+◌, ◌-◌, ◌%◌, ◌<◌, ◌==◌, List, [], ◌∷◌, Some, refl, ap, ap₂, ◌∙◌, arith, Bool, false, nat_le}
 use Rattle.word_code.proofs.Names.{if◌then◌else◌, Flags, Effect, stretch, At, FormsNeed, AreStraight, forms_run, end_of, stands_at, work_number, WorkRegister}
 use Rattle.word_code.proofs.Names.{bytes_are, nat_tests, Word, sum_of, Condition, sum16, distance, is_met, Core, Form, Jump, Skip, instruction_of, Stands}
-use Rattle.word_code.proofs.Names.{forms_bytes, Runs, WordState, Inputs}
+use Rattle.word_code.proofs.Names.{forms_bytes, Runs, WordState, Inputs, rules_of}
 use Rattle.word_code.proofs.Memory.{Memory, local_words}
 use Rattle.word_code.proofs.Stretches.{straight, hop, so_runs, Setting}
 use Rattle.word_code.proofs.Follows.{StandsFor, stands_elsewhere}
@@ -72,20 +72,20 @@ module _ (z : Setting) where
   module _ {pc : ℕ} {w : WordState} {t : Core} where
     -- straight code that writes R4 to R7 and words of FRAM
     pub store_line : (ms : List Form) (es : List Effect) (f : ℕ → ℕ) (c pc' : ℕ) (Q : Core → Type 0) → StandsFor z pc w t → AreStraight ms
-        → Stands z.code pc ms → FormsNeed z.code.events ms t → (let r = forms_run ms t in let v = end_of t r.status in r ≡ stretch r.effects c (At v)
+        → Stands z.code pc ms → FormsNeed (rules_of z.kept) ms t → (let r = forms_run ms t in let v = end_of t r.status in r ≡ stretch r.effects c (At v)
         → kept_by (record v { fram = t.fram }) ≡ kept_by t → v.pc ≡ pc' → r.effects ≡ es → v.fram ≡ f
-        → (StandsFor z pc' (record w { fram = f }) v → Q v) → Runs z.code es c t Q)
+        → (StandsFor z pc' (record w { fram = f }) v → Q v) → Runs z.kept es c t Q)
     store_line ms es f c pc' Q i st h ok e k p made fram q =
         let r = forms_run ms t in
         let words = subst (λ x. Memory z x.sp x.ram x.locals w.stack w.locals) (sym k) i.memory in
-        subst (λ l. Runs z.code l c t Q) made
+        subst (λ l. Runs z.kept l c t Q) made
         (straight z ms c t (end_of t r.status) r.effects c Q st (stands_at z.code pc ms t h i.at) ok e (omega arith)
         (q (record { at = p; memory = words; fram = fram; inputs = ap (λ x. x.inputs) k ∙ i.inputs })))
 
     -- straight code that writes R4 to R7 alone
-    pub line : (ms : List Form) (c pc' : ℕ) (Q : Core → Type 0) → StandsFor z pc w t → AreStraight ms → Stands z.code pc ms → FormsNeed z.code.events ms t
+    pub line : (ms : List Form) (c pc' : ℕ) (Q : Core → Type 0) → StandsFor z pc w t → AreStraight ms → Stands z.code pc ms → FormsNeed (rules_of z.kept) ms t
         → (let v = end_of t (forms_run ms t).status in forms_run ms t ≡ stretch [] c (At v) → kept_by v ≡ kept_by t → v.pc ≡ pc'
-        → (StandsFor z pc' w v → Q v) → Runs z.code [] c t Q)
+        → (StandsFor z pc' w v → Q v) → Runs z.kept [] c t Q)
     line ms c pc' Q i st h ok e k p q =
         let words = subst (λ x. Memory z x.sp x.ram x.locals w.stack w.locals) (sym k) i.memory in
         straight z ms c t (end_of t (forms_run ms t).status) [] c Q st (stands_at z.code pc ms t h i.at) ok e (omega arith)
@@ -95,7 +95,7 @@ module _ (z : Setting) where
 
   -- an addition to PC
   pub skip_to : (n pc pc' : ℕ) (w : WordState) (t : Core) → z.code.at pc ≡ Some (instruction_of (Skip n)) → n % 2 ≡ 0 → (pc + 4 + n + 0) % 0x10000 ≡ pc'
-      → StandsFor z pc w t → Runs z.code [] 3 t (StandsFor z pc' w)
+      → StandsFor z pc w t → Runs z.kept [] 3 t (StandsFor z pc' w)
   skip_to n pc pc' w t h ev to i =
       let sum = sum_of Word (t.pc + 4) n false in
       hop z (Skip n) 3 t (record t { pc = sum.0; flags = sum.1 }) [] 3 _ (ap z.code.at i.at ∙ h) ev refl (omega arith)
@@ -104,7 +104,7 @@ module _ (z : Setting) where
   -- a jump, with what the registers hold
   pub jump_with : {P : (ℕ → ℕ) → Type 0} {w : WordState} {t : Core} (k : Condition) (o pc pc' : ℕ) (b : Bool) → z.code.at pc ≡ Some (instruction_of (Jump k o))
       → is_met k t.flags ≡ b → (if b then sum16 (pc + 2) (distance o) else pc + 2) ≡ pc' → With (StandsFor z pc w) P t
-      → Runs z.code [] 2 t (With (StandsFor z pc' w) P)
+      → Runs z.kept [] 2 t (With (StandsFor z pc' w) P)
   jump_with {P} {w} {t} k o pc pc' b h e to i =
       let p = i.is.at in
       hop z (Jump k o) 2 t (record t { pc = if is_met k t.flags then sum16 (t.pc + 2) (distance o) else t.pc + 2 }) [] 2 _ (ap z.code.at p ∙ h) tt refl
@@ -116,6 +116,6 @@ module _ (z : Setting) where
 
   -- with nothing of them
   pub jump_to : (k : Condition) (o pc pc' : ℕ) (b : Bool) (w : WordState) (t : Core) → z.code.at pc ≡ Some (instruction_of (Jump k o)) → is_met k t.flags ≡ b
-      → (if b then sum16 (pc + 2) (distance o) else pc + 2) ≡ pc' → StandsFor z pc w t → Runs z.code [] 2 t (StandsFor z pc' w)
+      → (if b then sum16 (pc + 2) (distance o) else pc + 2) ≡ pc' → StandsFor z pc w t → Runs z.kept [] 2 t (StandsFor z pc' w)
   jump_to k o pc pc' b w t h e to i =
       so_runs (jump_with {P = λ f. Unit {0}} k o pc pc' b h e to (record { is = i; held = tt })) (λ s j. j.is)

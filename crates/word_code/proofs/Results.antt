@@ -75,7 +75,7 @@ module _ (z : Setting) where
   module _ {l : ℕ} {P : Core → Type 0} (front ms : List Form) where
     -- code behind other code
     pub does_behind : (os : List Waiting) (c most pc : ℕ) (u : Core) (b : Behaviour) → l + c ≤ most → Stands z.code pc (front ++ ms)
-        → (Stands z.code pc front → Runs z.code [] l u P)
+        → (Stands z.code pc front → Runs z.kept [] l u P)
         → (let mid = pc + forms_bytes front in ((t : Core) → Stands z.code mid ms → P t → Does os (mid + forms_bytes ms) c t b)
         → Does os (pc + forms_bytes (front ++ ms)) most u b)
     does_behind os c most pc u b le h come f =
@@ -88,7 +88,7 @@ module _ (z : Setting) where
 
   -- the same where no word waits behind it
   pub alone_behind : {l : ℕ} {P : Core → Type 0} (front ms : List Form) (c most pc : ℕ) (u : Core) (b : Behaviour) → l + c ≤ most
-      → Stands z.code pc (front ++ ms) → (Stands z.code pc front → Runs z.code [] l u P)
+      → Stands z.code pc (front ++ ms) → (Stands z.code pc front → Runs z.kept [] l u P)
       → (let mid = pc + forms_bytes front in ((t : Core) → Stands z.code mid ms → P t → Follows z (mid + forms_bytes ms) c t b)
       → Does [] (pc + forms_bytes (front ++ ms)) most u b)
   alone_behind {l} {P} front ms c most pc u b le h come f =
@@ -100,7 +100,7 @@ module _ (z : Setting) where
   -- forms make of registers with one fact registers with another, wherever they stand and whatever the stack is
   abbrev pub Makes : ((ℕ → ℕ) → Type 0) → WordState → List Form → ℕ → ((ℕ → ℕ) → Type 0) → Type 0
   Makes P w ms c Q = (pc : ℕ) (xs : List ℕ) (t : Core) → Stands z.code pc ms → Holds z P pc (with_stack xs w) t
-      → Runs z.code [] c t (Holds z Q (pc + forms_bytes ms) (with_stack xs w))
+      → Runs z.kept [] c t (Holds z Q (pc + forms_bytes ms) (with_stack xs w))
 
   -- words taken from the top come to registers: by which code, with which words below them, which are pushed where one of them waits in a register, and
   -- within how many cycles besides
@@ -110,7 +110,7 @@ module _ (z : Setting) where
     pub cycles : ℕ
     pub taken : ℕ
     pub room : taken + length vs ≤ z.room
-    pub come : Stands z.code pc front → Runs z.code [] (clear_cycles below + cycles) u (Waits z (kept below) (pc + forms_bytes front) (with_stack vs w) P)
+    pub come : Stands z.code pc front → Runs z.kept [] (clear_cycles below + cycles) u (Waits z (kept below) (pc + forms_bytes front) (with_stack vs w) P)
 
   -- and what is made of them: where the results wait, and which they are
   pub record Template (w : WordState) (P : (ℕ → ℕ) → Type 0) : Type 0 where
@@ -163,7 +163,7 @@ module _ (z : Setting) where
 
   abbrev pub fetched : {pc : ℕ} {w : WordState} {vs : List ℕ} {u : Core} {P : (ℕ → ℕ) → Type 0} (front : List Form) (below : List Waiting) (c n : ℕ)
       → n + length vs ≤ z.room
-      → (Stands z.code pc front → Runs z.code [] (clear_cycles below + c) u (Waits z (kept below) (pc + forms_bytes front) (with_stack vs w) P))
+      → (Stands z.code pc front → Runs z.kept [] (clear_cycles below + c) u (Waits z (kept below) (pc + forms_bytes front) (with_stack vs w) P))
       → Fetched pc w vs u P
   fetched front below c n room come = record { front = front; below = below; cycles = c; taken = n; room = room; come = come }
 
@@ -554,15 +554,15 @@ module _ (z : Setting) where
 
   -- words in registers, and all that waits below is pushed then
   pub push_under : {P : (ℕ → ℕ) → Type 0} (ks : List Waiting) (pc : ℕ) (w : WordState) (u : Core) → Stands z.code pc (flushed ks)
-      → With (Describes z ks pc w) P u → Runs z.code [] (owed ks) u (With (StandsFor z (pc + forms_bytes (flushed ks)) w) P)
+      → With (Describes z ks pc w) P u → Runs z.kept [] (owed ks) u (With (StandsFor z (pc + forms_bytes (flushed ks)) w) P)
   push_under {P} ks pc w u h k =
       let end = pc + forms_bytes (flushed ks) in
       so_runs (flush_under z [] ks pc w u k.is h) (λ t j. record { is = bare z end w t j.is; held = subst P (sym j.held) k.held })
 
   -- the same behind what brings them there
   pub gathered : {P : (ℕ → ℕ) → Type 0} {l : ℕ} {w : WordState} {u : Core} (front : List Form) (ks : List Waiting) (pc : ℕ)
-      → Stands z.code pc (front ++ flushed ks) → (Stands z.code pc front → Runs z.code [] l u (With (Describes z ks (pc + forms_bytes front) w) P))
-      → Runs z.code [] (l + owed ks) u (Holds z P (pc + forms_bytes (front ++ flushed ks)) w)
+      → Stands z.code pc (front ++ flushed ks) → (Stands z.code pc front → Runs z.kept [] l u (With (Describes z ks (pc + forms_bytes front) w) P))
+      → Runs z.kept [] (l + owed ks) u (Holds z P (pc + forms_bytes (front ++ flushed ks)) w)
   gathered {P} {l} {w} {u} front ks pc h come =
       two_parts z front (flushed ks) pc (λ p. Holds z P p w) h come (λ t s k. push_under ks (pc + forms_bytes front) w t s k)
 
@@ -600,7 +600,7 @@ module _ (z : Setting) where
 
   taken_part : (ks : List Waiting) (pc : ℕ) (w : WordState) (r : ℕ) (rs : List ℕ) (t : Core) → any_held ks ≡ false → length w.stack < z.room
       → w.inputs.readings ≡ r ∷ rs → Stands z.code pc (forms.Sense R4 ∷ []) → Describes z ks pc w t
-      → Runs z.code (Take r ∷ []) 3 t (Describes z (waiting.R4 ∷ ks) (pc + 4) (pushed r (with_readings rs w)))
+      → Runs z.kept (Take r ∷ []) 3 t (Describes z (waiting.R4 ∷ ks) (pc + 4) (pushed r (with_readings rs w)))
   taken_part ks pc w r rs t none room e h d =
       let left : WordState = with_readings rs w in
       let after : Core = record t { pc = t.pc + 4; work = put t.work 4 r; inputs = record t.inputs { readings = rs } } in

@@ -2,7 +2,7 @@
 -- of the state that it stands for, so what it does and what it holds at the end are computations. Here alone it is reckoned where a jump comes to.
 use Rattle.word_code.proofs.Names.{◌≡◌, ℕ, zero, suc, ◌+◌, ◌-◌, ◌%◌, ◌<◌, ◌==◌, List, [], ◌∷◌, drop, refl, sym, ap, ap₂, ◌∙◌, subst, arith, Bool, true, false}
 use Rattle.word_code.proofs.Names.{if◌then◌else◌, eqb-true, Effect, stretch, after_effects, At, Halted, put, Condition, sum16, distance, is_met, Core}
-use Rattle.word_code.proofs.Names.{Form, Jump}
+use Rattle.word_code.proofs.Names.{Form, Jump, CodeRules, rules_of}
 use Rattle.word_code.proofs.Names.{form_bytes, Stands, forms_bytes, forms_run, AreStraight, FormsNeed, Runs, stands_at, first_forms, forms_at}
 use Rattle.word_code.proofs.Names.{forms_behind, forms_bytes-append, end_of}
 use Rattle.word_code.proofs.Names.{WordState, Inputs}
@@ -79,15 +79,15 @@ module _ (all : List Form) where
   ending (jump b ∷ ls) j = ending ls (next b j)
 
   -- what it needs: its forms what they need, and that each jump is one, is decided so and comes to a form
-  abbrev pub RouteNeeds : Bool → ℕ → List Leg → ℕ → Core → Type 0
-  RouteNeeds events p [] j u = Unit {0}
-  RouteNeeds events p (on n ∷ ls) j u =
+  abbrev pub RouteNeeds : CodeRules → ℕ → List Leg → ℕ → Core → Type 0
+  RouteNeeds rules p [] j u = Unit {0}
+  RouteNeeds rules p (on n ∷ ls) j u =
       let ms = take n (drop j all) in
-      AreStraight ms × FormsNeed events ms u × OnAt (forms_run ms u).status (λ t. (t.pc ≡ end_at u.pc ms) × RouteNeeds events p ls (j + n) t)
-  RouteNeeds events p (jump b ∷ ls) j u =
+      AreStraight ms × FormsNeed rules ms u × OnAt (forms_run ms u).status (λ t. (t.pc ≡ end_at u.pc ms) × RouteNeeds rules p ls (j + n) t)
+  RouteNeeds rules p (jump b ∷ ls) j u =
       let ms = drop j all in
       (ms ≡ Jump (condition_of ms) (offset_of ms) ∷ drop 1 ms) × (is_met (condition_of ms) u.flags ≡ b) × (place (next b j) ≡ far b j)
-      × RouteNeeds events p ls (next b j) (record u { pc = p + place (next b j) })
+      × RouteNeeds rules p ls (next b j) (record u { pc = p + place (next b j) })
 
 -- what so many forms need that need nothing
 abbrev pub Free : ℕ → Type 0
@@ -110,24 +110,25 @@ module _ (z : Setting) (p : ℕ) (all : List Form) (h : Stands z.code p all) whe
   Comes j v t = (t ≡ v) × (v.pc ≡ p + place all j)
 
   on_by : {fs : List Effect} {d : ℕ} (s : Status Core Stop) (n j to : ℕ) {u v : Core} (go : Core → CoreStretch) (More : Core → Type 0)
-      → (let ms = take n (drop j all) in u.pc ≡ p + place all j → AreStraight ms → FormsNeed z.code.events ms u → forms_run ms u ≡ stretch fs d s → OnAt s More
-      → ((t : Core) → More t → (go t).status ≡ At v → Runs z.code (go t).effects (go t).cycles t (Comes to v))
-      → (let r = onward s fs d go in r.status ≡ At v → Runs z.code r.effects r.cycles u (Comes to v)))
+      → (let ms = take n (drop j all) in u.pc ≡ p + place all j → AreStraight ms → FormsNeed (rules_of z.kept) ms u → forms_run ms u ≡ stretch fs d s
+      → OnAt s More
+      → ((t : Core) → More t → (go t).status ≡ At v → Runs z.kept (go t).effects (go t).cycles t (Comes to v))
+      → (let r = onward s fs d go in r.status ≡ At v → Runs z.kept r.effects r.cycles u (Comes to v)))
   on_by {fs} {d} (At t) n j to {u} {v} go More at st needs made more on_then e =
       let ms = take n (drop j all) in
       let front = straight z ms d u t fs d (λ x. x ≡ t) st (stands_at z.code (p + place all j) ms u (forms_at z.code p j n all h) at) needs made
       (omega arith) refl in
-      runs_on z front (λ x same. subst (λ y. Runs z.code (go t).effects (go t).cycles y (Comes to v)) (sym same) (on_then t more e))
+      runs_on z front (λ x same. subst (λ y. Runs z.kept (go t).effects (go t).cycles y (Comes to v)) (sym same) (on_then t more e))
   on_by (Halted price x) n j to go More at st needs made more on_then e = absurd (cc)
 
-  leads : (ls : List Leg) (j : ℕ) (u v : Core) → u.pc ≡ p + place all j → RouteNeeds all z.code.events p ls j u
-      → (let r = routed all p ls j u in r.status ≡ At v → Runs z.code r.effects r.cycles u (Comes (ending all ls j) v))
+  leads : (ls : List Leg) (j : ℕ) (u v : Core) → u.pc ≡ p + place all j → RouteNeeds all (rules_of z.kept) p ls j u
+      → (let r = routed all p ls j u in r.status ≡ At v → Runs z.kept r.effects r.cycles u (Comes (ending all ls j) v))
   leads [] j u v at needs e = let same : u ≡ v = cc in nothing_run z (same, ap (λ x. x.pc) (sym same) ∙ at)
   leads (on n ∷ ls) j u v at needs e =
       let ms = take n (drop j all) in
       let there = ap forms_bytes (take-add j n all) ∙ forms_bytes-append (take j all) ms in
       on_by (forms_run ms u).status n j (ending all (on n ∷ ls) j) (routed all p ls (j + n))
-      (λ t. (t.pc ≡ end_at u.pc ms) × RouteNeeds all z.code.events p ls (j + n) t)
+      (λ t. (t.pc ≡ end_at u.pc ms) × RouteNeeds all (rules_of z.kept) p ls (j + n) t)
       at needs.0 needs.1 refl needs.2 (λ t more s. leads ls (j + n) t v (more.0 ∙ omega (arith, end_is u.pc ms, at, there)) more.1 s) e
   leads (jump b ∷ ls) j u v at needs e =
       let c = condition_of (drop j all) in
@@ -142,7 +143,7 @@ module _ (z : Setting) (p : ℕ) (all : List Form) (h : Stands z.code p all) whe
       let goes : (if is_met c u.flags then sum16 (u.pc + 2) (distance d) else u.pc + 2) ≡ p + place all i =
       ap₂ (λ x q. if x then sum16 (q + 2) (distance d) else q + 2) needs.1 at ∙ lands b p (place all j) (distance d) (place all i) needs.2 end in
       runs_on z (hop z (Jump c d) 2 u _ [] 2 (λ x. x ≡ t) (ap z.code.at at ∙ here.0) tt refl (omega arith) (ap (λ q. record u { pc = q }) goes))
-      (λ x same. subst (λ y. Runs z.code r.effects r.cycles y to) (sym same) (leads ls i t v refl needs.3 e))
+      (λ x same. subst (λ y. Runs z.kept r.effects r.cycles y to) (sym same) (leads ls i t v refl needs.3 e))
 
 -- ---- the words of R4 to R7 by name
 
@@ -184,31 +185,31 @@ module _ (z : Setting) where
     begun = named (p + place all j) a b c d w t
 
     -- through code that writes R4 to R7 and words of FRAM, and takes some of the inputs
-    pub look_route : (ls : List Leg) (es : List Effect) (f : ℕ → ℕ) (n : Inputs) (c : ℕ) (Q : Core → Type 0) → RouteNeeds all z.code.events p ls j begun
+    pub look_route : (ls : List Leg) (es : List Effect) (f : ℕ → ℕ) (n : Inputs) (c : ℕ) (Q : Core → Type 0) → RouteNeeds all (rules_of z.kept) p ls j begun
         → (let r = routed all p ls j begun in let v = end_of begun r.status in r ≡ stretch r.effects c (At v)
         → kept_by (record v { fram = w.fram; inputs = w.inputs }) ≡ kept_by begun → r.effects ≡ es → v.fram ≡ f → v.inputs ≡ n
-        → (StandsFor z (p + place all (ending all ls j)) (record w { fram = f; inputs = n }) v → Q v) → Runs z.code es c t Q)
+        → (StandsFor z (p + place all (ending all ls j)) (record w { fram = f; inputs = n }) v → Q v) → Runs z.kept es c t Q)
     look_route ls es f n c Q needs made kept effects fram inputs q =
         let r = routed all p ls j begun in
         let v = end_of begun r.status in
         let memory = subst (λ x. Memory z x.sp x.ram x.locals w.stack w.locals) (sym kept) s.memory in
         let cycles : r.cycles ≡ c = ap (λ x. x.cycles) made in
-        subst (λ x. Runs z.code es c x Q) (sym (is_named s words)) (subst (λ l. Runs z.code l c begun Q) effects (dearer z (omega (arith, cycles))
+        subst (λ x. Runs z.kept es c x Q) (sym (is_named s words)) (subst (λ l. Runs z.kept l c begun Q) effects (dearer z (omega (arith, cycles))
         (so_runs (leads z p all h ls j begun v refl needs (ap (λ x. x.status) made)) (λ x k.
         subst Q (sym k.0) (q (record { at = k.1; memory = memory; fram = fram; inputs = inputs }))))))
 
     -- through code that writes R4 to R7 and words of FRAM
-    pub store_route : (ls : List Leg) (es : List Effect) (f : ℕ → ℕ) (c : ℕ) (Q : Core → Type 0) → RouteNeeds all z.code.events p ls j begun
+    pub store_route : (ls : List Leg) (es : List Effect) (f : ℕ → ℕ) (c : ℕ) (Q : Core → Type 0) → RouteNeeds all (rules_of z.kept) p ls j begun
         → (let r = routed all p ls j begun in let v = end_of begun r.status in r ≡ stretch r.effects c (At v)
         → kept_by (record v { fram = w.fram }) ≡ kept_by begun → r.effects ≡ es → v.fram ≡ f
-        → (StandsFor z (p + place all (ending all ls j)) (record w { fram = f }) v → Q v) → Runs z.code es c t Q)
+        → (StandsFor z (p + place all (ending all ls j)) (record w { fram = f }) v → Q v) → Runs z.kept es c t Q)
     store_route ls es f c Q needs made kept effects fram q =
         look_route ls es f w.inputs c Q needs made (λ i. record (kept i) { inputs = w.inputs }) effects fram (ap (λ x. x.inputs) kept) q
 
     -- through code that writes R4 to R7 alone
-    pub route : (ls : List Leg) (c : ℕ) (Q : Core → Type 0) → RouteNeeds all z.code.events p ls j begun
+    pub route : (ls : List Leg) (c : ℕ) (Q : Core → Type 0) → RouteNeeds all (rules_of z.kept) p ls j begun
         → (let r = routed all p ls j begun in let v = end_of begun r.status in r ≡ stretch [] c (At v) → kept_by v ≡ kept_by begun
-        → (StandsFor z (p + place all (ending all ls j)) w v → Q v) → Runs z.code [] c t Q)
+        → (StandsFor z (p + place all (ending all ls j)) w v → Q v) → Runs z.kept [] c t Q)
     route ls c Q needs made kept q =
         let none : [] ≡ (routed all p ls j begun).effects = sym (ap (λ x. x.effects) made) in
         store_route ls [] w.fram c Q needs (made ∙ (λ i. stretch (none i) c (At (end_of begun (routed all p ls j begun).status))))

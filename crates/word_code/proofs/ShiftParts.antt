@@ -162,48 +162,48 @@ signed_last y h =
 module _ (z : Setting) where
   abbrev pub Turns : List Form → ℕ → (ℕ → ℕ) → Type 0
   Turns ms c f = (pc y : ℕ) (w : WordState) (t : Core) → y < 0x10000 → Stands z.code pc ms → Has z R4 pc w y t
-      → Runs z.code [] c t (Has z R4 (pc + forms_bytes ms) w (f y))
+      → Runs z.kept [] c t (Has z R4 (pc + forms_bytes ms) w (f y))
 
   repeat_part : (m : Form) (g : ℕ → ℕ) → form_bytes m ≡ 2 → ((pc y : ℕ) (w : WordState) (t : Core) → z.code.at pc ≡ Some (instruction_of m) → Has z R4 pc w y t
-      → Runs z.code [] 1 t (Has z R4 (pc + 2) w (g y))) → (k pc y : ℕ) (w : WordState) (t : Core) → Stands z.code pc (repeated k m) → Has z R4 pc w y t
-      → Runs z.code [] k t (Has z R4 (pc + forms_bytes (repeated k m)) w (times k g y))
+      → Runs z.kept [] 1 t (Has z R4 (pc + 2) w (g y))) → (k pc y : ℕ) (w : WordState) (t : Core) → Stands z.code pc (repeated k m) → Has z R4 pc w y t
+      → Runs z.kept [] k t (Has z R4 (pc + forms_bytes (repeated k m)) w (times k g y))
   repeat_part m g s one zero pc y w t h i = let e : pc ≡ pc + 0 = omega arith in nothing_run z (subst (λ n. Has z R4 n w y t) e i)
   repeat_part m g s one (suc k) pc y w t h i =
       let e : pc + 2 + forms_bytes (repeated k m) ≡ pc + (form_bytes m + forms_bytes (repeated k m)) = omega (arith, s) in
       let q : 1 + k ≤ suc k = omega arith in
       let h' : Stands z.code (pc + 2) (repeated k m) = subst (λ n. Stands z.code (pc + n) (repeated k m)) s h.1 in
-      dearer z q (subst (λ n. Runs z.code [] (1 + k) t (Has z R4 n w (times k g (g y)))) e
+      dearer z q (subst (λ n. Runs z.kept [] (1 + k) t (Has z R4 n w (times k g (g y)))) e
       (runs_on z (one pc y w t h.0 i) (λ v j. repeat_part m g s one k (pc + 2) (g y) w v h' j)))
 
   double_step : (pc y : ℕ) (w : WordState) (t : Core) → z.code.at pc ≡ Some (instruction_of (Calculate op.Add (Register R4) R4)) → Has z R4 pc w y t
-      → Runs z.code [] 1 t (Has z R4 (pc + 2) w (double y))
+      → Runs z.kept [] 1 t (Has z R4 (pc + 2) w (double y))
   double_step pc y w t h i =
       let ms = Calculate op.Add (Register R4) R4 ∷ [] in
       line z ms 1 (pc + 2) _ i.is (tt, tt) (h, tt) ((tt, tt), tt) refl refl (omega (arith, i.is.at))
       (λ s. record { is = s; held = ap (λ v. (v + v + 0) % 0x10000) i.held ∙ omega arith })
 
   halve_step : (pc y : ℕ) (w : WordState) (t : Core) → z.code.at pc ≡ Some (instruction_of (Modify change.Rra R4)) → Has z R4 pc w y t
-      → Runs z.code [] 1 t (Has z R4 (pc + 2) w (half_signed y))
+      → Runs z.kept [] 1 t (Has z R4 (pc + 2) w (half_signed y))
   halve_step pc y w t h i =
       let ms = Modify change.Rra R4 ∷ [] in
       line z ms 1 (pc + 2) _ i.is (tt, tt) (h, tt) (tt, tt) refl refl (omega (arith, i.is.at)) (λ s. record { is = s; held = ap half_signed i.held })
 
   doubles : (k pc y : ℕ) (w : WordState) (t : Core) → Stands z.code pc (repeated k (Calculate op.Add (Register R4) R4)) → Has z R4 pc w y t
-      → Runs z.code [] k t (Has z R4 (pc + forms_bytes (repeated k (Calculate op.Add (Register R4) R4))) w (times k double y))
+      → Runs z.kept [] k t (Has z R4 (pc + forms_bytes (repeated k (Calculate op.Add (Register R4) R4))) w (times k double y))
   doubles = repeat_part (Calculate op.Add (Register R4) R4) double refl double_step
 
   halves : (k pc y : ℕ) (w : WordState) (t : Core) → Stands z.code pc (repeated k (Modify change.Rra R4)) → Has z R4 pc w y t
-      → Runs z.code [] k t (Has z R4 (pc + forms_bytes (repeated k (Modify change.Rra R4))) w (times k half_signed y))
+      → Runs z.kept [] k t (Has z R4 (pc + forms_bytes (repeated k (Modify change.Rra R4))) w (times k half_signed y))
   halves = repeat_part (Modify change.Rra R4) half_signed refl halve_step
 
   -- two instructions, of so many bytes, and then as many turns as are left
   big : (ms more : List Form) (c k : ℕ) (g f : ℕ → ℕ) → c + k ≤ 10 → Turns ms c g
-      → ((pc y : ℕ) (w : WordState) (t : Core) → Stands z.code pc more → Has z R4 pc w y t → Runs z.code [] k t (Has z R4 (pc + forms_bytes more) w (f y)))
+      → ((pc y : ℕ) (w : WordState) (t : Core) → Stands z.code pc more → Has z R4 pc w y t → Runs z.kept [] k t (Has z R4 (pc + forms_bytes more) w (f y)))
       → (all : List Form) → all ≡ ms ++ more → forms_bytes ms + forms_bytes more ≡ forms_bytes all → Turns all 10 (λ y. f (g y))
   big ms more c k g f l a b all e q pc y w t s h i =
       let h' = subst (Stands z.code pc) e h in
       let p : pc + forms_bytes ms + forms_bytes more ≡ pc + forms_bytes all = omega (arith, q) in
-      dearer z l (subst (λ n. Runs z.code [] (c + k) t (Has z R4 n w (f (g y)))) p (runs_on z (a pc y w t s (stands_front z.code pc ms more h') i)
+      dearer z l (subst (λ n. Runs z.kept [] (c + k) t (Has z R4 n w (f (g y)))) p (runs_on z (a pc y w t s (stands_front z.code pc ms more h') i)
       (λ v j. b (pc + forms_bytes ms) (g y) w v (stands_back z.code pc ms more h') j)))
 
   abbrev up_head : List Form
@@ -239,7 +239,7 @@ module _ (z : Setting) where
       (λ u. record { is = u; held = ap (λ v. v / 2 + 0x8000 * bit (not (bit_and v 0 == 0))) i.held ∙ no_bits y })
 
   as_value : (ms : List Form) (f g : ℕ → ℕ) → ((y : ℕ) → y < 0x10000 → f y ≡ g y) → Turns ms 10 f → Turns ms 10 g
-  as_value ms f g e a pc y w t s h i = subst (λ v. Runs z.code [] 10 t (Has z R4 (pc + forms_bytes ms) w v)) (e y s) (a pc y w t s h i)
+  as_value ms f g e a pc y w t s h i = subst (λ v. Runs z.kept [] 10 t (Has z R4 (pc + forms_bytes ms) w v)) (e y s) (a pc y w t s h i)
 
   by_eight : (b : Bool) (k : ℕ) → nat_lt k 8 ≡ b → k < 16 → (small big : List Form) (f : ℕ → ℕ) → (k < 8 → Turns small 10 f)
       → ((j : ℕ) → k ≡ 8 + j → j < 8 → Turns big 10 f) → Turns (if b then small else big) 10 f
@@ -256,7 +256,7 @@ module _ (z : Setting) where
   shift_turns : (d : ShiftOperation) (k : ℕ) → k < 16 → Turns (shift_by d k) 10 (shift_of d k)
   shift_turns Left k l = by_eight (nat_lt k 8) k refl l _ _ (shift_of Left k)
       (λ s pc y w t a h i. dearer z (omega arith)
-      (subst (λ v. Runs z.code [] k t (Has z R4 (pc + forms_bytes (repeated k (Calculate op.Add (Register R4) R4))) w v)) (doubled k y a)
+      (subst (λ v. Runs z.kept [] k t (Has z R4 (pc + forms_bytes (repeated k (Calculate op.Add (Register R4) R4))) w v)) (doubled k y a)
       (doubles k pc y w t h i)))
       (λ j e s. as_value (up_head ++ repeated (k - 8) (Calculate op.Add (Register R4) R4)) _ _
       (λ y h. let q : k - 8 ≡ j = omega arith in ap (λ n. times n double ((y * 256) % 0x10000)) q ∙ raised_big j y h
@@ -270,7 +270,7 @@ module _ (z : Setting) where
       _ refl (omega arith)))
   shift_turns SignedRight k l = by_eight (nat_lt k 8) k refl l _ _ (shift_of SignedRight k)
       (λ s pc y w t a h i. dearer z (omega arith)
-      (subst (λ v. Runs z.code [] k t (Has z R4 (pc + forms_bytes (repeated k (Modify change.Rra R4))) w v)) (halved_signed k y a) (halves k pc y w t h i)))
+      (subst (λ v. Runs z.kept [] k t (Has z R4 (pc + forms_bytes (repeated k (Modify change.Rra R4))) w v)) (halved_signed k y a) (halves k pc y w t h i)))
       (λ j e s. as_value (sign_head ++ repeated (k - 8) (Modify change.Rra R4)) _ _ (λ y h. let q : k - 8 ≡ j = omega arith in
       ap (λ n. times n half_signed (sign (swap y))) q ∙ signed_big j y h ∙ ap (λ n. arithmetic_shift y n) (sym e))
       (big sign_head (repeated (k - 8) (Modify change.Rra R4)) 2 (k - 8) (λ v. sign (swap v)) (times (k - 8) half_signed) (omega arith) sign_first

@@ -1,7 +1,7 @@
 -- The two sides of an operation: the left one in R4, and the right one in R5, or read where it waits.
 use Rattle.word_code.specs.Code.{is_turned, compare_sides, compare_source}
 use Rattle.word_code.proofs.Names.{source_effects, Comparison, Core, Form, R5, Register, Runs, Source, SourceNeeds, Stands, Waiting, WordState}
-use Rattle.word_code.proofs.Names.{WorkRegister, any_held}
+use Rattle.word_code.proofs.Names.{WorkRegister, any_held, CodeRules, rules_of}
 use Rattle.word_code.proofs.Names.{below_top, cleared, drop, five_from, flushed, forms_bytes, four_from, get_or, kept, rest_source, rests, right_source}
 use Rattle.word_code.proofs.Names.{right_to_rest, sides, source_cycles, source_from, source_operand, source_read, source_value, stays, to_memory, to_register}
 use Rattle.word_code.proofs.Names.{to_rest, top_of, two_to_registers, update_sides, waiting_source, with_stack, work_number, ◌≡◌, ℕ, ◌+◌, ◌≤◌, Bool, true}
@@ -57,7 +57,7 @@ kept_words six g = g 5 ∷ ((if six then g 6 else 0) ∷ local_words g)
 -- on each machine with this FRAM and these of its registers' words a source gives this word
 pub record Gives (keeps : (ℕ → ℕ) → List ℕ) (x : Source) (v : ℕ) (f : ℕ → ℕ) (ws : List ℕ) : Type 0 where
   pub word : (s : Core) → s.fram ≡ f → keeps s.work ≡ ws → source_value x s ≡ v
-  pub needs : (events : Bool) (s : Core) → SourceNeeds events x s
+  pub needs : (rules : CodeRules) (s : Core) → SourceNeeds rules x s
   pub quiet : (s : Core) → source_effects x s ≡ []
   pub still : (s : Core) → source_read x s ≡ s
 
@@ -70,7 +70,7 @@ pub record Aiming (six : Bool) (x : Source) (k v : ℕ) (f g : ℕ → ℕ) : Ty
   pub gives : GivesOn six x v f g
 
 pub five_gives : (six : Bool) (v : ℕ) (f g : ℕ → ℕ) → g 5 ≡ v → GivesOn six (Register R5) v f g
-five_gives six v f g e = record { word = λ s a l. ap (λ ws. get_or ws 0 0) l ∙ e; needs = λ events s. tt; quiet = λ s. refl; still = λ s. refl }
+five_gives six v f g e = record { word = λ s a l. ap (λ ws. get_or ws 0 0) l ∙ e; needs = λ rules s. tt; quiet = λ s. refl; still = λ s. refl }
 
 -- it stays where it waits, in R6 too where this is said
 abbrev pub lies : Bool → Option Waiting → Bool
@@ -102,7 +102,7 @@ pub waiting_gives : (keeps : (ℕ → ℕ) → List ℕ) (six : Bool) (owns : �
 waiting_gives keeps six owns locals o v t b h q same =
     record {
       word = λ s a l. let k = same s l in word_same six owns locals o s t b h a k.0 k.1 ∙ q;
-      needs = λ events s. source_needs events owns locals o s h;
+      needs = λ rules s. source_needs rules owns locals o s h;
       quiet = λ s. source_quiet o s;
       still = λ s. source_still o s;
     }
@@ -121,16 +121,16 @@ kept_same six f g h =
     ∷ other 15 (omega arith) k ∷ []))
 
 -- an operation on a register reads what a source gives
-pub is_read : {events : Bool} (six : Bool) (x : Source) (b : WorkRegister) (k v : ℕ) (f : ℕ → ℕ) (t : Core) → t.fram ≡ f → t.work (work_number b) ≡ k
-    → GivesOn six x v f t.work → IsRead events x b k v t t
-is_read {events} six x b k v f t e l g = record { needs = g.needs events t; quiet = g.quiet t; still = g.still t; left = l; right = g.word t e refl }
+pub is_read : {rules : CodeRules} (six : Bool) (x : Source) (b : WorkRegister) (k v : ℕ) (f : ℕ → ℕ) (t : Core) → t.fram ≡ f → t.work (work_number b) ≡ k
+    → GivesOn six x v f t.work → IsRead rules x b k v t t
+is_read {rules} six x b k v f t e l g = record { needs = g.needs rules t; quiet = g.quiet t; still = g.still t; left = l; right = g.word t e refl }
 
 module _ (z : Setting) where
   -- the right side to where it is read
   side_by : (stay six : Bool) (os : List Waiting) (pc : ℕ) (w : WordState) (v : ℕ) (vs : List ℕ) (u : Core) → lies six (top_of os) ≡ stay → w.stack ≡ v ∷ vs
       → (let ms : List Form = if stay then [] else five_from (top_of os) in
       let x : Source = if stay then source_from (top_of os) else (Register R5) in Stands z.code pc ms → Describes z os pc w u
-      → Runs z.code [] (side_cycles stay (top_of os)) u (Waits z (below_top os) (pc + forms_bytes ms) (with_stack vs w) (GivesOn six x v w.fram)))
+      → Runs z.kept [] (side_cycles stay (top_of os)) u (Waits z (below_top os) (pc + forms_bytes ms) (with_stack vs w) (GivesOn six x v w.fram)))
   side_by true six [] pc w v vs u b e h d = absurd (let q = b in (cc))
   side_by true six (o ∷ os) pc w v vs u b e h d =
       let k = drop_part z o os pc w v vs u e d in
@@ -149,7 +149,7 @@ module _ (z : Setting) where
       → any_held (below_top (below_top os)) ≡ false → (let under = below_top os in let stay = lies six (top_of os) in
       let ms = (if stay then [] else five_from (top_of os)) ++ four_from (top_of under) in
       let s : Source = if stay then source_from (top_of os) else (Register R5) in Stands z.code pc ms → Describes z os pc w u
-      → Runs z.code [] (side_cycles stay (top_of os) + load_cycles (top_of under)) u
+      → Runs z.kept [] (side_cycles stay (top_of os) + load_cycles (top_of under)) u
       (Waits z (below_top under) (pc + forms_bytes ms) (with_stack vs w) (Aiming six s x y w.fram)))
   sides_run six os pc w x y vs u e none h d =
       let under = below_top os in
@@ -169,7 +169,7 @@ module _ (z : Setting) where
   pub sides_part : (os : List Waiting) (pc : ℕ) (w : WordState) (x y : ℕ) (vs : List ℕ) (u : Core) → w.stack ≡ y ∷ (x ∷ vs)
       → Stands z.code pc (sides os) → Describes z os pc w u
       → (let under = below_top os in
-      Runs z.code [] (clear_cycles (below_top under) + (side_cycles (stays (top_of os)) (top_of os) + load_cycles (top_of under))) u
+      Runs z.kept [] (clear_cycles (below_top under) + (side_cycles (stays (top_of os)) (top_of os) + load_cycles (top_of under))) u
       (Waits z (kept (below_top under)) (pc + forms_bytes (sides os)) (with_stack vs w) (Aiming true (right_source (top_of os)) x y w.fram)))
   sides_part [] pc w x y vs u e h d = sides_run true [] pc w x y vs u e refl h d
   sides_part (o ∷ []) pc w x y vs u e h d = dearer z (omega arith) (sides_run true (o ∷ []) pc w x y vs u e refl h d)
@@ -182,7 +182,7 @@ module _ (z : Setting) where
   -- the right side to R5
   two_loads : (os : List Waiting) (pc : ℕ) (w : WordState) (x y : ℕ) (vs : List ℕ) (u : Core) → w.stack ≡ y ∷ (x ∷ vs)
       → any_held (below_top (below_top os)) ≡ false → (let ms = five_from (top_of os) ++ four_from (top_of (below_top os)) in Stands z.code pc ms
-      → Describes z os pc w u → Runs z.code [] (load_cycles (top_of os) + load_cycles (top_of (below_top os))) u
+      → Describes z os pc w u → Runs z.kept [] (load_cycles (top_of os) + load_cycles (top_of (below_top os))) u
       (Waits z (below_top (below_top os)) (pc + forms_bytes ms) (with_stack vs w) (HasSides x y)))
   two_loads os pc w x y vs u e none h d =
       let under = below_top os in
@@ -195,7 +195,7 @@ module _ (z : Setting) where
 
   pub two_to_registers_part : (os : List Waiting) (pc : ℕ) (w : WordState) (x y : ℕ) (vs : List ℕ) (u : Core) → w.stack ≡ y ∷ (x ∷ vs)
       → Stands z.code pc (two_to_registers os) → Describes z os pc w u
-      → (let under = below_top os in Runs z.code [] (clear_cycles (below_top under) + (load_cycles (top_of os) + load_cycles (top_of under))) u
+      → (let under = below_top os in Runs z.kept [] (clear_cycles (below_top under) + (load_cycles (top_of os) + load_cycles (top_of under))) u
       (Waits z (kept (below_top under)) (pc + forms_bytes (two_to_registers os)) (with_stack vs w) (HasSides x y)))
   two_to_registers_part [] pc w x y vs u e h d = two_loads [] pc w x y vs u e refl h d
   two_to_registers_part (o ∷ []) pc w x y vs u e h d = two_loads (o ∷ []) pc w x y vs u e refl h d
@@ -208,7 +208,7 @@ module _ (z : Setting) where
   compare_by : (turned : Bool) (os : List Waiting) (pc : ℕ) (w : WordState) (x y : ℕ) (vs : List ℕ) (u : Core) → w.stack ≡ y ∷ (x ∷ vs)
       → (let ms : List Form = if turned then two_to_registers os else (sides os) in
       let s : Source = if turned then Register R5 else (right_source (top_of os)) in let under = below_top os in Stands z.code pc ms → Describes z os pc w u
-      → Runs z.code [] (clear_cycles (below_top under) + (side_cycles (compare_stays turned (top_of os)) (top_of os) + load_cycles (top_of under))) u
+      → Runs z.kept [] (clear_cycles (below_top under) + (side_cycles (compare_stays turned (top_of os)) (top_of os) + load_cycles (top_of under))) u
       (Waits z (kept (below_top under)) (pc + forms_bytes ms) (with_stack vs w) (Aiming true s x y w.fram)))
   compare_by true os pc w x y vs u e h d =
       so_runs (two_to_registers_part os pc w x y vs u e h d) (λ t j. record {
@@ -219,7 +219,7 @@ module _ (z : Setting) where
 
   pub compare_sides_part : (c : Comparison) (os : List Waiting) (pc : ℕ) (w : WordState) (x y : ℕ) (vs : List ℕ) (u : Core) → w.stack ≡ y ∷ (x ∷ vs)
       → Stands z.code pc (compare_sides c os) → Describes z os pc w u → (let under = below_top os in let stay = compare_stays (is_turned c) (top_of os) in
-      Runs z.code [] (clear_cycles (below_top under) + (side_cycles stay (top_of os) + load_cycles (top_of under))) u
+      Runs z.kept [] (clear_cycles (below_top under) + (side_cycles stay (top_of os) + load_cycles (top_of under))) u
       (Waits z (kept (below_top under)) (pc + forms_bytes (compare_sides c os)) (with_stack vs w) (Aiming true (compare_source c (top_of os)) x y w.fram)))
   compare_sides_part c os pc w x y vs u e h d = compare_by (is_turned c) os pc w x y vs u e h d
 
@@ -229,14 +229,14 @@ module _ (z : Setting) where
   abbrev pub Aims : Source → ℕ → WordState → ℕ → ℕ → Core → Type 0
   Aims x pc w k v = With (StandsFor z pc w) (Aiming false x k v w.fram)
 
-  alone : {l : ℕ} {u : Core} {P : (ℕ → ℕ) → Type 0} (pc : ℕ) (w : WordState) → Runs z.code [] l u (Waits z [] pc w P)
-      → Runs z.code [] l u (With (StandsFor z pc w) P)
+  alone : {l : ℕ} {u : Core} {P : (ℕ → ℕ) → Type 0} (pc : ℕ) (w : WordState) → Runs z.kept [] l u (Waits z [] pc w P)
+      → Runs z.kept [] l u (With (StandsFor z pc w) P)
   alone pc w a = so_runs a (λ t k. record { is = bare z pc w t k.is; held = k.held })
 
   pub update_sides_part : (os : List Waiting) (pc : ℕ) (w : WordState) (i v : ℕ) (vs : List ℕ) (u : Core) → w.stack ≡ v ∷ (i ∷ vs)
       → Stands z.code pc (update_sides os) → Describes z os pc w u
       → (let under = below_top os in
-      Runs z.code [] (owed (below_top under) + (side_cycles (rests (top_of os)) (top_of os) + load_cycles (top_of under))) u
+      Runs z.kept [] (owed (below_top under) + (side_cycles (rests (top_of os)) (top_of os) + load_cycles (top_of under))) u
       (Aims (rest_source (top_of os)) (pc + forms_bytes (update_sides os)) (with_stack vs w) i v))
   update_sides_part [] pc w i v vs u e h d =
       alone (pc + forms_bytes (update_sides [])) (with_stack vs w) (sides_run false [] pc w i v vs u e refl h d)
@@ -253,7 +253,7 @@ module _ (z : Setting) where
   -- the same without the index
   pub right_part : (o p : Waiting) (os : List Waiting) (pc : ℕ) (w : WordState) (v : ℕ) (vs : List ℕ) (u : Core) → w.stack ≡ v ∷ vs
       → Stands z.code pc (right_to_rest (o ∷ (p ∷ os))) → Describes z (o ∷ (p ∷ os)) pc w u
-      → Runs z.code [] (owed os + side_cycles (rests (Some o)) (Some o)) u
+      → Runs z.kept [] (owed os + side_cycles (rests (Some o)) (Some o)) u
       (Waits z (p ∷ []) (pc + forms_bytes (right_to_rest (o ∷ (p ∷ os)))) (with_stack vs w) (GivesOn false (rest_source (Some o)) v w.fram))
   right_part o p os pc w v vs u e h d =
       let mid = pc + forms_bytes (flushed os) in

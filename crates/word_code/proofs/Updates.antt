@@ -40,7 +40,7 @@ module _ (z : Setting) where
   -- R4 to a local in RAM
   set_from : (n v pc : ℕ) (w : WordState) (t : Core) → nat_lt n 8 ≡ false → Owns z n
       → z.code.at pc ≡ Some (instruction_of (Move (Register R4) (ToRam (local_address n))))
-      → Has z R4 pc w v t → Runs z.code [] 4 t (StandsFor z (pc + 4) (with_local n v w))
+      → Has z R4 pc w v t → Runs z.kept [] 4 t (StandsFor z (pc + 4) (with_local n v w))
   set_from n v pc w t b lt h k =
       let ms = Move (Register R4) (ToRam (local_address n)) ∷ [] in
       let i = k.is in
@@ -70,7 +70,7 @@ module _ (z : Setting) where
     -- a local in a register
     update_register : nat_lt n 8 ≡ true
         → (let ms = Calculate (plain_instruction o) source (local_register n) ∷ [] in Stands z.code pc ms → Top z source [] pc w v vs u
-        → Runs z.code [] (8 + load_cycles x) u (StandsFor z (pc + forms_bytes ms) (with_local n made popped)))
+        → Runs z.kept [] (8 + load_cycles x) u (StandsFor z (pc + forms_bytes ms) (with_local n made popped)))
     update_register b h k =
         let t = source_read source u in
         let i = bare z pc popped t k.left in
@@ -86,7 +86,7 @@ module _ (z : Setting) where
     -- the top to R5, and a local in RAM to R4
     take_two : nat_lt n 8 ≡ false → Stands z.code pc (Move source (ToRegister R5) ∷ Move (Ram (local_address n)) (ToRegister R4) ∷ [])
         → Top z source [] pc w v vs u
-        → Runs z.code [] (load_cycles x + 3) u (HasTwo z (pc + form_bytes (Move source (ToRegister R5)) + 4) popped y v)
+        → Runs z.kept [] (load_cycles x + 3) u (HasTwo z (pc + form_bytes (Move source (ToRegister R5)) + 4) popped y v)
     take_two b h k =
         let ms = Move (Ram (local_address n)) (ToRegister R4) ∷ [] in
         let mid = pc + form_bytes (Move source (ToRegister R5)) in
@@ -103,17 +103,17 @@ module _ (z : Setting) where
     update_by : (b : Bool) → nat_lt n 8 ≡ b
         → (let ms : List Form = if b then Calculate (plain_instruction o) source (local_register n) ∷ [] else (ram_update o n source) in
         Stands z.code pc ms → Top z source [] pc w v vs u
-        → Runs z.code [] (8 + load_cycles x) u (StandsFor z (pc + forms_bytes ms) (with_local n made popped)))
+        → Runs z.kept [] (8 + load_cycles x) u (StandsFor z (pc + forms_bytes ms) (with_local n made popped)))
     update_by true b h top = update_register b h top
     update_by false b h top =
         let mid = pc + form_bytes (Move source (ToRegister R5)) + 4 in
         let end : mid + 2 + 4 ≡ pc + forms_bytes (ram_update o n source) = omega arith in
         let last = h.1.1 in
-        subst (λ p. Runs z.code [] (8 + load_cycles x) u (StandsFor z p (with_local n made popped))) end
+        subst (λ p. Runs z.kept [] (8 + load_cycles x) u (StandsFor z p (with_local n made popped))) end
         (dearer z (omega arith) (runs_on z (take_two b (h.0, (h.1.0, tt)) top)
         (λ t j. runs_on z (plain_middle z o mid y v popped t l r (last.0, tt) j) (λ s k. set_from n made (mid + 2) popped s b lt last.1.0 k))))
 
     -- what the instruction makes of a local and of the top is assigned
     pub update_local_part : (let ms = update_code o n source in Stands z.code pc ms → Top z source [] pc w v vs u
-        → Runs z.code [] (8 + load_cycles x) u (StandsFor z (pc + forms_bytes ms) (with_local n made popped)))
+        → Runs z.kept [] (8 + load_cycles x) u (StandsFor z (pc + forms_bytes ms) (with_local n made popped)))
     update_local_part h top = update_by (nat_lt n 8) refl h top

@@ -57,7 +57,7 @@ module _ (z : Setting) where
     -- where the version word is the attempt's number, the copy is read, and the jump goes on
     copy_read : (to i : ℕ) (w : WordState) (t : Core) → Versioned place list i w → (w.fram list.ver == w.fram (2 * i + place.versions)) ≡ true
         → IsPlace (2 * i + place.copies) → sum16 (p + 16 + 2) (distance over) ≡ to → Has z R4 p w i t
-        → Runs z.code [] 14 t (Has z R4 to w (w.fram (2 * i + place.copies)))
+        → Runs z.kept [] 14 t (Has z R4 to w (w.fram (2 * i + place.copies)))
     copy_read to i w t m e fc d k =
         let v = w.fram (2 * i + place.copies) in
         let f = doubled_fits i place.copies fc in
@@ -71,7 +71,7 @@ module _ (z : Setting) where
 
     -- where it isn't, the element
     home_read : (i : ℕ) (w : WordState) (t : Core) → Versioned place list i w → (w.fram list.ver == w.fram (2 * i + place.versions)) ≡ false
-        → IsPlace (2 * i + place.elements) → Has z R4 p w i t → Runs z.code [] 12 t (Has z R4 (p + 22) w (w.fram (2 * i + place.elements)))
+        → IsPlace (2 * i + place.elements) → Has z R4 p w i t → Runs z.kept [] 12 t (Has z R4 (p + 22) w (w.fram (2 * i + place.elements)))
     home_read i w t m e fe k =
         let f = doubled_fits i place.elements fe in
         let g = doubled_fits i place.versions m.version in
@@ -83,18 +83,18 @@ module _ (z : Setting) where
   -- a read, where its code stands, by whether the index is surely below the length
   pub past_read : (b : Bool) (place : ArrayPlace) (list : ListPlace) (pc i : ℕ) (w : WordState) (t : Core) → Reading b place list pc i w t
       → (b ≡ true → nat_lt i place.length ≡ true) → nat_lt i place.length ≡ false
-      → Runs z.code [] 18 t (Has z R4 (pc + forms_bytes (read_code b place list)) w 0)
+      → Runs z.kept [] 18 t (Has z R4 (pc + forms_bytes (read_code b place list)) w 0)
   past_read true place list pc i w t r sure below = absurd (both_ways (nat_lt i place.length) below (sure refl))
   past_read false place list pc i w t r sure below =
       let ms = own_code 4 place list in
       let n = place.length in
       dearer z (omega arith)
-      (subst (λ p. Runs z.code [] 5 t (Has z R4 p w 0)) (checked_end z n 12 pc ms r.small r.stands)
+      (subst (λ p. Runs z.kept [] 5 t (Has z R4 p w 0)) (checked_end z n 12 pc ms r.small r.stands)
       (checked_past z n 12 pc ms r.small r.stands i w t refl (omega arith) below r.index r.held))
 
   pub own_copy : (b : Bool) (place : ArrayPlace) (list : ListPlace) (pc i : ℕ) (w : WordState) (t : Core) → Reading b place list pc i w t
       → nat_lt i place.length ≡ true → Versioned place list i w → (w.fram list.ver == w.fram (2 * i + place.versions)) ≡ true
-      → IsPlace (2 * i + place.copies) → Runs z.code [] 18 t (Has z R4 (pc + forms_bytes (read_code b place list)) w (w.fram (2 * i + place.copies)))
+      → IsPlace (2 * i + place.copies) → Runs z.kept [] 18 t (Has z R4 (pc + forms_bytes (read_code b place list)) w (w.fram (2 * i + place.copies)))
   own_copy true place list pc i w t r lt m e c =
       let high = (z.tidy (pc + 18) _ (at18 2 place list pc r.stands)).high in
       let to : sum16 (pc + 16 + 2) (distance 2) ≡ pc + 22 = omega arith in
@@ -109,13 +109,13 @@ module _ (z : Setting) where
       let v = w.fram (2 * i + place.copies) in
       let high = (z.tidy (beyond z n 12 pc ms l h + 2) _ (zero_stands z n 12 pc ms l h).1.0).high in
       let to : sum16 (at + 16 + 2) (distance 4) ≡ end = omega arith in
-      subst (λ p. Runs z.code [] 18 t (Has z R4 p w v)) (checked_end z n 12 pc ms l h)
+      subst (λ p. Runs z.kept [] 18 t (Has z R4 p w v)) (checked_end z n 12 pc ms l h)
       (runs_on z (checked_within z n 12 pc ms l h i w t lt r.index r.held)
       (λ u j. copy_read 4 place list at (within_stands z n 12 pc ms l h) end i w u m e c to j))
 
   pub own_home : (b : Bool) (place : ArrayPlace) (list : ListPlace) (pc i : ℕ) (w : WordState) (t : Core) → Reading b place list pc i w t
       → nat_lt i place.length ≡ true → Versioned place list i w → (w.fram list.ver == w.fram (2 * i + place.versions)) ≡ false
-      → IsPlace (2 * i + place.elements) → Runs z.code [] 18 t (Has z R4 (pc + forms_bytes (read_code b place list)) w (w.fram (2 * i + place.elements)))
+      → IsPlace (2 * i + place.elements) → Runs z.kept [] 18 t (Has z R4 (pc + forms_bytes (read_code b place list)) w (w.fram (2 * i + place.elements)))
   own_home true place list pc i w t r lt m e c = dearer z (omega arith) (home_read 2 place list pc r.stands i w t m e c r.held)
   own_home false place list pc i w t r lt m e c =
       let ms = own_code 4 place list in
@@ -124,7 +124,7 @@ module _ (z : Setting) where
       let l = r.small in
       let at = within z n 12 pc ms l h in
       let v = w.fram (2 * i + place.elements) in
-      subst (λ p. Runs z.code [] 18 t (Has z R4 p w v)) (checked_end z n 12 pc ms l h)
+      subst (λ p. Runs z.kept [] 18 t (Has z R4 p w v)) (checked_end z n 12 pc ms l h)
       (runs_on z (checked_within z n 12 pc ms l h i w t lt r.index r.held)
       (λ u j. runs_on z (home_read 4 place list at (within_stands z n 12 pc ms l h) i w u m e c j) (λ q k. over_zero z n 12 pc ms l h v w q k)))
 

@@ -2,7 +2,7 @@
 use Rattle.word_code.proofs.Names.{rests, ◌≡◌, ℕ, ◌+◌, ◌-◌, ◌*◌, ◌%◌, ◌<◌, ◌≤◌, ◌==◌, not, Bool, true, false, nat_lt, nat_le, if◌then◌else◌, List, [], ◌∷◌}
 use Rattle.word_code.proofs.Names.{◌++◌, Some, None, refl, sym, ap, ap₂, ◌∙◌, subst, arith, word_sum, Word, operated, sum16, distance, cycles_of, source_cycles}
 use Rattle.word_code.proofs.Names.{to_register, to_memory, Store, put, Goes, IsPlace, R4, R6, R7, Core, Source, source_bytes, source_value, source_read}
-use Rattle.word_code.proofs.Names.{source_operand}
+use Rattle.word_code.proofs.Names.{source_operand, rules_of}
 use Rattle.word_code.proofs.Names.{Register, Number, Fram, Indexed, ToRegister, ToIndexed, Form, Move, Calculate, Update, Jump, flags_after, instruction_of}
 use Rattle.word_code.proofs.Names.{form_bytes, Stands, forms_bytes, Runs, stands_front, stands_back, forms_bytes-append, PlainOperation, ArrayPlace, ListPlace}
 use Rattle.word_code.proofs.Names.{plain_word, versioned_update, WordState, Behaviour, goes_on, behind_effects, with_two, with_stack, is_place, at_place}
@@ -68,7 +68,7 @@ module _ (z : Setting) (o : PlainOperation) (x : Source) (r : ℕ) (reads : sour
   -- what the operation gives of R7 and of the source
   make_part : (pc k v y : ℕ) (w : WordState) (t : Core) → y < 0x10000 → v < 0x10000
       → (let m = Calculate (plain_instruction o) x R7 in z.code.at pc ≡ Some (instruction_of m) → Holds z (Fetched w k v y) pc w t
-      → Runs z.code [] r t (Holds z (Made k (plain_word o y v)) (pc + form_bytes m) w))
+      → Runs z.kept [] r t (Holds z (Made k (plain_word o y v)) (pc + form_bytes m) w))
   make_part pc k v y w t ly lv h j =
       let a = j.held.aims in
       plain_step z o x R7 r t _ ly lv reads (ap z.code.at j.is.at ∙ h) (is_read false x R7 y v w.fram t j.is.fram j.held.seven a.gives) (λ f. record {
@@ -81,7 +81,7 @@ module _ (z : Setting) (o : PlainOperation) (x : Source) (r : ℕ) (reads : sour
   pub made_part : (from pc i v : ℕ) (w : WordState) (t : Core) → HoldsWords w.fram → v < 0x10000 → IsPlace (2 * i + from) → IsPlace (2 * i + place.copies)
       → (let ms = made_code o x from place.copies in Stands z.code pc ms → Aims z x pc w (2 * i) v t
       → (let c = 2 * i + place.copies in let y = plain_word o (w.fram (2 * i + from)) v in
-      Runs z.code (Store c y ∷ []) (7 + r) t (Has z R4 (pc + forms_bytes ms) (stored c y w) (2 * i))))
+      Runs z.kept (Store c y ∷ []) (7 + r) t (Has z R4 (pc + forms_bytes ms) (stored c y w) (2 * i))))
   made_part from pc i v w t wl lv ff fc h k =
       let a = 2 * i + from in
       let c = 2 * i + place.copies in
@@ -95,18 +95,18 @@ module _ (z : Setting) (o : PlainOperation) (x : Source) (r : ℕ) (reads : sour
       (Holds z (Fetched w (2 * i) v (w.fram a)) (pc + 4) w)
       (_, ((ff, tt), tt), (refl, tt)) refl refl
       (λ s. record { is = s; held = record { aims = record { four = refl; gives = k.held.gives }; seven = refl } }) in
-      let kept : (u : Core) → Holds z (Made (2 * i) y) mid w u → Runs z.code (Store c y ∷ []) 4 u (Has z R4 (mid + 4) (stored c y w) (2 * i)) =
+      let kept : (u : Core) → Holds z (Made (2 * i) y) mid w u → Runs z.kept (Store c y ∷ []) 4 u (Has z R4 (mid + 4) (stored c y w) (2 * i)) =
       λ u j.
       let at : u.work 4 + place.copies ≡ c = ap (λ q. q + place.copies) j.held.four in
       store_line z last (Store c y ∷ []) (put w.fram c y) 4 (mid + 4) _ j.is (tt, tt) h.1.1
       ((tt, subst IsPlace (sym at) fc), tt) refl refl (omega (arith, j.is.at)) (λ e. Store (at e) (j.held.seven e) ∷ [])
       (λ e. put (j.is.fram e) (at e) (j.held.seven e)) (λ s. record { is = s; held = j.held.four }) in dearer z (omega arith)
-      (subst (λ p. Runs z.code (Store c y ∷ []) (3 + (r + 4)) t (Has z R4 p (stored c y w) (2 * i))) there
+      (subst (λ p. Runs z.kept (Store c y ∷ []) (3 + (r + 4)) t (Has z R4 p (stored c y w) (2 * i))) there
       (runs_on z fetched (λ u j. runs_on z (make_part (pc + 4) (2 * i) v (w.fram a) w u (wl a) lv h.1.0 j) kept)))
 
   -- VER's word
   number_part : (pc k : ℕ) (w : WordState) (t : Core) → IsPlace list.ver → z.code.at pc ≡ Some (instruction_of (attempt_form list)) → Has z R4 pc w k t
-      → Runs z.code [] 3 t (Holds z (HasNumber k (w.fram list.ver)) (pc + 4) w)
+      → Runs z.kept [] 3 t (Holds z (HasNumber k (w.fram list.ver)) (pc + 4) w)
   number_part pc k w t fv h j =
       line z (attempt_form list ∷ []) 3 (pc + 4) _ j.is (tt, tt) (h, tt) ((fv, tt), tt) refl refl (omega (arith, j.is.at))
       (λ s. record { is = s; held = record { four = j.held; six = ap (λ f. f list.ver) j.is.fram } })
@@ -156,7 +156,7 @@ module _ (z : Setting) (o : PlainOperation) (x : Source) (r : ℕ) (reads : sour
     -- the version word is VER's
     again_way : (c y n k v : ℕ) (w s : WordState) (t : Core) → Looked pc w k v true t
         → ((u : Core) → Stands z.code (pc + 2) again → Aims z x (pc + 2) w k v u
-        → Runs z.code (Store c y ∷ []) n u (StandsFor z (pc + 2 + forms_bytes again) s)) → Runs z.code (Store c y ∷ []) (2 + (n + 2)) t (StandsFor z end s)
+        → Runs z.kept (Store c y ∷ []) n u (StandsFor z (pc + 2 + forms_bytes again) s)) → Runs z.kept (Store c y ∷ []) (2 + (n + 2)) t (StandsFor z end s)
     again_way c y n k v w s t j f =
         let mid = pc + 2 + forms_bytes again in
         let front = stands_front z.code (pc + 2) next first h.1 in
@@ -187,7 +187,7 @@ module _ (z : Setting) (o : PlainOperation) (x : Source) (r : ℕ) (reads : sour
 
   -- R4 becomes the offset, and the version word is looked at
   look_part : (pc i v : ℕ) (w : WordState) (t : Core) → HoldsWords w.fram → IsPlace list.ver → IsPlace (2 * i + place.versions) → Stands z.code pc looking
-      → Aims z x pc w i v t → Runs z.code [] 7 t (Looked (pc + 10) w (2 * i) v (w.fram list.ver == w.fram (2 * i + place.versions)))
+      → Aims z x pc w i v t → Runs z.kept [] 7 t (Looked (pc + 10) w (2 * i) v (w.fram list.ver == w.fram (2 * i + place.versions)))
   look_part pc i v w t wl fv fm h k =
       let high = address_small fm in
       route z pc looking h 0 (starts z k.is) (k.held.four, refl, refl, refl) (on 3 ∷ []) 7 _
@@ -220,9 +220,9 @@ module _ (z : Setting) (o : PlainOperation) (x : Source) (r : ℕ) (reads : sour
     first_few : forms_bytes afresh ≤ 400
     first_few = omega (arith, first_bytes o x place list, reads_bytes o x)
 
-    looked : (b : Bool) → (w.fram list.ver == w.fram (2 * i + place.versions)) ≡ b → Runs z.code [] 7 t (Looked (pc + 10) w (2 * i) v b)
+    looked : (b : Bool) → (w.fram list.ver == w.fram (2 * i + place.versions)) ≡ b → Runs z.kept [] 7 t (Looked (pc + 10) w (2 * i) v b)
     looked b e =
-        subst (λ c. Runs z.code [] 7 t (Looked (pc + 10) w (2 * i) v c)) e
+        subst (λ c. Runs z.kept [] 7 t (Looked (pc + 10) w (2 * i) v c)) e
         (look_part pc i v w t wl fv fm (stands_front z.code pc looking (by_version made afresh) h) k)
 
     -- by whether the version word is VER's
@@ -235,7 +235,7 @@ module _ (z : Setting) (o : PlainOperation) (x : Source) (r : ℕ) (reads : sour
         guarded z (is_place c) inside_end (77 + r) t _ (λ g. guarded z (is_place c) inside_end (77 + r) t _ (λ g'.
         let fc = place_is c g in
         dearer z (omega arith)
-        (subst (λ p. Runs z.code (Store c y ∷ []) (7 + (2 + (7 + r + 2))) t (StandsFor z p s)) there
+        (subst (λ p. Runs z.kept (Store c y ∷ []) (7 + (2 + (7 + r + 2))) t (StandsFor z p s)) there
         (runs_on z (looked true e) (λ u j.
         again_way (pc + 10) made afresh ways made_few first_few c y (7 + r) (2 * i) v w s u j (λ q hs a.
         so_runs (made_part place.copies (pc + 10 + 2) i v w q wl lv fc fc hs a) (λ p l. l.is)))))))
@@ -265,7 +265,7 @@ module _ (z : Setting) (o : PlainOperation) (x : Source) (r : ℕ) (reads : sour
 
   compared_part : (pc i v : ℕ) (w : WordState) (t : Core) → i < 0x10000 → place.length < 0x10000
       → z.code.at pc ≡ Some (instruction_of (Calculate op.Cmp (Number place.length) R4)) → Aims z x pc w i v t
-      → Runs z.code [] 2 t (Flagged z (Aiming false x i v w.fram) (IsCarry (nat_le place.length i)) (pc + 4) w)
+      → Runs z.kept [] 2 t (Flagged z (Aiming false x i v w.fram) (IsCarry (nat_le place.length i)) (pc + 4) w)
   compared_part pc i v w t li ln h k =
       let carry = ap (λ q. nat_le 0x10000 (q + (0xFFFF - place.length) + 1)) k.held.four ∙ no_borrow i place.length li ln in
       line z (Calculate op.Cmp (Number place.length) R4 ∷ []) 2 (pc + 4) _ k.is (tt, tt) (h, tt) ((tt, tt), tt) refl refl (omega (arith, k.is.at))
@@ -311,7 +311,7 @@ module _ (z : Setting) (o : PlainOperation) (x : Source) (r : ℕ) (reads : sour
   -- a word of FRAM becomes what the operation gives of it and of the source
   pub place_part : (c pc v : ℕ) (w : WordState) (t : Core) → source_cycles to_memory (source_operand x) ≤ 6 → w.fram c < 0x10000 → v < 0x10000 → IsPlace c
       → (let m = Update (plain_instruction o) x c in let y = plain_word o (w.fram c) v in z.code.at pc ≡ Some (instruction_of m) → StandsFor z pc w t
-      → GivesOn false x v w.fram t.work → Runs z.code (Store c y ∷ []) 6 t (StandsFor z (pc + form_bytes m) (stored c y w)))
+      → GivesOn false x v w.fram t.work → Runs z.kept (Store c y ∷ []) 6 t (StandsFor z (pc + form_bytes m) (stored c y w)))
   place_part c pc v w t writes l lv fc h i g =
       let m = Update (plain_instruction o) x c in
       let price = cycles_of (instruction_of m) in
@@ -322,7 +322,7 @@ module _ (z : Setting) (o : PlainOperation) (x : Source) (r : ℕ) (reads : sour
       ∙ makes o (w.fram c) v t.flags l lv in
       let after : Core → ℕ → Core = λ s q. record s { pc = t.pc + (2 + source_bytes x + 2); flags = flags_after does.flags t.flags; fram = put t.fram c q } in
       let needs = plain_needs o in
-      hop z m 6 t (after t y) (Store c y ∷ []) price _ (ap z.code.at i.at ∙ h) (needs.0, needs.1, g.needs z.code.events t, fc)
+      hop z m 6 t (after t y) (Store c y ∷ []) price _ (ap z.code.at i.at ∙ h) (needs.0, needs.1, g.needs (rules_of z.kept) t, fc)
       (ap (λ es. Goes (es ++ Store c does.value ∷ []) price (after (source_read x t) does.value)) (g.quiet t)
       ∙ ap (λ s. Goes (Store c does.value ∷ []) price (after s does.value)) (g.still t) ∙ ap (λ q. Goes (Store c q ∷ []) price (after t q)) is) writes
       (record {
@@ -362,11 +362,11 @@ module _ (z : Setting) (o : PlainOperation) (x : Source) (r : ℕ) (reads : sour
     known_few : forms_bytes known_first ≤ 400
     known_few = omega (arith, first_bytes o x place list, reads_bytes o x)
 
-    known_looked : (b : Bool) → (w.fram list.ver == w.fram (2 * k + place.versions)) ≡ b → Runs z.code [] 6 t (Looked (pc + 8) w (t.work 4) v b)
+    known_looked : (b : Bool) → (w.fram list.ver == w.fram (2 * k + place.versions)) ≡ b → Runs z.kept [] 6 t (Looked (pc + 8) w (t.work 4) v b)
     known_looked b e =
         let m = 2 * k + place.versions in
         let at = known_place k place.versions (address_small fm) in
-        subst (λ c. Runs z.code [] 6 t (Looked (pc + 8) w (t.work 4) v c)) e
+        subst (λ c. Runs z.kept [] 6 t (Looked (pc + 8) w (t.work 4) v c)) e
         (line z known_looking 6 (pc + 8) (Looked (pc + 8) w (t.work 4) v (w.fram list.ver == w.fram m)) i (tt, (tt, tt))
         (stands_front z.code pc known_looking (by_version one known_first) h) ((fv, tt), ((tt, subst IsPlace (sym at) fm), tt)) refl refl (omega (arith, i.at))
         (λ s. record {
@@ -377,13 +377,13 @@ module _ (z : Setting) (o : PlainOperation) (x : Source) (r : ℕ) (reads : sour
 
     -- the copy by one instruction
     once : (c : ℕ) (u : Core) → IsPlace c → word_sum place.copies offset ≡ c → Stands z.code (pc + 8 + 2) one → Aims z x (pc + 8 + 2) w (t.work 4) v u
-        → (let y = plain_word o (w.fram c) v in Runs z.code (Store c y ∷ []) 6 u (StandsFor z (pc + 8 + 2 + forms_bytes one) (stored c y w)))
+        → (let y = plain_word o (w.fram c) v in Runs z.kept (Store c y ∷ []) 6 u (StandsFor z (pc + 8 + 2 + forms_bytes one) (stored c y w)))
     once c u fc at hs a =
         let c' = word_sum place.copies offset in
         let m = Update (plain_instruction o) x c' in
         let end : pc + 8 + 2 + form_bytes m ≡ pc + 8 + 2 + forms_bytes one = omega arith in
-        subst (λ n. let y = plain_word o (w.fram n) v in Runs z.code (Store n y ∷ []) 6 u (StandsFor z (pc + 8 + 2 + forms_bytes one) (stored n y w))) at
-        (subst (λ p. let y = plain_word o (w.fram c') v in Runs z.code (Store c' y ∷ []) 6 u (StandsFor z p (stored c' y w))) end
+        subst (λ n. let y = plain_word o (w.fram n) v in Runs z.kept (Store n y ∷ []) 6 u (StandsFor z (pc + 8 + 2 + forms_bytes one) (stored n y w))) at
+        (subst (λ p. let y = plain_word o (w.fram c') v in Runs z.kept (Store c' y ∷ []) 6 u (StandsFor z p (stored c' y w))) end
         (place_part c' (pc + 8 + 2) v w u writes (wl c') lv (subst IsPlace (sym at) fc) hs.0 a.is a.held.gives))
 
     -- the first update, R4 being loaded in front of it
@@ -412,7 +412,7 @@ module _ (z : Setting) (o : PlainOperation) (x : Source) (r : ℕ) (reads : sour
         guarded z (is_place c) known_end (78 + r) t _ (λ p. guarded z (is_place c) known_end (78 + r) t _ (λ p'.
         let fc = place_is c p in
         dearer z (omega arith)
-        (subst (λ n. Runs z.code (Store c y ∷ []) (6 + (2 + (6 + 2))) t (StandsFor z n s)) known_there
+        (subst (λ n. Runs z.kept (Store c y ∷ []) (6 + (2 + (6 + 2))) t (StandsFor z n s)) known_there
         (runs_on z (known_looked true e) (λ u j.
         again_way (pc + 8) one known_first known_ways one_few known_few c y 6 (t.work 4) v w s u j
         (λ q hs a. once c q fc (known_place k place.copies (address_small fc)) hs a))))))

@@ -19,6 +19,7 @@ use Rattle.word_code.proofs.Names.{number_code, turns_code, waiting_behind, wait
 use Rattle.word_code.proofs.Names.{ComesTo, CodeDoesAsProgram, locals_of, stack_base, stack_set, stack_cycles, code_of, code_spent}
 use Rattle.word_code.proofs.Names.{IsWhole, FitsEvents, IsEntry, get_or, StepRoutinesStand, TestRoutinesStand, RoutinesStand, call, give, Gives, called}
 use Rattle.word_code.proofs.Names.{called_behind, entry_place, routine_code, light_call, framed_call, length-append}
+use Rattle.word_code.proofs.Names.{Code, anywhere, IsKept, rules_of, KeepsWithin, CodeKeepsToTheStack, entry_stack}
 use Rattle.array_versions.specs.Laws.{IsStateOfWords, EndsInWords, IsSound}
 use Rattle.array_versions.specs.msp_step.msp_isa.declared.instructions.Condition.TheVariants as condition
 use Rattle.array_versions.specs.msp_step.msp_isa.declared.operands.Konst.TheVariants as konst
@@ -174,9 +175,9 @@ module _ (z : Setting) where
         (s : Forked z when d pc (front ++ (k.form ∷ decision when d k.met k.opposite)) ways.held.at ways.failed.at) where
       by_form : {l : ℕ} (P : ℕ → Core → Type 0) (most : ℕ) (t : WordState) (u : Core)
           → l + k.reads + 5 + (if k.answer then ways.held.cost t else ways.failed.cost t) ≤ most → Ready bs ways.held.fits t → Ready bs ways.failed.fits t
-          → (let mid = pc + forms_bytes front in (Stands z.code pc front → Runs z.code [] l u (P mid))
+          → (let mid = pc + forms_bytes front in (Stands z.code pc front → Runs z.kept [] l u (P mid))
           → ((q : Core) → z.code.at mid ≡ Some (instruction_of k.form) → P mid q
-          → Runs z.code [] k.reads q (Decided z (mid + form_bytes k.form) t k.answer k.met k.opposite))
+          → Runs z.kept [] k.reads q (Decided z (mid + form_bytes k.form) t k.answer k.met k.opposite))
           → Follows z ways.end most u (if k.answer then ways.held.does t else ways.failed.does t))
       by_form {l} P most t u le on off come asks =
           let last = decision when d k.met k.opposite in
@@ -619,7 +620,7 @@ none_has_no_word v w e = cc
 -- a whole program with its place in code, and where its stack begins
 module _ (z : Setting) (p : Program) (whole : IsWhole p) (of_words : OfWords p) (owned : EachLocal (Owns z) p) (room : whole.room ≡ z.room)
     (formed : IsFormed (bounds_of z) z.gives p × RoutinesStand z.code p) where
-  by_end : (pc most : ℕ) (u : Core) (es : List Effect) (e : End) → FollowsEnd z pc most u es e → IsSound e → ComesTo z.code most u es e
+  by_end : (pc most : ℕ) (u : Core) (es : List Effect) (e : End) → FollowsEnd z pc most u es e → IsSound e → ComesTo z.kept most u es e
   by_end pc most u es (GoesOn w) a g = g
   by_end pc most u es (Jumps to w) a g = a
   by_end pc most u es (Gives v w) a g = g
@@ -650,8 +651,8 @@ module _ (z : Setting) (p : Program) (whole : IsWhole p) (of_words : OfWords p) 
 
   -- behind what sets its stack the code does what the program does
   steps_do : (at mid : ℕ) → Stands z.code mid (block_code [] p) → (let u = z.entered in IsEntry z.code.events at u
-      → Runs z.code [] stack_cycles u (HasStack mid z.top u)
-      → let s = started u.fram u.inputs in let b = behaviour p s in ComesTo z.code (code_spent p s) u b.effects b.end)
+      → Runs z.kept [] stack_cycles u (HasStack mid z.top u)
+      → let s = started u.fram u.inputs in let b = behaviour p s in ComesTo z.kept (code_spent p s) u b.effects b.end)
   steps_do at mid h entry set =
       let u = z.entered in
       let s = started u.fram u.inputs in
@@ -671,25 +672,41 @@ module _ (z : Setting) (p : Program) (whole : IsWhole p) (of_words : OfWords p) 
       (whole_ends_soundly p u.fram u.inputs whole)
 
 -- the code does what the program does: with events its stack is there at the entry, else it is set where a local stands in RAM
-pub code_does_as_program : CodeDoesAsProgram
-code_does_as_program code at p u tidy h routines whole fits o entry = by code.events refl h fits entry
+pub code_keeps_to_the_stack : CodeKeepsToTheStack
+code_keeps_to_the_stack code at p u tidy h routines whole keeps fits o entry = by code.code.events refl h fits entry
   where
-    by : (events : Bool) → code.events ≡ events → Stands code at (code_of events p) → (events ≡ true → FitsEvents p whole) → IsEntry events at u
+    by : (events : Bool) → code.code.events ≡ events → Stands code.code at (code_of events p) → (events ≡ true → FitsEvents p whole) → IsEntry events at u
         → let s = started u.fram u.inputs in let b = behaviour p s in ComesTo code (code_spent p s) u b.effects b.end
     by true e h fits entry =
-        let b = at_start code p whole (fits refl) in
-        let z = uncalled code tidy u p whole b in
-        steps_do z p whole o (uncalled_owns code tidy u p whole b) refl (whole.formed, routines) at at h (subst (λ b. IsEntry b at u) (sym e) entry)
+        let b = at_start code.code p whole (fits refl) in
+        let z = uncalled code tidy u p whole keeps b in
+        steps_do z p whole o (uncalled_owns code tidy u p whole keeps b) refl (whole.formed, routines) at at h
+        (subst (λ b. IsEntry b at u) (sym e) entry)
         (dearer z (omega arith) (nothing_run z (record { at = entry.pc; sp = entry.sp; fram = refl; inputs = refl; ram = refl; work = refl })))
     by false e h fits entry =
-        let b = at_base code p whole e in
-        let z = uncalled code tidy u p whole b in
+        let b = at_base code.code p whole e in
+        let z = uncalled code tidy u p whole keeps b in
         let locals = locals_of p in
         let top = stack_base locals in
         let front = stack_set false locals in
         let mid = at + forms_bytes front in
+        let stays : IsKept (rules_of code) top =
+        (let deep = b.deep in let floor = whole.floor in let low = keeps.low in let within = b.within in let high = keeps.high in
+        (omega arith, omega arith)) in
         let set : Runs code [] stack_cycles u (HasStack mid top u) =
         subst (λ n. Runs code [] stack_cycles u (HasStack (n + forms_bytes front) top u)) entry.pc
-        (stack_part z locals u e entry.sp (subst (λ n. Stands code n front) (sym entry.pc) (stands_front code at front (block_code [] p) h))) in
-        steps_do z p whole o (uncalled_owns code tidy u p whole b) refl (whole.formed, routines) at mid (stands_back code at front (block_code [] p) h)
-        (subst (λ b. IsEntry b at u) (sym e) entry) set
+        (stack_part z locals u e stays entry.sp (subst (λ n. Stands code.code n front) (sym entry.pc) (stands_front code.code at front (block_code [] p) h))) in
+        steps_do z p whole o (uncalled_owns code tidy u p whole keeps b) refl (whole.formed, routines) at mid
+        (stands_back code.code at front (block_code [] p) h) (subst (λ b. IsEntry b at u) (sym e) entry) set
+
+entry_is_low : (events : Bool) → entry_stack events ≤ 0x10000
+entry_is_low true = omega arith
+entry_is_low false = omega arith
+
+-- wherever it is to keep its stack
+pub keeps_anywhere : (code : Code) (p : Program) (whole : IsWhole p) → KeepsWithin (anywhere code) p whole
+keeps_anywhere code p whole = record { low = omega arith; high = entry_is_low code.events }
+
+pub code_does_as_program : CodeDoesAsProgram
+code_does_as_program code at p u tidy h routines whole fits o entry =
+    code_keeps_to_the_stack (anywhere code) at p u tidy h routines whole (keeps_anywhere code p whole) fits o entry

@@ -5,9 +5,9 @@ use Rattle.array_versions.specs.machine_effects.World.{IsPrefix}
 use Rattle.array_versions.specs.machine_effects.Inputs.{InputsAreWords}
 use Rattle.array_versions.specs.machine_effects.Going.{going}
 use Rattle.array_versions.specs.machine_effects.Machine.{Code, MachineStretch, exec}
-use Rattle.code_forms.specs.Forms.{Core, board_of}
-use Rattle.code_forms.specs.Code.{Stands, IsTidy, Runs, Starves, forms_bytes}
-use Rattle.code_forms.specs.Laws.{StepsReadFromSp}
+use Rattle.code_forms.specs.Forms.{Core, board_of, IsKept}
+use Rattle.code_forms.specs.Code.{KeptCode, rules_of, anywhere, Stands, IsTidy, RunsWithin, StarvesWithin, Runs, Starves, forms_bytes}
+use Rattle.code_forms.specs.Laws.{StepsReadFromSp, StepsKeepTheStack}
 use Rattle.code_forms.specs.Placed.{words_of as instruction_words, instructions, AreInstructions}
 use Rattle.array_versions.specs.Program.{Step, Test, Program, truth, choose, repeat, call, holds, compares, both, either, fails, nothing, step}
 use Rattle.array_versions.specs.Behaviour.{WordState, started, End, GoesOn, Jumps, Gives, Short, Strays, Broken, behaviour}
@@ -28,15 +28,24 @@ pub record HasJumped (to : ℕ) (s : WordState) (u : Core) : Type 0 where
   pub fram : u.fram ≡ s.fram
   pub inputs : u.inputs ≡ s.inputs
 
--- the code from here makes these effects within so many cycles, and comes to such an end. Nothing is said where an address isn't
--- that of a word of FRAM
+-- the code from here makes these effects within so many cycles, keeps SP between its addresses, and comes to such an end. Nothing is said where an
+-- address isn't that of a word of FRAM
+abbrev pub ComesToWithin : KeptCode → ℕ → Core → List Effect → End → Type 0
+ComesToWithin kept most u es (Jumps to s) = RunsWithin kept es most u (HasJumped to s)
+ComesToWithin kept most u es Short = StarvesWithin kept es most u
+ComesToWithin kept most u es Strays = Unit {0}
+ComesToWithin kept most u es (GoesOn s) = ⊥
+ComesToWithin kept most u es (Gives v s) = ⊥
+ComesToWithin kept most u es Broken = ⊥
+
+-- the same of code of which it isn't said where SP stays
 abbrev pub ComesTo : Code → ℕ → Core → List Effect → End → Type 0
-ComesTo code most u es (Jumps to s) = Runs code es most u (HasJumped to s)
-ComesTo code most u es Short = Starves code es most u
-ComesTo code most u es Strays = Unit {0}
-ComesTo code most u es (GoesOn s) = ⊥
-ComesTo code most u es (Gives v s) = ⊥
-ComesTo code most u es Broken = ⊥
+ComesTo code = ComesToWithin (anywhere code)
+
+-- between the addresses of code there is room for the stack of a program and those of what it calls
+pub record KeepsWithin (kept : KeptCode) (p : Program) (whole : IsWhole p) : Type 0 where
+  pub low : kept.low ≤ whole.bounds.floor
+  pub high : entry_stack kept.code.events ≤ kept.high
 
 abbrev mutual
   -- each function that a step calls has the code of its body where the call says, and so have those that it calls
@@ -60,8 +69,15 @@ abbrev mutual
   RoutinesStand code nothing = Unit {0}
   RoutinesStand code (step first more) = StepRoutinesStand code first × RoutinesStand code more
 
--- code in which the code of a whole program stands, and that of what it calls, does what the program does, within its cycles on the way that it takes;
--- with events its stack has room where that of such code begins
+-- code in which the code of a whole program stands, and that of what it calls, does what the program does, within its cycles on the way that it takes,
+-- and keeps SP where there is room for these stacks; with events its stack has room where that of such code begins
+abbrev pub CodeKeepsToTheStack : Type 0
+CodeKeepsToTheStack = (kept : KeptCode) (at : ℕ) (p : Program) (u : Core) → IsTidy kept.code → Stands kept.code at (code_of kept.code.events p)
+    → RoutinesStand kept.code p → (whole : IsWhole p) → KeepsWithin kept p whole → (kept.code.events ≡ true → FitsEvents p whole) → OfWords p
+    → IsEntry kept.code.events at u
+    → let s = started u.fram u.inputs in let b = behaviour p s in ComesToWithin kept (code_spent p s) u b.effects b.end
+
+-- so it does what the program does wherever SP stays
 abbrev pub CodeDoesAsProgram : Type 0
 CodeDoesAsProgram = (code : Code) (at : ℕ) (p : Program) (u : Core) → IsTidy code → Stands code at (code_of code.events p) → RoutinesStand code p
     → (whole : IsWhole p) → (code.events ≡ true → FitsEvents p whole) → OfWords p → IsEntry code.events at u
@@ -85,11 +101,21 @@ StarvingStaysWithin = (code : Code) (es : List Effect) (most : ℕ) (u : Core) �
 -- in front of each instruction on the way to a jump no word of RAM below SP is read
 abbrev pub RunsReadFromSp : Type 0
 RunsReadFromSp = (code : Code) (es : List Effect) (most : ℕ) (u : Core) (to : ℕ) (s : WordState) (a : Runs code es most u (HasJumped to s))
-    → StepsReadFromSp code a.steps u
+    → StepsReadFromSp (anywhere code) a.steps u
 
 -- nor on the way to where a reading is wanted, and there
 abbrev pub StarvingReadsFromSp : Type 0
-StarvingReadsFromSp = (code : Code) (es : List Effect) (most : ℕ) (u : Core) (a : Starves code es most u) → StepsReadFromSp code (suc a.steps) u
+StarvingReadsFromSp = (code : Code) (es : List Effect) (most : ℕ) (u : Core) (a : Starves code es most u) → StepsReadFromSp (anywhere code) (suc a.steps) u
+
+-- at each boundary on the way to a jump, and there, SP stands between the addresses of the code, where it does at the entry
+abbrev pub RunsKeepTheStack : Type 0
+RunsKeepTheStack = (kept : KeptCode) (es : List Effect) (most : ℕ) (u : Core) (to : ℕ) (s : WordState) → IsTidy kept.code → IsKept (rules_of kept) u.sp
+    → (a : RunsWithin kept es most u (HasJumped to s)) → StepsKeepTheStack kept a.steps u
+
+-- and at each on the way to where a reading is wanted
+abbrev pub StarvingKeepsTheStack : Type 0
+StarvingKeepsTheStack = (kept : KeptCode) (es : List Effect) (most : ℕ) (u : Core) → IsTidy kept.code → IsKept (rules_of kept) u.sp
+    → (a : StarvesWithin kept es most u) → StepsKeepTheStack kept (suc a.steps) u
 
 -- the code is at most as long as the program's words say, and so is that of a function's body
 abbrev pub CodeHasItsBytes : Type 0

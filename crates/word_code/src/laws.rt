@@ -1,13 +1,20 @@
 //! Laws of the code of word programs. The functions do nothing: their contracts are the laws.
 
 ghost use Rattle.word_code.specs.Laws.{CodeDoesAsProgram, RunsStayWithin, StarvingStaysWithin, RunsReadFromSp, StarvingReadsFromSp, CodeHasItsBytes};
-ghost use Rattle.word_code.specs.Laws.{CodeHasItsWords, CodeIsInstructions};
+ghost use Rattle.word_code.specs.Laws.{CodeHasItsWords, CodeIsInstructions, CodeKeepsToTheStack, RunsKeepTheStack, StarvingKeepsTheStack};
 ghost use Rattle.word_code.specs.TaskForms.{CodeIsOfTaskForms, CodeNamesRamFrom};
 
 /// The code of a whole program, where that of what it calls stands too, makes the program's effects within the cycles of the way that it takes, and
 /// comes to the program's end: behind its jump, or to an instruction that wants a reading where none is left.
 pub fn code_does_as_its_program()
     ensures { CodeDoesAsProgram }
+{}
+
+/// On the way SP stays between the addresses that the code keeps to, where these have room for the stack of the program and of what it calls.
+pub fn code_keeps_to_its_stack()
+    ensures does { CodeKeepsToTheStack }
+    ensures runs { RunsKeepTheStack }
+    ensures starves { StarvingKeepsTheStack }
 {}
 
 /// After any number of steps on the way, the effects so far are a prefix of all, and the cycles are within the bound.

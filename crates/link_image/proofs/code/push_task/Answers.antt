@@ -38,7 +38,8 @@ push_routines-requires-clause-order c =
     let own = c.as_slice.ensures.value ∙ c.in_ok-emit.ensures.code
     ∙ ap (λ ms. ms ++ code_of c.args.events (program_of c.args.programs.now.own)) c.new-code.ensures.items in
     let is = c.in_ok-push_part.ensures ∙ ap (λ (r : Region). old ++ (filling r.address ++ words_in c.as_slice.result.now)) c.code-at.ensures in
-    let behind = after_own c.args.start old new c.as_slice.result.now c.args.events t (programs_of c.args.programs.now) c.requires.even c.requires.order own is in
+    let behind = after_own c.args.start old new c.as_slice.result.now c.args.events t (programs_of c.args.programs.now) c.requires.even c.requires.order own
+    is in
     let at = c.args.start + 2 * length new in
     subst (λ rs. PartsInOrder at (routine_parts rs (map program_of c.as_slice-2.result.now)) reset_vector) (sym c.routines.ensures)
     (subst (λ ps. PartsInOrder at (routine_parts t.routines (map program_of ps)) reset_vector) (sym c.as_slice-2.ensures.value) behind.0)
@@ -60,7 +61,8 @@ returns c =
     let own = c.as_slice.ensures.value ∙ c.in_ok-emit.ensures.code
     ∙ ap (λ ms. ms ++ code_of c.args.events (program_of c.args.programs.now.own)) c.new-code.ensures.items in
     let is = c.in_ok-push_part.ensures ∙ ap (λ (r : Region). old ++ (filling r.address ++ words_in c.as_slice.result.now)) c.code-at.ensures in
-    let behind = after_own c.args.start old new c.as_slice.result.now c.args.events t (programs_of c.args.programs.now) c.requires.even c.requires.order own is in
+    let behind = after_own c.args.start old new c.as_slice.result.now c.args.events t (programs_of c.args.programs.now) c.requires.even c.requires.order own
+    is in
     let at = c.args.start + 2 * length new in
     on_ok_weaker c.push_routines.result (λ made. made
     ∙ ap (λ rs. new ++ words_in (chained at (routine_parts rs (map program_of c.as_slice-2.result.now)))) c.routines.ensures

@@ -7,12 +7,6 @@ use Rattle.state_commands.proofs.migrate.migrated_text.Goals as goal
 pub returns-in_err-said-clause-refused : goal.returns-in_err-said-clause-refused
 returns-in_err-said-clause-refused c = handed_on _ _ _ c.from_residual.ensures c.in_err-said.ensures.refused
 
-pub check_suits-requires : goal.check_suits-requires
-check_suits-requires c = record { plain = c.in_ok-said.ensures.said.source_said.1 }
-
-pub check_suits-requires-2 : goal.check_suits-requires-2
-check_suits-requires-2 c = record { plain = c.in_ok-said.ensures.said.new_source_said.1 }
-
 pub returns-in_err-check_suits-clause-refused : goal.returns-in_err-check_suits-clause-refused
 returns-in_err-check_suits-clause-refused c =
     handed_on _ _ _ c.from_residual-in_err-check_suits.ensures
@@ -31,12 +25,6 @@ returns-in_err-check_belongs-clause-refused c =
     handed_on _ _ _ c.from_residual-in_err-check_belongs.ensures
     (fails_at _ _ _ c.args.names (editions_of c.args.texts) 2 refl
     (refused_state _ _ c.in_ok-said.ensures.said old new) c.in_err-check_belongs.ensures.refused)
-
-pub migrated_of-requires-clause-old_plain : goal.migrated_of-requires-clause-old_plain
-migrated_of-requires-clause-old_plain c = c.in_ok-said.ensures.said.source_said.1
-
-pub migrated_of-requires-clause-new_plain : goal.migrated_of-requires-clause-new_plain
-migrated_of-requires-clause-new_plain c = c.in_ok-said.ensures.said.new_source_said.1
 
 pub migrated_of-requires-clause-old : goal.migrated_of-requires-clause-old
 migrated_of-requires-clause-old c =
