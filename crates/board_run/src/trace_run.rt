@@ -185,7 +185,7 @@ fn write_events<S: Sink>(
     report.events(
         board.arisen(),
         tally.accepted,
-        board.missed() as u64 + tally.lost,
+        board.missed() + tally.lost,
     )
 }
 

@@ -187,7 +187,7 @@ impl Devices {
     /// A packet is brought to the port EVENT: it waits there, or is lost where that is full. Where the board doesn't listen
     /// nothing changes.
     pub fn bring_packet(&mut self, number: u16, word: u16)
-        requires { self.old.line.arisen < 2 ^ 63 }
+        requires { self.old.line.arisen < 2 ^ 61 }
         ensures { self.new ≡ record self.old {
           line = word_brought self.old.radio word self.old.line;
           radio = packet_heard number (is_full self.old.line.port) self.old.radio;

@@ -48,7 +48,7 @@ impl Model for Events {
     } };
 
     // No more events are lost than arose, without the one that waits.
-    ghost invariant = { λ e. (e.arisen ≤ length e.events.items) × (length e.events.items ≤ 65536) × (e.brought ≤ 2 ^ 63)
+    ghost invariant = { λ e. (e.arisen ≤ length e.events.items) × (length e.events.items ≤ 65536) × (e.brought ≤ 2 ^ 61)
         × (e.missed + words_in e.port ≤ e.arisen + e.brought)
         × (e.is_quiet ≡ true → (e.heard ≡ Nothing) × (length (drop e.arisen e.events.items) ≡ 0)) };
 }
@@ -101,7 +101,7 @@ impl Events {
     /// How many of them were lost at the port.
     pub fn missed(&self) -> u64
         ensures value { result ≡ self.now.missed }
-        ensures few { result ≤ self.now.arisen }
+        ensures few { result < 2 ^ 62 }
     {
         self.missed
     }
@@ -128,7 +128,7 @@ impl Events {
 
     /// A word is brought beside the events: it waits in the port, or is lost where that is full.
     pub fn bring(&mut self, word: u16)
-        requires { self.old.arisen < 2 ^ 63 }
+        requires { self.old.arisen < 2 ^ 61 }
         ensures { self.new ≡ arising word self.old.coming self.old }
     {
         self.brought += 1;
