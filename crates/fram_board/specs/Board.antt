@@ -16,7 +16,7 @@ use Rattle.fram_board.specs.declared.board.Stepped.{Stepped}
 use Rattle.fram_board.specs.declared.receiver.Receiver.{Receiver}
 use Rattle.fram_board.specs.declared.radio.Radio.{Radio}
 use Rattle.fram_board.specs.declared.radio.Radio.TheVariants.{Alone, Sends, Listens}
-use Rattle.fram_board.specs.Events.{EventLine, line_of_events, is_full, arising, line_behind_step, line_behind_power_up}
+use Rattle.fram_board.specs.Events.{EventLine, line_of_events, is_full, bringing, line_behind_step, line_behind_power_up}
 use Rattle.fram_board.specs.Radio.{radio_powered, acknowledged, packet_heard}
 use Rattle.fram_board.specs.Bus.{BusState, board_bus, is_word, with_word}
 
@@ -253,7 +253,7 @@ board_behind (Err stop) b = b
 abbrev pub word_brought : Radio → ℕ → EventLine → EventLine
 word_brought Alone w q = q
 word_brought (Sends greatest) w q = q
-word_brought (Listens number) w q = arising w q.coming q
+word_brought (Listens number) w q = bringing w q
 
 -- a packet is brought. On a board that doesn't listen nothing changes
 abbrev pub packet_brought : ℕ → ℕ → BoardValue → BoardValue

@@ -225,7 +225,6 @@ impl Board {
     /// A packet comes to the port EVENT of a board that listens, between two steps: it waits there, or is lost where the port is
     /// full. Nothing changes on another board. Takes no memory.
     pub fn bring_packet(&mut self, number: u16, word: u16)
-        requires { self.old.line.arisen < 2 ^ 61 }
         ensures { self.new ≡ packet_brought number word self.old }
     {
         self.devices.bring_packet(number, word);

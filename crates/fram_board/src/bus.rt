@@ -1,7 +1,7 @@
 //! Memory and ports.
 
 ghost use Rattle.std.specs.Prelude.{◌≡◌, ◌==◌, ◌%◌, if◌then◌else◌, ◌∷◌, ℕ, ◌<◌, ◌≤◌, ◌+◌, ◌-◌, length, slice_index, ◌⊎◌};
-ghost use Rattle.std.specs.Prelude.{IsTrue, OnOk, OnErr, IfOk, IfErr, IfSome, IfNone, Some, None, false, ◌^◌};
+ghost use Rattle.std.specs.Prelude.{IsTrue, OnOk, OnErr, IfOk, IfErr, IfSome, IfNone, Some, None, false};
 ghost use Rattle.std.proofs.Common.{refl};
 ghost use Rattle.alp_words.specs.declared.Width.TheVariants.{Word, Byte};
 ghost use Rattle.state_text.specs.address_space.Limits.{fram_words, event_vector};
@@ -187,7 +187,6 @@ impl Devices {
     /// A packet is brought to the port EVENT: it waits there, or is lost where that is full. Where the board doesn't listen
     /// nothing changes.
     pub fn bring_packet(&mut self, number: u16, word: u16)
-        requires { self.old.line.arisen < 2 ^ 61 }
         ensures { self.new ≡ record self.old {
           line = word_brought self.old.radio word self.old.line;
           radio = packet_heard number (is_full self.old.line.port) self.old.radio;

@@ -1,10 +1,13 @@
 //! The port EVENT and the events that arise there.
 
 ghost use Rattle.std.specs.Prelude.{◌≡◌, ℕ, ◌+◌, ◌^◌, ◌<◌, ◌≤◌, length, true, false, IfOk};
-ghost use Rattle.fram_board.specs.Events.{line_of_events, is_full, port_word, port_read, arising, arrived, step_counted, line_behind_step, line_behind_power_up};
+ghost use Rattle.fram_board.specs.Events.{line_of_events, is_full, port_word, port_read, bringing, arrived, step_counted, line_behind_step, line_behind_power_up};
 
 use std::alloc::{AllocError, Global};
 use std::marker::Model;
+
+/// How many are counted of the words that are brought and of the events.
+const COUNTED: u64 = 1 << 61;
 
 /// What was read of EVENT since the last boundary between two steps.
 #[derive(Clone, Copy, PartialEq, Eq, Debug)]
@@ -126,16 +129,19 @@ impl Events {
         }
     }
 
-    /// A word is brought beside the events: it waits in the port, or is lost where that is full.
+    /// A word is brought beside the events: it waits in the port, or is lost where that is full. Behind 2^61 of them none is counted
+    /// any more.
     pub fn bring(&mut self, word: u16)
-        requires { self.old.arisen < 2 ^ 61 }
-        ensures { self.new ≡ arising word self.old.coming self.old }
+        ensures { self.new ≡ bringing word self.old }
     {
-        self.brought += 1;
-        if self.port.is_some() {
-            self.missed += 1;
-        } else {
+        let is_counted = self.arisen() < COUNTED;
+        if is_counted {
+            self.brought += 1;
+        }
+        if self.port.is_none() {
             self.port = Some(word);
+        } else if is_counted {
+            self.missed += 1;
         }
     }
 

@@ -53,12 +53,6 @@ fn step(rt: &impl Abort, board: &mut Board) -> Result<Stepped, Stop> {
     board.step()
 }
 
-/// A packet is brought to a board to which few were.
-fn bring(rt: &impl Abort, board: &mut Board, number: u16, word: u16) {
-    assert!(rt; board.arisen() < 1000);
-    board.bring_packet(number, word);
-}
-
 fn plain(cycles: u32, wrote: Option<u16>) -> Result<Stepped, Stop> {
     Ok(Stepped {
         cycles,
@@ -145,7 +139,7 @@ fn ports_of_a_radio(rt: HostRuntime) -> Result<(), Fail> {
             ] {
                 let mut board = board_of(rt.alloc(), side, &words_of(access, port))?;
                 board.bring_ack(9);
-                bring(&rt, &mut board, 5, 77);
+                board.bring_packet(5, 77);
                 let (made, r4) = wanted(side, access, port);
                 assert_eq!(rt; step(&rt, &mut board), made);
                 assert_eq!(rt; board.cpu().reg(R4), r4);
@@ -215,7 +209,7 @@ fn a_packet_waits_in_the_port(rt: HostRuntime) -> Result<(), Fail> {
     code[20] = 0x4214;
     code[21] = 0x020a;
     let mut board = board_of(rt.alloc(), Side::Listener, &code)?;
-    bring(&rt, &mut board, 1, 2);
+    board.bring_packet(1, 2);
     assert_eq!(rt; (board.arisen(), board.missed()), (1, 0));
     // what was brought before the power-up is lost by it
     board.power_up(0);
@@ -223,9 +217,9 @@ fn a_packet_waits_in_the_port(rt: HostRuntime) -> Result<(), Fail> {
     assert_eq!(rt; step(&rt, &mut board), plain(2, None));
     assert_eq!(rt; step(&rt, &mut board), plain(1, None));
     assert_eq!(rt; board.cost(), Ok(2));
-    bring(&rt, &mut board, 6, 0);
+    board.bring_packet(6, 0);
     assert_eq!(rt; board.cost(), Ok(6));
-    bring(&rt, &mut board, 7, 9);
+    board.bring_packet(7, 9);
     assert_eq!(rt; (board.arisen(), board.missed()), (3, 2));
     assert_eq!(rt; step(&rt, &mut board), plain(6, None));
     assert_eq!(rt; step(&rt, &mut board), plain(3, None));
@@ -243,7 +237,7 @@ fn nothing_is_brought_elsewhere(rt: HostRuntime) -> Result<(), Fail> {
     // mov &0x0206,r4
     for side in [Side::Alone, Side::Sender] {
         let mut board = board_of(rt.alloc(), side, &[0x4214, 0x0206])?;
-        bring(&rt, &mut board, 0, 9);
+        board.bring_packet(0, 9);
         board.bring_ack(9);
         assert_eq!(rt; step(&rt, &mut board), heard(3, None));
         assert_eq!(rt; (board.arisen(), board.missed()), (0, 0));
