@@ -41,7 +41,7 @@ answers_behind ring wrote before after c = record c {
 
 abbrev pub gate_behind : ℕ → ℕ → Consuming → Consuming → Consuming
 gate_behind before now c behind =
-    if is_done before now then record { is_answered = false; taken = 0; decided = c.decided; consumed = c.consumed + c.decided }
+    if is_done before now then record { is_answered = false; taken = 0; decided = 0; consumed = c.consumed + c.decided }
     else if is_decide before now then record behind { decided = c.taken }
     else behind
 
