@@ -5,6 +5,8 @@ use Rattle.std.specs.Prelude.{◌≡◌, ℕ, ◌+◌, ◌-◌, ◌^◌, ◌<◌
 use Rattle.alp_io.specs.Sink.{AppendsProperPrefix}
 use Rattle.alp_io.specs.declared.sink.Failed.{Failed}
 use Rattle.msp_step.specs.declared.machine.Stop.{Stop}
+use Rattle.image_text.specs.image_map.declared.parts.RingPlaces.{RingPlaces}
+use Rattle.image_text.specs.image_map.MapValue.{MapValue}
 use Rattle.fram_board.specs.declared.board.NextStep.{NextStep}
 use Rattle.fram_board.specs.declared.board.Stepped.{Stepped}
 use Rattle.fram_board.specs.Board.{BoardValue, powered, performed, at_boundary}
@@ -14,7 +16,7 @@ use Rattle.board_run.specs.declared.stepwise.StepwiseRun.{StepwiseRun}
 use Rattle.board_run.specs.Charges.{measure_of, charge_of, charges_of}
 use Rattle.board_run.specs.Report.{lines_from}
 use Rattle.board_run.specs.Events.{PowersUp}
-use Rattle.board_run.specs.History.{behind_power_up}
+use Rattle.board_run.specs.History.{behind_power_up, word_in}
 use Rattle.board_run.specs.Tally.{counted, tallied, words_of}
 use Rattle.board_run.specs.Parts.{Known, IsMade, Wrote}
 use Rattle.board_run.specs.State.{known_so, Follows}
@@ -38,6 +40,21 @@ behind_step s n = record s { board = at_boundary (performed s.board n).board; le
 -- behind a power-up, with the next charge
 abbrev pub behind_power : RunState → BoardCharge → List BoardCharge → RunState
 behind_power s c cs = record s { board = powered s.board c.start; charges = cs; measure = c.measure; left = c.amount }
+
+-- the ring of a map, if it has one
+abbrev pub ring_of : Option MapValue → Option RingPlaces
+ring_of None = None
+ring_of (Some m) = m.ring
+
+-- the address of its ANS
+abbrev pub answer_of_ring : Option RingPlaces → Option ℕ
+answer_of_ring None = None
+answer_of_ring (Some r) = Some r.answer
+
+-- EC of a ring in a FRAM; 0 where there is no ring
+abbrev pub events_in : Option RingPlaces → List ℕ → ℕ
+events_in None fram = 0
+events_in (Some r) fram = word_in fram r.event_count
 
 -- with another board
 abbrev pub with_board : RunState → BoardValue → RunState

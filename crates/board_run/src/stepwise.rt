@@ -1,9 +1,25 @@
 //! A run that is made step by step.
+ghost use Rattle.std.specs.Prelude.{◌≡◌, IfSome, option_map};
+ghost use Rattle.image_text.specs.image_map.MapValue.{IsFramWord};
+ghost use Rattle.board_run.specs.Stepwise.{ring_of};
+
 use crate::seen::Seen;
 use crate::spend::{Turn, take_turn};
+use crate::state::word;
 use alp_io::{Failed, Report, Sink};
 use energy_trace::Charge;
 use fram_board::{Board, Stepped};
+use image_text::{Map, RingPlaces};
+
+// The ring of a map, if it has one.
+fn ring_of(map: Option<&Map>) -> Option<RingPlaces>
+    ensures value { result ≡ ring_of (option_map (λ m. m.now) map.entry) }
+    ensures fits { IfSome result (λ r. IsFramWord r.event_count) }
+{
+    let map = map?;
+    map.rules();
+    map.ring()
+}
 
 /// What a step of a run came to.
 #[derive(Clone, Copy)]
@@ -35,7 +51,8 @@ impl<'r, 'i> StepwiseRun<'r, 'i> {
     ghost use Rattle.fram_board.specs.Board.{packet_brought, acknowledgement_brought};
     ghost use Rattle.board_run.specs.History.{with_word};
     ghost use Rattle.board_run.specs.Tally.{counted, words_of};
-    ghost use Rattle.board_run.specs.Stepwise.{state_of, known_of, IsGoing, HasRoom, IsAdvance, IsRenewed, IsEnded, with_board};
+    ghost use Rattle.board_run.specs.Stepwise.{state_of, known_of, ring_of, answer_of_ring, events_in, with_board};
+    ghost use Rattle.board_run.specs.Stepwise.{IsGoing, HasRoom, IsAdvance, IsRenewed, IsEnded};
 
     /// Whether the run has ended: its further steps do nothing.
     pub fn has_ended(&self) -> bool
@@ -56,6 +73,26 @@ impl<'r, 'i> StepwiseRun<'r, 'i> {
         ensures { result ≡ (known_of self.now).tally.accepted }
     {
         self.watch.tally.accepted
+    }
+
+    /// The address of ANS, where the map has a ring of events.
+    pub fn answer_place(&self) -> Option<u16>
+        ensures { result ≡ answer_of_ring (ring_of (known_of self.now).history.map) }
+    {
+        match ring_of(self.watch.map) {
+            Some(ring) => Some(ring.answer),
+            None => None,
+        }
+    }
+
+    /// EC, where the map has a ring of events; 0 where it has none.
+    pub fn events_taken(&self) -> u16
+        ensures { result ≡ events_in (ring_of (known_of self.now).history.map) (state_of self.now).board.fram }
+    {
+        match ring_of(self.watch.map) {
+            Some(ring) => word(self.board, ring.event_count),
+            None => 0,
+        }
     }
 
     /// GATE, as the watch knows it.

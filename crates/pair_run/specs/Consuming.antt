@@ -7,6 +7,7 @@ use Rattle.image_text.specs.image_map.MapValue.{MapValue}
 use Rattle.fram_board.specs.Gate.{is_decide, is_done}
 use Rattle.fram_board.specs.Run.{Moment, Action, PowerUp, Execute}
 use Rattle.board_run.specs.History.{History, word_in}
+use Rattle.board_run.specs.Stepwise.{ring_of}
 
 -- whether an answer waits for EC; how many answers the attempt has consumed so far; how many those of the last decide were; and how many those of all
 -- committed attempts were
@@ -49,11 +50,6 @@ gate_behind before now c behind =
 abbrev pub consuming_by : RingPlaces → Action → ℕ → ℕ → ℕ → ℕ → Consuming → Consuming
 consuming_by ring PowerUp gate now before after c = consuming_anew c
 consuming_by ring (Execute kind done offered) gate now before after c = gate_behind gate now c (answers_behind ring done.wrote before after c)
-
--- the ring of a map, if it has one
-abbrev pub ring_of : Option MapValue → Option RingPlaces
-ring_of None = None
-ring_of (Some m) = m.ring
 
 abbrev pub consuming_in : Option RingPlaces → ℕ → Moment → ℕ → Consuming → Consuming
 consuming_in None gate m now c = c

@@ -3,6 +3,7 @@ pub mod Pair
 pub mod Consuming
 pub mod Lines
 pub mod Listening
+pub mod Sides
 pub mod Told
 pub use Rattle.alp_io.specs as alp_io
 pub use Rattle.energy_trace.specs as energy_trace

@@ -1,13 +1,12 @@
 -- What is kept of a listener while a pair runs.
-use Rattle.std.specs.Prelude.{◌≡◌, ℕ, ◌+◌, ◌^◌, ◌<◌, ◌&&◌, nat_lt, Bool, true, false, if◌then◌else◌, List, length, IfSome, Option, Some, None, option_map}
-use Rattle.image_text.specs.image_map.declared.parts.RingPlaces.{RingPlaces}
+use Rattle.std.specs.Prelude.{◌≡◌, ℕ, ◌+◌, ◌^◌, ◌<◌, ◌&&◌, nat_lt, Bool, true, false, if◌then◌else◌, List, IfSome, Option, Some, None}
 use Rattle.fram_board.specs.declared.events.Heard.{Heard}
 use Rattle.fram_board.specs.declared.events.Heard.TheVariants as heard
 use Rattle.fram_board.specs.Gate.{is_decide, is_done}
-use Rattle.board_run.specs.History.{word_in}
+use Rattle.board_run.specs.Stepwise.{ring_of, answer_of_ring, events_in}
 use Rattle.pair_run.specs.declared.listener.Listener.{Listener}
 use Rattle.pair_run.specs.declared.listener.Progress.{Progress}
-use Rattle.pair_run.specs.Consuming.{Consuming, is_written, ring_of}
+use Rattle.pair_run.specs.Consuming.{Consuming, is_written}
 use Rattle.pair_run.specs.Lines.{PairKnown}
 
 -- before its first step
@@ -68,14 +67,9 @@ pub record HasCountsFor (l : Listener) (n : ℕ) : Type 0 where
 abbrev pub consuming_so : Listener → Consuming
 consuming_so l = record { is_answered = l.is_answered; taken = l.taken; decided = l.decided; consumed = l.consumed }
 
--- EC of a ring in a FRAM, where there is a ring
-abbrev pub IsEvents : Option RingPlaces → ℕ → List ℕ → Type 0
-IsEvents None events fram = Unit {0}
-IsEvents (Some ring) events fram = events ≡ word_in fram ring.event_count
-
 -- what is kept is what is known, at this FRAM
 pub record Listens (l : Listener) (k : PairKnown) (fram : List ℕ) : Type 0 where
-  pub place : l.answer_place ≡ option_map (λ r. r.answer) (ring_of k.b.map)
-  pub events : IsEvents (ring_of k.b.map) l.events fram
+  pub place : l.answer_place ≡ answer_of_ring (ring_of k.b.map)
+  pub events : l.events ≡ events_in (ring_of k.b.map) fram
   pub word : IfSome k.hand.word (λ w. l.word ≡ w)
   pub consuming : consuming_so l ≡ k.consuming

@@ -1,6 +1,7 @@
 //! The entries of a schedule.
 ghost use Rattle.std.specs.Prelude.{◌≡◌, ℕ, ◌+◌, OnOk};
 ghost use Rattle.alp_io.specs.Count.{HasCause};
+ghost use Rattle.radio_link.specs.declared.entry.Entry.TheVariants.{StepsOfA, StepsOfB, Rounds};
 ghost use Rattle.pair_run.specs.Actions.{actions_of, one_round};
 ghost use Rattle.pair_run.specs.Sides.{IsGoingOn, HasRoomFor, steps_of, AreDone};
 

@@ -58,10 +58,12 @@ fn write_lines<S: Holds>(
 {
     write_bound(sink, A, a_watch)?;
     write_bound(sink, B, b_watch)?;
-    let listener = b_watch.listener(b);
+    let a = a_watch.stepwise(a, a_trace);
+    let b = b_watch.stepwise(b, b_trace);
+    let listener = Listener::new(b.answer_place(), b.events_taken());
     let mut sides = Sides {
-        a: a_watch.stepwise(a, a_trace),
-        b: b_watch.stepwise(b, b_trace),
+        a,
+        b,
         air,
         listener,
     };

@@ -5,14 +5,12 @@ ghost use Rattle.alp_io.specs.Sink.{Writes};
 ghost use Rattle.prefixed_lines.specs.Prefixes.{prefixed};
 ghost use Rattle.board_run.specs.History.{bound_lines};
 ghost use Rattle.board_run.specs.Stepwise.{state_of, known_of, IsGoing, HasRoom};
-ghost use Rattle.pair_run.specs.Sides.{IsLettered, HasSides, HasSidesRoom, ActsOn, HasBrought};
-ghost use Rattle.pair_run.specs.Pair.{packet_at, acknowledgement_at, newest_packet, newest_acknowledgement};
+ghost use Rattle.pair_run.specs.Sides.{IsLettered, sent_in};
 
 use crate::listener::{Listener, Progress};
 use alp_io::{Failed, Report};
 use board_run::{Advance, StepwiseRun, Watch};
 use buffered_sink::{Holds, Origin};
-use fram_board::Stepped;
 use prefixed_lines::PrefixedLines;
 use radio_link::{Air, Packet};
 use std::marker::Brand;
@@ -101,19 +99,27 @@ fn advance<S: Holds>(
 }
 
 impl<'r, 'x, 'y> Sides<'r, 'x, 'y> {
-    ghost use Rattle.std.specs.Prelude.{◌≡◌, ℕ, ◌+◌, ◌||◌, ◌&&◌, nat_le, true, OnOk};
+    ghost use Rattle.std.specs.Prelude.{◌≡◌, ℕ, ◌+◌, ◌&&◌, nat_le, OnOk};
+    ghost use Rattle.board_run.specs.Stepwise.{state_of};
     ghost use Rattle.alp_io.specs.Count.{HasCause};
     ghost use Rattle.pair_run.specs.Actions.{StepOfA, StepOfB, PacketToB, AcknowledgementToA, NewestPacketToB, NewestAcknowledgementToA};
-    ghost use Rattle.pair_run.specs.Sides.{pair_of, head_at, IsGoingOn, HasRoomFor, IsDone, IsBrought};
+    ghost use Rattle.pair_run.specs.Sides.{accepted_words, IsGoingOn, HasRoomFor, IsDone, IsBrought};
     ghost use Rattle.pair_run.specs.Pair.{most_words};
 
     /// Whether B has accepted as many words as it may.
     #[inline(always)]
     pub fn is_full(&self) -> bool
-        requires { IsGoingOn self.now }
         ensures { result ≡ nat_le most_words (accepted_words self.now) }
     {
         self.b.accepted_events() >= 32768
+    }
+
+    /// Whether both runs have ended.
+    #[inline(always)]
+    pub fn have_ended(&self) -> bool
+        ensures { result ≡ ((state_of self.now.a).has_ended && (state_of self.now.b).has_ended) }
+    {
+        self.a.has_ended() && self.b.has_ended()
     }
 
     /// A step of A: what it sends goes into the air.
