@@ -102,12 +102,12 @@ pub record DoesPartly (act : PairAction) (p : Pair) (k : PairKnown) (old new : O
   pub acts : Acts (head_of k.b.map) act p moments behind
   pub written : AppendsProperPrefix old new (pair_lines_from k moments)
 
-abbrev pub DoesSo : PairAction → Pair → PairKnown → Option (List ℕ) → Option (List ℕ) → Result Unit₀ Failed → Sides → Type 0
+abbrev pub DoesSo : {T : Type 0} → PairAction → Pair → PairKnown → Option (List ℕ) → Option (List ℕ) → Result T Failed → Sides → Type 0
 DoesSo act p k old new (Ok x) s = Does act p k old new s
 DoesSo act p k old new (Err e) s = DoesPartly act p k old new
 
 -- what is answered of one thing that is done, whatever pair the sides are
-abbrev pub IsDone : PairAction → Sides → Option (List ℕ) → Option (List ℕ) → Result Unit₀ Failed → Sides → Type 0
+abbrev pub IsDone : {T : Type 0} → PairAction → Sides → Option (List ℕ) → Option (List ℕ) → Result T Failed → Sides → Type 0
 IsDone act before old new result s = (p : Pair) (k : PairKnown) → Shows before p k → DoesSo act p k old new result s
 
 -- something is brought, which has no lines
@@ -128,11 +128,11 @@ pub record DoesAllPartly (acts : List PairAction) (p : Pair) (k : PairKnown) (ol
   pub run : PairRun (head_of k.b.map) acts p moments behind
   pub written : AppendsProperPrefix old new (pair_lines_from k moments)
 
-abbrev pub DoesAllSo : List PairAction → Pair → PairKnown → Option (List ℕ) → Option (List ℕ) → Result Unit₀ Failed → Sides → Type 0
+abbrev pub DoesAllSo : {T : Type 0} → List PairAction → Pair → PairKnown → Option (List ℕ) → Option (List ℕ) → Result T Failed → Sides → Type 0
 DoesAllSo acts p k old new (Ok x) s = DoesAll acts p k old new s
 DoesAllSo acts p k old new (Err e) s = DoesAllPartly acts p k old new
 
-abbrev pub AreDone : List PairAction → Sides → Option (List ℕ) → Option (List ℕ) → Result Unit₀ Failed → Sides → Type 0
+abbrev pub AreDone : {T : Type 0} → List PairAction → Sides → Option (List ℕ) → Option (List ℕ) → Result T Failed → Sides → Type 0
 AreDone acts before old new result s = (p : Pair) (k : PairKnown) → Shows before p k → DoesAllSo acts p k old new result s
 
 -- how many steps of a side an entry asks for
