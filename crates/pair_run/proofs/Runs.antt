@@ -55,7 +55,6 @@ module _ (head : Option ℕ) where
   act_of NewestPacketToB p = ([], _, BringsNewest p)
   act_of NewestAcknowledgementToA p = ([], _, AcknowledgesNewest p)
 
-  pub run_of : (acts : List PairAction) (p : Pair) → (ms : List PairMoment) × (q : Pair) × PairRun head acts p ms q
   run_by : (act : PairAction) (acts : List PairAction) (p : Pair) → ((q : Pair) → (ms : List PairMoment) × (r : Pair) × PairRun head acts q ms r)
       → (length p.hand.accepted < most_words) ⊎ (most_words ≤ length p.hand.accepted) → (ms : List PairMoment) × (q : Pair) × PairRun head (act ∷ acts) p ms q
   run_by act acts p next (inl few) =
@@ -63,24 +62,28 @@ module _ (head : Option ℕ) where
       let rest = next one.1 in
       (_, _, Then act acts p one.1 rest.1 one.0 rest.0 few one.2 rest.2)
   run_by act acts p next (inr full) = ([], p, Full act acts p full)
+
+  pub run_of : (acts : List PairAction) (p : Pair) → (ms : List PairMoment) × (q : Pair) × PairRun head acts p ms q
   run_of [] p = ([], p, Over p)
   run_of (act ∷ acts) p = run_by act acts p (run_of acts) (cases_lt (length p.hand.accepted) most_words)
 
   -- ---- where a run has ended
 
-  pub idle_a : (n : ℕ) (p : Pair) → p.a.has_ended ≡ true → PairRun head (repeated n (StepOfA ∷ [])) p [] p
   idle_a_by : (n : ℕ) (p : Pair) → p.a.has_ended ≡ true → PairRun head (repeated n (StepOfA ∷ [])) p [] p
       → (length p.hand.accepted < most_words) ⊎ (most_words ≤ length p.hand.accepted) → PairRun head (StepOfA ∷ repeated n (StepOfA ∷ [])) p [] p
   idle_a_by n p ended rest (inl few) = Then StepOfA (repeated n (StepOfA ∷ [])) p p p [] [] few (ActsA p [] p.a (Idle p.a ended)) rest
   idle_a_by n p ended rest (inr full) = Full StepOfA (repeated n (StepOfA ∷ [])) p full
+
+  pub idle_a : (n : ℕ) (p : Pair) → p.a.has_ended ≡ true → PairRun head (repeated n (StepOfA ∷ [])) p [] p
   idle_a zero p ended = Over p
   idle_a (suc n) p ended = idle_a_by n p ended (idle_a n p ended) (cases_lt (length p.hand.accepted) most_words)
 
-  pub idle_b : (n : ℕ) (p : Pair) → p.b.has_ended ≡ true → PairRun head (repeated n (StepOfB ∷ [])) p [] p
   idle_b_by : (n : ℕ) (p : Pair) → p.b.has_ended ≡ true → PairRun head (repeated n (StepOfB ∷ [])) p [] p
       → (length p.hand.accepted < most_words) ⊎ (most_words ≤ length p.hand.accepted) → PairRun head (StepOfB ∷ repeated n (StepOfB ∷ [])) p [] p
   idle_b_by n p ended rest (inl few) = Then StepOfB (repeated n (StepOfB ∷ [])) p p p [] [] few (ActsB p [] p.b (Idle p.b ended)) rest
   idle_b_by n p ended rest (inr full) = Full StepOfB (repeated n (StepOfB ∷ [])) p full
+
+  pub idle_b : (n : ℕ) (p : Pair) → p.b.has_ended ≡ true → PairRun head (repeated n (StepOfB ∷ [])) p [] p
   idle_b zero p ended = Over p
   idle_b (suc n) p ended = idle_b_by n p ended (idle_b n p ended) (cases_lt (length p.hand.accepted) most_words)
 
@@ -138,7 +141,6 @@ module _ (head : Option ℕ) where
     hand = refl;
   }
 
-  pub rests : (acts : List PairAction) (p : Pair) → HaveEndedIn p → RestsBehind acts p
   rests_by : (act : PairAction) (acts : List PairAction) (p : Pair) → HaveEndedIn p → ((q : Pair) → HaveEndedIn q → RestsBehind acts q)
       → (length p.hand.accepted < most_words) ⊎ (most_words ≤ length p.hand.accepted) → RestsBehind (act ∷ acts) p
   rests_by act acts p e next (inl few) =
@@ -146,5 +148,7 @@ module _ (head : Option ℕ) where
       let rest = next one.last one.ended in
       record { last = rest.last; run = Then act acts p one.last rest.last [] [] few one.acts rest.run; ended = rest.ended; hand = rest.hand ∙ one.hand }
   rests_by act acts p e next (inr full) = record { last = p; run = Full act acts p full; ended = e; hand = refl }
+
+  pub rests : (acts : List PairAction) (p : Pair) → HaveEndedIn p → RestsBehind acts p
   rests [] p e = record { last = p; run = Over p; ended = e; hand = refl }
   rests (act ∷ acts) p e = rests_by act acts p e (rests acts) (cases_lt (length p.hand.accepted) most_words)
