@@ -1,3 +1,4 @@
 mod Runs
 mod Lines
 mod Doing
+mod SideA
