@@ -2,3 +2,4 @@ mod Runs
 mod Lines
 mod Doing
 mod SideA
+mod Listening
