@@ -11,4 +11,4 @@ pub use Rattle.board_run.proofs.Stepwise.{has_step}
 -- The lines of moments behind moments, and what is known behind them.
 pub use Rattle.board_run.proofs.Spends.{lines_append, after_append}
 -- A tally is that of a hand.
-pub use Rattle.board_run.proofs.Tallies.{tally_handed, tally_append, after_map}
+pub use Rattle.board_run.proofs.Tallies.{tally_of_moments, after_map}

@@ -3,3 +3,4 @@ mod Lines
 mod Doing
 mod SideA
 mod Listening
+mod SideB

@@ -151,7 +151,7 @@ consumes_rest place p l =
     (record { place = refl; word = refl; events = refl }) (record { place = refl; word = refl; events = refl }) z
 
 -- what a step is told as
-record IsProgress (p : Progress) (k : PairKnown) (m : Moment) (done : Stepped) : Type 0 where
+pub record IsProgress (p : Progress) (k : PairKnown) (m : Moment) (done : Stepped) : Type 0 where
   pub done_is : p.done ≡ done
   pub accepts : p.accepts ≡ nat_lt (length k.hand.accepted) (length (hand_behind (head_of k.b.map) m k.hand).accepted)
   pub before : p.gate_before ≡ k.b.gate
@@ -159,7 +159,7 @@ record IsProgress (p : Progress) (k : PairKnown) (m : Moment) (done : Stepped) :
   pub events : p.events ≡ events_in (ring_of k.b.map) m.after.fram
 
 -- the map stays
-map_stays : (h : History) (m : Moment) → (noted h m).map ≡ h.map
+pub map_stays : (h : History) (m : Moment) → (noted h m).map ≡ h.map
 map_stays h m = after_map h (m ∷ [])
 
 -- what is kept behind a step, by the ring
@@ -275,6 +275,10 @@ pub power_accepts : (k : PairKnown) (b : BoardValue) (q : PowerState)
     → accepted_between k.hand (hand_behind (head_of k.b.map) (power_up_of b q) k.hand) ≡ []
 power_accepts k b q =
     ap (drop (length k.hand.accepted)) (lost_hand k.hand (head_of k.b.map) b q).0 ∙ drop-length k.hand.accepted
+
+-- and no word more is accepted
+pub power_keeps_words : (k : PairKnown) (b : BoardValue) (q : PowerState) → (known_behind_b k (power_up_of b q)).hand.accepted ≡ k.hand.accepted
+power_keeps_words k b q = (lost_hand k.hand (head_of k.b.map) b q).0
 
 -- power that comes up twice is as once
 pub twice_powered : (l : Listener) → with_power (with_power l) ≡ with_power l

@@ -39,10 +39,13 @@ lines_a s t ms k (Halts _ stop after on run) = refl
 lines_a s t ms k (Ends _ on spent none) = refl
 lines_a s t ms k (Powers _ c cs more _ on spent next steps) = lines_a _ t more (record k { a = noted k.a (power_up_of s.board c.start) }) steps
 
-last_more : (b : BoardValue) (c : BoardCharge) (more : List Moment)
+pub last_same : (b : BoardValue) (c : BoardCharge) (more : List Moment) → last_done more ≡ last_done (power_up_of b c.start ∷ more)
+last_same b c [] = refl
+last_same b c (m ∷ ms) = refl
+
+pub last_more : (b : BoardValue) (c : BoardCharge) (more : List Moment)
     → sent_in_step (last_done more) ≡ sent_in_step (last_done (power_up_of b c.start ∷ more))
-last_more b c [] = refl
-last_more b c (m ∷ ms) = refl
+last_more b c more = ap sent_in_step (last_same b c more)
 
 -- and sends something
 pub sent_a : (s t : RunState) (ms : List Moment) (air : SentValue Packet) → StepsOn s ms t
@@ -77,11 +80,11 @@ module _ (before s : Sides) (p : Pair) (k : PairKnown) (shows : Shows before p k
           tally = ap (λ x. x.tally) b_known ∙ shows.tells.tally;
           consumed = ap (λ x. x.consumed) listener ∙ shows.tells.consumed;
         };
-        listens = record {
-          place = ap (λ x. x.answer_place) listener ∙ shows.listens.place;
-          events = ap (λ x. x.events) listener ∙ shows.listens.events;
-          word = subst (λ (x : Listener). IfSome k.hand.word (λ w. x.word ≡ w)) (sym listener) shows.listens.word;
-          consuming = ap consuming_so listener ∙ shows.listens.consuming;
+        listens = λ on. let h = shows.listens on in record {
+          place = ap (λ x. x.answer_place) listener ∙ h.place;
+          events = ap (λ x. x.events) listener ∙ h.events;
+          word = subst (λ (x : Listener). IfSome k.hand.word (λ w. x.word ≡ w)) (sym listener) h.word;
+          consuming = ap consuming_so listener ∙ h.consuming;
         };
       } in
       record {

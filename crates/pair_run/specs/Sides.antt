@@ -1,5 +1,5 @@
 -- Both sides of a pair as they stand in memory.
-use Rattle.std.specs.Prelude.{◌≡◌, ℕ, ◌+◌, List, [], ◌∷◌, ◌++◌, true, Option, Some, None, Result, Ok, Err}
+use Rattle.std.specs.Prelude.{◌≡◌, ℕ, ◌+◌, List, [], ◌∷◌, ◌++◌, true, false, Option, Some, None, Result, Ok, Err}
 use Rattle.std.specs.Io.KnownBytes.{Appends}
 use Rattle.alp_io.specs.Sink.{AppendsProperPrefix}
 use Rattle.alp_io.specs.declared.sink.Failed.{Failed}
@@ -70,7 +70,7 @@ pub record Tells (s : Sides) (k : PairKnown) : Type 0 where
   pub tally : (known_of s.b).tally ≡ tally_of k.hand
   pub consumed : s.listener.consumed ≡ k.consuming.consumed
 
--- the sides are this pair, of which this is known
+-- the sides are this pair, of which this is known; the listener is told as long as B's run goes on
 pub record Shows (s : Sides) (p : Pair) (k : PairKnown) : Type 0 where
   pub a : state_of s.a ≡ p.a
   pub b : state_of s.b ≡ p.b
@@ -80,7 +80,7 @@ pub record Shows (s : Sides) (p : Pair) (k : PairKnown) : Type 0 where
   pub a_known : (known_of s.a).history ≡ k.a
   pub b_known : (known_of s.b).history ≡ k.b
   pub tells : Tells s k
-  pub listens : Listens s.listener k p.b.board.fram
+  pub listens : p.b.has_ended ≡ false → Listens s.listener k p.b.board.fram
 
 -- or both have ended, and what is brought no more matters
 pub data Reaches (s : Sides) (p : Pair) (k : PairKnown) : Type 0 where
