@@ -4,3 +4,4 @@ mod Doing
 mod SideA
 mod Listening
 mod SideB
+mod Starts

@@ -24,7 +24,7 @@ use Rattle.pair_run.specs.Actions.{StepOfB}
 use Rattle.pair_run.specs.Pair.{Pair, PairMoment, OfB, with_acknowledgement, acknowledgements_behind, behind_b, ActsB}
 use Rattle.pair_run.specs.Consuming.{Consuming, consuming_in, consuming_behind, gate_in}
 use Rattle.pair_run.specs.Lines.{PairKnown, letter_b, known_behind_b, pair_lines_from, known_after}
-use Rattle.pair_run.specs.Listening.{with_power, with_step, accepted_word, consuming_so, Listens}
+use Rattle.pair_run.specs.Listening.{with_power_by, with_power, with_step, accepted_word, Listens}
 use Rattle.pair_run.specs.Sides.{Lettered, LetteredPartly, Shows, Does, DoesPartly, sent_in_step, sent_in}
 use Rattle.pair_run.proofs.Listening.{map_stays, IsProgress, step_listens, step_accepts, power_listens, power_accepts, power_keeps_words, twice_powered}
 use Rattle.pair_run.proofs.SideA.{last_same, last_more}
@@ -162,3 +162,100 @@ pub data LeavesB (before s : Sides) (flag : Bool) (k now : PairKnown) (fram : Li
   Somewhere : (done : Stepped) (p : Progress) → IsOver p k now fram done → s.listener ≡ with_step p (power_if flag before.listener)
       → (known_of s.a).history ≡ with_words (known_of before.a).history (word_list (accepted_word p (power_if flag before.listener)))
       → LeavesB before s flag k now fram (Some done)
+
+-- B goes on after a step that was made
+step_goes_on : (s t : RunState) (ms : List Moment) → StepsOn s ms t → (done : Stepped) → last_done ms ≡ Some done → s.has_ended ≡ false
+step_goes_on s t ms (Idle _ is) done e = cc
+step_goes_on s t ms (Halts _ stop after on run) done e = cc
+step_goes_on s t ms (Ends _ on spent none) done e = cc
+step_goes_on s t ms (Makes _ n d on made) done e = on
+step_goes_on s t ms (Powers _ c cs more _ on spent next steps) done e = on
+
+-- so B has, or has ended
+record ListensOn (s : Sides) (t : RunState) (k now : PairKnown) : Type 0 where
+  listens : t.has_ended ≡ false → Listens s.listener now t.board.fram
+  consumed : s.listener.consumed ≡ now.consuming.consumed
+  a : (known_of s.a).history ≡ now.a
+
+power_if_keeps : (flag : Bool) (o : Option ℕ) (l : Listener) → (power_if flag l).consumed ≡ l.consumed
+power_if_keeps false o l = refl
+power_if_keeps true o l = by_place l.answer_place refl
+  where
+    by_place : (o : Option ℕ) → l.answer_place ≡ o → (with_power l).consumed ≡ l.consumed
+    by_place None e = ap (λ o. (with_power_by o l).consumed) e
+    by_place (Some place) e = ap (λ o. (with_power_by o l).consumed) e
+
+module _ (before s : Sides) (p : Pair) (k : PairKnown) (shows : Shows before p k) (old new : Option (List ℕ)) where
+  listens_on : (ms : List Moment) (flag : Bool) (o : Option Stepped) → StepsOn p.b ms (state_of s.b) → flag ≡ powers_up ms → o ≡ last_done ms
+      → LeavesB before s flag k (known_after k (of_b ms)) (state_of s.b).board.fram o → ListensOn s (state_of s.b) k (known_after k (of_b ms))
+  listens_on ms flag None steps flag_is done (Nowhere listener a) =
+      let told = told_b p.b (state_of s.b) ms k before.listener steps in
+      let none = told.none (sym done) in
+      record {
+        listens = λ on. absurd (let e = sym on ∙ none.1 in cc);
+        consumed = ap (λ x. x.consumed) listener ∙ power_if_keeps flag before.listener.answer_place before.listener ∙ shows.tells.consumed ∙ sym none.2;
+        a = a ∙ shows.a_known ∙ sym none.0;
+      }
+  listens_on ms flag (Some d) steps flag_is done (Somewhere _ q over listener a) =
+      let told = told_b p.b (state_of s.b) ms k before.listener steps in
+      let on = step_goes_on p.b (state_of s.b) ms steps d (sym done) in
+      let n = told.some d (sym done) q over (shows.listens on) in
+      let same : power_if flag before.listener ≡ power_if (powers_up ms) before.listener = ap (λ f. power_if f before.listener) flag_is in
+      let listens : Listens s.listener (known_after k (of_b ms)) (state_of s.b).board.fram =
+      subst (λ x. Listens x (known_after k (of_b ms)) (state_of s.b).board.fram) (sym (listener ∙ ap (with_step q) same)) n.0 in
+      record {
+        listens = λ _. listens;
+        consumed = ap (λ c. c.consumed) listens.consuming;
+        a = a ∙ ap (λ h. with_words h (word_list (accepted_word q (power_if flag before.listener)))) shows.a_known
+            ∙ ap (λ x. with_words k.a (word_list (accepted_word q x))) same ∙ sym n.1;
+      }
+
+  -- the tally of B's hand
+  hand_told : (ms : List Moment) (h : Hand) → h ≡ k.hand → (known_of s.b).tally ≡ tally_after (head_of (known_of before.b).history.map) ms (known_of before.b).tally
+      → (known_of s.b).tally ≡ tally_of (hand_after (head_of k.b.map) ms h)
+  hand_told ms h is tally =
+      tally
+      ∙ ap (λ x. tally_after (head_of x.map) ms (known_of before.b).tally) shows.b_known
+      ∙ ap (tally_after (head_of k.b.map) ms) (shows.tells.tally ∙ ap tally_of (sym is))
+      ∙ sym (tally_of_moments (head_of k.b.map) ms h)
+
+  pub b_does : (answer : Advance) → (l : Lettered letter_b (state_of before.b) (known_of before.b) old new answer (state_of s.b) (known_of s.b))
+      → state_of s.a ≡ state_of before.a → s.air.now.packets ≡ before.air.now.packets
+      → s.air.now.acknowledgements ≡ with_acknowledgement (sent_in answer) before.air.now.acknowledgements
+      → LeavesB before s answer.powers_up k (known_after k (of_b l.moments)) (state_of s.b).board.fram answer.done → Does StepOfB p k old new s
+  b_does answer l a packets acknowledgements leaves =
+      let ms = l.moments in
+      let steps = subst (λ x. StepsOn x ms (state_of s.b)) shows.b l.steps in
+      let told = told_b p.b (state_of s.b) ms k before.listener steps in
+      let now = known_after k (of_b ms) in
+      let on = listens_on ms answer.powers_up answer.done steps l.powers l.done leaves in
+      record {
+        moments = of_b ms;
+        behind = behind_b (head_of k.b.map) p ms (state_of s.b);
+        acts = ActsB p ms (state_of s.b) steps;
+        shows = record {
+          a = a ∙ shows.a;
+          b = refl;
+          packets = packets ∙ shows.packets;
+          acknowledgements = acknowledgements ∙ ap (λ d. with_acknowledgement (sent_in_step d) before.air.now.acknowledgements) l.done
+              ∙ ap (with_acknowledgement (sent_in_step (last_done ms))) shows.acknowledgements ∙ sym (sent_b _ _ ms p.acknowledgements steps);
+          hand = told.hand ∙ ap (hand_after (head_of k.b.map) ms) shows.hand;
+          a_known = on.a;
+          b_known = l.history ∙ ap (λ h. after_all h ms) shows.b_known ∙ sym told.b;
+          tells = record { tally = hand_told ms k.hand refl l.tally ∙ ap tally_of (sym told.hand); consumed = on.consumed };
+          listens = on.listens;
+        };
+        written = subst (Appends old new) (ap (λ h. prefixed letter_b (lines_from h ms)) shows.b_known ∙ sym told.lines) l.written;
+      }
+
+  pub b_does_partly : LetteredPartly letter_b (state_of before.b) (known_of before.b) old new → DoesPartly StepOfB p k old new
+  b_does_partly l =
+      let ms = l.moments in
+      let steps = subst (λ x. StepsOn x ms l.behind) shows.b l.steps in
+      let told = told_b p.b l.behind ms k before.listener steps in
+      record {
+        moments = of_b ms;
+        behind = behind_b (head_of k.b.map) p ms l.behind;
+        acts = ActsB p ms l.behind steps;
+        written = subst (AppendsProperPrefix old new) (ap (λ h. prefixed letter_b (lines_from h ms)) shows.b_known ∙ sym told.lines) l.written;
+      }
