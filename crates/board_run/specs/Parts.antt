@@ -53,7 +53,7 @@ pub record ComesFirst (m : Measure) (left : ℕ) (b : BoardValue) (moment : Mome
 
 -- a step was made, and its lines written
 pub record Turned (h : Known) (m : Measure) (left : ℕ) (b : BoardValue) (old new : Option (List ℕ)) (rest : ℕ) (done : Stepped) (after : BoardValue)
-  (now : Known) : Type 0
+    (now : Known) : Type 0
   where
     pub moment : Moment
     pub step : IsStepMade m left b moment rest done after

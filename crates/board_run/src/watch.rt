@@ -67,11 +67,7 @@ impl<'a> Watch<'a> {
     }
 
     /// A run of this board under the charges of a trace, told from here on, that is made step by step.
-    pub fn stepwise<'r>(
-        &'r mut self,
-        board: &'r mut Board,
-        trace: &'r Trace,
-    ) -> StepwiseRun<'r, 'a>
+    pub fn stepwise<'r>(&'r mut self, board: &'r mut Board, trace: &'r Trace) -> StepwiseRun<'r, 'a>
         ensures state { state_of result ≡ not_begun board.old (charges_of trace.now.charges) }
         ensures known { known_of result ≡ record { history = self.old; tally = no_tally } }
         ensures going { IsGoing result }

@@ -178,11 +178,7 @@ impl Board {
 
     /// A board that listens to a radio, with the ports of that side, else as `new` makes it without events. Fails where memory is
     /// refused.
-    pub fn new_listener(
-        alloc: Global,
-        image: &Image,
-        readings: &[u16],
-    ) -> Result<Board, AllocError>
+    pub fn new_listener(alloc: Global, image: &Image, readings: &[u16]) -> Result<Board, AllocError>
         requires { length readings.now ≤ 262144 }
         ensures { IfOk result (λ b. b ≡ fresh_listener image.now.words readings.now) }
     {

@@ -30,7 +30,11 @@ impl Radio {
     {
         match self {
             Radio::Sends(greatest) if address == ACKNOWLEDGEMENTS => Ok(greatest),
-            Radio::Listens(number) if address == PACKET_NUMBER => Ok(if waits { number } else { 0 }),
+            Radio::Listens(number) if address == PACKET_NUMBER => Ok(if waits {
+                number
+            } else {
+                0
+            }),
             _ => Err(Refused::Bus),
         }
     }

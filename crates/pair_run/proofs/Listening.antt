@@ -200,9 +200,9 @@ module _ (k : PairKnown) (b : BoardValue) (n : NextStep) (done : Stepped) (l : L
         consuming = ring_step ring p taken k.b.gate (gate_in k.b.map after) (word_in b.fram ring.event_count) (word_in after ring.event_count)
             progress.before progress.gate before now
             ∙ ap (λ d. gate_behind k.b.gate (gate_in k.b.map after) (consuming_so l)
-                (answers_behind ring d.wrote (word_in b.fram ring.event_count) (word_in after ring.event_count) (consuming_so l))) progress.done_is
+            (answers_behind ring d.wrote (word_in b.fram ring.event_count) (word_in after ring.event_count) (consuming_so l))) progress.done_is
             ∙ ap (λ c. gate_behind k.b.gate (gate_in k.b.map after) c
-                (answers_behind ring done.wrote (word_in b.fram ring.event_count) (word_in after ring.event_count) c)) listens.consuming;
+            (answers_behind ring done.wrote (word_in b.fram ring.event_count) (word_in after ring.event_count) c)) listens.consuming;
       }
 
   stepped_hand : HandStep (head_of k.b.map) made done.heard k.hand l.word

@@ -14,9 +14,9 @@ use Rattle.pair_run.specs.Lines.{known_at_first, pair_lines}
 
 -- a pair before its first step: boards under charges, and this air
 abbrev pub pair_at_first : BoardValue → List BoardCharge → BoardValue → List BoardCharge → Air → Pair
-pair_at_first a as b bs air = record {
-  a = not_begun a as;
-  b = not_begun b bs;
+pair_at_first a a_charges b b_charges air = record {
+  a = not_begun a a_charges;
+  b = not_begun b b_charges;
   packets = air.packets;
   acknowledgements = air.acknowledgements;
   hand = no_hand;

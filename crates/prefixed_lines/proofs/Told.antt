@@ -88,8 +88,8 @@ told_standing : (first all : List ℕ) (letter : ℕ) (within : Bool) (text : Li
 told_standing first all letter within text h =
     told_by first all letter within (without_fronts 2 (drop (length first) all)) text
     (ap (λ xs. without_fronts 2 (drop (length first) xs)) h.bytes
-        ∙ ap (without_fronts 2) (drop-append_seam first (prefixed letter text))
-        ∙ no_fronts letter false text) h
+    ∙ ap (without_fronts 2) (drop-append_seam first (prefixed letter text))
+    ∙ no_fronts letter false text) h
 
 nothing_stands : (first : List ℕ) (letter : ℕ) → Stands first first letter false []
 nothing_stands first letter = record { bytes = sym (append-nil first); end = refl }
