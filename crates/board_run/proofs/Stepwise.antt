@@ -1,5 +1,6 @@
 -- A run that is made step by step: a step is made, and there always is one.
-use Rattle.std.proofs.Common.{◌≡◌, ◌<◌, ◌-◌, ℕ, arith, refl, sym, ◌∙◌, ap, subst, Bool, true, false, List, [], ◌∷◌, ◌++◌, append_assoc, append-nil, Option, Some, None}
+use Rattle.std.proofs.Common.{◌≡◌, ◌<◌, ◌-◌, ℕ, arith, refl, sym, ◌∙◌, ap, subst, Bool, true, false, List, [], ◌∷◌, ◌++◌, append_assoc, append-nil}
+use Rattle.std.proofs.Common.{Option, Some, None}
 use Rattle.std.specs.Io.KnownBytes.{Appends}
 use Rattle.std.proofs.KnownBytes.{Appends-nil}
 use Rattle.alp_io.specs.Sink.{AppendsProperPrefix}
@@ -94,8 +95,8 @@ unfolding moment_lines noted tally_behind
 wrote_up h now b c old noted = record { written = Appends-nil old; history = noted.history; tally = noted.tally }
 
 -- one power-up more
-pub powered_more : (s : RunState) (h : Known) (old new : Option (List ℕ)) (t : RunState) (mid now : Known) (flag : Bool) (c : BoardCharge) (cs : List BoardCharge)
-    → PoweredUp s h old t mid new flag → t.has_ended ≡ false → IsSpentCharge t → t.charges ≡ c ∷ cs
+pub powered_more : (s : RunState) (h : Known) (old new : Option (List ℕ)) (t : RunState) (mid now : Known) (flag : Bool) (c : BoardCharge)
+    (cs : List BoardCharge) → PoweredUp s h old t mid new flag → t.has_ended ≡ false → IsSpentCharge t → t.charges ≡ c ∷ cs
     → IsNotedUp mid now (behind_power t c cs).board → PoweredUp s h old (behind_power t c cs) now new true
 powered_more s h old new t mid now flag c cs p on spent more noted =
     let up = power_up_of t.board c.start in

@@ -1,7 +1,8 @@
 -- A run that is made step by step, so that something may happen to the board between two of its steps.
 -- A step is one instruction or one acceptance, with all power-ups before it that are needed: a charge that is spent, or pays for no step, gives way to
 -- the next one. Where none is left, or the board stops, the run has ended, and its further steps do nothing.
-use Rattle.std.specs.Prelude.{◌≡◌, ℕ, ◌+◌, ◌-◌, ◌^◌, ◌<◌, Bool, true, false, List, [], ◌∷◌, ◌++◌, All, replicate, drop, length, ◌≤◌, Option, Some, None, Result, Ok, Err}
+use Rattle.std.specs.Prelude.{◌≡◌, ℕ, ◌+◌, ◌-◌, ◌^◌, ◌<◌, Bool, true, false, List, [], ◌∷◌, ◌++◌, All, replicate, drop, length, ◌≤◌, Option, Some}
+use Rattle.std.specs.Prelude.{None, Result, Ok, Err}
 use Rattle.alp_io.specs.Sink.{AppendsProperPrefix}
 use Rattle.alp_io.specs.declared.sink.Failed.{Failed}
 use Rattle.msp_step.specs.declared.machine.Stop.{Stop}
@@ -10,7 +11,8 @@ use Rattle.image_text.specs.image_map.MapValue.{MapValue}
 use Rattle.fram_board.specs.declared.board.NextStep.{NextStep}
 use Rattle.fram_board.specs.declared.board.Stepped.{Stepped}
 use Rattle.fram_board.specs.Board.{BoardValue, powered, performed, at_boundary}
-use Rattle.fram_board.specs.Run.{Measure, Instructions, price, Moment, PowerUp, Execute, Action, Charges, Stopped, run_outcome, BoardCharge, ChargeRun, power_up_of, moment_of}
+use Rattle.fram_board.specs.Run.{Measure, Instructions, price, Moment, PowerUp, Execute, Action, Charges, Stopped, run_outcome, BoardCharge}
+use Rattle.fram_board.specs.Run.{ChargeRun, power_up_of, moment_of}
 use Rattle.board_run.specs.declared.stepwise.Advance.{Advance}
 use Rattle.board_run.specs.declared.stepwise.StepwiseRun.{StepwiseRun}
 use Rattle.board_run.specs.Charges.{measure_of, charge_of, charges_of}

@@ -366,7 +366,8 @@ port_on false false v w o n k h r e = r e
 read_small : (s : BusState) (a : ℕ) (w : Width) (v : ℕ) → ListsOfWords s → read_of s a w ≡ Ok v → IsWord v
 read_small s a Word v q e =
     ok_on (is_word a) (memory_word s a) v _ (list_word_small s a q) (λ g. port_on (a == sensor_port) (a == event_port) v (port_word s.line.port)
-    (next_reading s) (radio_word s.radio (is_full s.line.port) a) (λ r. next_on (nat_lt s.taken (length s.readings)) (slice_index s.readings s.taken) v (index_small s.readings s.taken q.readings) r)
+    (next_reading s) (radio_word s.radio (is_full s.line.port) a)
+    (λ r. next_on (nat_lt s.taken (length s.readings)) (slice_index s.readings s.taken) v (index_small s.readings s.taken q.readings) r)
     (port_small s.line.port q.line.port) (λ r. radio_small s.radio (is_full s.line.port) a v q.radio r) g) e
 read_small s a Byte v q e = ok_on (is_memory a) (byte_of (memory_word s a) a) v _ (byte_small (memory_word s a) a (list_word_small s a q)) (λ g. no_word v g) e
 

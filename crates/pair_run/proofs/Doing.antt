@@ -1,5 +1,6 @@
 -- Things that are done one after the other, with their lines.
-use Rattle.std.proofs.Common.{◌≡◌, ◌≤◌, ◌<◌, ◌+◌, ◌-◌, ℕ, zero, suc, arith, refl, sym, ◌∙◌, ap, subst, true, List, [], ◌∷◌, ◌++◌, append_assoc, append-nil, length}
+use Rattle.std.proofs.Common.{◌≡◌, ◌≤◌, ◌<◌, ◌+◌, ◌-◌, ℕ, zero, suc, arith, refl, sym, ◌∙◌, ap, subst, true, List, [], ◌∷◌, ◌++◌, append_assoc}
+use Rattle.std.proofs.Common.{append-nil, length}
 use Rattle.std.proofs.Common.{Option, Result, Ok, Err}
 use Rattle.std.specs.Io.KnownBytes.{Appends}
 use Rattle.std.proofs.KnownBytes.{Appends-nil, Appends-trans}
@@ -11,7 +12,8 @@ use Rattle.pair_run.specs.declared.sides.Sides.{Sides}
 use Rattle.pair_run.specs.Actions.{PairAction, StepOfA, StepOfB, repeated}
 use Rattle.pair_run.specs.Pair.{Pair, PairMoment, most_words, Acts, PairRun, Over, Then}
 use Rattle.pair_run.specs.Lines.{PairKnown, pair_lines_from, known_after}
-use Rattle.pair_run.specs.Sides.{Shows, Tells, Reaches, GoesOn, HaveEnded, Does, DoesPartly, DoesSo, IsDone, IsBrought, DoesAll, DoesAllPartly, DoesAllSo, AreDone}
+use Rattle.pair_run.specs.Sides.{Shows, Tells, Reaches, GoesOn, HaveEnded, Does, DoesPartly, DoesSo, IsDone, IsBrought, DoesAll, DoesAllPartly}
+use Rattle.pair_run.specs.Sides.{DoesAllSo, AreDone}
 use Rattle.pair_run.proofs.Lines.{lines_behind, known_both, same_head, prefix_of_longer, prefix_behind}
 use Rattle.pair_run.proofs.Runs.{full_run, run_behind, run_of, idle_a, idle_b, HaveEndedIn, rests}
 
@@ -57,7 +59,8 @@ one_brought act before s p k old few brought shows =
 -- ---- one behind the other
 
 module _ (acts more : List PairAction) (p : Pair) (k : PairKnown) (old mid new : Option (List ℕ)) where
-  pub all_behind : (s t : Sides) (d : DoesAll acts p k old mid s) → DoesAll more d.behind (known_after k d.moments) mid new t → DoesAll (acts ++ more) p k old new t
+  pub all_behind : (s t : Sides) (d : DoesAll acts p k old mid s) → DoesAll more d.behind (known_after k d.moments) mid new t
+      → DoesAll (acts ++ more) p k old new t
   all_behind s t d e =
       let run = subst (λ h. PairRun h more d.behind e.moments e.behind) (same_head k d.moments) e.run in
       record {
@@ -98,7 +101,8 @@ pub full_rest : (s : Sides) (acts : List PairAction) (p : Pair) (k : PairKnown) 
 full_rest s acts p k old full shows =
     record { moments = []; behind = p; run = full_run (head_of k.b.map) acts p full; reaches = GoesOn shows; written = Appends-nil old }
 
-ended_in : (s : Sides) (p : Pair) (k : PairKnown) → Shows s p k → (state_of s.a).has_ended ≡ true → (state_of s.b).has_ended ≡ true → HaveEndedIn (head_of k.b.map) p
+ended_in : (s : Sides) (p : Pair) (k : PairKnown) → Shows s p k → (state_of s.a).has_ended ≡ true → (state_of s.b).has_ended ≡ true
+    → HaveEndedIn (head_of k.b.map) p
 ended_in s p k shows a b =
     record { a = sym (ap (λ x. x.has_ended) shows.a) ∙ a; b = sym (ap (λ x. x.has_ended) shows.b) ∙ b }
 

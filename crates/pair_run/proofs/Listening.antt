@@ -1,5 +1,6 @@
 -- A listener is told what its board's moments say of its words.
-use Rattle.std.proofs.Common.{◌≡◌, ◌==◌, ◌&&◌, nat_lt, nat_le, if◌then◌else◌, arith, ℕ, refl, sym, ◌∙◌, ap, ap₂, subst, Bool, true, false, List, [], ◌∷◌, ◌++◌}
+use Rattle.std.proofs.Common.{◌≡◌, ◌==◌, ◌&&◌, nat_lt, nat_le, if◌then◌else◌, arith, ℕ, refl, sym, ◌∙◌, ap, ap₂, subst, Bool, true, false, List, []}
+use Rattle.std.proofs.Common.{◌∷◌, ◌++◌}
 use Rattle.std.proofs.Common.{append_assoc, append-nil, length, length-append, drop, Option, Some, None}
 use Rattle.std.specs.Prelude.{IfSome}
 use Rattle.std.proofs.Math.Seq.{drop-append_seam, drop-length}
@@ -14,7 +15,8 @@ use Rattle.fram_board.specs.Gate.{is_decide, is_done}
 use Rattle.fram_board.specs.Board.{BoardValue, PowerState, performed, at_boundary}
 use Rattle.fram_board.specs.Run.{Moment, kind_of, moment_of, power_up_of, word_list}
 use Rattle.board_run.specs.History.{History, word_in, noted, gated, behind_instruction, with_words}
-use Rattle.board_run.specs.Events.{Hand, HandEnd, ChangesHead, handed, handed_all, head_of, reads_of, change_ends, head_ends, is_return, return_ends, hand_behind}
+use Rattle.board_run.specs.Events.{Hand, HandEnd, ChangesHead, handed, handed_all, head_of, reads_of, change_ends, head_ends, is_return, return_ends}
+use Rattle.board_run.specs.Events.{hand_behind}
 use Rattle.board_run.specs.Stepwise.{ring_of, answer_of_ring, events_in}
 use Rattle.board_run.proofs.Interface.{after_map}
 use Rattle.pair_run.specs.declared.listener.Listener.{Listener}
@@ -213,7 +215,8 @@ module _ (k : PairKnown) (b : BoardValue) (n : NextStep) (done : Stepped) (l : L
   unfolding consuming_behind
   step_listens =
       let ring = ring_of k.b.map in
-      let kept : KeptBehind l (with_step p l) ring after (consuming_in ring k.b.gate made (gate_in k.b.map after) k.consuming) (word_behind p.done.heard l.word) =
+      let kept : KeptBehind l (with_step p l) ring after (consuming_in ring k.b.gate made (gate_in k.b.map after) k.consuming)
+      (word_behind p.done.heard l.word) =
       subst (λ o. KeptBehind l (consumes_if o p taken) ring after (consuming_in ring k.b.gate made (gate_in k.b.map after) k.consuming)
       (word_behind p.done.heard l.word)) (sym listens.place) (kept_by ring refl) in
       let same = map_stays k.b made in

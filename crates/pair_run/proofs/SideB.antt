@@ -211,7 +211,8 @@ module _ (before s : Sides) (p : Pair) (k : PairKnown) (shows : Shows before p k
       }
 
   -- the tally of B's hand
-  hand_told : (ms : List Moment) (h : Hand) → h ≡ k.hand → (known_of s.b).tally ≡ tally_after (head_of (known_of before.b).history.map) ms (known_of before.b).tally
+  hand_told : (ms : List Moment) (h : Hand) → h ≡ k.hand
+      → (known_of s.b).tally ≡ tally_after (head_of (known_of before.b).history.map) ms (known_of before.b).tally
       → (known_of s.b).tally ≡ tally_of (hand_after (head_of k.b.map) ms h)
   hand_told ms h is tally =
       tally
