@@ -1,5 +1,5 @@
 -- What is answered of the run of a pair.
-use Rattle.std.specs.Prelude.{◌≡◌, ℕ, ◌^◌, ◌<◌, List, Option, Result}
+use Rattle.std.specs.Prelude.{ℕ, List, Option, Result}
 use Rattle.alp_io.specs.Sink.{Writes}
 use Rattle.radio_link.specs.declared.entry.Entry.{Entry}
 use Rattle.radio_link.specs.declared.air.Air.{Air}
@@ -21,11 +21,6 @@ pair_at_first a a_charges b b_charges air = record {
   acknowledgements = air.acknowledgements;
   hand = no_hand;
 }
-
--- the receiver's counts of a board have room for a run
-pub record HasFewWords (b : BoardValue) : Type 0 where
-  pub accepted : b.receiver.accepted < 2 ^ 63
-  pub repeats : b.receiver.repeats < 2 ^ 63
 
 -- the lines of the run of a pair under a schedule are written, whole or after a failure a proper prefix, told from what is known of both boards
 pub record IsTold {T E : Type 0} (p : Pair) (a b : History) (schedule : List Entry) (old new : Option (List ℕ)) (result : Result T E) : Type 0 where

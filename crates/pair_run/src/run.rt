@@ -1,10 +1,10 @@
 //! The run of a pair.
-ghost use Rattle.std.specs.Prelude.{◌≡◌, ℕ, ◌+◌, OnOk};
+ghost use Rattle.std.specs.Prelude.{◌≡◌, ◌^◌, ◌<◌, OnOk};
 ghost use Rattle.alp_io.specs.Count.{HasCause};
 ghost use Rattle.board_run.specs.Charges.{charges_of};
 ghost use Rattle.pair_run.specs.Actions.{all_actions};
 ghost use Rattle.pair_run.specs.Sides.{IsGoingOn, HasRoomFor, all_steps, AreDone};
-ghost use Rattle.pair_run.specs.Told.{pair_at_first, HasFewWords, IsTold};
+ghost use Rattle.pair_run.specs.Told.{pair_at_first, IsTold};
 
 use crate::listener::Listener;
 use crate::rounds::make_entry;
@@ -50,8 +50,10 @@ fn write_lines<S: Holds>(
     schedule: &Schedule,
     sink: &mut S,
 ) -> Result<(), Failed>
-    requires a_words { HasFewWords a.old }
-    requires b_words { HasFewWords b.old }
+    requires a_accepted { a.old.receiver.accepted < 2 ^ 63 }
+    requires a_repeats { a.old.receiver.repeats < 2 ^ 63 }
+    requires b_accepted { b.old.receiver.accepted < 2 ^ 63 }
+    requires b_repeats { b.old.receiver.repeats < 2 ^ 63 }
     ensures told { IsTold (pair_at_first a.old (charges_of a_trace.now.charges) b.old (charges_of b_trace.now.charges) air.old)
         a_watch.old b_watch.old schedule.now (S.contents sink.old) (S.contents sink.new) result }
     ensures cause { HasCause (S.faults sink.old) (S.faults sink.new) result }
@@ -85,8 +87,10 @@ fn write_through<'s, S: Sink, P: Origin>(
 ) -> (&'s mut S, Result<(), Failed>)
     requires place { sink.ghost_name ≡ P.place }
     requires contents { S.contents sink.old ≡ P.contents }
-    requires a_words { HasFewWords a.old }
-    requires b_words { HasFewWords b.old }
+    requires a_accepted { a.old.receiver.accepted < 2 ^ 63 }
+    requires a_repeats { a.old.receiver.repeats < 2 ^ 63 }
+    requires b_accepted { b.old.receiver.accepted < 2 ^ 63 }
+    requires b_repeats { b.old.receiver.repeats < 2 ^ 63 }
     ensures same_sink { result.0.ghost_name ≡ sink.entry.ghost_name }
     ensures told { IsTold (pair_at_first a.old (charges_of a_trace.now.charges) b.old (charges_of b_trace.now.charges) air.old)
         a_watch.old b_watch.old schedule.now (S.contents sink.old) (S.contents result.0.now) result.1 }
@@ -117,8 +121,10 @@ pub fn run_pair<S: Sink>(
     schedule: &Schedule,
     sink: &mut S,
 ) -> Result<(), Failed>
-    requires a_words { HasFewWords a.old }
-    requires b_words { HasFewWords b.old }
+    requires a_accepted { a.old.receiver.accepted < 2 ^ 63 }
+    requires a_repeats { a.old.receiver.repeats < 2 ^ 63 }
+    requires b_accepted { b.old.receiver.accepted < 2 ^ 63 }
+    requires b_repeats { b.old.receiver.repeats < 2 ^ 63 }
     ensures told { IsTold (pair_at_first a.old (charges_of a_trace.now.charges) b.old (charges_of b_trace.now.charges) air.old)
         a_watch.old b_watch.old schedule.now (S.contents sink.old) (S.contents sink.new) result }
     ensures cause { HasCause (S.faults sink.old) (S.faults sink.new) result }
