@@ -40,7 +40,7 @@ struct Case<'t> {
 }
 
 /// The report of the two programs under a case.
-fn report(rt: &impl Abort, alloc: Global, case: Case<'_>) -> Result<String, Fail> {
+fn report(rt: &impl Abort, alloc: Global, case: Case<'_>) -> Result<Vec<u8>, Fail> {
     assert!(rt; case.a.len() < 1000 && case.b.len() < 1000 && case.schedule.len() < 100_000);
     let a_image = image_of(rt, alloc, SENDER, SENDER_MAP)?;
     let b_image = image_of(rt, alloc, LISTENER, LISTENER_MAP)?;
@@ -65,7 +65,7 @@ fn report(rt: &impl Abort, alloc: Global, case: Case<'_>) -> Result<String, Fail
         &schedule,
         &mut sink,
     )?;
-    Ok(String::from_utf8(sink.bytes().to_vec(alloc)?)?)
+    Ok(sink.bytes().to_vec(alloc)?)
 }
 
 const A: &'static str = "c 10000000 0\nr 5 7\n";
@@ -75,24 +75,25 @@ const B: &'static str = "c 10000000 0\n";
 /// A's lines where both readings come through.
 const SENT: &'static str = "a bound 640\na t 1 a a 0 1\na o 5\na t 2 a a 1 2\na o 7\n";
 
-/// Whether a report has these lines of A, the sum 12 at B last, and both words accepted and consumed.
-fn is_whole(rt: &impl Abort, alloc: Global, report: &str) -> Result<(), Fail> {
-    let mut sent = String::new(alloc);
+/// A report has these lines of A, the sum 12 at B last, and both words accepted and consumed.
+fn is_whole(rt: &impl Abort, alloc: Global, report: &[u8]) -> Result<(), Fail> {
+    let text = str::from_utf8(report)?;
+    let mut sent = Vec::new(alloc);
     let mut sum = "";
     let mut last = "";
-    for line in report.lines() {
+    for line in text.lines() {
         if line.starts_with("a ") {
-            sent.push_str(line)?;
-            sent.push_str("\n")?;
+            sent.extend_from_slice(line.as_bytes())?;
+            sent.push(b'\n')?;
         }
         if line.starts_with("b v ") {
             sum = line;
         }
         last = line;
     }
-    assert_eq!(rt; sent.as_str(), SENT);
-    assert_eq!(rt; sum, "b v s 12");
-    assert_eq!(rt; last, "pair 2 2");
+    assert!(rt; sent.as_slice() == SENT.as_bytes());
+    assert!(rt; sum == "b v s 12");
+    assert!(rt; last == "pair 2 2");
     Ok(())
 }
 
@@ -100,7 +101,7 @@ fn is_whole(rt: &impl Abort, alloc: Global, report: &str) -> Result<(), Fail> {
 fn both_words_come_through(rt: HostRuntime) -> Result<(), Fail> {
     for schedule in ["x 20000\n", "x 20000\nd 0\nd 0\nx 2000\n"] {
         let text = report(&rt, rt.alloc(), Case { a: A, b: B, schedule })?;
-        is_whole(&rt, rt.alloc(), text.as_str())?;
+        is_whole(&rt, rt.alloc(), text.as_slice())?;
     }
     Ok(())
 }
@@ -113,7 +114,7 @@ fn nothing_comes_through(rt: HostRuntime) -> Result<(), Fail> {
         schedule: "a 5000\nb 2\n",
     };
     let text = report(&rt, rt.alloc(), case)?;
-    assert_eq!(rt; text.as_str(), "a bound 640\nb bound 872\npair 0 0\n");
+    assert!(rt; text.as_slice() == b"a bound 640\nb bound 872\npair 0 0\n".as_slice());
     Ok(())
 }
 
@@ -126,7 +127,7 @@ fn ended_runs_stay_so(rt: HostRuntime) -> Result<(), Fail> {
         schedule: "x 4294967295\na 4294967295\nb 4294967295\n",
     };
     let text = report(&rt, rt.alloc(), case)?;
-    assert_eq!(rt; text.as_str(), "a bound 640\nb bound 872\npair 0 0\n");
+    assert!(rt; text.as_slice() == b"a bound 640\nb bound 872\npair 0 0\n".as_slice());
     Ok(())
 }
 
@@ -134,15 +135,14 @@ fn ended_runs_stay_so(rt: HostRuntime) -> Result<(), Fail> {
 #[test]
 fn the_listener_is_cut(rt: HostRuntime) -> Result<(), Fail> {
     for k in 0..=200u32 {
-        let mut trace = String::new(rt.alloc());
-        write!(trace, "s {k} 3\n{B}")?;
+        let trace = format!(in rt.alloc(); "s {k} 3\n{B}")?;
         let case = Case {
             a: A,
-            b: trace.as_str(),
+            b: &trace,
             schedule: "x 20000\n",
         };
         let text = report(&rt, rt.alloc(), case)?;
-        is_whole(&rt, rt.alloc(), text.as_str())?;
+        is_whole(&rt, rt.alloc(), text.as_slice())?;
     }
     Ok(())
 }
