@@ -1,12 +1,12 @@
 //! The port EVENT and the events that arise there.
 
 ghost use Rattle.std.specs.Prelude.{◌≡◌, ℕ, ◌+◌, ◌^◌, ◌<◌, ◌≤◌, length, true, false, IfOk};
-ghost use Rattle.fram_board.specs.Events.{line_of_events, is_full, port_word, port_read, bringing, arrived, step_counted, line_behind_step, line_behind_power_up};
+ghost use Rattle.fram_board.specs.Events.{line_of_events, is_full, port_word, port_read, arising, bringing, arrived, step_counted, line_behind_step, line_behind_power_up};
 
 use std::alloc::{AllocError, Global};
 use std::marker::Model;
 
-/// How many are counted of the words that are brought and of the events.
+/// How many events arise at most, with those that are brought.
 const COUNTED: u64 = 1 << 61;
 
 /// What was read of EVENT since the last boundary between two steps.
@@ -129,19 +129,25 @@ impl Events {
         }
     }
 
-    /// A word is brought beside the events: it waits in the port, or is lost where that is full. Behind 2^61 of them none is counted
-    /// any more.
+    /// A word is brought beside the events: it waits in the port, or is lost where that is full. Behind 2^61 of them it doesn't arise.
     pub fn bring(&mut self, word: u16)
         ensures { self.new ≡ bringing word self.old }
     {
-        let is_counted = self.arisen() < COUNTED;
-        if is_counted {
-            self.brought += 1;
+        if self.arisen() < COUNTED {
+            self.arise(word);
         }
-        if self.port.is_none() {
-            self.port = Some(word);
-        } else if is_counted {
+    }
+
+    // A word arises that was brought.
+    fn arise(&mut self, word: u16)
+        requires { self.old.arisen < 2 ^ 61 }
+        ensures { self.new ≡ arising word self.old.coming self.old }
+    {
+        self.brought += 1;
+        if self.port.is_some() {
             self.missed += 1;
+        } else {
+            self.port = Some(word);
         }
     }
 
