@@ -39,6 +39,7 @@ impl<'a, S: Holds, P: Origin> PrefixedLines<'a, S, P> {
 
     /// Gives the sink back, behind an answer of what wrote the lines. Where that wrote a text whole, the sink has it with the letter in
     /// front of each line; where it failed within a text, a proper prefix of that.
+    #[tactic(auto, using(crate::proofs::Told::prefixes))]
     pub fn finish<T: Drop>(self, written: Result<T, Failed>) -> (&'a mut S, Result<T, Failed>)
         ensures same_sink { result.0.ghost_name ≡ self.entry.sink.ghost_name }
         ensures sink { result.0.now ≡ self.entry.sink.now }
@@ -63,6 +64,7 @@ impl<'a, S: Holds, P: Origin> Sink for PrefixedLines<'a, S, P> {
     ghost faults = { λ s. S.faults s.sink.now };
 
     /// Takes one byte, and the letter and the blank in front of it where a line begins.
+    #[tactic(auto, using(crate::proofs::Told::byte_written, crate::proofs::Told::nothing_written))]
     fn write(&mut self, piece: &[u8]) -> Result<usize, Failed> {
         if piece.is_empty() {
             return Ok(0);
