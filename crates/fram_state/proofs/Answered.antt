@@ -4,6 +4,7 @@ use Rattle.std.proofs.Common.{sym, ap, subst, arith, true≢false}
 use Rattle.std.specs.Prelude.{All, IsTrue, ◌↔◌, nat_lt, slice_get}
 use Rattle.std.proofs.lemmas.Bool.{cases_lt, ltb-true}
 use Rattle.std.proofs.lemmas.List.{length-map}
+use Rattle.std.proofs.lemmas.Option.{get_or_from_slice_get, slice_get_within}
 use Rattle.image_text.specs.image_map.MapValue.{MapValue}
 use Rattle.image_text.specs.image_map.Kept.{IsMap}
 use Rattle.image_text.specs.ImageValue.{ImageValue}
@@ -146,7 +147,9 @@ calls_none_at a source is plain = subst (λ x. CallsNone (program_of x)) (sym is
 
 -- a task of a program without functions calls none
 pub calls_none : (p : CheckedProgram) (i : ℕ) (task : CheckedTask) → CallsNone p → slice_get p.tasks i ≡ Some task → BlockCallsBelow 0 task.body
-calls_none p i task none at = none.calls i task at
+calls_none p i task none at =
+    subst (λ (t : CheckedTask). BlockCallsBelow 0 t.body) (get_or_from_slice_get p.tasks i task task at)
+    (none.calls i task (slice_get_within p.tasks i task at))
 
 -- CUR names a task of its source
 pub current_at : (old : Accepted) (s : State) → IsStateOf old.text.items (program_of old.checked.source) s → (text words : List ℕ)

@@ -11,4 +11,5 @@ mod Rows
 mod Ring
 mod Places
 mod Answered
+mod InPlace
 pub mod Interface

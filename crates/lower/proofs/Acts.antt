@@ -3,7 +3,7 @@ use Rattle.lower.proofs.Names.{◌≡◌, ℕ, List, [], ◌∷◌, ◌++◌, Bo
 use Rattle.lower.proofs.Names.{Offered, put, fram_after, fram_after-append, Places, Room, TakesAndStores, IsTaskStore, at_variable, at_emit_count, in_buffer}
 use Rattle.lower.proofs.Names.{at_answer, IsPlainStore, to_variable, to_emit_count, to_buffer, to_answer, Act, alone, act_effects, acts_effects, AreActs}
 use Rattle.lower.proofs.Names.{AreMadeByActs, Did}
-use Rattle.lower.proofs.Values.{takes_weaker}
+use Rattle.lower.proofs.Effects.{takes_weaker}
 
 module _ (p : Places) (written : ℕ → Bool) (room : Room) where
   -- the effects of acts one behind another

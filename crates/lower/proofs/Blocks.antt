@@ -25,16 +25,17 @@ use Rattle.lower.proofs.Addresses.{fram_place, placed, spot_place, first_address
 use Rattle.lower.proofs.Updates.{is_update, update_goes_on, is_element_update, element_update_goes_on, is_of_words, joined_words}
 use Rattle.cost_bound.specs.Counts.{stores_of}
 use Rattle.lower.proofs.Assigned.{word_value, word_as_value, if_same, if_converted, both_assigned, assigned_as, same_conversion, words_commute}
-use Rattle.lower.proofs.Names.{AdmitsBlock, AdmitsChoice, AdmitsStatement, Answering, EndsByEffects, IsFit, Look, answered_by, behaves_by_effects}
-use Rattle.lower.proofs.Names.{by_answers, event_index, program_end, runs_of, Base}
-use Rattle.lower.proofs.Values.{small_modulo, holds_bit, truth_pushed, Keeping, Keeps, Leaves, LeavesWords, single}
-use Rattle.lower.proofs.EachExpression.{high_is, expression_leaves, long_leaves, test_leaves}
+use Rattle.lower.proofs.Names.{AdmitsBlock, AdmitsChoice, AdmitsStatement, Answering, IsFit, answered_by, conditions_count, conditions_emit, max}
+use Rattle.lower.proofs.Names.{by_answers, event_index, runs_of, Base}
+use Rattle.lower.proofs.Sequence.{Spare, none_spare, Covers, before, Keeping, Keeps, spared, stands_still, LeavesWords, as_outcome, value_then}
+use Rattle.lower.proofs.Values.{holds_bit, truth_pushed, single}
+use Rattle.lower.proofs.EachExpression.{high_is, KeepsBefore, expression_leaves, long_leaves, test_leaves}
 use Rattle.lower.proofs.Emitted.{EmitsAtMost, statement_emitted, block_emitted}
 use Rattle.lower.proofs.Stored.{same_variables, same_list, spot_list, scalar_set, local_holds, after_emit, emit_spots, first_held, emit_list, emitted_emits}
-use Rattle.lower.proofs.Stored.{few_words, same_emits, spots_low, list_low, emits_low}
+use Rattle.lower.proofs.Stored.{small_modulo, few_words}
 use Rattle.lower.proofs.Neighbours.{runs_are_few}
 use Rattle.lower.proofs.Transitions.{transition_behaves, transition_untold, untold_store}
-use Rattle.lower.proofs.Ends.{Does, does_then, does_alone, does_at, does_behind, settles, test_by_effects}
+use Rattle.lower.proofs.Ends.{Does, does_then, does_alone, does_behind, settles}
 use Rattle.lower.proofs.Names.{Logging, Redo, Undo, own_write, own_update, array_place, to_variable, to_buffer, to_emit_count}
 use Rattle.lower.proofs.Acts.{plain_did}
 use Rattle.lower.proofs.Logged.{logged_does, logged_update_does}
@@ -262,105 +263,76 @@ module _ (z : Scene) where
 
   -- ---- behind a value
 
-  -- what stands while an expression is evaluated: the state stands for the attempt behind what is evaluated, FRAM in front of the end of programs
-  -- and the emitted words are as they were
-  record IsStill {n : ℕ} {count : ℕ → ℕ} (here : Start z n count) (m : Attempt) (w : WordState) : Type 0 where
-    stands : StandsFor z.p z.first m here.listed w
-    fram : (a : ℕ) → a < program_end → w.fram a ≡ here.w.fram a
-    emitted : m.emitted ≡ here.m.emitted
+  -- what states keep where statements begin, with so much to spare behind a value
+  abbrev keeping : {n : ℕ} {count : ℕ → ℕ} → Start z n count → Spare → Keeping
+  keeping here free = record { z = z; most = here.most; within = here.within; free = free }
 
-  -- the state with the stack that there was
-  abbrev beside_stack : {n : ℕ} {count : ℕ → ℕ} → Start z n count → (ℕ → ℕ) → (ℕ → Option ℕ) → Inputs → WordState
-  beside_stack here f l i = record { stack = here.w.stack; locals = l; fram = f; inputs = i }
+  -- an expression may be evaluated there, with so much to spare behind it
+  abbrev HasSpare : CheckedExpression → ℕ → (ℕ → ℕ) → Spare → Type 0
+  HasSpare e n count free = Covers (record { emits = n; lists = count }) (before e free)
 
-  -- stores behind the end of programs, and looks, leave what stands
-  still_answered : {n : ℕ} {count : ℕ → ℕ} (here : Start z n count) (m : Attempt) (f g : ℕ → ℕ) (l : ℕ → Option ℕ) (i : Inputs) (looks : List Look)
-      → IsStill here m (beside_stack here f l i) → ((a : ℕ) → a < program_end → g a ≡ f a)
-      → IsStill here m (beside_stack here g l (record i { looks = looks }))
-  still_answered here m f g l i looks h low =
-      let fits = list_fits here in
-      let few = subst (λ es. length {A = ℕ} es ≤ z.room.emits) (sym h.emitted) (few_emitted here) in
-      record {
+  at_first : (e : CheckedExpression) {n : ℕ} {count : ℕ → ℕ} (here : Start z n count) (free : Spare) → HasSpare e n count free
+      → KeepsBefore (keeping here free) e here.m here.w
+  at_first e {n} {count} here free room =
+      spared (keeping here (record { emits = n; lists = count })) (before e free) here.m here.w room (record {
+        listed = here.listed;
         stands = record {
-          variables = same_variables z.p m.variables f g l (spots_low z.p z.room f g z.apart low) h.stands.variables;
-          emitted = same_emits z.p z.room m.emitted f g few (emits_low z.p z.room f g z.apart low) h.stands.emitted;
-          list = same_list z.p z.first z.room here.listed f g (omega (arith, fits)) (list_low z.p z.room f g z.apart low) h.stands.list;
-          readings = h.stands.readings;
+          variables = here.stands.variables;
+          emitted = here.stands.emitted;
+          list = here.stands.list;
+          readings = here.stands.readings;
         };
-        fram = λ a below. low a below ∙ h.fram a below;
-        emitted = h.emitted;
-      }
-
-  abbrev keeping : {n : ℕ} {count : ℕ → ℕ} → Start z n count → Keeping
-  keeping here = record {
-    shared = z.shared;
-    p = z.p;
-    room = z.room;
-    apart = z.apart;
-    even = z.even;
-    declared = z.declared;
-    Holds = λ m f l i. IsStill here m (beside_stack here f l i);
-    variables = λ m f l i h. h.stands.variables;
-    readings = λ m f l i h. h.stands.readings;
-    taken = λ m f l i rs h. record {
-      stands = record { variables = h.stands.variables; emitted = h.stands.emitted; list = h.stands.list; readings = refl };
-      fram = h.fram;
-      emitted = h.emitted;
-    };
-    answered = still_answered here;
-  }
-
-  at_first : {n : ℕ} {count : ℕ → ℕ} (here : Start z n count) → Keeps (keeping here) here.m here.w
-  at_first here = record { stands = here.stands; fram = λ a below. refl; emitted = refl }
+        number = here.number;
+        emits = here.emits;
+        lists = here.lists;
+      })
 
   -- a state behind a value, the value taken from the stack
-  record Behind {n : ℕ} {count : ℕ → ℕ} (here : Start z n count) : Type 0 where
+  record Behind {n : ℕ} {count : ℕ → ℕ} (here : Start z n count) (free : Spare) : Type 0 where
     m : Attempt
     w : WordState
-    still : IsStill here (answered_by [] m) (with_stack here.w.stack w)
+    kept : Keeps (keeping here free) m w
 
-  -- VER is as it was
-  still_numbered : {n : ℕ} {count : ℕ → ℕ} (here : Start z n count) (there : Behind here) → there.w.fram (word_place z.p.map Version) ≡ z.ver
-  still_numbered here there = let apart = z.apart in there.still.fram (word_place z.p.map Version) (omega (arith, apart)) ∙ here.number
-
-  abbrev behind_value : {n : ℕ} {count : ℕ → ℕ} (here : Start z n count) → Behind here → Start z n count
-  behind_value {n} here there = record {
+  abbrev behind_value : {n : ℕ} {count : ℕ → ℕ} (here : Start z n count) (free : Spare) → Behind here free → Start z free.emits free.lists
+  behind_value here free there = record {
     m = there.m;
-    listed = here.listed;
+    listed = there.kept.listed;
     w = with_stack here.w.stack there.w;
     most = here.most;
-    stands = there.still.stands;
-    number = still_numbered here there;
-    emits = subst (λ es. length {A = ℕ} es + n ≤ z.room.emits) (sym there.still.emitted) here.emits;
-    lists = here.lists;
+    stands = stands_still (keeping here free) there.m there.w here.w.stack there.kept;
+    number = there.kept.number;
+    emits = there.kept.emits;
+    lists = there.kept.lists;
     within = here.within;
   }
 
-  -- a program that leaves words of a value on top of these, and what goes on from there
-  value_does : {n : ℕ} {count : ℕ → ℕ} (here : Start z n count) (words : ℕ → List ℕ) (below : List ℕ) (u : WordState) (b : Behaviour) (o : Answering)
-      (next : WordState → Behaviour) (more : ℕ → Attempt → Outcome) → EndsByEffects u b.effects b.end → LeavesWords (keeping here) words below b o
-      → ((v : ℕ) (there : Behind here) → DoesFrom (behind_value here there) (next (with_stack (words v ++ below) there.w)) (more v))
+  -- what is done from each state behind a value, with words of it on these
+  abbrev DoesBehind : {n : ℕ} {count : ℕ → ℕ} → Start z n count → Spare → (ℕ → List ℕ) → List ℕ → (WordState → Behaviour) → (ℕ → Attempt → Outcome) → Type 0
+  DoesBehind here free words below next more =
+      (v : ℕ) (there : Behind here free) → DoesFrom (behind_value here free there) (next (with_stack (words v ++ below) there.w)) (more v)
+
+  -- a program that leaves words of a value, and what goes on from there
+  value_does : {n : ℕ} {count : ℕ → ℕ} (here : Start z n count) (free : Spare) (words : ℕ → List ℕ) (u : WordState) (b : Behaviour) (o : Answering)
+      (next : WordState → Behaviour) (more : ℕ → Attempt → Outcome) → LeavesWords (keeping here free) words u b o
+      → DoesBehind here free words u.stack next more
       → Does z u.fram here.most here.w.stack (then_on b next) (λ answers. if_value (o answers) more)
-  value_does here words below u b o next more by agrees k =
-      does_at z here.most here.w.stack u (Leaves (keeping here) words below) b o next more by agrees
-      (λ x s there. subst
-      (λ l. Does z s.fram here.most here.w.stack (next (with_stack l s)) (λ answers. more x.value (answered_by answers x.behind))) (sym there.stack)
-      (k x.value (record { m = x.behind; w = s; still = there.kept })))
+  value_does here free words u b o next more leaves does =
+      value_then (keeping here free) (as_outcome z here.most here.w.stack) words u b o next (λ x. more x.value x.behind) leaves
+      (λ x s kept. does x.value (record { m = x.behind; w = s; kept = kept }))
 
   -- what a program does with a word on the stack, behind a value
-  abbrev DoesWith : {n : ℕ} {count : ℕ → ℕ} → Start z n count → Program → (ℕ → Attempt → Outcome) → Type 0
-  DoesWith here last more =
-      (v : ℕ) (there : Behind here) → DoesFrom (behind_value here there) (behaviour last (with_stack (v ∷ here.w.stack) there.w)) (more v)
+  abbrev DoesWith : {n : ℕ} {count : ℕ → ℕ} → Start z n count → Spare → Program → (ℕ → Attempt → Outcome) → Type 0
+  DoesWith here free last more = DoesBehind here free single here.w.stack (behaviour last) more
 
   -- the value of an expression as one word, and a program that takes it
-  value_taken : (e : CheckedExpression) {n : ℕ} {count : ℕ → ℕ} (here : Start z n count) (last : Program) (more : ℕ → Attempt → Outcome)
-      → IsFit z.shared z.p e → DoesWith here last more
+  value_taken : (e : CheckedExpression) {n : ℕ} {count : ℕ → ℕ} (here : Start z n count) (free : Spare) (last : Program)
+      (more : ℕ → Attempt → Outcome) → HasSpare e n count free → IsFit z.shared z.p e → DoesWith here free last more
       → DoesFrom here (behaviour (joined (lowered_expression z.p e) last) here.w) (λ m. if_value (word_value e m) more)
-  value_taken e here last more fits k =
+  value_taken e here free last more room fits k =
       let q = lowered_expression z.p e in
       subst (λ b. DoesFrom here b (λ m. if_value (word_value e m) more)) (sym (joined_go_on q last here.w))
-      (value_does here single here.w.stack here.w (behaviour q here.w) (by_answers here.m (word_value e)) (behaviour last) more
-      (behaves_by_effects q here.w) (expression_leaves (keeping here) e here.m here.w (at_first here) fits) k)
+      (value_does here free single here.w (behaviour q here.w) (by_answers here.m (word_value e)) (behaviour last) more
+      (expression_leaves (keeping here free) e here.m here.w (at_first e here free room) fits) k)
 
   -- ---- assignments
 
@@ -369,19 +341,27 @@ module _ (z : Scene) where
   Sets x e here q = DoesFrom here (behaviour q here.w) (λ m. if_value (word_value e m) (λ v s. goes_on (source.assigned s x 0 v)))
 
   setting_does : (x : Variable) (e : CheckedExpression) {n : ℕ} {count : ℕ → ℕ} (here : Start z n count)
-      → IsFit z.shared z.p e → IsTarget z.p z.written x
+      → HasSpare e n count none_spare → IsFit z.shared z.p e → IsTarget z.p z.written x
       → Sets x e here (setting z.p x e)
-  setting_does x e here fits target =
-      value_taken e here (one (write_step z.p x)) (λ v s. goes_on (source.assigned s x 0 v)) fits
-      (λ v there. write_does x (behind_value here there) v target)
+  setting_does x e here room fits target =
+      value_taken e here none_spare (one (write_step z.p x)) (λ v s. goes_on (source.assigned s x 0 v)) room fits
+      (λ v there. write_does x (behind_value here none_spare there) v target)
+
+  -- room for both sides is room for the right one
+  right_room : (op : PlacedOperator) (a b : CheckedExpression) {n : ℕ} {count : ℕ → ℕ} (free : Spare) → HasSpare (t.binary op a b) n count free
+      → HasSpare b n count free
+  right_room op a b free room = record {
+    emits = let l = room.emits in omega (arith, l);
+    lists = λ v. let l = room.lists v in omega (arith, l);
+  }
 
   -- in place, where both sides are of one word
   sides_do : (x : Variable) (op : PlacedOperator) (a b : CheckedExpression) (o : Option PlainOperation) {n : ℕ} {count : ℕ → ℕ} (here : Start z n count)
       → of_words (joined_type (type_of a) (type_of b)) (updating x op.operator a) ≡ o
-      → IsFit z.shared z.p (t.binary op a b) → IsTarget z.p z.written x
+      → HasSpare (t.binary op a b) n count none_spare → IsFit z.shared z.p (t.binary op a b) → IsTarget z.p z.written x
       → Sets x (t.binary op a b) here (sides_set z.p x op a b o)
-  sides_do x op a b None here is fits target = setting_does x (t.binary op a b) here fits target
-  sides_do x op a b (Some o) here is fits target =
+  sides_do x op a b None here is room fits target = setting_does x (t.binary op a b) here room fits target
+  sides_do x op a b (Some o) here is room fits target =
       let word = is_of_words (joined_type (type_of a) (type_of b)) (updating x op.operator a) o is in
       let types = joined_words (type_of a) (type_of b) word.word in
       let whole = one_word.binary_word op.operator (type_of a) (type_of b) types.0 types.1 in
@@ -392,35 +372,36 @@ module _ (z : Scene) where
       ∙ sym (update_goes_on x op a b o m (is_update x op.operator a o word.is) types.0 types.1)
       ∙ sym (ap (λ r. if_value r given) (word_as_value (t.binary op a b) m whole)) in
       subst (DoesFrom here (behaviour (sides_set z.p x op a b (Some o)) here.w)) (λ j. λ m. same m j)
-      (value_taken b here (one (update_step z.p o x)) next (fits.0.1, fits.1.1) (λ v there. update_does o x (behind_value here there) v target))
+      (value_taken b here none_spare (one (update_step z.p o x)) next (right_room op a b none_spare room) (fits.0.1, fits.1.1)
+      (λ v there. update_does o x (behind_value here none_spare there) v target))
 
   -- by the kind of the expression: the first clause makes it a proof by cases
   assignment_does : (x : Variable) (e : CheckedExpression) {n : ℕ} {count : ℕ → ℕ} (here : Start z n count)
-      → IsFit z.shared z.p e → IsTarget z.p z.written x
+      → HasSpare e n count none_spare → IsFit z.shared z.p e → IsTarget z.p z.written x
       → Sets x e here (assignment z.p x e)
-  assignment_does x (t.binary op a b) here fits target =
-      sides_do x op a b (of_words (joined_type (type_of a) (type_of b)) (updating x op.operator a)) here refl fits target
-  assignment_does x e here fits target = setting_does x e here fits target
+  assignment_does x (t.binary op a b) here room fits target =
+      sides_do x op a b (of_words (joined_type (type_of a) (type_of b)) (updating x op.operator a)) here refl room fits target
+  assignment_does x e here room fits target = setting_does x e here room fits target
 
   long_setting_does : (x : Variable) (e : CheckedExpression) {n : ℕ} {count : ℕ → ℕ} (here : Start z n count)
-      → IsFit z.shared z.p e → IsLongTarget z.p z.written x
+      → HasSpare e n count none_spare → IsFit z.shared z.p e → IsLongTarget z.p z.written x
       → DoesFrom here (behaviour (long_setting z.p x e) here.w)
       (λ m. if_value (converted_to (type_of e) Long (value_of [] e m)) (λ v s. goes_on (both_assigned s x v)))
-  long_setting_does x e here fits target =
+  long_setting_does x e here room fits target =
       let o : Attempt → Option Evaluated = λ m. converted_to (type_of e) Long (value_of [] e m) in
       let given : ℕ → Attempt → Outcome = λ v s. goes_on (both_assigned s x v) in
       let q = lowered_long z.p e in
       subst (λ b. DoesFrom here b (λ m. if_value (o m) given)) (sym (joined_go_on q (write_long z.p x) here.w))
-      (value_does here stacked here.w.stack here.w (behaviour q here.w) (by_answers here.m o) (behaviour (write_long z.p x)) given
-      (behaves_by_effects q here.w) (long_leaves (keeping here) e here.m here.w (at_first here) fits)
-      (λ v there. write_long_does x (behind_value here there) v target))
+      (value_does here none_spare stacked here.w (behaviour q here.w) (by_answers here.m o) (behaviour (write_long z.p x)) given
+      (long_leaves (keeping here none_spare) e here.m here.w (at_first e here none_spare room) fits)
+      (λ v there. write_long_does x (behind_value here none_spare there) v target))
 
   -- a variable of one word takes the value as one word
   word_assigned_does : (of : WordType) (x : Variable) (e : CheckedExpression) {n : ℕ} {count : ℕ → ℕ} (here : Start z n count) → IsOneWord of
-      → IsFit z.shared z.p e → IsTarget z.p z.written x
+      → HasSpare e n count none_spare → IsFit z.shared z.p e → IsTarget z.p z.written x
       → DoesFrom here (behaviour (assignment z.p x e) here.w) (λ m. with_value [] e m (λ v s. goes_on (assigned_as of s x (type_of e) v)))
-  word_assigned_does of x e here word fits target =
-      subst (DoesFrom here (behaviour (assignment z.p x e) here.w)) (λ j. λ m. as_word m j) (assignment_does x e here fits target)
+  word_assigned_does of x e here word room fits target =
+      subst (DoesFrom here (behaviour (assignment z.p x e) here.w)) (λ j. λ m. as_word m j) (assignment_does x e here room fits target)
     where
       same : (v : ℕ) (s : Attempt) → source.assigned s x 0 (converted (type_of e) Unsigned v) ≡ assigned_as of s x (type_of e) v
       same v s = ap (source.assigned s x 0) (same_conversion (type_of e) of v word)
@@ -434,48 +415,56 @@ module _ (z : Scene) where
 
   -- an assignment to a scalar of a type
   scalar_does : (of : WordType) (x : Variable) (e : CheckedExpression) {n : ℕ} {count : ℕ → ℕ} (here : Start z n count)
-      → IsFit z.shared z.p e → IsTargetOf z.p z.written of x
+      → HasSpare e n count none_spare → IsFit z.shared z.p e → IsTargetOf z.p z.written of x
       → DoesFrom here (behaviour (scalar_assignment z.p of x e) here.w) (λ m. with_value [] e m (λ v s. goes_on (assigned_as of s x (type_of e) v)))
-  scalar_does Long x e here fits target =
+  scalar_does Long x e here room fits target =
       subst (DoesFrom here (behaviour (long_setting z.p x e) here.w))
       (λ j. λ m. if_converted (type_of e) Long (value_of [] e m) (λ v s. goes_on (both_assigned s x v)) j)
-      (long_setting_does x e here fits target)
-  scalar_does Int x e here fits target = word_assigned_does Int x e here tt fits target
-  scalar_does Unsigned x e here fits target = word_assigned_does Unsigned x e here tt fits target
+      (long_setting_does x e here room fits target)
+  scalar_does Int x e here room fits target = word_assigned_does Int x e here tt room fits target
+  scalar_does Unsigned x e here room fits target = word_assigned_does Unsigned x e here tt room fits target
 
   -- ---- stores to elements
 
   -- an index and a value, and what a program does with both
   index_and_value_do : (index e : CheckedExpression) (last : Program) (given : ℕ → ℕ → Attempt → Outcome) {n : ℕ} {count : ℕ → ℕ} (here : Start z n count)
-      → IsFit z.shared z.p index → IsFit z.shared z.p e
-      → ((i v : ℕ) (there : Behind here)
-      → DoesFrom (behind_value here there) (behaviour last (with_stack (v ∷ (i ∷ here.w.stack)) there.w)) (given i v))
+      (free : Spare) → HasSpare index n count (before e free) → IsFit z.shared z.p index → IsFit z.shared z.p e
+      → ((i v : ℕ) (there : Behind here free)
+      → DoesFrom (behind_value here free there) (behaviour last (with_stack (v ∷ (i ∷ here.w.stack)) there.w)) (given i v))
       → DoesFrom here (behaviour (joined (index_and_value z.p index e) last) here.w)
       (λ m. if_value (word_value index m) (λ i s. if_value (word_value e s) (given i)))
-  index_and_value_do index e last given here of_index of_e k =
+  index_and_value_do index e last given here free room of_index of_e k =
       let first = lowered_expression z.p index in
       let second = lowered_expression z.p e in
       let more : ℕ → Attempt → Outcome = λ i s. if_value (word_value e s) (given i) in
       subst (λ q. DoesFrom here (behaviour q here.w) (λ m. if_value (word_value index m) more)) (sym (joined_assoc first second last))
-      (value_taken index here (joined second last) more of_index
+      (value_taken index here (before e free) (joined second last) more room of_index
       (λ i there.
       let u : WordState = with_stack (i ∷ here.w.stack) there.w in
-      subst (λ b. DoesFrom (behind_value here there) b (more i)) (sym (joined_go_on second last u))
-      (value_does here single u.stack u (behaviour second u) (by_answers there.m (word_value e)) (behaviour last) (given i)
-      (behaves_by_effects second u) (expression_leaves (keeping here) e there.m u there.still of_e) (k i))))
+      subst (λ b. DoesFrom (behind_value here (before e free) there) b (more i)) (sym (joined_go_on second last u))
+      (value_does here free single u (behaviour second u) (by_answers there.m (word_value e)) (behaviour last) (given i)
+      (expression_leaves (keeping here free) e there.m u there.kept of_e) (k i))))
 
   -- an assignment to an element does what the source's does: the index and the value are taken as one word
   abbrev stored_word : Variable → CheckedExpression → ℕ → Attempt → Outcome
   stored_word x e i s = if_value (word_value e s) (λ v s. goes_on (source.assigned s x i v))
 
-  abbrev AssignsElement : (x : Variable) → CheckedExpression → CheckedExpression → Start z 0 (one_store x) → Program → Type 0
+  abbrev AssignsElement : Variable → CheckedExpression → CheckedExpression → {n : ℕ} {count : ℕ → ℕ} → Start z n count → Program → Type 0
   AssignsElement x index e here q = DoesFrom here (behaviour q here.w) (λ m. if_value (word_value index m) (stored_word x e))
 
-  element_setting_does : (x : Variable) (index e : CheckedExpression) (here : Start z 0 (one_store x)) → IsWrittenArray z.p x
-      → IsFit z.shared z.p index → IsFit z.shared z.p e → AssignsElement x index e here (element_setting z.p x index e)
-  element_setting_does x index e here array of_index of_e =
-      index_and_value_do index e (one (store_step z.p x)) (λ i v s. goes_on (source.assigned s x i v)) here of_index of_e
-      (λ i v there. store_step_does x i v (behind_value here there) array)
+  -- one store is to spare behind the index and the value
+  abbrev store_spare : Variable → Spare
+  store_spare x = record { emits = 0; lists = one_store x }
+
+  abbrev HasStoreSpare : Variable → CheckedExpression → CheckedExpression → ℕ → (ℕ → ℕ) → Type 0
+  HasStoreSpare x index e n count = HasSpare index n count (before e (store_spare x))
+
+  element_setting_does : (x : Variable) (index e : CheckedExpression) {n : ℕ} {count : ℕ → ℕ} (here : Start z n count) → IsWrittenArray z.p x
+      → HasStoreSpare x index e n count → IsFit z.shared z.p index → IsFit z.shared z.p e
+      → AssignsElement x index e here (element_setting z.p x index e)
+  element_setting_does x index e here array room of_index of_e =
+      index_and_value_do index e (one (store_step z.p x)) (λ i v s. goes_on (source.assigned s x i v)) here (store_spare x) room of_index of_e
+      (λ i v there. store_step_does x i v (behind_value here (store_spare x) there) array)
 
   -- what is given of an index and of a value, as of expressions of one word
   as_values : (index e : CheckedExpression) (m : Attempt) (given : ℕ → ℕ → Attempt → Outcome) → IsOneWord (type_of index) → IsOneWord (type_of e)
@@ -485,15 +474,24 @@ module _ (z : Scene) where
       if_same (word_value index m) _ more (λ i s. ap (λ r. if_value r (given i)) (word_as_value e s of_e))
       ∙ ap (λ r. if_value r more) (word_as_value index m of_index)
 
+  -- room for the index and both sides is room for the index and the right one
+  right_store_room : (x : Variable) (index : CheckedExpression) (op : PlacedOperator) (a b : CheckedExpression) {n : ℕ} {count : ℕ → ℕ}
+      → HasStoreSpare x index (t.binary op a b) n count → HasStoreSpare x index b n count
+  right_store_room x index op a b room = record {
+    emits = let l = room.emits in omega (arith, l);
+    lists = λ v. let l = room.lists v in omega (arith, l);
+  }
+
   -- in place, where both sides are of one word
   element_sides_do : (x : Variable) (index : CheckedExpression) (op : PlacedOperator) (a b : CheckedExpression) (o : Option PlainOperation)
-      (here : Start z 0 (one_store x))
+      {n : ℕ} {count : ℕ → ℕ} (here : Start z n count)
       → of_words (joined_type (type_of a) (type_of b)) (element_updating x index op.operator a) ≡ o
-      → IsWrittenArray z.p x → IsFit z.shared z.p index → IsOneWord (type_of index) → IsFit z.shared z.p (t.binary op a b)
+      → IsWrittenArray z.p x → HasStoreSpare x index (t.binary op a b) n count → IsFit z.shared z.p index → IsOneWord (type_of index)
+      → IsFit z.shared z.p (t.binary op a b)
       → AssignsElement x index (t.binary op a b) here (element_sides_set z.p x index op a b o)
-  element_sides_do x index op a b None here is array of_index index_word of_e =
-      element_setting_does x index (t.binary op a b) here array of_index of_e
-  element_sides_do x index op a b (Some o) here is array of_index index_word of_e =
+  element_sides_do x index op a b None here is array room of_index index_word of_e =
+      element_setting_does x index (t.binary op a b) here array room of_index of_e
+  element_sides_do x index op a b (Some o) here is array room of_index index_word of_e =
       let word = is_of_words (joined_type (type_of a) (type_of b)) (element_updating x index op.operator a) o is in
       let types = joined_words (type_of a) (type_of b) word.word in
       let whole = one_word.binary_word op.operator (type_of a) (type_of b) types.0 types.1 in
@@ -507,30 +505,31 @@ module _ (z : Scene) where
       ∙ sym (element_update_goes_on x index op a b o m u (record { index = index_word; other = element.3; left = types.0; right = types.1 }))
       ∙ sym (as_values index (t.binary op a b) m given index_word whole) in
       subst (DoesFrom here (behaviour (element_sides_set z.p x index op a b (Some o)) here.w)) (λ j. λ m. same m j)
-      (index_and_value_do index b (one (update_element_step z.p o x)) next here of_index (of_e.0.1, of_e.1.1)
-      (λ i v there. update_step_does o x i v (behind_value here there) array))
+      (index_and_value_do index b (one (update_element_step z.p o x)) next here (store_spare x) (right_store_room x index op a b room)
+      of_index (of_e.0.1, of_e.1.1)
+      (λ i v there. update_step_does o x i v (behind_value here (store_spare x) there) array))
 
   -- by the kind of the expression: the first clause makes it a proof by cases
-  element_does : (x : Variable) (index e : CheckedExpression) (here : Start z 0 (one_store x)) → IsWrittenArray z.p x
-      → IsFit z.shared z.p index → IsOneWord (type_of index) → IsFit z.shared z.p e
+  element_does : (x : Variable) (index e : CheckedExpression) {n : ℕ} {count : ℕ → ℕ} (here : Start z n count) → IsWrittenArray z.p x
+      → HasStoreSpare x index e n count → IsFit z.shared z.p index → IsOneWord (type_of index) → IsFit z.shared z.p e
       → AssignsElement x index e here (element_assignment z.p x index e)
-  element_does x index (t.binary op a b) here array of_index index_word of_e =
-      element_sides_do x index op a b (of_words (joined_type (type_of a) (type_of b)) (element_updating x index op.operator a)) here refl array
+  element_does x index (t.binary op a b) here array room of_index index_word of_e =
+      element_sides_do x index op a b (of_words (joined_type (type_of a) (type_of b)) (element_updating x index op.operator a)) here refl array room
       of_index index_word of_e
-  element_does x index e here array of_index index_word of_e = element_setting_does x index e here array of_index of_e
+  element_does x index e here array room of_index index_word of_e = element_setting_does x index e here array room of_index of_e
 
-  element_store_does : (x : Variable) (index e : CheckedExpression) (here : Start z 0 (one_store x)) → IsWrittenArray z.p x
-      → IsFit z.shared z.p index → IsOneWord (type_of index) → IsFit z.shared z.p e
+  element_store_does : (x : Variable) (index e : CheckedExpression) {n : ℕ} {count : ℕ → ℕ} (here : Start z n count) → IsWrittenArray z.p x
+      → HasStoreSpare x index e n count → IsFit z.shared z.p index → IsOneWord (type_of index) → IsFit z.shared z.p e
       → DoesFrom here (behaviour (element_assignment z.p x index e) here.w)
       (λ m. with_value [] index m (λ i s. with_value [] e s (λ v s. goes_on (source.assigned s x i (source.word_of e v)))))
-  element_store_does x index e here array of_index index_word of_e =
+  element_store_does x index e here array room of_index index_word of_e =
       let given : ℕ → ℕ → Attempt → Outcome = λ i v s. goes_on (source.assigned s x i v) in
       let same : (m : Attempt) → if_value (word_value index m) (stored_word x e)
       ≡ with_value [] index m (λ i s. with_value [] e s (λ v s. goes_on (source.assigned s x i (source.word_of e v)))) =
       λ m. ap (λ r. if_value r (stored_word x e)) (word_as_value index m index_word)
       ∙ if_same (value_of [] index m) (stored_word x e) _ (λ i s. if_converted (type_of e) Unsigned (value_of [] e s) (given i)) in
       subst (DoesFrom here (behaviour (element_assignment z.p x index e) here.w)) (λ j. λ m. same m j)
-      (element_does x index e here array of_index index_word of_e)
+      (element_does x index e here array room of_index index_word of_e)
 
   -- ---- transitions
 
@@ -661,15 +660,15 @@ module _ (z : Scene) where
   by_truth (Some x) f g = ap (λ b. if b then f x.behind else g x.behind) (holds_bit (holds x.value))
 
   -- one way of a choice does what the source runs, from any attempt behind the condition on
-  abbrev WayDoes : {n : ℕ} {count : ℕ → ℕ} → Start z n count → Program → (Attempt → Outcome) → Type 0
-  WayDoes here q run = (there : Behind here) → DoesFrom (behind_value here there) (behaviour q (with_stack here.w.stack there.w)) run
+  abbrev WayDoes : {n : ℕ} {count : ℕ → ℕ} → Start z n count → Spare → Program → (Attempt → Outcome) → Type 0
+  WayDoes here free q run = (there : Behind here free) → DoesFrom (behind_value here free there) (behaviour q (with_stack here.w.stack there.w)) run
 
   -- a choice, where both ways do
-  choice_of_ways : (e : CheckedExpression) {n : ℕ} {count : ℕ → ℕ} (here : Start z n count) (taken otherwise : Program) (f g : Attempt → Outcome)
-      → IsFit z.shared z.p e → WayDoes here taken f → WayDoes here otherwise g
+  choice_of_ways : (e : CheckedExpression) {n : ℕ} {count : ℕ → ℕ} (here : Start z n count) (free : Spare) (taken otherwise : Program)
+      (f g : Attempt → Outcome) → HasSpare e n count free → IsFit z.shared z.p e → WayDoes here free taken f → WayDoes here free otherwise g
       → DoesFrom here (behaviour (one (choose (lowered_test z.p e) taken otherwise)) here.w)
       (λ m. with_value [] e m (λ v s. if holds v then f s else g s))
-  choice_of_ways e here taken otherwise f g fits a b =
+  choice_of_ways e here free taken otherwise f g room fits a b =
       let w = here.w in
       let c = lowered_test z.p e in
       let run : ℕ → Attempt → Outcome = λ v s. if holds v then f s else g s in
@@ -679,10 +678,10 @@ module _ (z : Scene) where
       (λ answers. with_value [] e (answered_by answers here.m) run)
       (subst (λ r. DoesFrom here r (λ m. with_value [] e m run)) (sym (decided_by_truth c (behaviour taken) (behaviour otherwise) w))
       (subst (DoesFrom here (then_on (truth_pushed c w) ways)) (λ j. λ m. by_truth (value_of [] e m) f g j)
-      (value_does here single w.stack w (truth_pushed c w) (by_answers here.m o) ways run (test_by_effects c w)
-      (test_leaves (keeping here) e here.m w (at_first here) fits)
+      (value_does here free single w (truth_pushed c w) (by_answers here.m o) ways run
+      (test_leaves (keeping here free) e here.m w (at_first e here free room) fits)
       (λ v there. let s = with_stack w.stack there.w in
-      either_does (holds v) (behind_value here there) (behaviour taken s) (behaviour otherwise s) f g (a there) (b there)))))
+      either_does (holds v) (behind_value here free there) (behaviour taken s) (behaviour otherwise s) f g (a there) (b there)))))
 
   -- for statements that emit and list no more
   abbrev with_fewer : {n : ℕ} {count : ℕ → ℕ} (here : Start z n count) (k : ℕ) (fewer : ℕ → ℕ) → k ≤ n → ((v : ℕ) → fewer v ≤ count v)
@@ -703,6 +702,22 @@ module _ (z : Scene) where
 
   -- ---- all statements
 
+  -- what an emit wants behind its value, what conditions want with the greatest of their blocks, and what the ways behind one of them want
+  abbrev emit_spare : Spare
+  emit_spare = record { emits = 1; lists = λ v. 0 }
+
+  abbrev choice_spare : CheckedChoice → Spare
+  choice_spare c = record {
+    emits = conditions_emit [] c + choice_emits [] c;
+    lists = λ v. conditions_count [] c + choice_count [] (is_store_to v) c;
+  }
+
+  abbrev ways_spare : CheckedBlock → CheckedChoice → Spare
+  ways_spare block more = record {
+    emits = conditions_emit [] more + max (block_emits [] block) (choice_emits [] more);
+    lists = λ v. conditions_count [] more + max (block_count [] (is_store_to v) block) (choice_count [] (is_store_to v) more);
+  }
+
   -- what some path writes, the task writes
   abbrev Writes : (ℕ → Bool) → Type 0
   Writes writes = (v : ℕ) → writes v ≡ true → z.written v ≡ true
@@ -713,18 +728,17 @@ module _ (z : Scene) where
         → DoesFrom here (behaviour (lowered_statement z.p s) here.w) (run_statement [] s)
     statement_does (t.declare of x None) here fits admits writes = nothing_does here
     statement_does (t.declare of x (Some e)) here fits admits writes =
-        word_assigned_does x.word_type x.variable e here (local_word z.shared x.word_type x.variable fits.0 fits.2) (fits.1, admits)
-        (local_target z.p z.written x.variable fits.0)
+        word_assigned_does x.word_type x.variable e here (local_word z.shared x.word_type x.variable fits.0 fits.2)
+        (record { emits = omega arith; lists = λ v. omega arith }) (fits.1, admits) (local_target z.p z.written x.variable fits.0)
     statement_does (t.assign x e) here fits admits writes =
-        scalar_does x.word_type x.variable e here (fits.1, admits)
+        scalar_does x.word_type x.variable e here (record { emits = omega arith; lists = λ v. omega arith }) (fits.1, admits)
         (target_of z.shared z.p z.written z.declared x.word_type x.variable fits.0 fits.2 (λ v k. writes v (assignment_writes v x e k)))
     statement_does (t.store x index e) here fits admits writes =
-        element_store_does x.variable index e (with_fewer here 0 (one_store x.variable) (omega arith) (λ v. omega arith))
+        element_store_does x.variable index e here
         (array_target z.shared z.p z.written z.declared x.variable z.copied fits.0 (λ v k. writes v (store_writes v x index e k)))
-        (fits.1, admits.0) fits.3 (fits.2, admits.1)
+        (record { emits = omega arith; lists = λ v. omega arith }) (fits.1, admits.0) fits.3 (fits.2, admits.1)
     statement_does (t.choose choice) here fits admits writes =
-        choice_does choice (with_fewer here (choice_emits [] choice) (λ v. choice_count [] (is_store_to v) choice) (omega arith) (λ v. omega arith)) fits admits
-        writes
+        choice_does choice here fits admits writes
     statement_does (t.loop x from tested below stepped body) here fits admits writes =
         loop_does x.variable from below (lowered_block z.p body) (run_block [] body) (block_emits [] body) (λ v. block_count [] (is_store_to v) body) fits.0
         (λ some. record {
@@ -736,24 +750,26 @@ module _ (z : Scene) where
         let given : ℕ → Attempt → Outcome = λ v s. goes_on (record s { emitted = s.emitted ++ v ∷ [] }) in
         subst (DoesFrom here (behaviour (joined (lowered_expression z.p e) last) here.w))
         (λ j. λ m. if_converted (type_of e) Unsigned (value_of [] e m) given j)
-        (value_taken e here last given (fits.0, admits)
-        (λ v there. emit_does (with_fewer (behind_value here there) 1 (λ v. 0) (omega arith) (λ v. omega arith)) v))
+        (value_taken e here emit_spare last given (record { emits = omega arith; lists = λ v. omega arith }) (fits.0, admits)
+        (λ v there. emit_does (behind_value here emit_spare there) v))
     statement_does (t.give at e) here fits admits writes = absurd fits
     statement_does (t.transition at task) here fits admits writes = transition_does task.task here
 
-    choice_does : (c : CheckedChoice) (here : Start z (choice_emits [] c) (λ v. choice_count [] (is_store_to v) c)) → WellFormedChoice z.shared c
+    choice_does : (c : CheckedChoice) (here : Start z (choice_spare c).emits (choice_spare c).lists) → WellFormedChoice z.shared c
         → AdmitsChoice z.p.map.runtime.events c → Writes (λ v. (choice_sum [] (summary (Shared v)) c).writes)
         → DoesFrom here (behaviour (lowered_choice z.p c) here.w) (run_choice [] c)
     choice_does t.nothing here fits admits writes = nothing_does here
-    choice_does (t.otherwise block) here fits admits writes = block_does block here fits admits writes
+    choice_does (t.otherwise block) here fits admits writes =
+        block_does block (with_fewer here (block_emits [] block) (λ v. block_count [] (is_store_to v) block) (omega arith) (λ v. omega arith)) fits admits writes
     choice_does (t.test e block more) here fits admits writes =
-        choice_of_ways e here (lowered_block z.p block) (lowered_choice z.p more) (run_block [] block) (run_choice [] more)
-        (fits.0, admits.0)
+        let free = ways_spare block more in
+        choice_of_ways e here free (lowered_block z.p block) (lowered_choice z.p more) (run_block [] block) (run_choice [] more)
+        (record { emits = omega arith; lists = λ v. omega arith }) (fits.0, admits.0)
         (λ there. block_does block
-        (with_fewer (behind_value here there) (block_emits [] block) (λ v. block_count [] (is_store_to v) block) (omega arith) (λ v. omega arith)) fits.1
+        (with_fewer (behind_value here free there) (block_emits [] block) (λ v. block_count [] (is_store_to v) block) (omega arith) (λ v. omega arith)) fits.1
         admits.1 (λ v k. writes v (taken_writes v e block more k)))
         (λ there. choice_does more
-        (with_fewer (behind_value here there) (choice_emits [] more) (λ v. choice_count [] (is_store_to v) more) (omega arith) (λ v. omega arith)) fits.2
+        (with_fewer (behind_value here free there) (choice_spare more).emits (choice_spare more).lists (omega arith) (λ v. omega arith)) fits.2
         admits.2 (λ v k. writes v (passed_writes v e block more k)))
 
     block_does : (b : CheckedBlock) (here : Start z (block_emits [] b) (λ v. block_count [] (is_store_to v) b)) → WellFormedBlock z.shared b

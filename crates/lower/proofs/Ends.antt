@@ -1,18 +1,16 @@
 -- Programs and statements one behind another: the ends of both agree where each step's do.
-use Rattle.lower.proofs.Names.{◌≡◌, ℕ, ◌<◌, ◌≤◌, List, [], ◌∷◌, ◌++◌, length, Option, Some, None, Bool, refl, sym, ap, ◌∙◌, subst, arith, append_assoc}
-use Rattle.lower.proofs.Names.{append-nil, word_place, ListLength, EmitCount, Version, Effect, Store, Take, Outside, put, fram_after, fram_after-append}
-use Rattle.lower.proofs.Names.{put_other, Evaluated, Outcome, to_task, short, and_then, if_value, Program, nothing, WordState, End, GoesOn, Jumps, Short}
-use Rattle.lower.proofs.Names.{Broken, Behaviour, behind_effects, on_end, then_on, behaviour, EndsByEffects, behaves_by_effects, Places, Element}
-use Rattle.lower.proofs.Names.{scalar, copy, version, Room, AreApart, listed_of, TakesAndStores, OnlyTakes, IsTaskStore, at_variable, at_copy, at_version}
-use Rattle.lower.proofs.Names.{in_list, at_list_length, at_emit_count, in_buffer, StandsFor, EndsAt, AgreesAt, Scene, bounds, Left, EndsAs, Agrees}
+use Rattle.lower.proofs.Names.{◌≡◌, ℕ, ◌<◌, ◌≤◌, List, [], ◌∷◌, ◌++◌, length, Bool, refl, sym, ap, ◌∙◌, subst, arith, append_assoc, append-nil, word_place}
+use Rattle.lower.proofs.Names.{ListLength, EmitCount, Version, Effect, Store, Take, Outside, put, fram_after, fram_after-append, put_other, Outcome, to_task}
+use Rattle.lower.proofs.Names.{short, and_then, Program, nothing, WordState, End, GoesOn, Jumps, Short, Strays, Broken, Behaviour, behind_effects, on_end}
+use Rattle.lower.proofs.Names.{then_on, behaviour, EndsByEffects, behaves_by_effects, Places, Element, scalar, element, copy, version, Room, AreApart}
+use Rattle.lower.proofs.Names.{listed_of, TakesAndStores, IsTaskStore, at_variable, at_copy, at_element, at_version, in_list, at_list_length, at_emit_count}
+use Rattle.lower.proofs.Names.{in_buffer, at_answer, StandsFor, Scene, bounds, Left, EndsAs, Agrees, ⊎_elim, Looked, Offered, answered_by, answers_told}
+use Rattle.lower.proofs.Names.{going_on, Did, AreMadeByActs}
 use Rattle.source_values.specs.Values.{Attempt}
 use Rattle.source_values.specs.Statements.{goes_on}
-use Rattle.lower.proofs.Names.{⊎_elim, Looked, Offered, Answering, IsAnswerStore, answered_by, answers_told, at_answer, going_on, Test, tested, truth, one}
-use Rattle.lower.proofs.Names.{number_pushed, Strays}
-use Rattle.lower.proofs.Names.{element, at_element, Did, AreMadeByActs, IsPlainStore, to_answer}
 use Rattle.lower.proofs.Addresses.{has_element}
-use Rattle.lower.proofs.Values.{takes_append, takes_weaker, told_behind}
-use Rattle.lower.proofs.Acts.{made_append, plain_did}
+use Rattle.lower.proofs.Effects.{takes_append, told_behind}
+use Rattle.lower.proofs.Acts.{made_append}
 use Rattle.lower.proofs.Emitted.{EmitsAtMost}
 
 -- what statements did from this FRAM on
@@ -62,7 +60,7 @@ keeps_version p room apart = record { low = omega (arith, apart); not_length = �
 
 -- ---- effects in front
 
-did_append : (z : Scene) (start from : ℕ → ℕ) (es fs : List Effect) → from ≡ fram_after es start → DidFrom z start es → DidFrom z from fs
+pub did_append : (z : Scene) (start from : ℕ → ℕ) (es fs : List Effect) → from ≡ fram_after es start → DidFrom z start es → DidFrom z from fs
     → DidFrom z start (es ++ fs)
 did_append z start from es fs is h k = record {
   stores = takes_append (IsTaskStore z.p z.written z.room z.ver) es fs h.stores k.stores;
@@ -225,56 +223,3 @@ does_alone z start most stack b o h = go b.effects b.end h
         → Does z start most stack (behind_effects es (on_end e (behaviour nothing))) o
     go es (GoesOn s) h others = subst (λ l. Goal others l (GoesOn s)) (sym (append-nil es)) (h others)
     go es e h others = subst (λ l. Goal others l e) (sym (append-nil es)) (h others)
-
--- a value, and what is done from each state that it leaves
-pub does_at : (z : Scene) (most : ℕ → ℕ) (stack : List ℕ) (w : WordState) (there : Evaluated → WordState → Type 0) (b : Behaviour) (o : Answering)
-    (next : WordState → Behaviour) (more : ℕ → Attempt → Outcome) → EndsByEffects w b.effects b.end → AgreesAt z.p.map.runtime.events there b o
-    → ((x : Evaluated) (s : WordState) → there x s
-    → Does z s.fram most stack (next s) (λ answers. more x.value (answered_by answers x.behind)))
-    → Does z w.fram most stack (then_on b next) (λ answers. if_value (o answers) more)
-does_at z most stack w there b o next more by h k = go b.effects b.end by h
-  where
-    answers_did : (es : List Effect) → OnlyTakes z.p.map.runtime.events es → DidFrom z w.fram es
-    answers_did es h =
-        plain_did z.p z.written z.room z.ver es w.fram
-        (takes_weaker (IsAnswerStore z.p.map.runtime.events) (IsPlainStore z.p z.written z.room) (λ a w k. to_answer k) es h)
-
-    Goal : List ℕ → List Effect → End → Option Evaluated → Type 0
-    Goal others es e v = Ends z w.fram most stack others es e (if_value v more)
-
-    onward : (es : List Effect) (s : WordState) (others : List ℕ) (v : Option Evaluated) → s.fram ≡ fram_after es w.fram
-        → OnlyTakes z.p.map.runtime.events es → EndsAt there (answers_told (next s).effects ++ others) (GoesOn s) v
-        → Goal others (es ++ (next s).effects) (next s).end v
-    onward es s others None at t e = absurd e
-    onward es s others (Some x) at t e =
-        let fs = (next s).effects in
-        let n = k x s e.0 others in
-        ends_behind z w.fram s.fram most stack others es fs (next s).end (more x.value x.behind) at (answers_did es t)
-        (subst (λ l. Ends z s.fram most stack others fs (next s).end (more x.value (answered_by l x.behind))) (sym e.1) n)
-
-    lacks : (es : List Effect) (others : List ℕ) (v : Option Evaluated) → OnlyTakes z.p.map.runtime.events es → EndsAt there others Short v
-        → Goal others es Short v
-    lacks es others None t e = answers_did es t
-    lacks es others (Some x) t e = absurd e
-
-    go : (es : List Effect) (e : End) → EndsByEffects w es e
-        → ((others : List ℕ) → OnlyTakes z.p.map.runtime.events es × EndsAt there others e (o (answers_told es ++ others)))
-        → Does z w.fram most stack (behind_effects es (on_end e next)) (λ answers. if_value (o answers) more)
-    go es (GoesOn s) by h others =
-        let fs = (next s).effects in
-        let answers = answers_told es ++ (answers_told fs ++ others) in
-        let a = h (answers_told fs ++ others) in
-        subst (λ l. Goal others (es ++ fs) (next s).end (o l)) (sym (told_behind es fs others)) (onward es s others (o answers) by.0 a.0 a.1)
-    go es Short by h others =
-        let a = h others in
-        subst (λ l. Goal others l Short (o (answers_told l ++ others))) (sym (append-nil es)) (lacks es others (o (answers_told es ++ others)) a.0 a.1)
-    go es Broken by h others = tt
-    go es end by h others = absurd (h others).1
-
--- what a test does to FRAM and the inputs is by its effects
-pub test_by_effects : (c : Test) (w : WordState) → (let b = tested c (number_pushed 1) (number_pushed 0) w in EndsByEffects w b.effects b.end)
-test_by_effects c w = let b = tested c (number_pushed 1) (number_pushed 0) w in go b.effects b.end (behaves_by_effects (one (truth c)) w)
-  where
-    go : (es : List Effect) (e : End) → (let b = behind_effects es (on_end e (behaviour nothing)) in EndsByEffects w b.effects b.end) → EndsByEffects w es e
-    go es (GoesOn s) h = subst (λ l. EndsByEffects w l (GoesOn s)) (append-nil es) h
-    go es e h = subst (λ l. EndsByEffects w l e) (append-nil es) h

@@ -1,7 +1,8 @@
 -- What the proofs of other crates cite.
 
--- The program of an expression leaves its value.
-pub use Rattle.lower.proofs.Values.{takes_append, told_append, small_modulo}
+-- Effects one stretch behind another, and a number below 256.
+pub use Rattle.lower.proofs.Effects.{takes_append, told_append}
+pub use Rattle.lower.proofs.Stored.{small_modulo}
 -- What a sum says of the paths of a text that calls no function.
 pub use Rattle.lower.proofs.Paths.{some_writes, writes_some, private_is, is_private_of}
 -- A program that takes events where its source uses some admits each task.

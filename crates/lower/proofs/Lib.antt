@@ -4,6 +4,8 @@ mod Addresses
 mod Admits
 mod Paths
 mod Declared
+mod Effects
+mod Sequence
 mod Values
 mod Longs
 mod EachExpression

@@ -10,7 +10,8 @@ use Rattle.std.proofs.Common.{eq-eqb}
 use Rattle.source_values.specs.Values.{Attempt}
 use Rattle.array_versions.specs.Behaviour.{goes_on}
 use Rattle.lower.proofs.Values.{made_twice, pair_value, pair_made, pair_is_truth, twice, truth_pushed, LoweringAgrees, by_word, by_test, not_word, not_agrees}
-use Rattle.lower.proofs.Values.{Keeping, Leaves, LeavesWord, LeavesWords, SidesAgree, converted_by, is_left, pair_leaves, single, step_leaves}
+use Rattle.lower.proofs.Sequence.{Keeping, LeavesWords, Spare}
+use Rattle.lower.proofs.Values.{LeavesWord, SidesAgree, converted_by, is_left, pair_leaves, single, step_leaves}
 use Rattle.lower.proofs.Values.{then_program, truth_by}
 use Rattle.task_ast.specs.declared.BinaryOperator.TheVariants as operator
 use Rattle.task_ast.specs.declared.ShiftOperator.TheVariants as shift_operator
@@ -113,15 +114,15 @@ not_of_bit false = refl
 
 -- ---- what an expression leaves, by its type
 
--- a program leaves a value as a long on top of these
-abbrev pub LeavesLong : Keeping → List ℕ → Behaviour → Answering → Type 0
-LeavesLong k below b o = LeavesWords k stacked below b o
+-- a program leaves a value as a long, from a state on
+abbrev pub LeavesLong : Keeping → WordState → Behaviour → Answering → Type 0
+LeavesLong k w b o = LeavesWords k stacked w b o
 
 -- the program of an expression that is long leaves its value as a long
 pub record LongAgrees (k : Keeping) (w : WordState) (l : Lowering) (o : Answering) : Type 0 where
   pub words : Program
   pub is_long : l ≡ as_long words
-  pub leaves : LeavesLong k w.stack (behaviour words w) o
+  pub leaves : LeavesLong k w (behaviour words w) o
 
 -- of a long its two words, and of others a word and a test
 abbrev pub AgreesAs : Keeping → WordType → WordState → Lowering → Answering → Type 0
@@ -129,7 +130,7 @@ AgreesAs k Long w l o = LongAgrees k w l o
 AgreesAs k _ w l o = LoweringAgrees k w l o
 
 module _ (k : Keeping) where
-  pub by_long : (w : WordState) (q : Program) (o : Answering) → LeavesLong k w.stack (behaviour q w) o → LongAgrees k w (as_long q) o
+  pub by_long : (w : WordState) (q : Program) (o : Answering) → LeavesLong k w (behaviour q w) o → LongAgrees k w (as_long q) o
   by_long w q o h = record { words = q; is_long = refl; leaves = h }
 
   pub as_one_word : (of : WordType) → IsOneWord of → (w : WordState) (l : Lowering) (o : Answering) → LoweringAgrees k w l o → AgreesAs k of w l o
@@ -143,78 +144,78 @@ module _ (k : Keeping) where
   -- ---- steps behind longs
 
   -- its low word
-  low_word : (w : WordState) (q : Program) (o : Answering) → LeavesLong k w.stack (behaviour q w) o
-      → LeavesWord k w.stack (behaviour (behind q (long with_longs.LowWord)) w) (converted_by Long Unsigned o)
+  low_word : (w : WordState) (q : Program) (o : Answering) → LeavesLong k w (behaviour q w) o
+      → LeavesWord k w (behaviour (behind q (long with_longs.LowWord)) w) (converted_by Long Unsigned o)
   low_word w q o h = step_leaves k stacked single (long with_longs.LowWord) (λ n. n % 65536) w q o h (λ x s. refl)
 
   -- the bits of both words
-  any_bit : (w : WordState) (q : Program) (o : Answering) → LeavesLong k w.stack (behaviour q w) o
-      → LeavesWord k w.stack (behaviour (behind q (binary (Plain plain.Or))) w) (made_by both_words o)
+  any_bit : (w : WordState) (q : Program) (o : Answering) → LeavesLong k w (behaviour q w) o
+      → LeavesWord k w (behaviour (behind q (binary (Plain plain.Or))) w) (made_by both_words o)
   any_bit w q o h = step_leaves k stacked single (binary (Plain plain.Or)) both_words w q o h (λ x s. refl)
 
   -- whether it isn't 0
-  any_bit_holds : (w : WordState) (q : Program) (o : Answering) → LeavesLong k w.stack (behaviour q w) o
-      → LeavesWord k w.stack (truth_pushed (value_test (as_long q)) w) (truth_by o)
+  any_bit_holds : (w : WordState) (q : Program) (o : Answering) → LeavesLong k w (behaviour q w) o
+      → LeavesWord k w (truth_pushed (value_test (as_long q)) w) (truth_by o)
   any_bit_holds w q o h =
       let bits = behind q (binary (Plain plain.Or)) in
-      subst (LeavesWord k w.stack (truth_pushed (holds_test bits) w)) (any_bit_is_truth o) (by_word k w bits (made_by both_words o) (any_bit w q o h)).test
+      subst (LeavesWord k w (truth_pushed (holds_test bits) w)) (any_bit_is_truth o) (by_word k w bits (made_by both_words o) (any_bit w q o h)).test
 
   -- one word as a long
-  widened_agrees : (of : WordType) → IsOneWord of → (w : WordState) (q : Program) (o : Answering) → LeavesWord k w.stack (behaviour q w) o
-      → LeavesLong k w.stack (behaviour (joined q (widening of)) w) (converted_by of Long o)
+  widened_agrees : (of : WordType) → IsOneWord of → (w : WordState) (q : Program) (o : Answering) → LeavesWord k w (behaviour q w) o
+      → LeavesLong k w (behaviour (joined q (widening of)) w) (converted_by of Long o)
   widened_agrees Long is w q o h = absurd is
   widened_agrees Int is w q o h = step_leaves k single stacked (long with_longs.Widen) (converted Int Long) w q o h (λ x s. refl)
   widened_agrees Unsigned is w q o h =
-      then_program k single (Leaves k stacked w.stack) w q (widening Unsigned) o (λ x. gives x.value x.behind) h
+      then_program k single stacked w.stack w q (widening Unsigned) o (λ x. gives x.value x.behind) h
       (λ x s kept.
       let same : x.value + 65536 * 0 ≡ x.value = omega arith in
       is_left k stacked w.stack x.value x.behind (with_stack (stacked (x.value + 65536 * 0) ++ w.stack) s) kept (ap (λ n. stacked n ++ w.stack) same))
 
   -- its value as one word
   pub word_agrees : (of : WordType) (w : WordState) (l : Lowering) (o : Answering) → AgreesAs k of w l o
-      → LeavesWord k w.stack (behaviour (word_program l) w) (converted_by of Unsigned o)
+      → LeavesWord k w (behaviour (word_program l) w) (converted_by of Unsigned o)
   word_agrees Long w l o h =
-      subst (λ l. LeavesWord k w.stack (behaviour (word_program l) w) (converted_by Long Unsigned o)) (sym h.is_long) (low_word w h.words o h.leaves)
-  word_agrees of w l o h = subst (LeavesWord k w.stack (behaviour (word_program l) w)) (same_value o) h.word
+      subst (λ l. LeavesWord k w (behaviour (word_program l) w) (converted_by Long Unsigned o)) (sym h.is_long) (low_word w h.words o h.leaves)
+  word_agrees of w l o h = subst (LeavesWord k w (behaviour (word_program l) w)) (same_value o) h.word
 
   -- the two words of a long
-  pub words_agree : (w : WordState) (l : Lowering) (o : Answering) → LongAgrees k w l o → LeavesLong k w.stack (behaviour (long_words l) w) o
-  words_agree w l o h = subst (λ l. LeavesLong k w.stack (behaviour (long_words l) w) o) (sym h.is_long) h.leaves
+  pub words_agree : (w : WordState) (l : Lowering) (o : Answering) → LongAgrees k w l o → LeavesLong k w (behaviour (long_words l) w) o
+  words_agree w l o h = subst (λ l. LeavesLong k w (behaviour (long_words l) w) o) (sym h.is_long) h.leaves
 
   -- its value as a long
   pub long_agrees : (of : WordType) (w : WordState) (l : Lowering) (o : Answering) → AgreesAs k of w l o
-      → LeavesLong k w.stack (behaviour (long_program of l) w) (converted_by of Long o)
-  long_agrees Long w l o h = subst (LeavesLong k w.stack (behaviour (long_words l) w)) (same_value o) (words_agree w l o h)
+      → LeavesLong k w (behaviour (long_program of l) w) (converted_by of Long o)
+  long_agrees Long w l o h = subst (LeavesLong k w (behaviour (long_words l) w)) (same_value o) (words_agree w l o h)
   long_agrees of w l o h = widened_agrees of tt w (word_program l) o h.word
 
   -- its test
   pub test_agrees : (of : WordType) (w : WordState) (l : Lowering) (o : Answering) → AgreesAs k of w l o
-      → LeavesWord k w.stack (truth_pushed (value_test l) w) (truth_by o)
+      → LeavesWord k w (truth_pushed (value_test l) w) (truth_by o)
   test_agrees Long w l o h =
-      subst (λ l. LeavesWord k w.stack (truth_pushed (value_test l) w) (truth_by o)) (sym h.is_long) (any_bit_holds w h.words o h.leaves)
+      subst (λ l. LeavesWord k w (truth_pushed (value_test l) w) (truth_by o)) (sym h.is_long) (any_bit_holds w h.words o h.leaves)
   test_agrees of w l o h = h.test
 
   -- ---- operators in front, and shifts
 
   -- from 0 on the stack
   pub negated : (w : WordState) (q : Program) (o : Answering)
-      → (let u = pushed 0 (pushed 0 w) in LeavesLong k u.stack (behaviour q u) o)
-      → LeavesLong k w.stack (behaviour (joined (joined long_zero q) (one (long (with_longs.Calculate plain.Subtract)))) w) (made_by (long_difference 0) o)
+      → (let u = pushed 0 (pushed 0 w) in LeavesLong k u (behaviour q u) o)
+      → LeavesLong k w (behaviour (joined (joined long_zero q) (one (long (with_longs.Calculate plain.Subtract)))) w) (made_by (long_difference 0) o)
   negated w q o h =
-      then_program k stacked (Leaves k stacked w.stack) (pushed 0 (pushed 0 w)) q (one (long (with_longs.Calculate plain.Subtract))) o
+      then_program k stacked stacked w.stack (pushed 0 (pushed 0 w)) q (one (long (with_longs.Calculate plain.Subtract))) o
       (λ x. gives (long_difference 0 x.value) x.behind) h
       (λ x s kept.
       let n = x.value % 65536 + 65536 * (x.value / 65536) in
       is_left k stacked w.stack (long_difference 0 x.value) x.behind (with_stack (stacked (long_difference 0 n) ++ w.stack) s) kept
       (ap (λ n. stacked (long_difference 0 n) ++ w.stack) (whole x.value)))
 
-  pub complemented : (w : WordState) (q : Program) (o : Answering) → LeavesLong k w.stack (behaviour q w) o
-      → LeavesLong k w.stack (behaviour (behind q (long with_longs.Complement)) w) (made_by (λ n. 4294967295 - n) o)
+  pub complemented : (w : WordState) (q : Program) (o : Answering) → LeavesLong k w (behaviour q w) o
+      → LeavesLong k w (behaviour (behind q (long with_longs.Complement)) w) (made_by (λ n. 4294967295 - n) o)
   complemented w q o h = step_leaves k stacked stacked (long with_longs.Complement) (λ n. 4294967295 - n) w q o h
       (λ x s. ap (λ n. goes_on [] (with_stack (stacked (4294967295 - n) ++ w.stack) s)) (whole x))
 
-  pub long_shifted : (op : ShiftOperator) (n : ℕ) (w : WordState) (q : Program) (o : Answering) → LeavesLong k w.stack (behaviour q w) o
-      → LeavesLong k w.stack (behaviour (behind q (long (long_shift op n))) w) (made_by (λ v. long_shift_value op v n) o)
+  pub long_shifted : (op : ShiftOperator) (n : ℕ) (w : WordState) (q : Program) (o : Answering) → LeavesLong k w (behaviour q w) o
+      → LeavesLong k w (behaviour (behind q (long (long_shift op n))) w) (made_by (λ v. long_shift_value op v n) o)
   long_shifted op n w q o h = step_leaves k stacked stacked (long (long_shift op n)) (λ v. long_shift_value op v n) w q o h (by op)
     where
       by : (op : ShiftOperator) (x : ℕ) (s : WordState) → step_behaviour (long (long_shift op n)) (with_stack (stacked x ++ w.stack) s)
@@ -225,56 +226,56 @@ module _ (k : Keeping) where
   -- ---- two sides
 
   -- an operation behind both
-  calculated : (op : PlainOperation) (w : WordState) (a b : Program) (o : Answering) (second : Attempt → Option Evaluated)
-      → SidesAgree k stacked w a b o second
-      → LeavesLong k w.stack (behaviour (behind (joined a b) (long (with_longs.Calculate op))) w) (pair_value (plain_long op) o second)
-  calculated op w a b o second h = pair_leaves k stacked stacked (long (with_longs.Calculate op)) (plain_long op) w a b o second h
+  calculated : (middle : Spare) (op : PlainOperation) (w : WordState) (a b : Program) (o : Answering) (second : Attempt → Option Evaluated)
+      → SidesAgree k middle stacked w a b o second
+      → LeavesLong k w (behaviour (behind (joined a b) (long (with_longs.Calculate op))) w) (pair_value (plain_long op) o second)
+  calculated middle op w a b o second h = pair_leaves k middle stacked stacked (long (with_longs.Calculate op)) (plain_long op) w a b o second h
       (λ x y s. with_both_whole (λ m n. goes_on [] (with_stack (stacked (plain_long op m n) ++ w.stack) s)) x y)
 
   -- the truth of a word that is made of both
   holds_of_pair : (w : WordState) (q : Program) (o : Answering) (second : Attempt → Option Evaluated) (f : ℕ → ℕ → ℕ) (b : ℕ → ℕ → Bool)
-      → ((x y : ℕ) → holds (f x y) ≡ b x y) → LeavesWord k w.stack (behaviour q w) (pair_value f o second)
-      → LeavesWord k w.stack (truth_pushed (holds_test q) w) (pair_value (λ x y. bit (b x y)) o second)
+      → ((x y : ℕ) → holds (f x y) ≡ b x y) → LeavesWord k w (behaviour q w) (pair_value f o second)
+      → LeavesWord k w (truth_pushed (holds_test q) w) (pair_value (λ x y. bit (b x y)) o second)
   holds_of_pair w q o second f b e h =
-      subst (LeavesWord k w.stack (truth_pushed (holds_test q) w))
+      subst (LeavesWord k w (truth_pushed (holds_test q) w))
       (pair_made truth_word f (λ x y. bit (b x y)) o second (λ x y. ap bit (e x y)))
       (by_word k w q (pair_value f o second) h).test
 
-  question_agrees : (q : LongQuestion) (w : WordState) (a b : Program) (o : Answering) (second : Attempt → Option Evaluated)
-      → SidesAgree k stacked w a b o second
-      → LeavesWord k w.stack (truth_pushed (holds_test (answer q (joined a b))) w) (pair_value (λ x y. bit (answers q x y)) o second)
-  question_agrees question.Below w a b o second h =
+  question_agrees : (middle : Spare) (q : LongQuestion) (w : WordState) (a b : Program) (o : Answering) (second : Attempt → Option Evaluated)
+      → SidesAgree k middle stacked w a b o second
+      → LeavesWord k w (truth_pushed (holds_test (answer q (joined a b))) w) (pair_value (λ x y. bit (answers q x y)) o second)
+  question_agrees middle question.Below w a b o second h =
       let bits : ℕ → ℕ → ℕ = λ x y. all_bits (nat_lt x y) in
       holds_of_pair w (answer question.Below (joined a b)) o second bits nat_lt (λ x y. all_bits_hold (nat_lt x y))
-      (pair_leaves k stacked single (long with_longs.Below) bits w a b o second h
+      (pair_leaves k middle stacked single (long with_longs.Below) bits w a b o second h
       (λ x y s. with_both_whole (λ m n. goes_on [] (with_stack (bits m n ∷ w.stack) s)) x y))
-  question_agrees question.Above w a b o second h =
+  question_agrees middle question.Above w a b o second h =
       let bits : ℕ → ℕ → ℕ = λ x y. all_bits (nat_lt y x) in
       holds_of_pair w (answer question.Above (joined a b)) o second bits (λ x y. nat_lt y x) (λ x y. all_bits_hold (nat_lt y x))
-      (pair_leaves k stacked single (long with_longs.Above) bits w a b o second h
+      (pair_leaves k middle stacked single (long with_longs.Above) bits w a b o second h
       (λ x y s. with_both_whole (λ m n. goes_on [] (with_stack (bits m n ∷ w.stack) s)) x y))
-  question_agrees question.Differ w a b o second h =
+  question_agrees middle question.Differ w a b o second h =
       let q = behind (joined a b) (long (with_longs.Calculate plain.Xor)) in
       let bits = behind q (binary (Plain plain.Or)) in
       holds_of_pair w bits o second (λ x y. both_words (bit_xor x y)) (λ x y. not (x == y)) (λ x y. words_hold (bit_xor x y) ∙ xor_holds x y)
-      (subst (LeavesWord k w.stack (behaviour bits w)) (pair_made both_words bit_xor (λ x y. both_words (bit_xor x y)) o second (λ x y. refl))
-      (any_bit w q (pair_value bit_xor o second) (calculated plain.Xor w a b o second h)))
+      (subst (LeavesWord k w (behaviour bits w)) (pair_made both_words bit_xor (λ x y. both_words (bit_xor x y)) o second (λ x y. refl))
+      (any_bit w q (pair_value bit_xor o second) (calculated middle plain.Xor w a b o second h)))
 
   -- what fails where this holds
   turned_pair : (w : WordState) (c : Test) (o : Answering) (second : Attempt → Option Evaluated) (b : ℕ → ℕ → Bool)
-      → LeavesWord k w.stack (truth_pushed c w) (pair_value (λ x y. bit (b x y)) o second)
+      → LeavesWord k w (truth_pushed c w) (pair_value (λ x y. bit (b x y)) o second)
       → LoweringAgrees k w (as_test (fails c)) (pair_value (λ x y. bit (not (b x y))) o second)
   turned_pair w c o second b h =
       let pair = pair_value (λ x y. bit (b x y)) o second in
       subst (LoweringAgrees k w (as_test (fails c)))
       (pair_made not_word (λ x y. bit (b x y)) (λ x y. bit (not (b x y))) o second (λ x y. not_of_bit (b x y)))
-      (not_agrees k w c pair (subst (LeavesWord k w.stack (truth_pushed c w)) (sym (pair_bit_is_truth b o second)) h))
+      (not_agrees k w c pair (subst (LeavesWord k w (truth_pushed c w)) (sym (pair_bit_is_truth b o second)) h))
 
-  pub long_binary_agrees : (m : LongMeaning) (w : WordState) (a b : Program) (o : Answering) (second : Attempt → Option Evaluated)
-      → SidesAgree k stacked w a b o second
+  pub long_binary_agrees : (middle : Spare) (m : LongMeaning) (w : WordState) (a b : Program) (o : Answering) (second : Attempt → Option Evaluated)
+      → SidesAgree k middle stacked w a b o second
       → AgreesAs k (long_meaning_type m) w (long_binary_lowering m (joined a b)) (pair_value (long_meaning_value m) o second)
-  long_binary_agrees (meaning.Calculates op) w a b o second h = by_long w _ _ (calculated op w a b o second h)
-  long_binary_agrees (meaning.Holds q) w a b o second h =
-      by_test k w (holds_test (answer q (joined a b))) _ (pair_bit_is_truth (answers q) o second) (question_agrees q w a b o second h)
-  long_binary_agrees (meaning.Fails q) w a b o second h =
-      turned_pair w (holds_test (answer q (joined a b))) o second (answers q) (question_agrees q w a b o second h)
+  long_binary_agrees middle (meaning.Calculates op) w a b o second h = by_long w _ _ (calculated middle op w a b o second h)
+  long_binary_agrees middle (meaning.Holds q) w a b o second h =
+      by_test k w (holds_test (answer q (joined a b))) _ (pair_bit_is_truth (answers q) o second) (question_agrees middle q w a b o second h)
+  long_binary_agrees middle (meaning.Fails q) w a b o second h =
+      turned_pair w (holds_test (answer q (joined a b))) o second (answers q) (question_agrees middle q w a b o second h)

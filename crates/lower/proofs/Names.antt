@@ -44,7 +44,7 @@ pub use Rattle.checked_trees.proofs.Interface.{store_writes, taken_writes}
 pub use Rattle.checked_trees.specs.WellFormed.{IsArrayName, IsLocal, IsOfType, IsWordName, WellFormedBlock, WellFormedChoice, WellFormedExpression}
 pub use Rattle.checked_trees.specs.WellFormed.{WellFormedStatement}
 pub use Rattle.cost_bound.specs.Allowance.{CheckedTask}
-pub use Rattle.cost_bound.specs.Counts.{block_count, choice_count, is_shared, is_store_to, statement_count}
+pub use Rattle.cost_bound.specs.Counts.{block_count, choice_count, conditions_count, expression_count, is_shared, is_store_to, statement_count}
 pub use Rattle.cost_bound.specs.Summary.{Summary}
 pub use Rattle.cost_bound.specs.Table.{block_price, blocks_price, conditions_price, cycles_column, expression_price, operator_price, statement_price}
 pub use Rattle.cost_bound.specs.Table.{words_column}
@@ -53,7 +53,7 @@ pub use Rattle.path_sums.specs.Access.{is_same, summary}
 pub use Rattle.path_sums.specs.Sums.{block_sum, choice_sum, statement_sum}
 pub use Rattle.source_values.proofs.Interface.{EmitsUpTo, block_up_to, more_turns, scalar_word, statement_up_to, value_keeps}
 pub use Rattle.source_values.specs.Statements.{Outcome, and_then, block_emits, choice_emits, if_value, returns, run_block, run_choice, run_statement}
-pub use Rattle.source_values.specs.Statements.{short, statement_emits, to_task, with_value}
+pub use Rattle.source_values.specs.Statements.{conditions_emit, expression_emits, short, statement_emits, to_task, with_value}
 pub use Rattle.source_values.specs.Values.{Evaluated, Variables, binary_result, binary_value, converted, gives, holds, is_settled, long_binary_value}
 pub use Rattle.source_values.specs.Values.{long_difference, long_shift_value, made_of, next_answer, next_reading, reading_of, scalar_value, shift_result}
 pub use Rattle.source_values.specs.Values.{shift_value}
@@ -121,11 +121,11 @@ pub use Rattle.lower.specs.Lowered.{logged_place, own_read, own_update, own_writ
 pub use Rattle.lower.specs.Stores.{Act, AreActs, AreMadeByActs, Did, IsAct, IsPlainStore, act_effects, acts_effects, alone, at_element, to_answer}
 pub use Rattle.lower.specs.Stores.{to_buffer, to_element, to_emit_count, to_variable}
 pub use Rattle.lower.specs.Spots.{HasRoomBehind, IsRedo, IsUndo}
-pub use Rattle.lower.specs.Agreement.{Agrees, AgreesAt, Answering, AsDeclared, BlocksAgree, EndsAs, EndsAt, ExpressionsAgree, HasCopies, HoldEmits, HoldList}
-pub use Rattle.lower.specs.Agreement.{IsAnswerStore, IsFit, IsLeft, answered_by, answers_told, at_answer, by_answers, freeze_effects, made_by}
-pub use Rattle.lower.specs.Agreement.{HoldVariables, IsArray, IsTaskStore, IsWrittenArray, Left, LongsAgree, OnlyTakes, Scene, StandsFor, TakesAndStores}
+pub use Rattle.lower.specs.Agreement.{Agrees, AgreesWith, Answering, AsDeclared, BlocksAgree, EndsAs, EndsWith, ExpressionsAgree, HasCopies, HoldEmits, HoldList}
+pub use Rattle.lower.specs.Agreement.{IsAnswerStore, IsFit, answered_by, answers_told, at_answer, by_answers, freeze_effects, made_by}
+pub use Rattle.lower.specs.Agreement.{HoldVariables, IsArray, IsTaskStore, IsWrittenArray, Left, LongsAgree, Scene, StandsFor, TakesAndStores}
 pub use Rattle.lower.specs.Agreement.{TestsAgree, WentOn, at_copy, at_emit_count, at_list_length, at_variable, at_version, bounds, converted_to, element_pair}
-pub use Rattle.lower.specs.Agreement.{entry_effects, in_buffer, in_list, in_state, own_word, transition_effects, truth_of}
+pub use Rattle.lower.specs.Agreement.{entry_effects, in_buffer, in_list, own_word, ValuesAgree, transition_effects, truth_of}
 pub use Rattle.lower.specs.Events.{AdmitsBlock, AdmitsChoice, AdmitsExpression, AdmitsStatement}
 pub use Rattle.lower.specs.Lowered.{freezing, Lowering, answer, are_alike, array_place, as_bits, as_long, as_test, as_word, assignment, binary_lowering}
 pub use Rattle.lower.specs.Lowered.{element_assignment, element_read, element_setting, element_sides_set, element_step, element_updating, emission, entries}

@@ -10,7 +10,6 @@ use Rattle.lower.proofs.Names.{program_end, Logging, Redo, Undo, IsRedo, own_by}
 use Rattle.std.proofs.Common.{get_or, slice_get, All, eq-eqb}
 use Rattle.array_versions.specs.Behaviour.{assigned}
 use Rattle.lower.proofs.Addresses.{element_is, copy_is, version_is, no_scalar, word_scalar, first_address}
-use Rattle.lower.proofs.Values.{small_modulo}
 
 -- ---- another word of a shared variable
 
@@ -269,6 +268,10 @@ scalar_set p room v i w m f locals apart is h = set_holds p v i w m f g locals r
         ∙ h.elements x k ∙ sym (word_other m v i w x.array x.index row.0 (λ e. absurd (array e)))
 
 -- ---- an assignment to a local
+
+-- a number below 256 is its own residue
+pub small_modulo : (n : ℕ) → n < 256 → n % 65536 ≡ n
+small_modulo n h = omega arith
 
 local_set : (locals : ℕ → Option ℕ) (words : List ℕ) (n v : ℕ) → n < length words → ((k u : ℕ) → locals k ≡ Some u → get_or words k 0 ≡ u)
     → (k u : ℕ) → assigned locals n v k ≡ Some u → get_or (slice_set words n v) k 0 ≡ u

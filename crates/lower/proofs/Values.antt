@@ -1,136 +1,33 @@
 -- The programs of expressions of words leave their values.
-use Rattle.lower.proofs.Names.{◌≡◌, ℕ, ◌+◌, ◌*◌, ◌%◌, ◌==◌, ◌<◌, ◌≤◌, List, [], ◌∷◌, ◌++◌, Option, Some, None, Bool, true, false, not, nat_le, nat_lt, refl}
-use Rattle.lower.proofs.Names.{sym, ap, ◌∙◌, subst, arith, le-ltb, lt-ltb, ⊎_elim, if◌then◌else◌, bit_and, bit, Effect, Store, Take, Outside, cases_lt}
+use Rattle.lower.proofs.Names.{◌≡◌, ℕ, ◌+◌, ◌*◌, ◌%◌, ◌==◌, ◌<◌, ◌≤◌, List, [], ◌∷◌, ◌++◌, length, Option, Some, None, Bool, true, false, not, nat_le, nat_lt}
+use Rattle.lower.proofs.Names.{refl, sym, ap, ◌∙◌, subst, arith, le-ltb, lt-ltb, ⊎_elim, if◌then◌else◌, bit_and, bit, Effect, Store, Take, cases_lt, inl, inr}
 use Rattle.lower.proofs.Names.{get_or_past, WordType, Int, UnaryOperator, BinaryOperator, ShiftOperator, ShortCircuitOperator, BothHold, OneHolds, Variable}
 use Rattle.lower.proofs.Names.{Shared, Local, ◌>>?◌, Variables, Evaluated, word_at, holds, unary_value, binary_value, shift_value, shifted_value, is_settled}
-use Rattle.lower.proofs.Names.{next_answer, next_event, Looked, Offered, Look, first_look, other_looks, look_effects, event_pushed, none_answered}
-use Rattle.lower.proofs.Names.{word_answered, with_looks, event_index, head_place, slot_place, answer_place, count_place, put, put_other, program_end}
-use Rattle.lower.proofs.Names.{converted, append-nil, append_assoc, inl, inr, Answering, answered_by, by_answers, made_by, answers_told, IsAnswerStore}
-use Rattle.lower.proofs.Names.{gives, made_of, reading_of, truth_word, next_reading, Negate, Complement, BinaryOperation, Plain, And, CommonBit, unary_word}
-use Rattle.lower.proofs.Names.{binary_word, shift_word, shifted_word, compare_words, Test, Program, load, local, unary, binary, compares, fails, nothing}
-use Rattle.lower.proofs.Names.{joined, Step, sense, behind, WordState, End, GoesOn, Short, Broken, Behaviour, behind_effects, on_end, then_on, is_place}
-use Rattle.lower.proofs.Names.{at_place, pushed, number_pushed, local_pushed, reading_pushed, way_by_top, way_by_two, tested, behaviour, step_behaviour}
-use Rattle.lower.proofs.Names.{with_stack, joined_go_on, then_on_assoc, decided_by_truth, word_place, Version, ArrayCopies, Array, word_even, first_word}
-use Rattle.lower.proofs.Names.{Places, address_of, scalar_address, IsScalarWord, IsArrayAt, Element, IsElement, IsCopied, scalar, element, copy, version}
-use Rattle.lower.proofs.Names.{IsSpot, Spot, spot_address, BinaryMeaning, Calculates, CommonBits, Holds, Fails, binary_meaning, shift_operation, one}
-use Rattle.lower.proofs.Names.{read_step, element_read, element_step, Lowering, as_word, as_test, word_program, value_test, unary_lowering, binary_lowering}
-use Rattle.lower.proofs.Names.{sides_test, Room, AreApart, AreEven, IsArray, own_word, HoldVariables, TakesAndStores, OnlyTakes, EndsAt, AgreesAt, truth_of}
-use Rattle.lower.proofs.Names.{AsDeclared, Inputs, SharedDeclaration, Logging, Redo, Undo, own_by, own_read, array_place, list_place}
+use Rattle.lower.proofs.Names.{next_answer, next_event, Look, first_look, other_looks, look_effects, event_pushed, none_answered, word_answered, with_looks}
+use Rattle.lower.proofs.Names.{event_index, head_place, slot_place, answer_place, count_place, put, put_other, program_end, converted, Answering, by_answers}
+use Rattle.lower.proofs.Names.{made_by, IsAnswerStore, IsPlainStore, to_answer, TakesAndStores, gives, made_of, reading_of, truth_word, next_reading, Negate}
+use Rattle.lower.proofs.Names.{Complement, BinaryOperation, Plain, And, CommonBit, unary_word, binary_word, shift_word, shifted_word, compare_words, Test}
+use Rattle.lower.proofs.Names.{Program, load, local, unary, binary, compares, fails, nothing, joined, Step, sense, behind, WordState, Behaviour}
+use Rattle.lower.proofs.Names.{behind_effects, then_on, is_place, at_place, pushed, number_pushed, local_pushed, reading_pushed, way_by_top, way_by_two}
+use Rattle.lower.proofs.Names.{tested, behaviour, step_behaviour, with_stack, joined_go_on, then_on_assoc, decided_by_truth, word_place, Version, ArrayCopies}
+use Rattle.lower.proofs.Names.{Array, word_even, first_word, Places, address_of, scalar_address, IsScalarWord, IsArrayAt, Element, IsElement, IsCopied}
+use Rattle.lower.proofs.Names.{scalar, element, copy, version, IsSpot, Spot, spot_address, BinaryMeaning, Calculates, CommonBits, Holds, Fails}
+use Rattle.lower.proofs.Names.{binary_meaning, shift_operation, one, read_step, element_read, element_step, Lowering, as_word, as_test, word_program}
+use Rattle.lower.proofs.Names.{value_test, unary_lowering, binary_lowering, sides_test, IsArray, own_word, HoldVariables, truth_of, Logging, Redo, Undo}
+use Rattle.lower.proofs.Names.{own_by, own_read, array_place, list_place}
 use Rattle.std.proofs.Common.{get_or}
 use Rattle.source_values.specs.Values.{Attempt}
 use Rattle.array_versions.specs.Behaviour.{goes_on}
 use Rattle.lower.proofs.Declared.{IsKnown}
 use Rattle.lower.proofs.Addresses.{fram_place, placed, spot_place, first_address, element_is, copy_is, version_is, has_element}
+use Rattle.lower.proofs.Effects.{takes_weaker}
+use Rattle.lower.proofs.Acts.{plain_did}
+use Rattle.lower.proofs.Stored.{small_modulo, same_variables, same_list, same_emits, spots_low, list_low, emits_low}
+use Rattle.lower.proofs.Ends.{DidFrom}
+use Rattle.lower.proofs.Sequence.{Spare, Covers, Keeping, sparing, Keeps, spared, LeavesWords, as_value, comes_alone, comes_behind_looks, from_value, value_then}
 use Rattle.task_ast.specs.declared.UnaryOperator.TheVariants as unary_operator
 use Rattle.task_ast.specs.declared.BinaryOperator.TheVariants as operator
 use Rattle.task_ast.specs.declared.ShiftOperator.TheVariants as shift_operator
-
--- ---- effects
-
--- readings taken, looks and such stores, one stretch behind another
-pub takes_append : (P : ℕ → ℕ → Type 0) (es fs : List Effect) → TakesAndStores P es → TakesAndStores P fs → TakesAndStores P (es ++ fs)
-takes_append P [] fs h k = k
-takes_append P (Store a w ∷ es) fs h k = (h.0, takes_append P es fs h.1 k)
-takes_append P (Take r ∷ es) fs h k = takes_append P es fs h k
-takes_append P (Outside (Looked seen) ∷ es) fs h k = takes_append P es fs h k
-takes_append P (Outside (Offered n w) ∷ es) fs h k = absurd h
-
--- stores of another kind
-pub takes_weaker : (P Q : ℕ → ℕ → Type 0) → ((a w : ℕ) → P a w → Q a w) → (es : List Effect) → TakesAndStores P es → TakesAndStores Q es
-takes_weaker P Q f [] h = tt
-takes_weaker P Q f (Store a w ∷ es) h = (f a w h.0, takes_weaker P Q f es h.1)
-takes_weaker P Q f (Take r ∷ es) h = takes_weaker P Q f es h
-takes_weaker P Q f (Outside (Looked seen) ∷ es) h = takes_weaker P Q f es h
-takes_weaker P Q f (Outside (Offered n w) ∷ es) h = absurd h
-
--- one store more
-told_store : (b : Bool) (w : ℕ) (all first second : List ℕ) → all ≡ first ++ second
-    → (if b then w ∷ all else all) ≡ (if b then w ∷ first else first) ++ second
-told_store true w all first second e = ap (λ l. w ∷ l) e
-told_store false w all first second e = e
-
--- the answers that effects tell one stretch behind another
-pub told_append : (es fs : List Effect) → answers_told (es ++ fs) ≡ answers_told es ++ answers_told fs
-told_append [] fs = refl
-told_append (Store a w ∷ es) fs = told_store (a == answer_place) w (answers_told (es ++ fs)) (answers_told es) (answers_told fs) (told_append es fs)
-told_append (Take r ∷ es) fs = told_append es fs
-told_append (Outside o ∷ es) fs = told_append es fs
-
--- and with others behind them
-pub told_behind : (es fs : List Effect) (others : List ℕ) → answers_told (es ++ fs) ++ others ≡ answers_told es ++ (answers_told fs ++ others)
-told_behind es fs others = ap (λ l. l ++ others) (told_append es fs) ∙ append_assoc (answers_told es) (answers_told fs) others
-
--- ---- one behind the other
-
--- what goes on with a value, by the answers that its attempt is given
-abbrev pub from_value : Evaluated → (Evaluated → Option Evaluated) → Answering
-from_value x more answers = more (record x { behind = answered_by answers x.behind })
-
--- what goes on with a value, from any state that it leaves
-pub agrees_then : (events : Bool) (there last : Evaluated → WordState → Type 0) (b : Behaviour) (o : Answering) (next : WordState → Behaviour)
-    (more : Evaluated → Option Evaluated) → AgreesAt events there b o
-    → ((x : Evaluated) (s : WordState) → there x s → AgreesAt events last (next s) (from_value x more))
-    → AgreesAt events last (then_on b next) (λ answers. o answers >>? more)
-agrees_then events there last b o next more h k = go b.effects b.end h
-  where
-    Goes : List Effect → End → List ℕ → Type 0
-    Goes es e others = OnlyTakes events es × EndsAt last others e (o (answers_told es ++ others) >>? more)
-
-    goes_on_with : (es : List Effect) (s : WordState) (others : List ℕ) (v : Option Evaluated) → OnlyTakes events es
-        → EndsAt there (answers_told (next s).effects ++ others) (GoesOn s) v
-        → OnlyTakes events (es ++ (next s).effects) × EndsAt last others (next s).end (v >>? more)
-    goes_on_with es s others None t e = absurd e
-    goes_on_with es s others (Some x) t e =
-        let n = k x s e.0 others in (
-          takes_append (IsAnswerStore events) es (next s).effects t n.0,
-          subst (λ l. EndsAt last others (next s).end (more (record x { behind = answered_by l x.behind }))) (sym e.1) n.1,
-        )
-
-    is_short : (others : List ℕ) (v : Option Evaluated) → EndsAt there others Short v → EndsAt last others Short (v >>? more)
-    is_short others None e = tt
-    is_short others (Some x) e = absurd e
-
-    go : (es : List Effect) (e : End) → ((others : List ℕ) → OnlyTakes events es × EndsAt there others e (o (answers_told es ++ others)))
-        → (others : List ℕ) → (let r = behind_effects es (on_end e next) in Goes r.effects r.end others)
-    go es (GoesOn s) h others =
-        let fs = (next s).effects in
-        let a = h (answers_told fs ++ others) in
-        subst (λ l. OnlyTakes events (es ++ fs) × EndsAt last others (next s).end (o l >>? more)) (sym (told_behind es fs others))
-        (goes_on_with es s others (o (answers_told es ++ (answers_told fs ++ others))) a.0 a.1)
-    go es Short h others =
-        let a = h others in
-        subst (λ l. Goes l Short others) (sym (append-nil es)) (a.0, is_short others (o (answers_told es ++ others)) a.1)
-    go es Broken h others = (takes_append (IsAnswerStore events) es [] (h others).0 tt, tt)
-    go es end h others = absurd (h others).1
-
--- nothing behind
-pub agrees_alone : (events : Bool) (there : Evaluated → WordState → Type 0) (b : Behaviour) (o : Answering) → AgreesAt events there b o
-    → AgreesAt events there (then_on b (behaviour nothing)) o
-agrees_alone events there b o h = go b.effects b.end h
-  where
-    Ends : List Effect → End → List ℕ → Type 0
-    Ends es e others = OnlyTakes events es × EndsAt there others e (o (answers_told es ++ others))
-
-    go : (es : List Effect) (e : End) → ((others : List ℕ) → Ends es e others)
-        → (others : List ℕ) → (let r = behind_effects es (on_end e (behaviour nothing)) in Ends r.effects r.end others)
-    go es (GoesOn s) h others = subst (λ l. Ends l (GoesOn s) others) (sym (append-nil es)) (h others)
-    go es end h others = subst (λ l. Ends l end others) (sym (append-nil es)) (h others)
-
--- behind looks
-behind_looks : (events : Bool) (there : Evaluated → WordState → Type 0) (looks : List Look) (b : Behaviour) (o : Answering) → AgreesAt events there b o
-    → AgreesAt events there (behind_effects (look_effects looks) b) o
-behind_looks events there [] b o h = h
-behind_looks events there (look ∷ more) b o h = h
-
--- what the states are that values leave
-pub agrees_as : (events : Bool) (there last : Evaluated → WordState → Type 0) (b : Behaviour) (o : Answering)
-    → ((x : Evaluated) (s : WordState) → there x s → last x s) → AgreesAt events there b o → AgreesAt events last b o
-agrees_as events there last b o k h others = ((h others).0, by b.end (o (answers_told b.effects ++ others)) (h others).1)
-  where
-    by : (e : End) (o : Option Evaluated) → EndsAt there others e o → EndsAt last others e o
-    by (GoesOn s) (Some x) e = (k x s e.0, e.1)
-    by Short None e = e
-    by end o e = e
 
 -- ---- operators
 
@@ -265,66 +162,31 @@ sides_are_truth op o right = λ i. λ answers. by (o answers) i
 abbrev pub truth_pushed : Test → WordState → Behaviour
 truth_pushed c w = tested c (number_pushed 1) (number_pushed 0) w
 
--- ---- what states keep of an attempt
-
--- In a task with such declarations and places: what FRAM, the locals and the inputs hold of an attempt while expressions are evaluated, whatever
--- answers it has left. Whatever it is, the variables stand there and the readings left, and it is kept where a reading is taken, and where words
--- behind the end of programs change and looks are taken
-pub record Keeping : Type 1 where
-  pub shared : List SharedDeclaration
-  pub p : Places
-  pub room : Room
-  pub apart : AreApart p room
-  pub even : AreEven p
-  pub declared : AsDeclared shared p
-  pub Holds : Attempt → (ℕ → ℕ) → (ℕ → Option ℕ) → Inputs → Type 0
-  pub variables : (m : Attempt) (f : ℕ → ℕ) (l : ℕ → Option ℕ) (i : Inputs) → Holds m f l i → HoldVariables p m.variables f l
-  pub readings : (m : Attempt) (f : ℕ → ℕ) (l : ℕ → Option ℕ) (i : Inputs) → Holds m f l i → i.readings ≡ m.left
-  pub taken : (m : Attempt) (f : ℕ → ℕ) (l : ℕ → Option ℕ) (i : Inputs) (rs : List ℕ) → Holds m f l i
-      → Holds (record m { left = rs }) f l (record i { readings = rs })
-  pub answered : (m : Attempt) (f g : ℕ → ℕ) (l : ℕ → Option ℕ) (i : Inputs) (looks : List Look) → Holds m f l i
-      → ((a : ℕ) → a < program_end → g a ≡ f a) → Holds m g l (record i { looks = looks })
-
--- a state keeps an attempt, whatever is on its stack, and whatever answers are left
-abbrev pub Keeps : Keeping → Attempt → WordState → Type 0
-Keeps k m s = k.Holds (answered_by [] m) s.fram s.locals s.inputs
+-- ---- what programs leave
 
 -- whether the program takes events
 abbrev pub events_of : Keeping → Bool
-events_of k = k.p.map.runtime.events
+events_of k = k.z.p.map.runtime.events
 
 -- a value as one word on the stack
 abbrev pub single : ℕ → List ℕ
 single v = v ∷ []
 
--- a value leaves its words on top of these, and a state that keeps the attempt behind it
-pub record Leaves (k : Keeping) (words : ℕ → List ℕ) (below : List ℕ) (x : Evaluated) (s : WordState) : Type 0 where
-  pub stack : s.stack ≡ words x.value ++ below
-  pub kept : Keeps k x.behind s
-
--- a program leaves a value as such words on top of these
-abbrev pub LeavesWords : Keeping → (ℕ → List ℕ) → List ℕ → Behaviour → Answering → Type 0
-LeavesWords k words below b o = AgreesAt (events_of k) (Leaves k words below) b o
-
--- as one word
-abbrev pub LeavesWord : Keeping → List ℕ → Behaviour → Answering → Type 0
-LeavesWord k below b o = LeavesWords k single below b o
+-- a program leaves a value as one word, from a state on
+abbrev pub LeavesWord : Keeping → WordState → Behaviour → Answering → Type 0
+LeavesWord k w b o = LeavesWords k single w b o
 
 -- the program of an expression leaves its value, and its test decides by the value
 pub record LoweringAgrees (k : Keeping) (w : WordState) (l : Lowering) (o : Answering) : Type 0 where
-  pub word : LeavesWord k w.stack (behaviour (word_program l) w) o
-  pub test : LeavesWord k w.stack (truth_pushed (value_test l) w) (truth_by o)
+  pub word : LeavesWord k w (behaviour (word_program l) w) o
+  pub test : LeavesWord k w (truth_pushed (value_test l) w) (truth_by o)
 
--- the programs of two sides leave such words, the second from the attempt behind the first
-pub record SidesAgree (k : Keeping) (words : ℕ → List ℕ) (w : WordState) (a b : Program) (o : Answering)
+-- the programs of two sides leave such words, the second from the attempt behind the first, where this is to spare
+pub record SidesAgree (k : Keeping) (middle : Spare) (words : ℕ → List ℕ) (w : WordState) (a b : Program) (o : Answering)
     (second : Attempt → Option Evaluated) : Type 0 where
-  pub left_side : LeavesWords k words w.stack (behaviour a w) o
-  pub right_side : (x : Evaluated) (s : WordState) → Keeps k x.behind s → (let below = words x.value ++ w.stack in
-      LeavesWords k words below (behaviour b (with_stack below s)) (by_answers x.behind second))
-
--- a number below 256 is its own residue
-pub small_modulo : (n : ℕ) → n < 256 → n % 65536 ≡ n
-small_modulo n h = omega arith
+  pub left_side : LeavesWords (sparing middle k) words w (behaviour a w) o
+  pub right_side : (x : Evaluated) (s : WordState) → Keeps (sparing middle k) x.behind s → (let u = with_stack (words x.value ++ w.stack) s in
+      LeavesWords k words u (behaviour b u) (by_answers x.behind second))
 
 past_end : (p : Places) (v elements length i : ℕ) (copies : Option ArrayCopies) (m : Variables) (f : ℕ → ℕ) (locals : ℕ → Option ℕ)
     → IsArrayAt p v elements length copies → HoldVariables p m f locals → length ≤ i → word_at m (Shared v) i ≡ 0
@@ -335,63 +197,107 @@ past_end p v elements length i copies m f locals at h l =
 module _ (k : Keeping) where
   -- ---- leaves
 
-  -- a value is there
+  -- a value is there, on top of this stack
   pub is_left : (words : ℕ → List ℕ) (below : List ℕ) (v : ℕ) (m : Attempt) (s : WordState) → Keeps k m s → s.stack ≡ words v ++ below
-      → LeavesWords k words below (goes_on [] s) (by_answers m (gives v))
-  is_left words below v m s kept stack others = (tt, (record { stack = stack; kept = kept }, refl))
+      → LeavesWords k words (with_stack below s) (goes_on [] s) (by_answers m (gives v))
+  is_left words below v m s kept stack others = record {
+    did = plain_did k.z.p k.z.written k.z.room k.z.ver [] s.fram tt;
+    arrived = refl;
+    words_pushed = stack;
+    kept = kept;
+    answers = refl;
+  }
 
   local_agrees : (o : Option ℕ) (v : ℕ) (m : Attempt) (w : WordState) → Keeps k m w → ((u : ℕ) → o ≡ Some u → v ≡ u)
-      → LeavesWord k w.stack (then_on (local_pushed o w) (behaviour nothing)) (by_answers m (gives v))
-  local_agrees None v m w kept h others = (tt, tt)
+      → LeavesWord k w (then_on (local_pushed o w) (behaviour nothing)) (by_answers m (gives v))
+  local_agrees None v m w kept h others = tt
   local_agrees (Some u) v m w kept h others = is_left single w.stack v m (pushed u w) kept (ap (λ x. x ∷ w.stack) (sym (h u refl))) others
 
   load_agrees : (a v : ℕ) (m : Attempt) (w : WordState) → Keeps k m w → is_place a ≡ true → w.fram a ≡ v
-      → LeavesWord k w.stack (behaviour (one (load a)) w) (by_answers m (gives v))
+      → LeavesWord k w (behaviour (one (load a)) w) (by_answers m (gives v))
   load_agrees a v m w kept place is =
-      subst (λ b. LeavesWord k w.stack (then_on b (behaviour nothing)) (by_answers m (gives v)))
+      subst (λ b. LeavesWord k w (then_on b (behaviour nothing)) (by_answers m (gives v)))
       (sym (placed a (goes_on [] (pushed (w.fram a) w)) place))
       (is_left single w.stack v m (pushed (w.fram a) w) kept (ap (λ x. x ∷ w.stack) is))
 
-  pub word_read_agrees : (v i a : ℕ) (m : Attempt) (w : WordState) → Keeps k m w → a ≡ scalar_address k.p v i → IsScalarWord k.p v i
-      → LeavesWord k w.stack (behaviour (one (load a)) w) (by_answers m (gives (word_at m.variables (Shared v) i)))
+  pub word_read_agrees : (v i a : ℕ) (m : Attempt) (w : WordState) → Keeps k m w → a ≡ scalar_address k.z.p v i → IsScalarWord k.z.p v i
+      → LeavesWord k w (behaviour (one (load a)) w) (by_answers m (gives (word_at m.variables (Shared v) i)))
   word_read_agrees v i a m w kept e is =
       let word = word_at m.variables (Shared v) i in
-      let h = k.variables (answered_by [] m) w.fram w.locals w.inputs kept in
-      subst (λ b. LeavesWord k w.stack (behaviour (one (load b)) w) (by_answers m (gives word))) (sym e)
-      (load_agrees (scalar_address k.p v i) word m w kept (spot_place k.p k.room (scalar v i) k.apart k.even is) (h.words v i is))
+      subst (λ b. LeavesWord k w (behaviour (one (load b)) w) (by_answers m (gives word))) (sym e)
+      (load_agrees (scalar_address k.z.p v i) word m w kept (spot_place k.z.p k.z.room (scalar v i) k.z.apart k.z.even is) (kept.stands.variables.words v i is))
 
-  pub read_agrees : (x : Variable) (m : Attempt) (w : WordState) → Keeps k m w → IsKnown k.p x
-      → LeavesWord k w.stack (behaviour (one (read_step k.p x)) w) (by_answers m (gives (word_at m.variables x 0)))
-  read_agrees (Shared v) m w kept is = word_read_agrees v 0 (address_of k.p v) m w kept (sym (first_address k.p v)) (first_word k.p v is)
+  pub read_agrees : (x : Variable) (m : Attempt) (w : WordState) → Keeps k m w → IsKnown k.z.p x
+      → LeavesWord k w (behaviour (one (read_step k.z.p x)) w) (by_answers m (gives (word_at m.variables x 0)))
+  read_agrees (Shared v) m w kept is = word_read_agrees v 0 (address_of k.z.p v) m w kept (sym (first_address k.z.p v)) (first_word k.z.p v is)
   read_agrees (Local n) m w kept is =
       let word = word_at m.variables (Local n) 0 in
-      let h = k.variables (answered_by [] m) w.fram w.locals w.inputs kept in
-      subst (λ j. LeavesWord k w.stack (behaviour (one (local j)) w) (by_answers m (gives word))) (sym (small_modulo n is))
-      (local_agrees (w.locals n) word m w kept (λ u e. h.locals n u e))
+      subst (λ j. LeavesWord k w (behaviour (one (local j)) w) (by_answers m (gives word))) (sym (small_modulo n is))
+      (local_agrees (w.locals n) word m w kept (λ u e. kept.stands.variables.locals n u e))
 
-  pub sense_agrees : (m : Attempt) (w : WordState) → Keeps k m w → LeavesWord k w.stack (behaviour (one sense) w) (by_answers m next_reading)
+  -- a reading is taken
+  taken : (r : ℕ) (rs : List ℕ) (m : Attempt) (w : WordState) → Keeps k m w
+      → LeavesWord k w (reading_pushed (r ∷ rs) w) (by_answers m (λ s. gives r (record s { left = rs })))
+  taken r rs m w kept others = record {
+    did = plain_did k.z.p k.z.written k.z.room k.z.ver (Take r ∷ []) w.fram tt;
+    arrived = refl;
+    words_pushed = refl;
+    kept = record {
+      listed = kept.listed;
+      stands = record { variables = kept.stands.variables; emitted = kept.stands.emitted; list = kept.stands.list; readings = refl };
+      number = kept.number;
+      emits = kept.emits;
+      lists = kept.lists;
+    };
+    answers = refl;
+  }
+
+  pub sense_agrees : (m : Attempt) (w : WordState) → Keeps k m w → LeavesWord k w (behaviour (one sense) w) (by_answers m next_reading)
   sense_agrees m w kept =
-      subst (λ rs. LeavesWord k w.stack (behaviour (one sense) w) (by_answers m (reading_of rs)))
-      (k.readings (answered_by [] m) w.fram w.locals w.inputs kept) (by w.inputs.readings)
+      subst (λ rs. LeavesWord k w (behaviour (one sense) w) (by_answers m (reading_of rs))) kept.stands.readings (by w.inputs.readings)
     where
-      by : (rs : List ℕ) → LeavesWord k w.stack (then_on (reading_pushed rs w) (behaviour nothing)) (by_answers m (reading_of rs))
-      by [] others = (tt, tt)
-      by (r ∷ rs) others = (tt, (record { stack = refl; kept = k.taken (answered_by [] m) w.fram w.locals w.inputs rs kept }, refl))
+      by : (rs : List ℕ) → LeavesWord k w (then_on (reading_pushed rs w) (behaviour nothing)) (by_answers m (reading_of rs))
+      by [] others = plain_did k.z.p k.z.written k.z.room k.z.ver [] w.fram tt
+      by (r ∷ rs) others =
+          comes_alone (as_value k single w.stack) w.fram (reading_pushed (r ∷ rs) w) (by_answers m (reading_of (r ∷ rs))) (taken r rs m w kept) others
+
+  -- stores behind the end of programs, and looks, change nothing of what is kept
+  still_kept : (m : Attempt) (w : WordState) (f : ℕ → ℕ) (looks : List Look) → Keeps k m w → ((a : ℕ) → a < program_end → f a ≡ w.fram a)
+      → Keeps k m (record w { fram = f; inputs = record w.inputs { looks = looks } })
+  still_kept m w f looks kept low =
+      let z = k.z in
+      let apart = z.apart in
+      let emits = kept.emits in
+      let few : length m.emitted ≤ z.room.emits = omega (arith, emits) in
+      let fits = z.has_room kept.listed kept.stands.list.are_listed (λ v. let l = kept.lists v in let b = k.within v in omega (arith, l, b)) in
+      let version = low (word_place z.p.map Version) (omega (arith, apart)) in
+      record {
+        listed = kept.listed;
+        stands = record {
+          variables = same_variables z.p m.variables w.fram f w.locals (spots_low z.p z.room w.fram f apart low) kept.stands.variables;
+          emitted = same_emits z.p z.room m.emitted w.fram f few (emits_low z.p z.room w.fram f apart low) kept.stands.emitted;
+          list = same_list z.p z.first z.room kept.listed w.fram f (omega (arith, fits)) (list_low z.p z.room w.fram f apart low) kept.stands.list;
+          readings = kept.stands.readings;
+        };
+        number = version ∙ kept.number;
+        emits = kept.emits;
+        lists = kept.lists;
+      }
 
   -- where events are taken, the next answer is the word that is stored to ANS
   pub event_agrees : (m : Attempt) (w : WordState) → Keeps k m w → events_of k ≡ true
-      → LeavesWord k w.stack (behaviour (one next_event) w) (by_answers m next_answer)
+      → LeavesWord k w (behaviour (one next_event) w) (by_answers m next_answer)
   event_agrees m w kept on =
       let looks = w.inputs.looks in
       let others = other_looks looks in
       let at = event_index w.fram in
       let seen = first_look looks head_place in
-      let there = Leaves k single w.stack in
+      let t = as_value k single w.stack in
       let o = by_answers m next_answer in
       let answered = if at == seen then none_answered u else word_answered (first_look others (slot_place at)) u in
-      agrees_alone (events_of k) there (event_pushed looks w) o
-      (behind_looks (events_of k) there looks (behind_effects (look_effects others) answered) o
-      (behind_looks (events_of k) there others answered o (by (at == seen) (first_look others (slot_place at)))))
+      comes_alone t w.fram (event_pushed looks w) o
+      (comes_behind_looks t w.fram looks (behind_effects (look_effects others) answered) o
+      (comes_behind_looks t w.fram others answered o (by (at == seen) (first_look others (slot_place at)))))
     where
       -- the looks that are left behind both
       left : List Look
@@ -400,31 +306,32 @@ module _ (k : Keeping) where
       u : WordState
       u = with_looks left w
 
-      by : (b : Bool) (v : ℕ) → LeavesWord k w.stack (if b then none_answered u else word_answered v u) (by_answers m next_answer)
-      by true v others = (
-        ((on, inl refl), tt),
-        (
+      -- stores of answers alone
+      told_did : (es : List Effect) → TakesAndStores (IsAnswerStore (events_of k)) es → DidFrom k.z w.fram es
+      told_did es stores = plain_did k.z.p k.z.written k.z.room k.z.ver es w.fram
+          (takes_weaker (IsAnswerStore (events_of k)) (IsPlainStore k.z.p k.z.written k.z.room) (λ a v is. to_answer is) es stores)
+
+      by : (b : Bool) (v : ℕ) → LeavesWord k w (if b then none_answered u else word_answered v u) (by_answers m next_answer)
+      by true v others =
+          let f = put w.fram answer_place 0 in
           record {
-            stack = refl;
-            kept = k.answered (answered_by [] m) w.fram (put w.fram answer_place 0) w.locals w.inputs left kept
-                (λ a low. put_other w.fram answer_place 0 a (λ e. omega (arith, e, low)));
-          },
-          refl,
-        ),
-      )
+            did = told_did (Store answer_place 0 ∷ []) ((on, inl refl), tt);
+            arrived = refl;
+            words_pushed = refl;
+            kept = still_kept m w f left kept (λ a low. put_other w.fram answer_place 0 a (λ e. omega (arith, e, low)));
+            answers = refl;
+          }
       by false v others =
           let f = put w.fram answer_place v in
-          let n = (f count_place + 1) % 65536 in (
-            ((on, inl refl), ((on, inr refl), tt)),
-            (
-              record {
-                stack = refl;
-                kept = k.answered (answered_by [] m) w.fram (put f count_place n) w.locals w.inputs left kept
-                    (λ a low. put_other f count_place n a (λ e. omega (arith, e, low)) ∙ put_other w.fram answer_place v a (λ e. omega (arith, e, low)));
-              },
-              refl,
-            ),
-          )
+          let n = (f count_place + 1) % 65536 in
+          record {
+            did = told_did (Store answer_place v ∷ Store count_place n ∷ []) ((on, inl refl), ((on, inr refl), tt));
+            arrived = refl;
+            words_pushed = refl;
+            kept = still_kept m w (put f count_place n) left kept
+                (λ a low. put_other f count_place n a (λ e. omega (arith, e, low)) ∙ put_other w.fram answer_place v a (λ e. omega (arith, e, low)));
+            answers = refl;
+          }
 
   -- ---- elements
 
@@ -434,7 +341,7 @@ module _ (k : Keeping) where
     pushes v = goes_on [] (with_stack (v ∷ below) w)
 
     abbrev Reads : Behaviour → ℕ → Type 0
-    Reads b v = LeavesWord k below (then_on b (behaviour nothing)) (by_answers m (gives v))
+    Reads b v = LeavesWord k (with_stack below w) (then_on b (behaviour nothing)) (by_answers m (gives v))
 
     -- one word at a place
     one_read : (a x v : ℕ) → is_place a ≡ true → x ≡ v → Reads (at_place a (pushes x)) v
@@ -457,8 +364,8 @@ module _ (k : Keeping) where
         (cases_lt i length)
 
     -- the word of an array
-    array_read : (v elements length i : ℕ) (copies : Option ArrayCopies) → IsArrayAt k.p v elements length copies
-        → LeavesWord k below (behaviour (one (element_read k.p (Some (Array elements length copies)))) (with_stack (i ∷ below) w))
+    array_read : (v elements length i : ℕ) (copies : Option ArrayCopies) → IsArrayAt k.z.p v elements length copies
+        → LeavesWord k (with_stack below w) (behaviour (one (element_read k.z.p (Some (Array elements length copies)))) (with_stack (i ∷ below) w))
         (by_answers m (gives (word_at m.variables (Shared v) i)))
     array_read v elements length i copies at = by copies at
       where
@@ -468,189 +375,194 @@ module _ (k : Keeping) where
         word : ℕ
         word = word_at m.variables (Shared v) i
 
-        held : HoldVariables k.p m.variables w.fram w.locals
-        held = k.variables (answered_by [] m) w.fram w.locals w.inputs kept
+        held : HoldVariables k.z.p m.variables w.fram w.locals
+        held = kept.stands.variables
 
-        here : (s : Spot) (a : ℕ) → IsSpot k.p s → spot_address k.p s ≡ a → is_place a ≡ true
-        here s a is e = subst (λ a. is_place a ≡ true) e (spot_place k.p k.room s k.apart k.even is)
+        here : (s : Spot) (a : ℕ) → IsSpot k.z.p s → spot_address k.z.p s ≡ a → is_place a ≡ true
+        here s a is e = subst (λ a. is_place a ≡ true) e (spot_place k.z.p k.z.room s k.z.apart k.z.even is)
 
-        copied : (c : ArrayCopies) → IsArrayAt k.p v elements length (Some c) → i < length → IsCopied k.p x
+        copied : (c : ArrayCopies) → IsArrayAt k.z.p v elements length (Some c) → i < length → IsCopied k.z.p x
         copied c at l = record { elements = elements; length = length; copies = c; is_array = at; below = l }
 
         -- where the task writes the array
-        own_reads : (c : ArrayCopies) (at : IsArrayAt k.p v elements length (Some c)) (logging : Logging)
-            → (i < length → own_by logging (w.fram (word_place k.p.map Version) == w.fram (2 * i + c.versions)) (w.fram (2 * i + c.copies))
+        own_reads : (c : ArrayCopies) (at : IsArrayAt k.z.p v elements length (Some c)) (logging : Logging)
+            → (i < length → own_by logging (w.fram (word_place k.z.p.map Version) == w.fram (2 * i + c.versions)) (w.fram (2 * i + c.copies))
             (w.fram (2 * i + elements)) ≡ word)
-            → LeavesWord k below (behaviour (one (own_read logging (array_place elements length c) (list_place k.p))) (with_stack (i ∷ below) w))
+            → LeavesWord k (with_stack below w) (behaviour (one (own_read logging (array_place elements length c) (list_place k.z.p))) (with_stack (i ∷ below) w))
             (by_answers m (gives word))
         own_reads c at Redo own =
             let e = 2 * i + elements in
             let o = 2 * i + c.copies in
             let n = 2 * i + c.versions in
-            let ver = word_place k.p.map Version in
-            let apart = k.apart in
+            let ver = word_place k.z.p.map Version in
+            let apart = k.z.apart in
             let read : Behaviour = if w.fram ver == w.fram n then at_place o (pushes (w.fram o)) else at_place e (pushes (w.fram e)) in
             index_read i length word (at_place ver (at_place n read))
             (λ l.
             let is = copied c at l in
             let at_version = placed ver (at_place n read)
-            (fram_place ver (word_even k.p.map Version k.even.row) (omega (arith, apart)) (omega (arith, apart))) in
-            let at_mark = placed n read (here (version x) n is (version_is k.p x elements length c at)) in
+            (fram_place ver (word_even k.z.p.map Version k.z.even.row) (omega (arith, apart)) (omega (arith, apart))) in
+            let at_mark = placed n read (here (version x) n is (version_is k.z.p x elements length c at)) in
             subst (λ b. Reads b word) (sym (at_version ∙ at_mark))
-            (either_read (w.fram ver == w.fram n) o e (w.fram o) (w.fram e) word (here (copy x) o is (copy_is k.p x elements length c at))
-            (here (element x) e (has_element k.p x is) (element_is k.p x elements length (Some c) at)) (own l)))
-            (past_end k.p v elements length i (Some c) m.variables w.fram w.locals at held)
+            (either_read (w.fram ver == w.fram n) o e (w.fram o) (w.fram e) word (here (copy x) o is (copy_is k.z.p x elements length c at))
+            (here (element x) e (has_element k.z.p x is) (element_is k.z.p x elements length (Some c) at)) (own l)))
+            (past_end k.z.p v elements length i (Some c) m.variables w.fram w.locals at held)
         own_reads c at Undo own =
             let e = 2 * i + elements in
             index_read i length word (at_place e (pushes (w.fram e)))
             (λ l. one_read e (w.fram e) word
-            (here (element x) e (has_element k.p x (copied c at l)) (element_is k.p x elements length (Some c) at)) (own l))
-            (past_end k.p v elements length i (Some c) m.variables w.fram w.locals at held)
+            (here (element x) e (has_element k.z.p x (copied c at l)) (element_is k.z.p x elements length (Some c) at)) (own l))
+            (past_end k.z.p v elements length i (Some c) m.variables w.fram w.locals at held)
 
-        by : (copies : Option ArrayCopies) → IsArrayAt k.p v elements length copies
-            → LeavesWord k below (behaviour (one (element_read k.p (Some (Array elements length copies)))) (with_stack (i ∷ below) w))
+        by : (copies : Option ArrayCopies) → IsArrayAt k.z.p v elements length copies
+            → LeavesWord k (with_stack below w) (behaviour (one (element_read k.z.p (Some (Array elements length copies)))) (with_stack (i ∷ below) w))
             (by_answers m (gives word))
         by None at =
             let e = 2 * i + elements in
             index_read i length word (at_place e (pushes (w.fram e)))
             (λ l.
-            let is : IsElement k.p x = record { elements = elements; length = length; copies = None; is_array = at; below = l } in
-            one_read e (w.fram e) word (here (element x) e is (element_is k.p x elements length None at))
-            (subst (λ o. own_word k.p w.fram o i ≡ word) at.place (held.elements x is)))
-            (past_end k.p v elements length i None m.variables w.fram w.locals at held)
+            let is : IsElement k.z.p x = record { elements = elements; length = length; copies = None; is_array = at; below = l } in
+            one_read e (w.fram e) word (here (element x) e is (element_is k.z.p x elements length None at))
+            (subst (λ o. own_word k.z.p w.fram o i ≡ word) at.place (held.elements x is)))
+            (past_end k.z.p v elements length i None m.variables w.fram w.locals at held)
         by (Some c) at =
-            own_reads c at k.p.map.runtime.logging
-            (λ l. subst (λ o. own_word k.p w.fram o i ≡ word) at.place (held.elements x (has_element k.p x (copied c at l))))
+            own_reads c at k.z.p.map.runtime.logging
+            (λ l. subst (λ o. own_word k.z.p w.fram o i ≡ word) at.place (held.elements x (has_element k.z.p x (copied c at l))))
 
-    pub element_agrees : (x : Variable) (i : ℕ) → IsArray k.p x
-        → LeavesWord k below (behaviour (one (element_step k.p x)) (with_stack (i ∷ below) w))
+    pub element_agrees : (x : Variable) (i : ℕ) → IsArray k.z.p x
+        → LeavesWord k (with_stack below w) (behaviour (one (element_step k.z.p x)) (with_stack (i ∷ below) w))
         (by_answers m (gives (word_at m.variables x i)))
     element_agrees (Shared v) i is =
         subst
-        (λ o. LeavesWord k below (behaviour (one (element_read k.p o)) (with_stack (i ∷ below) w)) (by_answers m (gives (word_at m.variables (Shared v) i))))
+        (λ o. LeavesWord k (with_stack below w) (behaviour (one (element_read k.z.p o)) (with_stack (i ∷ below) w)) (by_answers m (gives (word_at m.variables (Shared v) i))))
         (sym is.3.place) (array_read v is.0 is.1 i is.2 is.3)
     element_agrees (Local n) i is = absurd is
 
   -- ---- behind a value
 
-  -- what goes on from the words of a value
-  pub agrees_behind : (words : ℕ → List ℕ) (below : List ℕ) (last : Evaluated → WordState → Type 0) (b : Behaviour) (o : Answering)
-      (next : WordState → Behaviour) (more : Evaluated → Option Evaluated) → LeavesWords k words below b o
-      → ((x : Evaluated) (s : WordState) → Keeps k x.behind s
-      → AgreesAt (events_of k) last (next (with_stack (words x.value ++ below) s)) (from_value x more))
-      → AgreesAt (events_of k) last (then_on b next) (λ answers. o answers >>? more)
-  agrees_behind words below last b o next more h f =
-      agrees_then (events_of k) (Leaves k words below) last b o next more h
-      (λ x s there. subst (λ l. AgreesAt (events_of k) last (next (with_stack l s)) (from_value x more)) (sym there.stack) (f x s there.kept))
+  -- another value behind words of the first, where this is to spare
+  pub words_then : (middle : Spare) (from to : ℕ → List ℕ) (u : WordState) (b : Behaviour) (o : Answering) (next : WordState → Behaviour)
+      (more : Evaluated → Option Evaluated) → LeavesWords (sparing middle k) from u b o
+      → ((x : Evaluated) (s : WordState) → Keeps (sparing middle k) x.behind s
+      → LeavesWords k to (with_stack u.stack s) (next (with_stack (from x.value ++ u.stack) s)) (from_value x more))
+      → LeavesWords k to u (then_on b next) (λ answers. o answers >>? more)
+  words_then middle from to u b o next more h f = value_then (sparing middle k) (as_value k to u.stack) from u b o next more h f
 
-  -- a program behind that of a value
-  pub then_program : (words : ℕ → List ℕ) (last : Evaluated → WordState → Type 0) (w : WordState) (q next : Program) (o : Answering)
-      (more : Evaluated → Option Evaluated) → LeavesWords k words w.stack (behaviour q w) o
+  -- with nothing to spare for what stands behind
+  agrees_behind : (from to : ℕ → List ℕ) (u : WordState) (b : Behaviour) (o : Answering) (next : WordState → Behaviour)
+      (more : Evaluated → Option Evaluated) → LeavesWords k from u b o
       → ((x : Evaluated) (s : WordState) → Keeps k x.behind s
-      → AgreesAt (events_of k) last (behaviour next (with_stack (words x.value ++ w.stack) s)) (from_value x more))
-      → AgreesAt (events_of k) last (behaviour (joined q next) w) (λ answers. o answers >>? more)
-  then_program words last w q next o more h f =
-      subst (λ b. AgreesAt (events_of k) last b (λ answers. o answers >>? more)) (sym (joined_go_on q next w))
-      (agrees_behind words w.stack last (behaviour q w) o (behaviour next) more h f)
+      → LeavesWords k to (with_stack u.stack s) (next (with_stack (from x.value ++ u.stack) s)) (from_value x more))
+      → LeavesWords k to u (then_on b next) (λ answers. o answers >>? more)
+  agrees_behind from to u b o next more h f = words_then k.free from to u b o next more h f
+
+  -- a program behind that of a value: what it leaves stands on top of these
+  pub then_program : (from to : ℕ → List ℕ) (below : List ℕ) (w : WordState) (q next : Program) (o : Answering) (more : Evaluated → Option Evaluated)
+      → LeavesWords k from w (behaviour q w) o
+      → ((x : Evaluated) (s : WordState) → Keeps k x.behind s
+      → LeavesWords k to (with_stack below s) (behaviour next (with_stack (from x.value ++ w.stack) s)) (from_value x more))
+      → LeavesWords k to (with_stack below w) (behaviour (joined q next) w) (λ answers. o answers >>? more)
+  then_program from to below w q next o more h f =
+      subst (λ b. LeavesWords k to (with_stack below w) b (λ answers. o answers >>? more)) (sym (joined_go_on q next w))
+      (value_then k (as_value k to below) from w (behaviour q w) o (behaviour next) more h f)
 
   -- what is done with both values
-  pub sides_then : (words : ℕ → List ℕ) (last : Evaluated → WordState → Type 0) (w : WordState) (a b : Program) (next : WordState → Behaviour)
-      (o : Answering) (second : Attempt → Option Evaluated) (f : ℕ → ℕ → ℕ) → SidesAgree k words w a b o second
+  pub sides_then : (middle : Spare) (from to : ℕ → List ℕ) (w : WordState) (a b : Program) (next : WordState → Behaviour)
+      (o : Answering) (second : Attempt → Option Evaluated) (f : ℕ → ℕ → ℕ) → SidesAgree k middle from w a b o second
       → ((x y : ℕ) (m : Attempt) (s : WordState) → Keeps k m s
-      → AgreesAt (events_of k) last (next (with_stack (words y ++ (words x ++ w.stack)) s)) (by_answers m (gives (f x y))))
-      → AgreesAt (events_of k) last (then_on (behaviour (joined a b) w) next) (pair_value f o second)
-  sides_then words last w a b next o second f h g =
+      → LeavesWords k to (with_stack w.stack s) (next (with_stack (from y ++ (from x ++ w.stack)) s)) (by_answers m (gives (f x y))))
+      → LeavesWords k to w (then_on (behaviour (joined a b) w) next) (pair_value f o second)
+  sides_then middle from to w a b next o second f h g =
       let rest : WordState → Behaviour = λ v. then_on (behaviour b v) next in
       let is = ap (λ r. then_on r next) (joined_go_on a b w) ∙ sym (then_on_assoc (behaviour a w) (behaviour b) next) in
-      subst (λ r. AgreesAt (events_of k) last r (pair_value f o second)) (sym is)
-      (agrees_behind words w.stack last (behaviour a w) o rest (pair_of f second) h.left_side (λ x s kept.
-      let below = words x.value ++ w.stack in
-      agrees_behind words below last (behaviour b (with_stack below s)) (by_answers x.behind second) next (λ y. gives (f x.value y.value) y.behind)
+      subst (λ r. LeavesWords k to w r (pair_value f o second)) (sym is)
+      (words_then middle from to w (behaviour a w) o rest (pair_of f second) h.left_side (λ x s kept.
+      let u : WordState = with_stack (from x.value ++ w.stack) s in
+      value_then k (as_value k to w.stack) from u (behaviour b u) (by_answers x.behind second) next (λ y. gives (f x.value y.value) y.behind)
       (h.right_side x s kept) (λ y t kept. g x.value y.value y.behind t kept)))
 
   -- a step behind a value that makes another of it: what it does on any stack
   pub step_leaves : (from to : ℕ → List ℕ) (last : Step) (f : ℕ → ℕ) (w : WordState) (q : Program) (o : Answering)
-      → LeavesWords k from w.stack (behaviour q w) o
+      → LeavesWords k from w (behaviour q w) o
       → ((x : ℕ) (s : WordState) → step_behaviour last (with_stack (from x ++ w.stack) s) ≡ goes_on [] (with_stack (to (f x) ++ w.stack) s))
-      → LeavesWords k to w.stack (behaviour (behind q last) w) (made_by f o)
+      → LeavesWords k to w (behaviour (behind q last) w) (made_by f o)
   step_leaves from to last f w q o h does =
-      let there = Leaves k to w.stack in
-      then_program from there w q (one last) o (λ x. gives (f x.value) x.behind) h
-      (λ x s kept. subst (λ b. AgreesAt (events_of k) there (then_on b (behaviour nothing)) (by_answers x.behind (gives (f x.value)))) (sym (does x.value s))
+      then_program from to w.stack w q (one last) o (λ x. gives (f x.value) x.behind) h
+      (λ x s kept. subst
+      (λ b. LeavesWords k to (with_stack w.stack s) (then_on b (behaviour nothing)) (by_answers x.behind (gives (f x.value)))) (sym (does x.value s))
       (is_left to w.stack (f x.value) x.behind (with_stack (to (f x.value) ++ w.stack) s) kept refl))
 
   -- a step behind two values
-  pub pair_leaves : (from to : ℕ → List ℕ) (last : Step) (f : ℕ → ℕ → ℕ) (w : WordState) (a b : Program) (o : Answering)
-      (second : Attempt → Option Evaluated) → SidesAgree k from w a b o second
+  pub pair_leaves : (middle : Spare) (from to : ℕ → List ℕ) (last : Step) (f : ℕ → ℕ → ℕ) (w : WordState) (a b : Program) (o : Answering)
+      (second : Attempt → Option Evaluated) → SidesAgree k middle from w a b o second
       → ((x y : ℕ) (s : WordState) → step_behaviour last (with_stack (from y ++ (from x ++ w.stack)) s) ≡ goes_on [] (with_stack (to (f x y) ++ w.stack) s))
-      → LeavesWords k to w.stack (behaviour (behind (joined a b) last) w) (pair_value f o second)
-  pair_leaves from to last f w a b o second h does =
-      let there = Leaves k to w.stack in
-      subst (λ r. AgreesAt (events_of k) there r (pair_value f o second)) (sym (joined_go_on (joined a b) (one last) w))
-      (sides_then from there w a b (behaviour (one last)) o second f h
-      (λ x y m s kept. subst (λ r. AgreesAt (events_of k) there (then_on r (behaviour nothing)) (by_answers m (gives (f x y)))) (sym (does x y s))
+      → LeavesWords k to w (behaviour (behind (joined a b) last) w) (pair_value f o second)
+  pair_leaves middle from to last f w a b o second h does =
+      subst (λ r. LeavesWords k to w r (pair_value f o second)) (sym (joined_go_on (joined a b) (one last) w))
+      (sides_then middle from to w a b (behaviour (one last)) o second f h
+      (λ x y m s kept. subst (λ r. LeavesWords k to (with_stack w.stack s) (then_on r (behaviour nothing)) (by_answers m (gives (f x y)))) (sym (does x y s))
       (is_left to w.stack (f x y) m (with_stack (to (f x y) ++ w.stack) s) kept refl)))
 
   -- ---- tests
 
   -- 1 is pushed where it holds, else 0
   bit_agrees : (b : Bool) (r : ℕ) (m : Attempt) (s : WordState) → Keeps k m s → bit b ≡ r
-      → LeavesWord k s.stack (if b then number_pushed 1 s else number_pushed 0 s) (by_answers m (gives r))
+      → LeavesWord k s (if b then number_pushed 1 s else number_pushed 0 s) (by_answers m (gives r))
   bit_agrees true r m s kept e = is_left single s.stack r m (pushed 1 s) kept (ap (λ v. v ∷ s.stack) e)
   bit_agrees false r m s kept e = is_left single s.stack r m (pushed 0 s) kept (ap (λ v. v ∷ s.stack) e)
 
   -- 0 is pushed where it holds, else 1
   turned_bit_agrees : (b : Bool) (r : ℕ) (m : Attempt) (s : WordState) → Keeps k m s → bit (not b) ≡ r
-      → LeavesWord k s.stack (if b then number_pushed 0 s else number_pushed 1 s) (by_answers m (gives r))
+      → LeavesWord k s (if b then number_pushed 0 s else number_pushed 1 s) (by_answers m (gives r))
   turned_bit_agrees true r m s kept e = bit_agrees false r m s kept e
   turned_bit_agrees false r m s kept e = bit_agrees true r m s kept e
 
   -- by a program that leaves the value
-  pub by_word : (w : WordState) (q : Program) (o : Answering) → LeavesWord k w.stack (behaviour q w) o → LoweringAgrees k w (as_word q) o
+  pub by_word : (w : WordState) (q : Program) (o : Answering) → LeavesWord k w (behaviour q w) o → LoweringAgrees k w (as_word q) o
   by_word w q o h = record {
     word = h;
-    test = agrees_behind single w.stack (Leaves k single w.stack) (behaviour q w) o (way_by_top (number_pushed 1) (number_pushed 0))
+    test = agrees_behind single single w (behaviour q w) o (way_by_top (number_pushed 1) (number_pushed 0))
         (λ x. gives (truth_word x.value) x.behind) h
         (λ x s kept. bit_agrees (holds x.value) (truth_word x.value) x.behind (with_stack w.stack s) kept refl);
   }
 
   -- by a test, where the value is 1 or 0
-  pub by_test : (w : WordState) (c : Test) (o : Answering) → truth_by o ≡ o → LeavesWord k w.stack (truth_pushed c w) o
+  pub by_test : (w : WordState) (c : Test) (o : Answering) → truth_by o ≡ o → LeavesWord k w (truth_pushed c w) o
       → LoweringAgrees k w (as_test c) o
   by_test w c o e h = record {
-    word = agrees_alone (events_of k) (Leaves k single w.stack) (truth_pushed c w) o h;
-    test = subst (LeavesWord k w.stack (truth_pushed c w)) (sym e) h;
+    word = comes_alone (as_value k single w.stack) w.fram (truth_pushed c w) o h;
+    test = subst (LeavesWord k w (truth_pushed c w)) (sym e) h;
   }
 
   -- ---- operators
 
   -- an operation behind both sides
-  operated : (op : BinaryOperation) (w : WordState) (a b : Program) (o : Answering) (second : Attempt → Option Evaluated) (f : ℕ → ℕ → ℕ)
-      → SidesAgree k single w a b o second → ((x y : ℕ) → binary_word op x y ≡ f x y)
-      → LeavesWord k w.stack (behaviour (behind (joined a b) (binary op)) w) (pair_value f o second)
-  operated op w a b o second f h e =
-      pair_leaves single single (binary op) f w a b o second h (λ x y s. ap (λ v. goes_on [] (with_stack (v ∷ w.stack) s)) (e x y))
+  operated : (middle : Spare) (op : BinaryOperation) (w : WordState) (a b : Program) (o : Answering) (second : Attempt → Option Evaluated) (f : ℕ → ℕ → ℕ)
+      → SidesAgree k middle single w a b o second → ((x y : ℕ) → binary_word op x y ≡ f x y)
+      → LeavesWord k w (behaviour (behind (joined a b) (binary op)) w) (pair_value f o second)
+  operated middle op w a b o second f h e =
+      pair_leaves middle single single (binary op) f w a b o second h (λ x y s. ap (λ v. goes_on [] (with_stack (v ∷ w.stack) s)) (e x y))
 
   -- an operator of two sides
-  pub binary_agrees : (meaning : BinaryMeaning) (w : WordState) (a b : Program) (o : Answering) (second : Attempt → Option Evaluated) (f : ℕ → ℕ → ℕ)
-      → SidesAgree k single w a b o second → ((x y : ℕ) → meaning_word meaning x y ≡ f x y)
+  pub binary_agrees : (middle : Spare) (meaning : BinaryMeaning) (w : WordState) (a b : Program) (o : Answering) (second : Attempt → Option Evaluated) (f : ℕ → ℕ → ℕ)
+      → SidesAgree k middle single w a b o second → ((x y : ℕ) → meaning_word meaning x y ≡ f x y)
       → LoweringAgrees k w (binary_lowering meaning (joined a b)) (pair_value f o second)
-  binary_agrees (Calculates op) w a b o second f h e =
-      by_word w (behind (joined a b) (binary op)) (pair_value f o second) (operated op w a b o second f h e)
-  binary_agrees CommonBits w a b o second f h e = record {
-    word = operated (Plain And) w a b o second f h e;
-    test = subst (LeavesWord k w.stack (truth_pushed (compares CommonBit (joined a b)) w))
+  binary_agrees middle (Calculates op) w a b o second f h e =
+      by_word w (behind (joined a b) (binary op)) (pair_value f o second) (operated middle op w a b o second f h e)
+  binary_agrees middle CommonBits w a b o second f h e = record {
+    word = operated middle (Plain And) w a b o second f h e;
+    test = subst (LeavesWord k w (truth_pushed (compares CommonBit (joined a b)) w))
         (sym (pair_made truth_word f (λ x y. truth_word (f x y)) o second (λ x y. refl)))
-        (sides_then single (Leaves k single w.stack) w a b (way_by_two CommonBit (number_pushed 1) (number_pushed 0)) o second (λ x y. truth_word (f x y)) h
+        (sides_then middle single single w a b (way_by_two CommonBit (number_pushed 1) (number_pushed 0)) o second (λ x y. truth_word (f x y)) h
         (λ x y m s kept. bit_agrees (holds (bit_and x y)) (truth_word (f x y)) m (with_stack w.stack s) kept (ap truth_word (e x y))));
   }
-  binary_agrees (Holds c) w a b o second f h e =
+  binary_agrees middle (Holds c) w a b o second f h e =
       by_test w (compares c (joined a b)) (pair_value f o second) (pair_is_truth f (compare_words c) o second e)
-      (sides_then single (Leaves k single w.stack) w a b (way_by_two c (number_pushed 1) (number_pushed 0)) o second f h
+      (sides_then middle single single w a b (way_by_two c (number_pushed 1) (number_pushed 0)) o second f h
       (λ x y m s kept. bit_agrees (compare_words c x y) (f x y) m (with_stack w.stack s) kept (e x y)))
-  binary_agrees (Fails c) w a b o second f h e =
+  binary_agrees middle (Fails c) w a b o second f h e =
       by_test w (fails (compares c (joined a b))) (pair_value f o second) (pair_is_truth f (λ x y. not (compare_words c x y)) o second e)
-      (sides_then single (Leaves k single w.stack) w a b (way_by_two c (number_pushed 0) (number_pushed 1)) o second f h
+      (sides_then middle single single w a b (way_by_two c (number_pushed 0) (number_pushed 1)) o second f h
       (λ x y m s kept. turned_bit_agrees (compare_words c x y) (f x y) m (with_stack w.stack s) kept (e x y)))
 
   -- a step behind a value
@@ -660,15 +572,15 @@ module _ (k : Keeping) where
   worked_agrees last f w l o h does = by_word w _ _ (step_leaves single single last f w (word_program l) o h.word does)
 
   -- `!` of a value by its test
-  pub not_agrees : (w : WordState) (c : Test) (o : Answering) → LeavesWord k w.stack (truth_pushed c w) (truth_by o)
+  pub not_agrees : (w : WordState) (c : Test) (o : Answering) → LeavesWord k w (truth_pushed c w) (truth_by o)
       → LoweringAgrees k w (as_test (fails c)) (made_by not_word o)
   not_agrees w c o h =
       let turned = way_by_top (number_pushed 0) (number_pushed 1) in
       let r : Answering = made_by not_word o in
       by_test w (fails c) r (not_is_truth o)
-      (subst (λ b. LeavesWord k w.stack b r) (sym (decided_by_truth c (number_pushed 0) (number_pushed 1) w))
-      (subst (LeavesWord k w.stack (then_on (truth_pushed c w) turned)) (not_of_truth o)
-      (agrees_behind single w.stack (Leaves k single w.stack) (truth_pushed c w) (truth_by o) turned (λ x. gives (not_truth x.value) x.behind) h
+      (subst (λ b. LeavesWord k w b r) (sym (decided_by_truth c (number_pushed 0) (number_pushed 1) w))
+      (subst (LeavesWord k w (then_on (truth_pushed c w) turned)) (not_of_truth o)
+      (agrees_behind single single w (truth_pushed c w) (truth_by o) turned (λ x. gives (not_truth x.value) x.behind) h
       (λ x s kept. turned_bit_agrees (holds x.value) (not_truth x.value) x.behind (with_stack w.stack s) kept refl))))
 
   pub unary_agrees : (op : UnaryOperator) (w : WordState) (l : Lowering) (o : Answering) → LoweringAgrees k w l o
@@ -679,29 +591,30 @@ module _ (k : Keeping) where
 
   -- ---- `&&` and `||`
 
-  pub side_agrees : (op : ShortCircuitOperator) (w : WordState) (c d : Test) (o : Answering) (right : Attempt → Option Evaluated)
-      → LeavesWord k w.stack (truth_pushed c w) (truth_by o)
-      → ((m : Attempt) (s : WordState) → Keeps k m s → LeavesWord k w.stack (truth_pushed d (with_stack w.stack s)) (truth_by (by_answers m right)))
-      → LeavesWord k w.stack (truth_pushed (sides_test op c d) w) (sides_value op (truth_by o) right)
-  side_agrees BothHold w c d o right h f =
+  pub side_agrees : (middle : Spare) (op : ShortCircuitOperator) (w : WordState) (c d : Test) (o : Answering) (right : Attempt → Option Evaluated)
+      → Covers middle k.free → LeavesWord (sparing middle k) w (truth_pushed c w) (truth_by o)
+      → ((m : Attempt) (s : WordState) → Keeps (sparing middle k) m s
+      → LeavesWord k (with_stack w.stack s) (truth_pushed d (with_stack w.stack s)) (truth_by (by_answers m right)))
+      → LeavesWord k w (truth_pushed (sides_test op c d) w) (sides_value op (truth_by o) right)
+  side_agrees middle BothHold w c d o right less h f =
       let next = way_by_top (truth_pushed d) (number_pushed 0) in
-      subst (λ r. LeavesWord k w.stack r (sides_value BothHold (truth_by o) right)) (sym (decided_by_truth c (truth_pushed d) (number_pushed 0) w))
-      (agrees_behind single w.stack (Leaves k single w.stack) (truth_pushed c w) (truth_by o) next (side_value BothHold right) h
-      (λ x s kept. by (holds x.value) x.behind (with_stack w.stack s) kept (f x.behind s kept)))
+      subst (λ r. LeavesWord k w r (sides_value BothHold (truth_by o) right)) (sym (decided_by_truth c (truth_pushed d) (number_pushed 0) w))
+      (words_then middle single single w (truth_pushed c w) (truth_by o) next (side_value BothHold right) h
+      (λ x s kept. by (holds x.value) x.behind (with_stack w.stack s) (spared (sparing middle k) k.free x.behind s less kept) (f x.behind s kept)))
     where
-      by : (b : Bool) (m : Attempt) (u : WordState) → Keeps k m u → LeavesWord k u.stack (truth_pushed d u) (truth_by (by_answers m right))
-          → LeavesWord k u.stack (if b then truth_pushed d u else number_pushed 0 u)
+      by : (b : Bool) (m : Attempt) (u : WordState) → Keeps k m u → LeavesWord k u (truth_pushed d u) (truth_by (by_answers m right))
+          → LeavesWord k u (if b then truth_pushed d u else number_pushed 0 u)
           (by_answers m (λ s. if not b then gives (bit b) s else truth_of (right s)))
       by true m u kept g = g
       by false m u kept g = is_left single u.stack 0 m (pushed 0 u) kept refl
-  side_agrees OneHolds w c d o right h f =
+  side_agrees middle OneHolds w c d o right less h f =
       let next = way_by_top (number_pushed 1) (truth_pushed d) in
-      subst (λ r. LeavesWord k w.stack r (sides_value OneHolds (truth_by o) right)) (sym (decided_by_truth c (number_pushed 1) (truth_pushed d) w))
-      (agrees_behind single w.stack (Leaves k single w.stack) (truth_pushed c w) (truth_by o) next (side_value OneHolds right) h
-      (λ x s kept. by (holds x.value) x.behind (with_stack w.stack s) kept (f x.behind s kept)))
+      subst (λ r. LeavesWord k w r (sides_value OneHolds (truth_by o) right)) (sym (decided_by_truth c (number_pushed 1) (truth_pushed d) w))
+      (words_then middle single single w (truth_pushed c w) (truth_by o) next (side_value OneHolds right) h
+      (λ x s kept. by (holds x.value) x.behind (with_stack w.stack s) (spared (sparing middle k) k.free x.behind s less kept) (f x.behind s kept)))
     where
-      by : (b : Bool) (m : Attempt) (u : WordState) → Keeps k m u → LeavesWord k u.stack (truth_pushed d u) (truth_by (by_answers m right))
-          → LeavesWord k u.stack (if b then number_pushed 1 u else truth_pushed d u)
+      by : (b : Bool) (m : Attempt) (u : WordState) → Keeps k m u → LeavesWord k u (truth_pushed d u) (truth_by (by_answers m right))
+          → LeavesWord k u (if b then number_pushed 1 u else truth_pushed d u)
           (by_answers m (λ s. if b then gives (bit b) s else truth_of (right s)))
       by true m u kept g = is_left single u.stack 1 m (pushed 1 u) kept refl
       by false m u kept g = g

@@ -13,9 +13,10 @@ use Rattle.task_ast.specs.declared.names.Variable.{Variable}
 use Rattle.task_ast.specs.declared.names.Variable.TheVariants.{Shared, Local}
 use Rattle.source_values.specs.Values.{Variables, Attempt, Evaluated, word_at, converted, made_of, truth_word, value_of}
 use Rattle.memory_map.specs.event_places.Places.{sent_place, answer_place}
-use Rattle.source_values.specs.Statements.{Outcome, goes_on, to_task, returns, short, run_block, block_emits}
+use Rattle.source_values.specs.Statements.{Outcome, goes_on, to_task, returns, short, run_block, block_emits, expression_emits}
 use Rattle.array_versions.specs.Behaviour.{WordState, End, GoesOn, Jumps, Short, Strays, Broken, Behaviour, behaviour, event_index}
-use Rattle.cost_bound.specs.Counts.{stores_of}
+use Rattle.array_versions.specs.Operations.{stacked}
+use Rattle.cost_bound.specs.Counts.{stores_of, expression_count}
 use Rattle.memory_map.specs.MemoryMap.{MemoryMap, word_place, where_events}
 use Rattle.address_space.specs.Limits.{program_end}
 use Rattle.memory_map.specs.declared.runtime.Logging.{Logging}
@@ -33,10 +34,10 @@ use Rattle.runtime_effects.specs.Places.{CopyPair, entries_from}
 use Rattle.lower.specs.declared.runs.Run.{Run}
 use Rattle.lower.specs.Runs.{runs_of}
 use Rattle.lower.specs.Seen.{some_path_writes}
-use Rattle.array_versions.specs.Program.{truth}
+use Rattle.array_versions.specs.Program.{Program, truth}
 use Rattle.lower.specs.Events.{AdmitsExpression, AdmitsBlock}
 use Rattle.lower.specs.Lowered.{one, lowered_expression, lowered_long, lowered_test, lowered_block}
-pub use Rattle.lower.specs.Stores.{TakesAndStores, IsAnswerStore, OnlyTakes, IsTaskStore, at_variable, at_copy, at_element, at_version, in_list}
+pub use Rattle.lower.specs.Stores.{TakesAndStores, IsAnswerStore, IsTaskStore, at_variable, at_copy, at_element, at_version, in_list}
 pub use Rattle.lower.specs.Stores.{at_list_length, at_emit_count, in_buffer, at_answer, AreMadeByActs, Did}
 
 -- ---- what is asked of the places of a task: the variables of its source have such as were declared
@@ -167,73 +168,17 @@ by_answers m value answers = value (answered_by answers m)
 abbrev pub made_by : (ℕ → ℕ) → Answering → Answering
 made_by f o answers = made_of f (o answers)
 
--- a value is left: its words on top of the stack, the readings that the attempt behind it has, and all else as it was, but for the words that
--- count events
-pub record IsLeft (words : ℕ → List ℕ) (w : WordState) (x : Evaluated) (s : WordState) : Type 0 where
-  pub stack : s.stack ≡ words x.value ++ w.stack
-  pub locals : s.locals ≡ w.locals
-  pub fram : (a : ℕ) → a < program_end → s.fram a ≡ w.fram a
-  pub readings : s.inputs.readings ≡ x.behind.left
-
--- the end leaves a state as it is asked for behind this value, or is short where there is none; these answers are left. A program that reads a
--- local before it is assigned is broken, and then nothing is said
-abbrev pub EndsAt : (Evaluated → WordState → Type 0) → List ℕ → End → Option Evaluated → Type 0
-EndsAt there left (GoesOn s) (Some x) = there x s × (x.behind.answers ≡ left)
-EndsAt there left (GoesOn s) None = ⊥
-EndsAt there left Short (Some x) = ⊥
-EndsAt there left Short None = Unit {0}
-EndsAt there left (Jumps to s) o = ⊥
-EndsAt there left Strays o = ⊥
-EndsAt there left Broken o = Unit {0}
-
--- A program takes readings, looks and tells answers alone, and ends as an expression does on the answers that it tells, with any others
--- behind these: with a state as its value leaves one and these others left, or short of readings
-abbrev pub AgreesAt : Bool → (Evaluated → WordState → Type 0) → Behaviour → Answering → Type 0
-AgreesAt events there b o = (others : List ℕ) → OnlyTakes events b.effects × EndsAt there others b.end (o (answers_told b.effects ++ others))
-
--- the same with the value pushed
-abbrev pub AgreesWithValue : Bool → WordState → Behaviour → Answering → Type 0
-AgreesWithValue events w b o = AgreesAt events (IsLeft (λ v. v ∷ []) w) b o
-
--- the same with the value pushed as a long: its high word is on top
-abbrev pub AgreesWithLong : Bool → WordState → Behaviour → Answering → Type 0
-AgreesWithLong events w b o = AgreesAt events (IsLeft (λ v. v / 65536 ∷ v % 65536 ∷ []) w) b o
-
--- an attempt with the readings left that a state has
-abbrev pub in_state : WordState → Attempt → Attempt
-in_state w m = record m { left = w.inputs.readings }
-
 -- a value of one type as one of another
 abbrev pub converted_to : WordType → WordType → Option Evaluated → Option Evaluated
 converted_to s t o = made_of (converted s t) o
-
--- an expression with its places: it is well-formed, and `next_event()` stands in it only where the program takes events
-abbrev pub IsFit : List SharedDeclaration → Places → CheckedExpression → Type 0
-IsFit shared p e = WellFormedExpression shared e × AdmitsExpression p.map.runtime.events e
-
--- the program of a well-formed expression, which calls no function, leaves its value, as one word
-abbrev pub ExpressionsAgree : Type 0
-ExpressionsAgree = (shared : List SharedDeclaration) (p : Places) (room : Room) (e : CheckedExpression) (m : Attempt) (w : WordState)
-    → AreApart p room → AreEven p → AsDeclared shared p → IsFit shared p e → HoldVariables p m.variables w.fram w.locals
-    → AgreesWithValue p.map.runtime.events w (behaviour (lowered_expression p e) w)
-    (by_answers (in_state w m) (λ s. converted_to (type_of e) Unsigned (value_of [] e s)))
-
--- and the other its value as a long
-abbrev pub LongsAgree : Type 0
-LongsAgree = (shared : List SharedDeclaration) (p : Places) (room : Room) (e : CheckedExpression) (m : Attempt) (w : WordState)
-    → AreApart p room → AreEven p → AsDeclared shared p → IsFit shared p e → HoldVariables p m.variables w.fram w.locals
-    → AgreesWithLong p.map.runtime.events w (behaviour (lowered_long p e) w)
-    (by_answers (in_state w m) (λ s. converted_to (type_of e) Long (value_of [] e s)))
 
 -- a value as 1 where it isn't 0, else 0
 abbrev pub truth_of : Option Evaluated → Option Evaluated
 truth_of o = made_of truth_word o
 
--- the test of an expression holds where its value isn't 0
-abbrev pub TestsAgree : Type 0
-TestsAgree = (shared : List SharedDeclaration) (p : Places) (room : Room) (e : CheckedExpression) (m : Attempt) (w : WordState)
-    → AreApart p room → AreEven p → AsDeclared shared p → IsFit shared p e → HoldVariables p m.variables w.fram w.locals
-    → AgreesWithValue p.map.runtime.events w (behaviour (one (truth (lowered_test p e))) w) (by_answers (in_state w m) (λ s. truth_of (value_of [] e s)))
+-- an expression with its places: it is well-formed, and `next_event()` stands in it only where the program takes events
+abbrev pub IsFit : List SharedDeclaration → Places → CheckedExpression → Type 0
+IsFit shared p e = WellFormedExpression shared e × AdmitsExpression p.map.runtime.events e
 
 -- ---- statements
 
@@ -280,6 +225,21 @@ pub record WentOn (p : Places) (b : Bounds) (stack left : List ℕ) (es : List E
   pub few : (v : ℕ) → listed_of v listed ≤ b.most v
   pub answers : m.answers ≡ left
 
+-- the end of a program that leaves a value: as statements that went on, with the words of the value on top of the stack and the attempt behind it,
+-- or short where there is none; these answers are left. A program that reads a local before it is assigned is broken, and then nothing is said
+abbrev pub EndsWith : Places → Bounds → (ℕ → List ℕ) → List ℕ → List ℕ → List Effect → End → Option Evaluated → Type 0
+EndsWith p b words stack left es (GoesOn s) (Some x) = WentOn p b (words x.value ++ stack) left es s x.behind
+EndsWith p b words stack left es (GoesOn s) None = ⊥
+EndsWith p b words stack left es (Jumps to s) o = ⊥
+EndsWith p b words stack left es Short (Some x) = ⊥
+EndsWith p b words stack left es Short None = DidWithin p b es
+EndsWith p b words stack left es Strays o = ⊥
+EndsWith p b words stack left es Broken o = Unit {0}
+
+-- a program does and ends as an expression does on the answers that it tells, with any others behind these: they are left
+abbrev pub AgreesWith : Places → Bounds → (ℕ → List ℕ) → List ℕ → Behaviour → Answering → Type 0
+AgreesWith p b words stack r o = (others : List ℕ) → EndsWith p b words stack others r.effects r.end (o (answers_told r.effects ++ others))
+
 -- statements that came to a transition to a task, with these answers left: from the state there on its effects, and last of all the store of 1
 -- to the gate
 pub record Left (p : Places) (b : Bounds) (left : List ℕ) (es : List Effect) (to : ℕ) (s : WordState) (task : ℕ) (m : Attempt) : Type 0 where
@@ -316,6 +276,28 @@ EndsAs p b stack left es Broken o = Unit {0}
 -- a program does and ends as the source's statements do on the answers that it tells, with any others behind these: they are left
 abbrev pub Agrees : Places → Bounds → List ℕ → Behaviour → (List ℕ → Outcome) → Type 0
 Agrees p b stack r o = (others : List ℕ) → EndsAs p b stack others r.effects r.end (o (answers_told r.effects ++ others))
+
+-- The programs of well-formed expressions, which call no function, leave such words of such a value of them, where there is room for what they
+-- emit and list
+abbrev pub ValuesAgree : (ℕ → List ℕ) → (Places → CheckedExpression → Program) → (CheckedExpression → Option Evaluated → Option Evaluated) → Type 0
+ValuesAgree words program value =
+    (z : Scene) (e : CheckedExpression) (m : Attempt) (listed : List Element) (w : WordState) → w.fram (word_place z.p.map Version) ≡ z.ver
+    → IsFit z.shared z.p e → StandsFor z.p z.first m listed w → length m.emitted + expression_emits [] e ≤ z.room.emits
+    → ((v : ℕ) → listed_of v listed + expression_count [] e ≤ z.stores v)
+    → AgreesWith z.p (bounds z w.fram (λ v. listed_of v listed + expression_count [] e)) words w.stack (behaviour (program z.p e) w)
+    (by_answers m (λ s. value e (value_of [] e s)))
+
+-- the value as one word, on top of the stack
+abbrev pub ExpressionsAgree : Type 0
+ExpressionsAgree = ValuesAgree (λ v. v ∷ []) lowered_expression (λ e o. converted_to (type_of e) Unsigned o)
+
+-- the value as a long: its high word is on top
+abbrev pub LongsAgree : Type 0
+LongsAgree = ValuesAgree stacked lowered_long (λ e o. converted_to (type_of e) Long o)
+
+-- the test of an expression holds where its value isn't 0
+abbrev pub TestsAgree : Type 0
+TestsAgree = ValuesAgree (λ v. v ∷ []) (λ p e. one (truth (lowered_test p e))) (λ e o. truth_of o)
 
 -- what some path of a block writes, the task writes
 abbrev pub WritesWithin : (ℕ → Bool) → CheckedBlock → Type 0

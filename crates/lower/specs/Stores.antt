@@ -21,10 +21,6 @@ TakesAndStores P (Outside (Offered n w) ∷ es) = ⊥
 abbrev pub IsAnswerStore : Bool → ℕ → ℕ → Type 0
 IsAnswerStore events a w = (events ≡ true) × ((a ≡ answer_place) ⊎ (a ≡ count_place))
 
--- effects that take readings, look, and tell answers
-abbrev pub OnlyTakes : Bool → List Effect → Type 0
-OnlyTakes events = TakesAndStores (IsAnswerStore events)
-
 -- what statements store, VER being this number: words of the scalars that they write, copies of elements, under undo the elements, version
 -- words of elements, entries of the commit list with their count, emitted words with theirs, and what expressions store
 pub data IsTaskStore (p : Places) (written : ℕ → Bool) (room : Room) (ver : ℕ) (a w : ℕ) : Type 0 where

@@ -3,8 +3,8 @@
 ghost use Rattle.lower.specs.Agreement.{ExpressionsAgree, LongsAgree, TestsAgree, BlocksAgree};
 ghost use Rattle.lower.specs.Sizes.{BlocksKeepToWords, BlocksKeepToCycles, ExpressionsKeepToCycles};
 
-/// The program of an expression takes readings alone, and leaves the expression's value on top of the stack, of a long its low word,
-/// with the readings left as the expression leaves them. It is short exactly where the expression is.
+/// The program of an expression leaves the expression's value on top of the stack, of a long its low word, in a state that stands for the
+/// attempt behind it: with its variables, its emitted words and the readings that are left. It is short exactly where the expression is.
 pub fn expressions_agree()
     ensures { ExpressionsAgree }
 {}

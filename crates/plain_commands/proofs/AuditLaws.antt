@@ -35,7 +35,7 @@ apart from end (span ∷ spans) h =
     (omega (arith, begins), omega (arith, begins, onward), inside span.to end spans h.2, apart span.to end spans h.2)
 
 -- so many transitions emit at most 256 words each
-emitted : (program : CheckedProgram) → All EmitsFit program.tasks → (s : State) (readings : List ℕ) (spans : List Committed) (ts : List Transition)
+emitted : (program : CheckedProgram) → All (EmitsFit program) program.tasks → (s : State) (readings : List ℕ) (spans : List Committed) (ts : List Transition)
     → source_run program s (map (given_of readings) spans) ≡ Some ts → sum_by (λ t. length t.emitted) ts ≤ 256 * length spans
 emitted program fit s readings [] ts run =
     let none : [] ≡ ts = cc run in

@@ -1,5 +1,7 @@
-use Rattle.std.proofs.Common.{◌≡◌, ◌+◌, ap, sym, ◌∙◌, drop}
-use Rattle.task_ast.specs.View.{block_view, statement_of}
+use Rattle.std.proofs.Common.{◌≡◌, ◌+◌, ap, sym, ◌∙◌, drop, rules}
+use Rattle.task_ast.specs.Tree.{give}
+use Rattle.task_ast.specs.View.{block_view, expression_of, statement_of}
+use Rattle.task_ast.specs.declared.Stmt.{the_lemmas}
 use Rattle.array_versions.specs.Program.{joined, nothing}
 use Rattle.array_versions.proofs.Interface.{joined_nothing}
 use Rattle.array_versions.specs.View.{program_of}
@@ -25,6 +27,7 @@ lower_block-returns t c =
 -- a return adds nothing
 pub lower_statement-returns-in-Return : goal.lower_statement-returns-in-Return
 lower_statement-returns-in-Return t c =
-    let p = program_of c.args.program.now in let places = places_in c.args.places.now in
-    let same : lowered_statement places (statement_of c.args.s.now) ≡ nothing = ap (λ s. lowered_statement places (statement_of s)) c.in-Return.is in
+    let p = program_of c.args.program.now in
+    let given : statement_of c.args.s.now ≡ give c.in-Return._keyword (expression_of c.in-Return._value) = search (rules, the_lemmas) in
+    let same : lowered_statement (places_in c.args.places.now) (statement_of c.args.s.now) ≡ nothing = ap (lowered_statement (places_in c.args.places.now)) given in
     sym (ap (joined p) same ∙ joined_nothing p)

@@ -8,10 +8,10 @@ pub returns-in_err-said-clause-refused : goal.returns-in_err-said-clause-refused
 returns-in_err-said-clause-refused c = handed_on _ _ _ c.from_residual.ensures c.in_err-said.ensures.refused
 
 pub check_suits-requires : goal.check_suits-requires
-check_suits-requires c = c.in_ok-said.ensures.said.source_said.1
+check_suits-requires c = record { plain = c.in_ok-said.ensures.said.source_said.1 }
 
-pub check_suits-2-requires : goal.check_suits-2-requires
-check_suits-2-requires c = c.in_ok-said.ensures.said.new_source_said.1
+pub check_suits-requires-2 : goal.check_suits-requires-2
+check_suits-requires-2 c = record { plain = c.in_ok-said.ensures.said.new_source_said.1 }
 
 pub returns-in_err-check_suits-clause-refused : goal.returns-in_err-check_suits-clause-refused
 returns-in_err-check_suits-clause-refused c =
