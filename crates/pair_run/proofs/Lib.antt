@@ -1,0 +1,7 @@
+mod Runs
+mod Lines
+mod Doing
+mod SideA
+mod Listening
+mod SideB
+mod Starts
