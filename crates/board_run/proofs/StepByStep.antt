@@ -1,6 +1,6 @@
 -- A run that is made step by step: a step is made, and there always is one.
 use Rattle.std.proofs.Common.{◌≡◌, ◌<◌, ◌-◌, ℕ, arith, refl, sym, ◌∙◌, ap, subst, Bool, true, false, List, [], ◌∷◌, ◌++◌, append_assoc, append-nil}
-use Rattle.std.proofs.Common.{Option, Some, None}
+use Rattle.std.proofs.Common.{Option, Some, None, ◌≤◌, ◌+◌, replicate, drop, get_or, length}
 use Rattle.std.specs.Io.KnownBytes.{Appends}
 use Rattle.std.proofs.KnownBytes.{Appends-nil}
 use Rattle.alp_io.specs.Sink.{AppendsProperPrefix}
@@ -18,7 +18,10 @@ use Rattle.board_run.specs.Report.{lines_from}
 use Rattle.board_run.specs.Parts.{Known, known_head, IsMade, IsStepMade, Turned, TurnedPartly, Wrote}
 use Rattle.board_run.specs.Stepwise.{RunState, IsSpentCharge, behind_step, behind_power, StepsOn, Idle, Makes, Halts, Ends, Powers}
 use Rattle.board_run.specs.Stepwise.{done_by, last_done, is_power_up, powers_up}
-use Rattle.board_run.proofs.Spends.{wrote_more}
+use Rattle.energy_trace.specs.declared.charge.Charge.{Charge}
+use Rattle.board_run.specs.Charges.{charge_of, charges_of}
+use Rattle.board_run.proofs.Charges.{repeated_split, repeated_end, all_split, all_end, no_charge}
+use Rattle.board_run.proofs.Spends.{wrote_more, wrote_none}
 
 -- ---- charges that are spent
 
@@ -32,6 +35,26 @@ spent_board m left b r (Executed _ _ n done rest pos next paid a more) e f = cc
 
 pub spent_same : (m : Measure) (left : ℕ) (b after : BoardValue) → ChargeRun m left b (run_outcome [] Charges after) → after ≡ b
 spent_same m left b after h = spent_board m left b (run_outcome [] Charges after) h refl refl
+
+-- ---- the next charge
+
+-- it is the last one again
+pub comes_again : (again : ℕ) (c : BoardCharge) (cs : List BoardCharge) → 0 < again → replicate again c ++ cs ≡ c ∷ (replicate (again - 1) c ++ cs)
+comes_again again c cs some = ap (λ ds. ds ++ cs) (repeated_split again c some)
+
+-- or the first of those that haven't begun
+pub comes_next : (again : ℕ) (c : BoardCharge) (cs : List Charge) (i : ℕ) → again ≤ 0 → i < length cs → 0 < (get_or cs i no_charge).times
+    → replicate again c ++ charges_of (drop i cs)
+    ≡ charge_of (get_or cs i no_charge) ∷ (replicate ((get_or cs i no_charge).times - 1) (charge_of (get_or cs i no_charge)) ++ charges_of (drop (i + 1) cs))
+comes_next again c cs i none inside some =
+    let next = get_or cs i no_charge in
+    ap (λ ds. ds ++ charges_of (drop i cs)) (repeated_end again c none)
+    ∙ all_split cs no_charge i inside
+    ∙ comes_again next.times (charge_of next) (charges_of (drop (i + 1) cs)) some
+
+-- or there is none
+pub none_comes : (again : ℕ) (c : BoardCharge) (cs : List Charge) (i : ℕ) → again ≤ 0 → length cs ≤ i → replicate again c ++ charges_of (drop i cs) ≡ []
+none_comes again c cs i none behind = ap (λ ds. ds ++ charges_of (drop i cs)) (repeated_end again c none) ∙ all_end cs i behind
 
 -- ---- moments that are power-ups
 
@@ -107,6 +130,39 @@ powered_more s h old new t mid now flag c cs p on spent more noted =
       ups = ups_append p.moments (up ∷ []) p.ups (refl, tt);
       flag_is = sym (ups_first p.moments up flag refl p.flag_is p.ups);
     }
+
+-- the same, where nothing more is written and known
+pub powered_same : (s : RunState) (h : Known) (old mid new : Option (List ℕ)) (t : RunState) (between now : Known) (flag : Bool)
+    → PoweredUp s h old t between mid flag → Appends mid new [] → now ≡ between → PoweredUp s h old t now new flag
+powered_same s h old mid new t between now flag p none same = record {
+  moments = p.moments;
+  on = p.on;
+  wrote = subst (λ ms. Wrote h ms old new now) (append-nil p.moments)
+      (wrote_more h between now p.moments [] old mid new p.wrote (wrote_none between now mid new none same));
+  ups = p.ups;
+  flag_is = p.flag_is;
+}
+
+-- where the run has ended, a step is none
+idle_only : (s : RunState) (ms : List Moment) (t : RunState) → s.has_ended ≡ true → StepsOn s ms t → (ms ≡ []) × (t ≡ s)
+idle_only s ms t e (Idle _ f) = (refl, refl)
+idle_only s ms t e (Makes _ n done f made) = let k = sym e ∙ f in cc
+idle_only s ms t e (Halts _ stop after f run) = let k = sym e ∙ f in cc
+idle_only s ms t e (Ends _ f spent none) = let k = sym e ∙ f in cc
+idle_only s ms t e (Powers _ c cs ns u f spent more on) = let k = sym e ∙ f in cc
+
+-- and then the run ended
+pub powered_end : (s : RunState) (h : Known) (old new : Option (List ℕ)) (t u : RunState) (now : Known) (flag : Bool) → PoweredUp s h old t now new flag
+    → StepsOn t [] u → u.has_ended ≡ true → PoweredUp s h old u now new flag
+powered_end s h old new t u now flag p ends e = record {
+  moments = p.moments;
+  on = λ ms v k.
+      let idle = idle_only u ms v e k in
+      subst (λ ns. StepsOn s (p.moments ++ ns) v) (sym idle.0) (subst (λ w. StepsOn s (p.moments ++ []) w) (sym idle.1) (p.on [] u ends));
+  wrote = p.wrote;
+  ups = p.ups;
+  flag_is = p.flag_is;
+}
 
 -- a step that ends there without one
 pub record StepsNowhere (s : RunState) (h : Known) (old new : Option (List ℕ)) (t : RunState) (now : Known) (flag : Bool) : Type 0 where

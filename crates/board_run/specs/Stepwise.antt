@@ -109,6 +109,26 @@ pub record HasRoom (r : StepwiseRun) (n : ℕ) : Type 0 where
   pub repeats : r.board.now.receiver.repeats + n < 2 ^ 64
   pub words : words_of (counted r.watch.now.tally) + n < 2 ^ 64
 
+-- what is kept beside the charges
+pub record IsKept (r now : StepwiseRun) : Type 0 where
+  pub going : IsGoing now
+  pub room : (n : ℕ) → HasRoom r n → HasRoom now n
+
+-- the next charge is the one that is spent from now on
+pub record TakesCharge (r now : StepwiseRun) : Type 0 where
+  pub next : (state_of r).charges ≡ charge_of now.charge ∷ (state_of now).charges
+  pub board : now.board.now ≡ r.board.now
+  pub known : known_of now ≡ known_of r
+  pub has_ended : now.has_ended ≡ r.has_ended
+  pub kept : IsKept r now
+
+-- no charge is left
+pub record HasNoCharge (r now : StepwiseRun) : Type 0 where
+  pub none : (state_of r).charges ≡ []
+  pub state : state_of now ≡ state_of r
+  pub known : known_of now ≡ known_of r
+  pub kept : IsKept r now
+
 -- power came up with the next charge
 pub record IsRenewed (r now : StepwiseRun) : Type 0 where
   pub charge : BoardCharge
@@ -117,12 +137,14 @@ pub record IsRenewed (r now : StepwiseRun) : Type 0 where
   pub state : state_of now ≡ behind_power (state_of r) charge others
   pub history : (known_of now).history ≡ behind_power_up (known_of r).history.map (known_of r).history (state_of now).board
   pub tally : (known_of now).tally ≡ tallied PowersUp (known_of r).tally
+  pub kept : IsKept r now
 
--- no charge is left
+-- or the run has ended
 pub record IsEnded (r now : StepwiseRun) : Type 0 where
   pub none : (state_of r).charges ≡ []
   pub state : state_of now ≡ record (state_of r) { has_ended = true }
   pub known : known_of now ≡ known_of r
+  pub kept : IsKept r now
 
 -- what an action did, if it is a step
 abbrev pub done_by : Action → Option Stepped

@@ -52,7 +52,7 @@ impl<'r, 'i> StepwiseRun<'r, 'i> {
     ghost use Rattle.board_run.specs.History.{with_word};
     ghost use Rattle.board_run.specs.Tally.{counted, words_of};
     ghost use Rattle.board_run.specs.Stepwise.{state_of, known_of, ring_of, answer_of_ring, events_in, with_board};
-    ghost use Rattle.board_run.specs.Stepwise.{IsGoing, HasRoom, IsAdvance, IsRenewed, IsEnded};
+    ghost use Rattle.board_run.specs.Stepwise.{IsGoing, HasRoom, IsAdvance, TakesCharge, HasNoCharge, IsRenewed, IsEnded};
 
     /// Whether the run has ended: its further steps do nothing.
     pub fn has_ended(&self) -> bool
@@ -136,25 +136,36 @@ impl<'r, 'i> StepwiseRun<'r, 'i> {
         self.watch.state.keep(word);
     }
 
+    // The next charge, if one is left, is the one that is spent from now on.
+    fn take_charge(&mut self) -> bool
+        requires { IsGoing self.old }
+        ensures taken { result ≡ true → TakesCharge self.old self.new }
+        ensures none { result ≡ false → HasNoCharge self.old self.new }
+    {
+        if self.again > 0 {
+            self.again -= 1;
+            return true;
+        }
+        if self.next == self.charges.len() {
+            return false;
+        }
+        self.charge = self.charges[self.next];
+        self.next += 1;
+        self.again = self.charge.times - 1;
+        true
+    }
+
     // The charge is spent: power comes up with the next one, or the run has ended where there is none. Answers whether power came up.
     fn renew(&mut self) -> bool
         requires going { IsGoing self.old }
         requires words { words_of (counted self.old.watch.now.tally) < 2 ^ 64 }
-        ensures going { IsGoing self.new }
         ensures up { result ≡ true → IsRenewed self.old self.new }
         ensures end { result ≡ false → IsEnded self.old self.new }
-        ensures room { (n : ℕ) → HasRoom self.old n → HasRoom self.new n }
     {
-        if self.again == 0 {
-            if self.next == self.charges.len() {
-                self.has_ended = true;
-                return false;
-            }
-            self.charge = self.charges[self.next];
-            self.again = self.charge.times;
-            self.next += 1;
+        if !self.take_charge() {
+            self.has_ended = true;
+            return false;
         }
-        self.again -= 1;
         self.left = self.charge.n;
         self.board.power_up(self.charge.fill);
         self.watch.note_power_up(self.board);

@@ -139,10 +139,56 @@ fn the_listener_is_cut(rt: HostRuntime) -> Result<(), Fail> {
         let case = Case {
             a: A,
             b: &trace,
-            schedule: "x 20000\n",
+            schedule: "x 2000\n",
         };
         let text = report(&rt, rt.alloc(), case)?;
         is_whole(&rt, rt.alloc(), text.as_slice())?;
     }
     Ok(())
+}
+
+// A's power fails behind each of its first 300 steps. An attempt that was cut off takes a further reading as it begins anew, so each word that A tells
+// is the one reading of its transition.
+#[test]
+fn the_sender_is_cut(rt: HostRuntime) -> Result<(), Fail> {
+    for k in 0..=300u32 {
+        let trace = format!(in rt.alloc(); "s {k} 3\nc 10000000 0\nr 10 11 12 13 14 15 16 17 18 19\n")?;
+        let case = Case {
+            a: &trace,
+            b: B,
+            schedule: "x 4000\n",
+        };
+        let text = report(&rt, rt.alloc(), case)?;
+        tells_readings(&rt, text.as_slice())?;
+    }
+    Ok(())
+}
+
+/// In a report each word of A is the reading with which its transition began, where the readings are 10, 11 and on; and B accepted as many words.
+fn tells_readings(rt: &impl Abort, report: &[u8]) -> Result<(), Fail> {
+    let text = str::from_utf8(report)?;
+    let mut from = 0u32;
+    let mut told = 0u32;
+    let mut accepted = 0u32;
+    for line in text.lines() {
+        if line.starts_with("a t ") {
+            from = number_at(line, 5)?;
+        }
+        if line.starts_with("a o ") {
+            assert!(rt; from < 1000 && told < 1000);
+            assert!(rt; number_at(line, 2)? == from + 10);
+            told += 1;
+        }
+        if line.starts_with("pair ") {
+            accepted = number_at(line, 1)?;
+        }
+    }
+    assert!(rt; told > 1 && accepted == told);
+    Ok(())
+}
+
+/// The number that is this word of a line.
+fn number_at(line: &str, place: usize) -> Result<u32, Fail> {
+    let word = line.split_whitespace().nth(place).unwrap_or("");
+    Ok(word.parse::<u32>()?)
 }
