@@ -147,7 +147,7 @@ pub breaks_first : (old new : Option (List ℕ)) (next : List ℕ) → AppendsPr
 breaks_first old new next p = record { count = p.count; proper = p.proper; held = p.held }
 
 -- behind moments whose lines are written, those of one more are written in part
-in_lines : (h mid : Known) (ms : List Moment) (moment : Moment) (old between new : Option (List ℕ)) → Wrote h ms old between mid
+pub in_lines : (h mid : Known) (ms : List Moment) (moment : Moment) (old between new : Option (List ℕ)) → Wrote h ms old between mid
     → AppendsProperPrefix between new (moment_lines mid.history moment)
     → BreaksOff old new (lines_from h.history ms) (moment_lines (after_all h.history ms) moment)
 in_lines h mid ms moment old between new w p =

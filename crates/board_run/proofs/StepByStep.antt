@@ -1,27 +1,33 @@
 -- A run that is made step by step: a step is made, and there always is one.
 use Rattle.std.proofs.Common.{◌≡◌, ◌<◌, ◌-◌, ℕ, arith, refl, sym, ◌∙◌, ap, subst, Bool, true, false, List, [], ◌∷◌, ◌++◌, append_assoc, append-nil}
-use Rattle.std.proofs.Common.{Option, Some, None, ◌≤◌, ◌+◌, replicate, drop, get_or, length}
+use Rattle.std.proofs.Common.{Option, Some, None, ◌≤◌, ◌+◌, replicate, drop, get_or, length, if◌then◌else◌, ◌^◌}
+use Rattle.std.proofs.Common.{Result, Ok, Err, IsErr}
 use Rattle.std.specs.Io.KnownBytes.{Appends}
 use Rattle.std.proofs.KnownBytes.{Appends-nil}
 use Rattle.alp_io.specs.Sink.{AppendsProperPrefix}
+use Rattle.alp_io.specs.declared.sink.Failed.{Failed}
 use Rattle.msp_step.specs.declared.machine.Stop.{Stop}
 use Rattle.fram_board.specs.declared.board.NextStep.{NextStep}
 use Rattle.fram_board.specs.declared.board.Stepped.{Stepped}
-use Rattle.fram_board.specs.Board.{BoardValue, performed, at_boundary}
+use Rattle.fram_board.specs.Board.{BoardValue, PowerState, powered, performed, at_boundary}
 use Rattle.fram_board.specs.Run.{Measure, price, Action, PowerUp, Execute, Moment, End, Charges, Stopped, RunOutcome, run_outcome, BoardCharge, ChargeRun}
 use Rattle.fram_board.specs.Run.{Spent, NoInstruction, TooDear, Refused, Executed, power_up_of, moment_of}
 use Rattle.fram_board.proofs.Interface.{charge_run}
 use Rattle.board_run.specs.History.{History, moment_lines, noted, behind_power_up}
 use Rattle.board_run.specs.Events.{PowersUp}
-use Rattle.board_run.specs.Tally.{tallied, tally_behind}
-use Rattle.board_run.specs.Report.{lines_from}
-use Rattle.board_run.specs.Parts.{Known, known_head, IsMade, IsStepMade, Turned, TurnedPartly, Wrote}
-use Rattle.board_run.specs.Stepwise.{RunState, IsSpentCharge, behind_step, behind_power, StepsOn, Idle, Makes, Halts, Ends, Powers}
-use Rattle.board_run.specs.Stepwise.{done_by, last_done, is_power_up, powers_up}
+use Rattle.board_run.specs.Tally.{tallied, tally_behind, counted, words_of}
+use Rattle.board_run.specs.Report.{lines_from, after_all}
+use Rattle.board_run.specs.declared.spend.Turn.{Turn}
+use Rattle.board_run.specs.declared.spend.Turn.TheVariants as turns
+use Rattle.board_run.specs.declared.stepwise.Advance.{Advance}
+use Rattle.board_run.specs.Parts.{Known, known_head, FewMore, IsMade, IsStepMade, IsTurn, Turned, TurnedPartly, Wrote}
+use Rattle.board_run.specs.declared.stepwise.StepwiseRun.{StepwiseRun}
+use Rattle.board_run.specs.Stepwise.{HasRoom, RunState, IsSpentCharge, behind_step, behind_power, StepsOn, Idle, Makes, Halts, Ends, Powers}
+use Rattle.board_run.specs.Stepwise.{known_of, done_by, last_done, is_power_up, powers_up, Advances, AdvancesPartly, IsAdvance}
 use Rattle.energy_trace.specs.declared.charge.Charge.{Charge}
 use Rattle.board_run.specs.Charges.{charge_of, charges_of}
-use Rattle.board_run.proofs.Charges.{repeated_split, repeated_end, all_split, all_end, no_charge}
-use Rattle.board_run.proofs.Spends.{wrote_more, wrote_none}
+use Rattle.board_run.proofs.Charges.{repeated_split, repeated_end, all_split, all_end, no_charge, front_of_both}
+use Rattle.board_run.proofs.Spends.{wrote_more, wrote_none, lines_append, in_lines}
 
 -- ---- charges that are spent
 
@@ -55,6 +61,28 @@ comes_next again c cs i none inside some =
 -- or there is none
 pub none_comes : (again : ℕ) (c : BoardCharge) (cs : List Charge) (i : ℕ) → again ≤ 0 → length cs ≤ i → replicate again c ++ charges_of (drop i cs) ≡ []
 none_comes again c cs i none behind = ap (λ ds. ds ++ charges_of (drop i cs)) (repeated_end again c none) ∙ all_end cs i behind
+
+-- a power-up leaves room for as many steps
+pub room_powered : (r now : StepwiseRun) (p : PowerState) (n : ℕ) → now.board.now ≡ powered r.board.now p
+    → counted now.watch.now.tally ≡ tallied PowersUp (counted r.watch.now.tally) → HasRoom r n → HasRoom now n
+room_powered r now p n board tally h =
+    let words = ap words_of tally in
+    record {
+      accepted = subst (λ (b : BoardValue). b.receiver.accepted + n < 2 ^ 64) (sym board) h.accepted;
+      repeats = subst (λ (b : BoardValue). b.receiver.repeats + n < 2 ^ 64) (sym board) h.repeats;
+      words = omega (arith, h.words, words);
+    }
+
+-- a state with another board, which has ended so
+abbrev so : BoardValue → List BoardCharge → Measure → ℕ → Bool → RunState
+so b cs m left ended = record { board = b; charges = cs; measure = m; left = left; has_ended = ended }
+
+pub state_so : {b c : BoardValue} {d e : Bool} (cs : List BoardCharge) (m : Measure) (left : ℕ) → b ≡ c → d ≡ e → so b cs m left d ≡ so c cs m left e
+state_so {b} {c} {d} {e} cs m left p q = ap (λ x. so x cs m left d) p ∙ ap (λ x. so c cs m left x) q
+
+-- how many turns may be taken in vain
+abbrev pub tries_left : RunState → ℕ
+tries_left s = length s.charges + (if s.has_ended then 0 else 1)
 
 -- ---- moments that are power-ups
 
@@ -237,12 +265,139 @@ steps_with s h old mid new t between now flag rest done after p on turn =
       powers = p.flag_is ∙ sym (first_up p.moments moment is.1);
     }
 
--- or its lines aren't written whole
-pub record StepsPartly (s : RunState) (h : Known) (old new : Option (List ℕ)) : Type 0 where
-  pub moments : List Moment
-  pub behind : RunState
-  pub steps : StepsOn s moments behind
-  pub written : AppendsProperPrefix old new (lines_from h.history moments)
+-- ---- what a turn comes to in a step
+
+abbrev pub with_after : RunState → BoardValue → RunState
+with_after t b = record t { board = b }
+
+module _ (s : RunState) (h : Known) (old mid new : Option (List ℕ)) (t : RunState) (between now : Known) (flag : Bool) (turn : Turn) (after : BoardValue)
+    (p : PoweredUp s h old t between mid flag) (on : t.has_ended ≡ false) where
+  abbrev Comes : Turn → Type 0
+  Comes x = IsTurn between t.measure t.left t.board mid new (Ok x) after now
+
+  -- the charge is spent, and power comes up with the next one
+  pub power_next : turn ≡ turns.Spent → Comes turn → (c : BoardCharge) (cs : List BoardCharge) (u : RunState) (last : Known) → t.charges ≡ c ∷ cs
+      → u ≡ behind_power (with_after t after) c cs → IsNotedUp now last u.board → PoweredUp s h old u last new true
+  power_next is comes c cs u last next at noted =
+      let (spent, few, none, same) = subst Comes is comes in
+      let stays = spent_same t.measure t.left t.board after spent in
+      let at_t : u ≡ behind_power t c cs = at ∙ ap (λ b. behind_power (with_after t b) c cs) stays in
+      let is_spent : IsSpentCharge t =
+      subst (λ b. ChargeRun t.measure t.left t.board (run_outcome [] Charges b)) stays spent in
+      subst (λ x. PoweredUp s h old x last new true) (sym at_t)
+      (powered_more s h old new t now last flag c cs (powered_same s h old mid new t between now flag p none same) on is_spent next
+      (subst (λ x. IsNotedUp now last x.board) at_t noted))
+
+  -- or it was the last one
+  pub power_ends : turn ≡ turns.Spent → Comes turn → (u : RunState) (last : Known) → t.charges ≡ [] → u ≡ record (with_after t after) { has_ended = true }
+      → last ≡ now → PoweredUp s h old u last new flag
+  power_ends is comes u last none_left at known =
+      let (spent, few, none, same) = subst Comes is comes in
+      let stays = spent_same t.measure t.left t.board after spent in
+      let at_t : u ≡ record t { has_ended = true } = at ∙ ap (λ b. record (with_after t b) { has_ended = true }) stays in
+      let is_spent : IsSpentCharge t =
+      subst (λ b. ChargeRun t.measure t.left t.board (run_outcome [] Charges b)) stays spent in
+      subst (λ k. PoweredUp s h old u k new flag) (sym known)
+      (subst (λ x. PoweredUp s h old x now new flag) (sym at_t)
+      (powered_end s h old new t (record t { has_ended = true }) now flag (powered_same s h old mid new t between now flag p none same)
+      (Ends t on is_spent none_left) refl))
+
+  -- the board stops
+  pub board_halts : (stop : Stop) → turn ≡ turns.Stopped stop → Comes turn
+      → PoweredUp s h old (record (with_after t after) { has_ended = true }) now new flag
+  board_halts stop is comes =
+      let (stopped, few, none, same) = subst Comes is comes in
+      powered_end s h old new t (record (with_after t after) { has_ended = true }) now flag (powered_same s h old mid new t between now flag p none same)
+      (Halts t stop after on stopped) refl
+
+  -- a step is made
+  pub step_made : (rest : ℕ) (done : Stepped) → turn ≡ turns.Left rest done → Comes turn
+      → Advances s h old new (record { done = Some done; powers_up = flag }) (record (with_after t after) { left = rest }) now
+  step_made rest done is comes =
+      let step = steps_with s h old mid new t between now flag rest done after p on (subst Comes is comes) in
+      record { moments = step.moments; steps = step.steps; wrote = step.wrote; done = step.done_is; powers = step.powers }
+
+-- a step is made, and its lines aren't written whole
+advance_partly : (s : RunState) (h : Known) (old mid new : Option (List ℕ)) (t : RunState) (between : Known) (flag : Bool) (after : BoardValue)
+    → PoweredUp s h old t between mid flag → t.has_ended ≡ false → TurnedPartly between t.measure t.left t.board mid new after
+    → AdvancesPartly s h old new
+advance_partly s h old mid new t between flag after p on turn =
+    let moment = turn.moment in
+    record {
+      moments = p.moments ++ moment ∷ [];
+      behind = record (with_after t after) { left = turn.rest };
+      steps = p.on (moment ∷ []) _ (makes_it t moment turn.rest turn.done after on turn.step);
+      written = subst (AppendsProperPrefix old new) (sym (lines_append h.history p.moments (moment ∷ [])))
+          (front_of_both old new (lines_from h.history p.moments) (moment_lines (after_all h.history p.moments) moment) []
+          (in_lines h between p.moments moment old mid new p.wrote turn.written));
+    }
+
+pub step_partly : (s : RunState) (h : Known) (old mid new : Option (List ℕ)) (t : RunState) (between : Known) (flag : Bool) (after : BoardValue)
+    (result : Result Advance Failed) (u : RunState) (now : Known) → IsErr result → PoweredUp s h old t between mid flag → t.has_ended ≡ false
+    → TurnedPartly between t.measure t.left t.board mid new after → IsAdvance s h old new result u now
+step_partly s h old mid new t between flag after (Ok x) u now e p on turn = cc
+step_partly s h old mid new t between flag after (Err f) u now e p on turn = advance_partly s h old mid new t between flag after p on turn
+
+-- nothing more is made
+pub step_nowhere : (s : RunState) (h : Known) (old new : Option (List ℕ)) (t : RunState) (now : Known) (flag : Bool) → PoweredUp s h old t now new flag
+    → t.has_ended ≡ true → Advances s h old new (record { done = None; powers_up = flag }) t now
+step_nowhere s h old new t now flag p ended =
+    let step = ends_there s h old new t t now flag p (Idle t ended) in
+    record { moments = step.moments; steps = step.steps; wrote = step.wrote; done = step.done; powers = step.powers }
+
+-- ---- fewer turns are left, and there is room
+
+pub less_powered : (s u : RunState) (c : BoardCharge) (cs : List BoardCharge) → s.charges ≡ c ∷ cs → u ≡ behind_power s c cs → tries_left u < tries_left s
+less_powered s u c cs next is =
+    let one = ap length next in
+    let behind : tries_left u ≡ length cs + (if s.has_ended then 0 else 1) = ap tries_left is in
+    omega (arith, one, behind)
+
+pub less_ended : (s u : RunState) → s.has_ended ≡ false → u ≡ record s { has_ended = true } → tries_left u < tries_left s
+less_ended s u on is =
+    let behind : tries_left u ≡ length s.charges + 0 = ap tries_left is in
+    let before : tries_left s ≡ length s.charges + 1 = ap (λ b. length s.charges + (if b then 0 else 1)) on in
+    omega (arith, behind, before)
+
+pub room_turned : (r now : StepwiseRun) (n : ℕ) → FewMore r.board.now now.board.now 1
+    → words_of (counted now.watch.now.tally) ≤ words_of (counted r.watch.now.tally) + 1 → HasRoom r (n + 1) → HasRoom now n
+room_turned r now n few words h = record {
+  accepted = omega (arith, few.accepted, h.accepted);
+  repeats = omega (arith, few.repeats, h.repeats);
+  words = omega (arith, words, h.words);
+}
+
+pub room_same : (r now : StepwiseRun) (n : ℕ) → FewMore r.board.now now.board.now 0 → known_of now ≡ known_of r → HasRoom r n → HasRoom now n
+room_same r now n few known h =
+    let words = ap (λ (k : Known). words_of k.tally) known in
+    record {
+      accepted = omega (arith, few.accepted, h.accepted);
+      repeats = omega (arith, few.repeats, h.repeats);
+      words = omega (arith, words, h.words);
+    }
+
+pub room_less : (r : StepwiseRun) (n : ℕ) → HasRoom r (n + 1) → HasRoom r n
+room_less r n h = record {
+  accepted = omega (arith, h.accepted);
+  repeats = omega (arith, h.repeats);
+  words = omega (arith, h.words);
+}
+
+-- what a turn leaves of a board
+pub nothing_more : (h : Known) (m : Measure) (left : ℕ) (b after : BoardValue) (old new : Option (List ℕ)) (now : Known) (turn : Turn) → turn ≡ turns.Spent
+    → IsTurn h m left b old new (Ok turn) after now → FewMore b after 0 × (now ≡ h)
+nothing_more h m left b after old new now turn is comes =
+    let t = subst (λ x. IsTurn h m left b old new (Ok x) after now) is comes in (t.1, t.3)
+
+pub nothing_stopped : (h : Known) (m : Measure) (left : ℕ) (b after : BoardValue) (old new : Option (List ℕ)) (now : Known) (turn : Turn) (stop : Stop)
+    → turn ≡ turns.Stopped stop → IsTurn h m left b old new (Ok turn) after now → FewMore b after 0 × (now ≡ h)
+nothing_stopped h m left b after old new now turn stop is comes =
+    let t = subst (λ x. IsTurn h m left b old new (Ok x) after now) is comes in (t.1, t.3)
+
+pub one_more : (h : Known) (m : Measure) (left : ℕ) (b after : BoardValue) (old new : Option (List ℕ)) (now : Known) (turn : Turn) (rest : ℕ) (done : Stepped)
+    → turn ≡ turns.Left rest done → IsTurn h m left b old new (Ok turn) after now → FewMore b after 1 × (words_of now.tally ≤ words_of h.tally + 1)
+one_more h m left b after old new now turn rest done is comes =
+    let t = subst (λ x. IsTurn h m left b old new (Ok x) after now) is comes in (t.first.few, t.words)
 
 -- ---- there always is a step
 

@@ -31,6 +31,20 @@ fn image_of(
     Ok(parse_image(alloc, text.as_slice())?)
 }
 
+/// The images of both programs.
+#[derive(Drop)]
+struct Images {
+    a: Image,
+    b: Image,
+}
+
+fn images(rt: &impl Abort, alloc: Global) -> Result<Images, Fail> {
+    Ok(Images {
+        a: image_of(rt, alloc, SENDER, SENDER_MAP)?,
+        b: image_of(rt, alloc, LISTENER, LISTENER_MAP)?,
+    })
+}
+
 /// What is said of a pair: the traces of both sides, and the schedule.
 #[derive(Clone, Copy)]
 struct Case<'t> {
@@ -40,19 +54,22 @@ struct Case<'t> {
 }
 
 /// The report of the two programs under a case.
-fn report(rt: &impl Abort, alloc: Global, case: Case<'_>) -> Result<Vec<u8>, Fail> {
+fn report(
+    rt: &impl Abort,
+    alloc: Global,
+    images: &Images,
+    case: Case<'_>,
+) -> Result<Vec<u8>, Fail> {
     assert!(rt; case.a.len() < 1000 && case.b.len() < 1000 && case.schedule.len() < 100_000);
-    let a_image = image_of(rt, alloc, SENDER, SENDER_MAP)?;
-    let b_image = image_of(rt, alloc, LISTENER, LISTENER_MAP)?;
     let a_trace = parse_trace(alloc, case.a.as_bytes())?;
     let b_trace = parse_trace(alloc, case.b.as_bytes())?;
     let schedule = parse_schedule(alloc, case.schedule.as_bytes())?;
-    let mut a = Board::new_sender(alloc, &a_image, a_trace.readings())?;
-    let mut b = Board::new_listener(alloc, &b_image, b_trace.readings())?;
-    let mut a_watch = Watch::new(alloc, &a_image)?;
-    let mut b_watch = Watch::new(alloc, &b_image)?;
+    let mut a = Board::new_sender(alloc, &images.a, a_trace.readings())?;
+    let mut b = Board::new_listener(alloc, &images.b, b_trace.readings())?;
+    let mut a_watch = Watch::new(alloc, &images.a)?;
+    let mut b_watch = Watch::new(alloc, &images.b)?;
     let mut air = Air::new(alloc)?;
-    let mut sink = MemSink::new(alloc, 1_000_000, Vec::new(alloc))?;
+    let mut sink = MemSink::new(alloc, 100_000, Vec::new(alloc))?;
     assert!(rt; a.accepted() < 1000 && a.repeats() < 1000 && b.accepted() < 1000 && b.repeats() < 1000);
     run_pair(
         &mut a,
@@ -99,8 +116,9 @@ fn is_whole(rt: &impl Abort, alloc: Global, report: &[u8]) -> Result<(), Fail> {
 
 #[test]
 fn both_words_come_through(rt: HostRuntime) -> Result<(), Fail> {
+    let images = images(&rt, rt.alloc())?;
     for schedule in ["x 20000\n", "x 20000\nd 0\nd 0\nx 2000\n"] {
-        let text = report(&rt, rt.alloc(), Case { a: A, b: B, schedule })?;
+        let text = report(&rt, rt.alloc(), &images, Case { a: A, b: B, schedule })?;
         is_whole(&rt, rt.alloc(), text.as_slice())?;
     }
     Ok(())
@@ -113,7 +131,8 @@ fn nothing_comes_through(rt: HostRuntime) -> Result<(), Fail> {
         b: B,
         schedule: "a 5000\nb 2\n",
     };
-    let text = report(&rt, rt.alloc(), case)?;
+    let images = images(&rt, rt.alloc())?;
+    let text = report(&rt, rt.alloc(), &images, case)?;
     assert!(rt; text.as_slice() == b"a bound 640\nb bound 872\npair 0 0\n".as_slice());
     Ok(())
 }
@@ -126,7 +145,8 @@ fn ended_runs_stay_so(rt: HostRuntime) -> Result<(), Fail> {
         b: "s 1 0\n",
         schedule: "x 4294967295\na 4294967295\nb 4294967295\n",
     };
-    let text = report(&rt, rt.alloc(), case)?;
+    let images = images(&rt, rt.alloc())?;
+    let text = report(&rt, rt.alloc(), &images, case)?;
     assert!(rt; text.as_slice() == b"a bound 640\nb bound 872\npair 0 0\n".as_slice());
     Ok(())
 }
@@ -134,6 +154,7 @@ fn ended_runs_stay_so(rt: HostRuntime) -> Result<(), Fail> {
 // B's power fails behind each of its first 200 steps.
 #[test]
 fn the_listener_is_cut(rt: HostRuntime) -> Result<(), Fail> {
+    let images = images(&rt, rt.alloc())?;
     for k in 0..=200u32 {
         let trace = format!(in rt.alloc(); "s {k} 3\n{B}")?;
         let case = Case {
@@ -141,7 +162,7 @@ fn the_listener_is_cut(rt: HostRuntime) -> Result<(), Fail> {
             b: &trace,
             schedule: "x 2000\n",
         };
-        let text = report(&rt, rt.alloc(), case)?;
+        let text = report(&rt, rt.alloc(), &images, case)?;
         is_whole(&rt, rt.alloc(), text.as_slice())?;
     }
     Ok(())
@@ -151,6 +172,7 @@ fn the_listener_is_cut(rt: HostRuntime) -> Result<(), Fail> {
 // is the one reading of its transition.
 #[test]
 fn the_sender_is_cut(rt: HostRuntime) -> Result<(), Fail> {
+    let images = images(&rt, rt.alloc())?;
     for k in 0..=300u32 {
         let trace = format!(in rt.alloc(); "s {k} 3\nc 10000000 0\nr 10 11 12 13 14 15 16 17 18 19\n")?;
         let case = Case {
@@ -158,7 +180,7 @@ fn the_sender_is_cut(rt: HostRuntime) -> Result<(), Fail> {
             b: B,
             schedule: "x 4000\n",
         };
-        let text = report(&rt, rt.alloc(), case)?;
+        let text = report(&rt, rt.alloc(), &images, case)?;
         tells_readings(&rt, text.as_slice())?;
     }
     Ok(())
