@@ -1,6 +1,8 @@
 mod Runs
 mod Lines
 mod Doing
+mod Going
+mod Rounds
 mod SideA
 mod Listening
 mod SideB

@@ -151,6 +151,54 @@ fn ended_runs_stay_so(rt: HostRuntime) -> Result<(), Fail> {
     Ok(())
 }
 
+/// The last line of a report.
+fn last_line(report: &[u8]) -> Result<&str, Fail> {
+    let text = str::from_utf8(report)?;
+    Ok(text.lines().last().unwrap_or(""))
+}
+
+// Each packet is brought, and no acknowledgement: A sends one word on and on, and B accepts it once.
+#[test]
+fn only_packets_come_through(rt: HostRuntime) -> Result<(), Fail> {
+    let images = images(&rt, rt.alloc())?;
+    let mut schedule = String::new(rt.alloc());
+    for k in 0..60u32 {
+        schedule.push_str(&format!(in rt.alloc(); "a 20\nd {k}\nb 40\n")?)?;
+    }
+    let case = Case {
+        a: A,
+        b: B,
+        schedule: &schedule,
+    };
+    let text = report(&rt, rt.alloc(), &images, case)?;
+    assert!(rt; last_line(text.as_slice())? == "pair 1 1");
+    Ok(())
+}
+
+// Packets and acknowledgements come late, the oldest first, and the packets twice.
+#[test]
+fn the_oldest_come_first(rt: HostRuntime) -> Result<(), Fail> {
+    let images = images(&rt, rt.alloc())?;
+    let mut schedule = String::new(rt.alloc());
+    schedule.push_str("a 400\n")?;
+    for _ in 0..2u32 {
+        for k in 0..60u32 {
+            schedule.push_str(&format!(in rt.alloc(); "d {k}\nb 40\n")?)?;
+        }
+    }
+    for k in 0..60u32 {
+        schedule.push_str(&format!(in rt.alloc(); "k {k}\n")?)?;
+    }
+    schedule.push_str("x 4000\n")?;
+    let case = Case {
+        a: A,
+        b: B,
+        schedule: &schedule,
+    };
+    let text = report(&rt, rt.alloc(), &images, case)?;
+    is_whole(&rt, rt.alloc(), text.as_slice())
+}
+
 // B's power fails behind each of its first 200 steps.
 #[test]
 fn the_listener_is_cut(rt: HostRuntime) -> Result<(), Fail> {
