@@ -1,9 +1,10 @@
 -- The report of a pair, from its first step to its last line.
-use Rattle.std.proofs.Common.{◌≡◌, ◌≤◌, ◌+◌, ◌*◌, ℕ, arith, refl, sym, ◌∙◌, ap, subst, List, [], ◌∷◌, ◌++◌, append_assoc, length, Option, Result, Ok, Err}
+use Rattle.std.proofs.Common.{◌≡◌, ◌≤◌, ◌<◌, ◌+◌, ◌*◌, ℕ, arith, refl, sym, ◌∙◌, ap, subst, List, [], ◌∷◌, ◌++◌, append_assoc, length, length-append, Option, Result, Ok, Err}
 use Rattle.std.specs.Io.KnownBytes.{Appends}
 use Rattle.std.proofs.KnownBytes.{Appends-trans}
 use Rattle.alp_io.specs.Sink.{AppendsProperPrefix, Writes}
 use Rattle.alp_io.specs.Report.{pair_line}
+use Rattle.buffered_sink.specs.Front.{Settles}
 use Rattle.prefixed_lines.specs.Prefixes.{prefixed}
 use Rattle.radio_link.specs.declared.entry.Entry.{Entry}
 use Rattle.radio_link.specs.declared.entry.Entry.TheVariants.{StepsOfA, StepsOfB, BringPacket, BringAcknowledgement, Rounds}
@@ -88,3 +89,23 @@ module _ {T E : Type 0} (p : Pair) (a b : History) (es : List Entry) (old : Opti
           (subst (AppendsProperPrefix between new) (told_last s d.behind (known_after first d.moments) d.reaches) w.part));
     };
   }
+
+-- ---- what a buffer took of a report, as the sink has it in the end
+
+last_nonempty : (accepted consumed : ℕ) → 0 < length (pair_line accepted consumed)
+unfolding pair_line
+last_nonempty accepted consumed = omega arith
+
+lines_nonempty : (front lines last : List ℕ) → 0 < length last → 0 < length (front ++ (lines ++ last))
+lines_nonempty front lines last some = omega (arith, length-append front (lines ++ last), length-append lines last, some)
+
+pub told_settles : {T E : Type 0} (p : Pair) (a b : History) (es : List Entry) (first taken held : Option (List ℕ)) (written result : Result T E)
+    → IsTold p a b es first taken written → Settles first taken held written result → IsTold p a b es first held result
+told_settles p a b es first taken held written result t settles =
+    let k = known_at_first a b in
+    record {
+      moments = t.moments;
+      last = t.last;
+      run = t.run;
+      written = settles (pair_lines k t.moments) (lines_nonempty (bounds k) (pair_lines_from k t.moments) _ (last_nonempty _ _)) t.written;
+    }

@@ -10,8 +10,8 @@ ghost use Rattle.pair_run.specs.Sides.{IsLettered, sent_in};
 use crate::listener::{Listener, Progress};
 use alp_io::{Failed, Report};
 use board_run::{Advance, StepwiseRun, Watch};
-use buffered_sink::{Holds, Origin};
-use prefixed_lines::PrefixedLines;
+use buffered_sink::Holds;
+use prefixed_lines::{LineOrigin, PrefixedLines};
 use radio_link::{Air, Packet};
 use std::marker::Brand;
 
@@ -31,13 +31,14 @@ pub struct Sides<'r, 'x, 'y> {
 }
 
 // The line of a side's bound, in front of which its letter stands.
-fn write_bound_through<'s, S: Holds, P: Origin>(
+fn write_bound_through<'s, S: Holds, P: LineOrigin>(
     sink: &'s mut S,
     letter: u8,
     watch: &Watch<'_>,
 ) -> (&'s mut S, Result<(), Failed>)
     requires place { sink.ghost_name ≡ P.place }
     requires contents { S.contents sink.old ≡ P.contents }
+    requires letter { letter ≡ P.letter }
     ensures same_sink { result.0.ghost_name ≡ sink.entry.ghost_name }
     ensures bytes { Writes (S.contents sink.old) (S.contents result.0.now) result.1 (prefixed letter (bound_lines watch.now.map)) }
     ensures cause { HasCause (S.faults sink.old) (S.faults result.0.now) result.1 }
@@ -58,13 +59,14 @@ pub fn write_bound<S: Holds>(sink: &mut S, letter: u8, watch: &Watch<'_>) -> Res
 
 // A step of one side, whose letter stands in front of its lines.
 #[inline(always)]
-fn advance_through<'s, S: Holds, P: Origin>(
+fn advance_through<'s, S: Holds, P: LineOrigin>(
     sink: &'s mut S,
     letter: u8,
     run: &mut StepwiseRun<'_, '_>,
 ) -> (&'s mut S, Result<Advance, Failed>)
     requires place { sink.ghost_name ≡ P.place }
     requires contents { S.contents sink.old ≡ P.contents }
+    requires letter { letter ≡ P.letter }
     requires going { IsGoing run.old }
     requires room { HasRoom run.old 1 }
     ensures same_sink { result.0.ghost_name ≡ sink.entry.ghost_name }

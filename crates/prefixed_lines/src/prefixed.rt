@@ -2,15 +2,16 @@
 ghost use Rattle.std.specs.Prelude.{◌≡◌, false};
 ghost use Rattle.prefixed_lines.specs.Prefixes.{text_behind, Prefixes};
 
+use crate::origin::LineOrigin;
 use alp_io::{Failed, Sink};
-use buffered_sink::{Holds, Origin};
+use buffered_sink::Holds;
 use std::marker::PhantomData;
 
 const NEW_LINE: u8 = b'\n';
 
 /// Lines before a sink, each of which gets a letter and a blank in front. It tells the lines without them. It takes no memory.
 #[derive(Drop)]
-pub struct PrefixedLines<'a, S: Holds, P: Origin> {
+pub struct PrefixedLines<'a, S: Holds, P: LineOrigin> {
     /// Where the lines are written.
     pub sink: &'a mut S,
     letter: u8,
@@ -18,15 +19,16 @@ pub struct PrefixedLines<'a, S: Holds, P: Origin> {
     is_within: bool,
     origin: PhantomData<P>,
     pub ghost same_sink: { sink.ghost_name ≡ P.place },
+    pub ghost same_letter: { letter ≡ P.letter },
 }
 
-impl<'a, S: Holds, P: Origin> PrefixedLines<'a, S, P> {
+impl<'a, S: Holds, P: LineOrigin> PrefixedLines<'a, S, P> {
     /// Lines with this letter, of which none is written yet.
     pub fn new(sink: &'a mut S, letter: u8) -> PrefixedLines<'a, S, P>
         requires place { sink.ghost_name ≡ P.place }
+        requires letter { letter ≡ P.letter }
         ensures same_sink { result.sink.ghost_name ≡ sink.entry.ghost_name }
         ensures sink { result.sink.now ≡ sink.old }
-        ensures letter { result.letter ≡ letter }
         ensures start { result.is_within ≡ false }
     {
         PrefixedLines {
@@ -44,8 +46,7 @@ impl<'a, S: Holds, P: Origin> PrefixedLines<'a, S, P> {
         ensures same_sink { result.0.ghost_name ≡ self.entry.sink.ghost_name }
         ensures sink { result.0.now ≡ self.entry.sink.now }
         ensures answer { result.1 ≡ written.entry }
-        ensures text { Prefixes self.entry.letter P.contents
-            (text_behind P.contents (S.contents self.entry.sink.now) self.entry.letter self.entry.is_within)
+        ensures text { Prefixes P.letter P.contents (text_behind P.contents (S.contents self.entry.sink.now) P.letter self.entry.is_within)
             (S.contents result.0.now) written.entry }
     {
         let PrefixedLines {
@@ -58,8 +59,8 @@ impl<'a, S: Holds, P: Origin> PrefixedLines<'a, S, P> {
     }
 }
 
-impl<'a, S: Holds, P: Origin> Sink for PrefixedLines<'a, S, P> {
-    ghost contents = { λ s. text_behind P.contents (S.contents s.sink.now) s.letter s.is_within };
+impl<'a, S: Holds, P: LineOrigin> Sink for PrefixedLines<'a, S, P> {
+    ghost contents = { λ s. text_behind P.contents (S.contents s.sink.now) P.letter s.is_within };
 
     ghost faults = { λ s. S.faults s.sink.now };
 
