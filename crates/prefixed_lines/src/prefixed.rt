@@ -45,9 +45,9 @@ impl<'a, S: Holds, P: LineOrigin> PrefixedLines<'a, S, P> {
     pub fn finish<T: Drop>(self, written: Result<T, Failed>) -> (&'a mut S, Result<T, Failed>)
         ensures same_sink { result.0.ghost_name ≡ self.entry.sink.ghost_name }
         ensures sink { result.0.now ≡ self.entry.sink.now }
-        ensures answer { result.1 ≡ written.entry }
+        ensures answer { result.1 ≡ written }
         ensures text { Prefixes P.letter P.contents (text_behind P.contents (S.contents self.entry.sink.now) P.letter self.entry.is_within)
-            (S.contents result.0.now) written.entry }
+            (S.contents result.0.now) written }
     {
         let PrefixedLines {
             sink,
