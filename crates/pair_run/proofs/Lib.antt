@@ -1,4 +1,5 @@
 mod Runs
+mod Lettering
 mod Lines
 mod Doing
 mod Going
