@@ -3,7 +3,7 @@ mod Lettering
 mod Lines
 mod Doing
 mod Going
-mod Rounds
+mod RoundByRound
 mod SideA
 mod Listening
 mod SideB
