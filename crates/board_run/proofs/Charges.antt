@@ -283,7 +283,8 @@ pub all_end : (cs : List Charge) (i : ℕ) → length cs ≤ i → charges_of (d
 all_end cs i h = ap charges_of (drop_of_length-le cs h)
 
 -- a text is written, and the next in part: that is a front of both, whatever comes behind them
-front_of_both : (old new : Option (List ℕ)) (text next behind : List ℕ) → BreaksOff old new text next → AppendsProperPrefix old new (text ++ (next ++ behind))
+pub front_of_both : (old new : Option (List ℕ)) (text next behind : List ℕ) → BreaksOff old new text next
+    → AppendsProperPrefix old new (text ++ (next ++ behind))
 front_of_both old new text next behind p =
     let inside : p.count ≤ length next = let h = p.proper in omega arith in
     let P : List ℕ → Type 0 = λ t. Appends old new t in

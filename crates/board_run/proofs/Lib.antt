@@ -1,6 +1,7 @@
 pub mod Turns
 pub mod Spends
 pub mod Charges
+pub mod StepByStep
 pub mod Placed
 pub mod Changes
 pub mod Written

@@ -6,6 +6,7 @@ use Rattle.std.proofs.KnownBytes.{Appends-trans, Appends-nil}
 use Rattle.alp_io.specs.Sink.{AppendsProperPrefix}
 use Rattle.alp_io.specs.declared.sink.Failed.{Failed}
 use Rattle.msp_step.specs.declared.machine.Stop.{Stop}
+use Rattle.fram_board.specs.declared.board.Stepped.{Stepped}
 use Rattle.fram_board.specs.Board.{BoardValue}
 use Rattle.fram_board.specs.Run.{Measure, Moment, RunOutcome, run_outcome, after_moments, ChargeRun}
 use Rattle.fram_board.proofs.Interface.{charge_run}
@@ -75,8 +76,8 @@ pub outcome_append : (ms ns : List Moment) (r : RunOutcome) → after_moments (m
 outcome_append ms ns r = ap (λ x. run_outcome x r.ending r.board) (append_assoc ms ns r.moments)
 
 pub spends_more : (h : Known) (m : Measure) (amount : ℕ) (b : BoardValue) (old : Option (List ℕ)) (left rest : ℕ) (now next : BoardValue)
-    (between new : Option (List ℕ)) (mid watch : Known)
-    → SpendsOn h m amount b old left now between mid → Turned mid m left now between new rest next watch → SpendsOn h m amount b old rest next new watch
+    (between new : Option (List ℕ)) (mid watch : Known) {done : Stepped}
+    → SpendsOn h m amount b old left now between mid → Turned mid m left now between new rest done next watch → SpendsOn h m amount b old rest next new watch
 spends_more h m amount b old left rest now next between new mid watch s t =
     let few = t.first.few in
     let a = s.accepted in
@@ -146,7 +147,7 @@ pub breaks_first : (old new : Option (List ℕ)) (next : List ℕ) → AppendsPr
 breaks_first old new next p = record { count = p.count; proper = p.proper; held = p.held }
 
 -- behind moments whose lines are written, those of one more are written in part
-in_lines : (h mid : Known) (ms : List Moment) (moment : Moment) (old between new : Option (List ℕ)) → Wrote h ms old between mid
+pub in_lines : (h mid : Known) (ms : List Moment) (moment : Moment) (old between new : Option (List ℕ)) → Wrote h ms old between mid
     → AppendsProperPrefix between new (moment_lines mid.history moment)
     → BreaksOff old new (lines_from h.history ms) (moment_lines (after_all h.history ms) moment)
 in_lines h mid ms moment old between new w p =
@@ -188,7 +189,7 @@ spends_stop_writing h watch m amount b old left now after between new mid result
 
 -- what a turn came to, known by its answer
 pub turn_left : (h : Known) (m : Measure) (amount : ℕ) (b : BoardValue) (old : Option (List ℕ)) (left rest : ℕ) (now next : BoardValue)
-    (between new : Option (List ℕ)) (mid watch : Known) (t : Turn) → t ≡ turn.Left rest
+    (between new : Option (List ℕ)) (mid watch : Known) (t : Turn) {done : Stepped} → t ≡ turn.Left rest done
     → SpendsOn h m amount b old left now between mid → IsTurn mid m left now between new (Ok t) next watch → SpendsOn h m amount b old rest next new watch
 turn_left h m amount b old left rest now next between new mid watch t e s is =
     let P : Turn → Type 0 = λ t. IsTurn mid m left now between new (Ok t) next watch in
@@ -210,7 +211,7 @@ turn_stopped h m amount b old left now after between new mid watch stop t e s is
     spends_stop h m amount b old left now after between new mid watch stop s (subst P e is)
 
 pub turn_less : (h : Known) (m : Measure) (left rest : ℕ) (now next : BoardValue) (between new : Option (List ℕ)) (watch : Known) (t : Turn)
-    → t ≡ turn.Left rest → IsTurn h m left now between new (Ok t) next watch → rest < left
+    {done : Stepped} → t ≡ turn.Left rest done → IsTurn h m left now between new (Ok t) next watch → rest < left
 turn_less h m left rest now next between new watch t e is =
     let P : Turn → Type 0 = λ t. IsTurn h m left now between new (Ok t) next watch in
     (subst P e is).less

@@ -33,7 +33,7 @@ tally_handed_all : (es : List HandEnd) (h : Hand) → tally_of (handed_all es h)
 tally_handed_all [] h = refl
 tally_handed_all (e ∷ es) h = tally_handed_all es (handed e h) ∙ ap (tallied_all es) (tally_handed e h)
 
-tally_of_moments : (head : Option ℕ) (ms : List Moment) (h : Hand) → tally_of (hand_after head ms h) ≡ tally_after head ms (tally_of h)
+pub tally_of_moments : (head : Option ℕ) (ms : List Moment) (h : Hand) → tally_of (hand_after head ms h) ≡ tally_after head ms (tally_of h)
 unfolding hand_behind tally_behind
 tally_of_moments head [] h = refl
 tally_of_moments head (m ∷ ms) h = tally_of_moments head ms (handed_all (action_ends head m.action m.before.fram m.after.fram) h)

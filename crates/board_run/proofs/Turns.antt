@@ -18,7 +18,7 @@ use Rattle.fram_board.proofs.Interface.{price_low}
 use Rattle.board_run.specs.declared.spend.Turn.{Turn}
 use Rattle.board_run.specs.History.{History, moment_lines, noted, instruction_lines, behind_instruction}
 use Rattle.board_run.specs.Tally.{tally_behind, words_of}
-use Rattle.board_run.specs.Parts.{Known, known_head, FewMore, ComesFirst, Turned, TurnedPartly, IsTurn}
+use Rattle.board_run.specs.Parts.{Known, known_head, FewMore, IsMade, IsStepMade, ComesFirst, Turned, TurnedPartly, IsTurn}
 
 no_more : (b : BoardValue) → FewMore b b 0
 no_more b = record { accepted = omega arith; repeats = omega arith }
@@ -69,14 +69,6 @@ refused m left b after n stop h old pos next paid answer is kept =
     let repeats : after.receiver.repeats ≡ b.receiver.repeats = ap (λ (r : Receiver). r.repeats) same in
     (subst P (sym is) (Refused left b n stop pos next paid answer), record { accepted = omega arith; repeats = omega arith }, Appends-nil old, refl)
 
--- a step that was made, up to the boundary behind it
-pub record IsMade (m : Measure) (left : ℕ) (b after : BoardValue) (n : NextStep) (done : Stepped) : Type 0 where
-  pub some : 0 < left
-  pub next : IsNextStep b n
-  pub paid : price m n ≤ left
-  pub answer : (performed b n).answer ≡ Ok done
-  pub board : after ≡ at_boundary (performed b n).board
-
 comes_first : (m : Measure) (left rest : ℕ) (b after : BoardValue) (n : NextStep) (done : Stepped) → IsMade m left b after n done → rest ≡ left - price m n
     → ComesFirst m left b (moment_of b n done) rest after
 comes_first m left rest b after n done made e = record {
@@ -85,6 +77,10 @@ comes_first m left rest b after n done made e = record {
   board = sym made.board;
   few = one_more b after n made.board;
 }
+
+step_made : (m : Measure) (left rest : ℕ) (b after : BoardValue) (n : NextStep) (done : Stepped) → IsMade m left b after n done → rest ≡ left - price m n
+    → IsStepMade m left b (moment_of b n done) rest done after
+step_made m left rest b after n done made e = record { step = n; is = refl; made = made; rest_is = e }
 
 -- the lines of the moment are those of the step
 lines_of_it : (h : History) (b after : BoardValue) (n : NextStep) (done : Stepped) → after ≡ at_boundary (performed b n).board
@@ -106,13 +102,14 @@ pub record IsNoted (h now : Known) (b after : BoardValue) (n : NextStep) (done :
 pub turned : (h now : Known) (m : Measure) (left rest : ℕ) (b after : BoardValue) (n : NextStep) (done : Stepped) (old new : Option (List ℕ))
     → IsMade m left b after n done → rest ≡ left - price m n
     → Appends old new (instruction_lines h.history.map h.history (word_list done.accepted) after) → IsNoted h now b after n done
-    → Turned h m left b old new rest after now
+    → Turned h m left b old new rest done after now
 turned h now m left rest b after n done old new made e bytes noted =
     let low = price_low m n in
     let some = made.some in
     let P : List ℕ → Type 0 = λ t. Appends old new t in
     record {
       moment = moment_of b n done;
+      step = step_made m left rest b after n done made e;
       first = comes_first m left rest b after n done made e;
       less = omega arith;
       written = subst P (lines_of_it h.history b after n done made.board) bytes;
@@ -136,6 +133,8 @@ turned_partly h now m left b after n done old new result made bytes err =
     turn_err h now m left b after old new result err (record {
       moment = moment_of b n done;
       rest = left - price m n;
+      done = done;
+      step = step_made m left (left - price m n) b after n done made refl;
       first = comes_first m left (left - price m n) b after n done made refl;
       written = subst P (lines_of_it h.history b after n done made.board) bytes;
     })

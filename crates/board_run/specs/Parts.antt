@@ -1,11 +1,13 @@
 -- Parts of a run: one step, one charge, some charges.
-use Rattle.std.specs.Prelude.{◌≡◌, ℕ, ◌+◌, ◌<◌, ◌≤◌, List, [], ◌∷◌, ◌++◌, Option, Some, None, Result, Ok, Err}
+use Rattle.std.specs.Prelude.{◌≡◌, ℕ, ◌+◌, ◌-◌, ◌<◌, ◌≤◌, List, [], ◌∷◌, ◌++◌, Option, Some, None, Result, Ok, Err}
 use Rattle.std.specs.Io.KnownBytes.{Appends}
 use Rattle.alp_io.specs.Sink.{AppendsProperPrefix}
 use Rattle.alp_io.specs.declared.sink.Failed.{Failed}
 use Rattle.msp_step.specs.declared.machine.Stop.{Stop}
-use Rattle.fram_board.specs.Board.{BoardValue}
-use Rattle.fram_board.specs.Run.{Measure, Moment, End, Charges, Stopped, RunOutcome, run_outcome, after_moments, BoardCharge, ChargeRun, Run}
+use Rattle.fram_board.specs.declared.board.NextStep.{NextStep}
+use Rattle.fram_board.specs.declared.board.Stepped.{Stepped}
+use Rattle.fram_board.specs.Board.{BoardValue, performed, IsNextStep, at_boundary}
+use Rattle.fram_board.specs.Run.{Measure, price, moment_of, Moment, End, Charges, Stopped, RunOutcome, run_outcome, after_moments, BoardCharge, ChargeRun, Run}
 use Rattle.board_run.specs.declared.spend.Turn.{Turn}
 use Rattle.board_run.specs.declared.spend.Turn.TheVariants as turn
 use Rattle.energy_trace.specs.TraceValue.{Event}
@@ -28,6 +30,21 @@ pub record FewMore (b after : BoardValue) (n : ℕ) : Type 0 where
   pub accepted : after.receiver.accepted ≤ b.receiver.accepted + n
   pub repeats : after.receiver.repeats ≤ b.receiver.repeats + n
 
+-- a step that was made, for which a charge pays, up to the boundary behind it
+pub record IsMade (m : Measure) (left : ℕ) (b after : BoardValue) (n : NextStep) (done : Stepped) : Type 0 where
+  pub some : 0 < left
+  pub next : IsNextStep b n
+  pub paid : price m n ≤ left
+  pub answer : (performed b n).answer ≡ Ok done
+  pub board : after ≡ at_boundary (performed b n).board
+
+-- this moment is that of a step that was made, and this is left of the charge behind it
+pub record IsStepMade (m : Measure) (left : ℕ) (b : BoardValue) (moment : Moment) (rest : ℕ) (done : Stepped) (after : BoardValue) : Type 0 where
+  pub step : NextStep
+  pub is : moment ≡ moment_of b step done
+  pub made : IsMade m left b after step done
+  pub rest_is : rest ≡ left - price m step
+
 -- this moment comes first in a charge, of which so much is left before and behind it
 pub record ComesFirst (m : Measure) (left : ℕ) (b : BoardValue) (moment : Moment) (rest : ℕ) (after : BoardValue) : Type 0 where
   pub run : (r : RunOutcome) → ChargeRun m rest after r → ChargeRun m left b (after_moments (moment ∷ []) r)
@@ -35,9 +52,11 @@ pub record ComesFirst (m : Measure) (left : ℕ) (b : BoardValue) (moment : Mome
   pub few : FewMore b after 1
 
 -- a step was made, and its lines written
-pub record Turned (h : Known) (m : Measure) (left : ℕ) (b : BoardValue) (old new : Option (List ℕ)) (rest : ℕ) (after : BoardValue) (now : Known) : Type 0
+pub record Turned (h : Known) (m : Measure) (left : ℕ) (b : BoardValue) (old new : Option (List ℕ)) (rest : ℕ) (done : Stepped) (after : BoardValue)
+    (now : Known) : Type 0
   where
     pub moment : Moment
+    pub step : IsStepMade m left b moment rest done after
     pub first : ComesFirst m left b moment rest after
     pub less : rest < left
     pub written : Appends old new (moment_lines h.history moment)
@@ -49,12 +68,14 @@ pub record Turned (h : Known) (m : Measure) (left : ℕ) (b : BoardValue) (old n
 pub record TurnedPartly (h : Known) (m : Measure) (left : ℕ) (b : BoardValue) (old new : Option (List ℕ)) (after : BoardValue) : Type 0 where
   pub moment : Moment
   pub rest : ℕ
+  pub done : Stepped
+  pub step : IsStepMade m left b moment rest done after
   pub first : ComesFirst m left b moment rest after
   pub written : AppendsProperPrefix old new (moment_lines h.history moment)
 
 -- a turn of a charge: what it answers, with what was written and the board and history then
 abbrev pub IsTurn : Known → Measure → ℕ → BoardValue → Option (List ℕ) → Option (List ℕ) → Result Turn Failed → BoardValue → Known → Type 0
-IsTurn h m left b old new (Ok (turn.Left rest)) after now = Turned h m left b old new rest after now
+IsTurn h m left b old new (Ok (turn.Left rest done)) after now = Turned h m left b old new rest done after now
 IsTurn h m left b old new (Ok turn.Spent) after now = ChargeRun m left b (run_outcome [] Charges after) × FewMore b after 0 × Appends old new [] × (now ≡ h)
 IsTurn h m left b old new (Ok (turn.Stopped stop)) after now = ChargeRun m left b (run_outcome [] (Stopped stop) after) × FewMore b after 0
     × Appends old new [] × (now ≡ h)

@@ -8,6 +8,7 @@ mod seen;
 mod shadow;
 mod spend;
 mod state;
+mod stepwise;
 mod tally;
 mod trace_run;
 mod watch;
@@ -16,5 +17,6 @@ pub use laws::{
     events_are_accounted, ringless_runs_accept_nothing, silent_runs_accept_nothing,
     words_of_events_are_known,
 };
+pub use stepwise::{Advance, StepwiseRun};
 pub use trace_run::{RunEnd, RunFault, run};
 pub use watch::Watch;

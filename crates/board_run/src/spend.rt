@@ -14,7 +14,7 @@ ghost use Rattle.board_run.specs.Parts.{IsTurn, IsSpent};
 use crate::seen::Seen;
 use alp_io::{Failed, Report, Sink};
 use energy_trace::ChargeKind;
-use fram_board::{Board, NextStep, acceptance_makes_its_stores};
+use fram_board::{Board, NextStep, Stepped, acceptance_makes_its_stores};
 use msp_cycles::cycles;
 use msp_decode::{jump_instruction, one_operand_instruction, two_operand_instruction};
 use msp_isa::Instr;
@@ -22,8 +22,8 @@ use msp_step::{Stop, Words};
 
 /// What a turn of a charge came to.
 pub enum Turn {
-    /// A step was made, and so much is left of the charge.
-    Left(u32),
+    /// This step was made, and so much is left of the charge.
+    Left(u32, Stepped),
     /// The charge is spent.
     Spent,
     /// The board stopped.
@@ -98,7 +98,7 @@ fn execute<S: Sink>(
     };
     let stores = (done.wrote, None);
     watch.note(&done, stores, is_return(instruction), board, report)?;
-    Ok(Turn::Left(left - price))
+    Ok(Turn::Left(left - price, done))
 }
 
 // The board's next step is an acceptance: it is made, if what is left of the charge pays for it.
@@ -134,7 +134,7 @@ fn accept<S: Sink>(
     };
     let stores = (Some(to), Some(below));
     watch.note(&done, stores, false, board, report)?;
-    Ok(Turn::Left(left - price))
+    Ok(Turn::Left(left - price, done))
 }
 
 // The same of the instruction that these words are. The compiler makes each call's code for its form alone.
@@ -176,9 +176,9 @@ fn execute_words<S: Sink>(
     }
 }
 
-// One turn of a charge of which so much is left.
+/// One turn of a charge of which so much is left.
 #[inline(always)]
-fn take_turn<S: Sink>(
+pub fn take_turn<S: Sink>(
     board: &mut Board,
     kind: ChargeKind,
     left: u32,
@@ -226,7 +226,7 @@ pub fn spend<S: Sink>(
     let mut left = amount;
     loop {
         match take_turn(board, kind, left, watch, report)? {
-            Turn::Left(rest) => left = rest,
+            Turn::Left(rest, _done) => left = rest,
             Turn::Spent => return Ok(None),
             Turn::Stopped(stop) => return Ok(Some(stop)),
         }

@@ -217,8 +217,8 @@ impl State {
     ghost use Rattle.board_run.specs.History.{instruction_lines, start_with, start_of};
     ghost use Rattle.board_run.specs.State.{history_of, IsGateUnlessWritten};
 
-    // A word more was accepted.
-    fn keep(&mut self, w: u16)
+    /// A word more was accepted.
+    pub fn keep(&mut self, w: u16)
         ensures history { (m : Option MapValue) → history_of m self.new ≡ with_word (history_of m self.old) w }
         ensures shadow { self.new.shadow ≡ self.old.shadow }
         ensures gate { self.new.gate ≡ self.old.gate }

@@ -182,11 +182,7 @@ fn write_events<S: Sink>(
         return Ok(());
     }
     let tally = last_tally(stop, board, watch);
-    report.events(
-        board.arisen(),
-        tally.accepted,
-        board.missed() as u64 + tally.lost,
-    )
+    report.events(board.arisen(), tally.accepted, board.missed() + tally.lost)
 }
 
 // The last line of the report of a run that ended so.

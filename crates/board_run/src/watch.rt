@@ -1,15 +1,9 @@
 //! What is known of a run while it is made.
-ghost use Rattle.std.specs.Prelude.{◌≡◌, ◌%◌, ◌^◌, ◌<◌, IfOk};
-ghost use Rattle.alp_io.specs.Count.{HasCause};
-ghost use Rattle.alp_io.specs.Sink.{Writes};
-ghost use Rattle.board_run.specs.Charges.{charges_of};
-ghost use Rattle.board_run.specs.History.{start_of, bound_lines, total};
-ghost use Rattle.board_run.specs.Report.{IsRestOf, HasWriteCause};
-
 use crate::seen::Seen;
+use crate::stepwise::StepwiseRun;
 use crate::trace_run::{RunEnd, RunFault, run_charges};
 use alp_io::{Failed, Report, Sink};
-use energy_trace::Trace;
+use energy_trace::{Charge, ChargeKind, Trace};
 use fram_board::Board;
 use image_text::Image;
 use std::alloc::{AllocError, Global};
@@ -31,6 +25,15 @@ impl<'a> Model for Watch<'a> {
 }
 
 impl<'a> Watch<'a> {
+    ghost use Rattle.std.specs.Prelude.{◌≡◌, ◌%◌, ◌^◌, ◌<◌, IfOk};
+    ghost use Rattle.alp_io.specs.Count.{HasCause};
+    ghost use Rattle.alp_io.specs.Sink.{Writes};
+    ghost use Rattle.board_run.specs.Charges.{charges_of};
+    ghost use Rattle.board_run.specs.History.{start_of, bound_lines, total};
+    ghost use Rattle.board_run.specs.Report.{IsRestOf, HasWriteCause};
+    ghost use Rattle.board_run.specs.Tally.{no_tally};
+    ghost use Rattle.board_run.specs.Stepwise.{state_of, known_of, not_begun, IsGoing};
+
     /// A watch for a board that is new from this image. Fails where memory is refused.
     pub fn new(alloc: Global, image: &'a Image) -> Result<Watch<'a>, AllocError>
         ensures { IfOk result (λ w. w ≡ start_of image.now) }
@@ -61,6 +64,30 @@ impl<'a> Watch<'a> {
         ensures cause { HasCause (S.faults report.old.sink.now) (S.faults report.new.sink.now) result }
     {
         self.seen.write_bound(report)
+    }
+
+    /// A run of this board under the charges of a trace, told from here on, that is made step by step.
+    pub fn stepwise<'r>(&'r mut self, board: &'r mut Board, trace: &'r Trace) -> StepwiseRun<'r, 'a>
+        ensures state { state_of result ≡ not_begun board.old (charges_of trace.now.charges) }
+        ensures known { known_of result ≡ record { history = self.old; tally = no_tally } }
+        ensures going { IsGoing result }
+    {
+        self.seen.begin(board);
+        StepwiseRun {
+            board,
+            watch: &mut self.seen,
+            charges: trace.charges(),
+            next: 0,
+            charge: Charge {
+                kind: ChargeKind::Steps,
+                n: 0,
+                fill: 0,
+                times: 0,
+            },
+            again: 0,
+            left: 0,
+            has_ended: false,
+        }
     }
 
     /// The run behind the line of the bound.

@@ -4,6 +4,7 @@ ghost use Rattle.std.specs.Io.KnownBytes.{Keeps, append_known};
 ghost use Rattle.alp_io.specs.Count.{HasCause};
 ghost use Rattle.buffered_sink.specs.Front.{front_of, Settles};
 
+use crate::holds::Holds;
 use crate::origin::Origin;
 use alp_io::{Failed, Sink};
 use arrayvec::ArrayVec;
@@ -110,5 +111,16 @@ impl<'a, S: Sink, P: Origin> Sink for BufferedSink<'a, S, P> {
             return Ok(piece.len());
         }
         self.sink.write(piece)
+    }
+}
+
+impl<'a, S: Sink, P: Origin> Holds for BufferedSink<'a, S, P> {
+    fn hold(&mut self, piece: &[u8]) -> Result<(), Failed> {
+        if self.waiting.try_extend_from_slice(piece).is_ok() {
+            return Ok(());
+        }
+        self.hand_on()?;
+        self.waiting.try_extend_from_slice(piece).unwrap();
+        Ok(())
     }
 }

@@ -2,7 +2,9 @@
 #![tactic(auto)]
 
 mod buffered;
+mod holds;
 mod origin;
 
 pub use buffered::BufferedSink;
+pub use holds::Holds;
 pub use origin::Origin;

@@ -98,7 +98,7 @@ module _ (from : BoardValue) (g : IsInterrupted from) where
       let whole = boundary_whole (acceptance from).board all.0 in
       let words = boundary_words (acceptance from).board all.1 in
       record {
-        done = record { cycles = 6; wrote = None; took = from.taken - from.taken; accepted = None; heard = from.line.heard };
+        done = record { cycles = 6; wrote = None; took = from.taken - from.taken; accepted = None; heard = from.line.heard; sent = None };
         made = ap (λ x. x.answer) made;
         cycles = refl;
         effects = ap (λ es. es ++ store_of (status_place file) (file 2))

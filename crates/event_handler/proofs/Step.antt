@@ -130,6 +130,7 @@ answered b i wrote t = record {
   took = t.taken - b.taken;
   accepted = accepted_word t.outnum t.offered b.receiver;
   heard = t.line.heard;
+  sent = t.sent;
 }
 
 in_front : (from b : BoardValue) (next : Stage) (r : Registers) (t : BusState) → IsWhole (at_boundary (closed b r t))

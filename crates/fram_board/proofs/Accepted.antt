@@ -9,7 +9,7 @@ use Rattle.state_text.specs.address_space.Limits.{event_vector}
 use Rattle.fram_board.specs.Events.{line_behind_step}
 use Rattle.fram_board.specs.Board.{BoardValue, board_outcome, register_list, receiver_after, at_boundary}
 use Rattle.fram_board.specs.Board.{acceptance, acceptance_on, acceptance_refused, acceptance_made}
-use Rattle.fram_board.proofs.Steps.{board_of, opened_is, register_list-registers_of}
+use Rattle.fram_board.proofs.Steps.{board_of, IsSilent, opened_is, register_list-registers_of}
 use Rattle.fram_board.proofs.Acceptances.{both_stored, both_kept, made_is, first_refused, second_refused}
 
 -- the stores as the code makes them
@@ -21,7 +21,7 @@ stores_are r d to pc below status at_to is_pc at_below is_status =
     ∙ ap (λ a. with_word (with_word d (return_place r) (r 0)) a status) at_below
     ∙ ap (λ w. with_word (with_word d (return_place r) (r 0)) (status_place r) w) is_status
 
-accepting_is : (b : BoardValue) (cpu : List ℕ) (d : BusState) (r : Receiver) → board_of cpu d r ≡ b → d.offered ≡ None
+accepting_is : (b : BoardValue) (cpu : List ℕ) (d : BusState) (r : Receiver) → board_of cpu d r ≡ b → IsSilent d
     → board_outcome (board_of cpu d r) (acceptance_on (registers_of cpu) d) ≡ acceptance b
 accepting_is b cpu d r is off =
     ap (λ s. board_outcome (board_of cpu d r) (acceptance_on (registers_of cpu) s)) (sym (opened_is (board_of cpu d r) d cpu r refl off))
@@ -45,12 +45,12 @@ made_so r d to below at_to at_below served =
     made_is r d (ap is_word (sym at_to) ∙ served.0) (ap is_word (sym at_below) ∙ served.1)
 
 -- the board behind an acceptance that is refused
-pub refused_board : (b : BoardValue) (cpu : List ℕ) (d d' : BusState) (r : Receiver) (a : ℕ) → board_of cpu d r ≡ b → d.offered ≡ None → length cpu ≡ 16
+pub refused_board : (b : BoardValue) (cpu : List ℕ) (d d' : BusState) (r : Receiver) (a : ℕ) → board_of cpu d r ≡ b → IsSilent d → length cpu ≡ 16
     → acceptance_on (registers_of cpu) d ≡ acceptance_refused (registers_of cpu) d a → d' ≡ d → board_of cpu d' r ≡ (acceptance b).board
 refused_board b cpu d d' r a is off len refused same =
     ap (λ s. board_of cpu s r) same
     ∙ ap (λ c. board_of c d r) (sym (register_list-registers_of cpu len))
-    ∙ ap (λ o. board_of (register_list (registers_of cpu)) d (receiver_after d.outnum o r)) (sym off)
+    ∙ ap (λ o. board_of (register_list (registers_of cpu)) d (receiver_after d.outnum o r)) (sym off.0)
     ∙ ap (λ o. (board_outcome (board_of cpu d r) o).board) (sym refused)
     ∙ ap (λ x. x.board) (accepting_is b cpu d r is off)
 
@@ -67,7 +67,7 @@ registers_are : (cpu : List ℕ) (s : BusState) (cpu' : List ℕ) → IsInterrup
 registers_are cpu s cpu' is = sym (register_list-registers_of cpu' is.len) ∙ ap register_list is.registers
 
 -- the board behind an acceptance that is made
-pub made_board : (b : BoardValue) (cpu : List ℕ) (d : BusState) (r : Receiver) (cpu' : List ℕ) (d' : BusState) → board_of cpu d r ≡ b → d.offered ≡ None
+pub made_board : (b : BoardValue) (cpu : List ℕ) (d : BusState) (r : Receiver) (cpu' : List ℕ) (d' : BusState) → board_of cpu d r ≡ b → IsSilent d
     → acceptance_on (registers_of cpu) d ≡ acceptance_made (registers_of cpu) (both_stored (registers_of cpu) d)
     → IsInterrupted cpu (both_stored (registers_of cpu) d) cpu'
     → d' ≡ record (both_stored (registers_of cpu) d) { line = line_behind_step (both_stored (registers_of cpu) d).line }
@@ -78,6 +78,6 @@ made_board b cpu d r cpu' d' is off made now stepped =
     let t : BusState = record s { line = line_behind_step s.line } in
     ap (λ x. board_of cpu' x r) stepped
     ∙ ap (λ x. board_of x t r) (registers_are cpu s cpu' now)
-    ∙ ap (λ o. board_of c t (receiver_after s.outnum o r)) (sym (nothing_offered (registers_of cpu) d off))
+    ∙ ap (λ o. board_of c t (receiver_after s.outnum o r)) (sym (nothing_offered (registers_of cpu) d off.0))
     ∙ ap (λ o. at_boundary (board_outcome (board_of cpu d r) o).board) (sym made)
     ∙ ap (λ x. at_boundary x.board) (accepting_is b cpu d r is off)

@@ -19,7 +19,9 @@ use Rattle.msp_step.proofs.Interface.{Ends, effect_ends}
 use Rattle.state_text.specs.image_text.ImageValue.{place_of}
 use Rattle.fram_board.specs.declared.receiver.Receiver.{Receiver}
 use Rattle.fram_board.specs.Bus.{BusState, board_bus, is_ram, is_fram, is_memory, is_word, written, port_written, with_word, with_byte, memory_word, ram_place}
-use Rattle.fram_board.specs.Bus.{number_port, data_port}
+use Rattle.fram_board.specs.Bus.{number_port, data_port, answer_port, data_written, answer_written}
+use Rattle.fram_board.specs.declared.radio.Radio.{Radio}
+use Rattle.fram_board.specs.declared.radio.Radio.TheVariants.{Alone, Sends, Listens}
 use Rattle.fram_board.specs.Board.{BoardValue, BoardOutcome, opened, answer_of, board_outcome, receiver_after}
 use Rattle.fram_board.specs.Effects.{Effect, Store, Take, store_at, stores_of, sends_of, stored, heard, MakesItsEffects}
 use Rattle.fram_board.specs.Laws.{StepMakesItsEffects}
@@ -52,6 +54,9 @@ number_not_fram a e = grind (arith, nat_tests)
 -- the port that takes words is no FRAM
 pub data_not_fram : (a : ℕ) → (a == data_port) ≡ true → is_fram a ≡ false
 data_not_fram a e = grind (arith, nat_tests)
+
+answer_not_fram : (a : ℕ) → (a == answer_port) ≡ true → is_fram a ≡ false
+answer_not_fram a e = grind (arith, nat_tests)
 
 no_store : (a : ℕ) (f : List ℕ) → is_fram a ≡ false → store_at (Some a) f ≡ []
 no_store a f e = rw e refl
@@ -86,22 +91,35 @@ abbrev FactsIf : BusState → Option ℕ → Option BusState → Type 0
 FactsIf s w None = Unit {0}
 FactsIf s w (Some t) = Facts s w t
 
-port_facts : (s : BusState) (a v : ℕ) (b c : Bool) → (a == number_port) ≡ b → (a == data_port) ≡ c → s.offered ≡ None
-    → FactsIf s (Some a) (if b then Some (record s { outnum = v }) else if c then Some (record s { offered = Some v }) else None)
-port_facts s a v true c e f off = elsewhere s (record s { outnum = v }) a (number_not_fram a e) refl refl (λ r. sent_none v s.outnum s.offered r off)
-port_facts s a v false true e f off = elsewhere s (record s { offered = Some v }) a (data_not_fram a f) refl refl (λ r. refl)
-port_facts s a v false false e f off = tt
+data_facts : (s : BusState) (x : Radio) (a v : ℕ) → is_fram a ≡ false → Facts s (Some a) (data_written x s v)
+data_facts s Alone a v e = elsewhere s (data_written Alone s v) a e refl refl (λ r. refl)
+data_facts s (Sends greatest) a v e = elsewhere s (data_written (Sends greatest) s v) a e refl refl (λ r. refl)
+data_facts s (Listens number) a v e = elsewhere s (data_written (Listens number) s v) a e refl refl (λ r. refl)
 
 served : (s : BusState) (a : ℕ) (b : Bool) (x y : Option BusState) → (b ≡ true → FactsIf s (Some a) x) → FactsIf s (Some a) y
     → FactsIf s (Some a) (if b then x else y)
 served s a true x y g h = g refl
 served s a false x y g h = h
 
+answer_facts : (s : BusState) (x : Radio) (a v : ℕ) → FactsIf s (Some a) (answer_written x s a v)
+answer_facts s Alone a v = tt
+answer_facts s (Sends greatest) a v = tt
+answer_facts s (Listens number) a v =
+    let t : BusState = record s { offered = None; sent = Some (v, 0) } in
+    served s a (a == answer_port) (Some t) None (λ e. elsewhere s t a (answer_not_fram a e) refl refl (λ r. refl)) tt
+
+port_facts : (s : BusState) (a v : ℕ) → s.offered ≡ None → FactsIf s (Some a) (port_written s a v)
+port_facts s a v off =
+    served s a (a == number_port) (Some (record s { outnum = v })) _
+    (λ e. elsewhere s (record s { outnum = v }) a (number_not_fram a e) refl refl (λ r. sent_none v s.outnum s.offered r off))
+    (served s a (a == data_port) (Some (data_written s.radio s v)) (answer_written s.radio s a v) (λ e. data_facts s s.radio a v (data_not_fram a e))
+    (answer_facts s s.radio a v))
+
 written_facts : (s : BusState) (a : ℕ) (w : Width) (v : ℕ) → length s.fram ≡ 24064 → s.offered ≡ None → FactsIf s (Some a) (written s a w v)
 written_facts s a Word v len off =
     served s a (is_word a) (Some (with_word s a v)) (port_written s a v)
     (λ e. word_facts s a v (is_ram a) refl (and_parts (a % 2 == 0) (is_memory a) e).1 len off)
-    (port_facts s a v (a == number_port) (a == data_port) refl refl off)
+    (port_facts s a v off)
 written_facts s a Byte v len off =
     served s a (is_memory a) (Some (with_word s a (with_byte (memory_word s a) a v))) None
     (λ e. word_facts s a (with_byte (memory_word s a) a v) (is_ram a) refl e len off) tt

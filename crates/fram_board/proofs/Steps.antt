@@ -24,6 +24,7 @@ board_of cpu d r = record {
   taken = d.taken;
   receiver = r;
   line = d.line;
+  radio = d.radio;
 }
 
 -- what the CPU left
@@ -34,13 +35,20 @@ pub register_list-registers_of : (rs : List ℕ) → length rs ≡ 16 → regist
 register_list-registers_of (a ∷ b ∷ c ∷ d ∷ e ∷ f ∷ g ∷ h ∷ i ∷ j ∷ k ∷ l ∷ m ∷ n ∷ o ∷ p ∷ []) len = refl
 register_list-registers_of _ len = absurd (omega arith)
 
+-- nothing is offered or sent
+abbrev pub IsSilent : BusState → Type 0
+IsSilent d = (d.offered ≡ None) × (d.sent ≡ None)
+
 -- what the code's parts open
-pub opened_is : (b : BoardValue) (d : BusState) (cpu : List ℕ) (r : Receiver) → b ≡ board_of cpu d r → d.offered ≡ None → opened b ≡ d
-opened_is b d cpu r is off = ap opened is ∙ ap (λ o. record d { offered = o }) (sym off)
+pub opened_is : (b : BoardValue) (d : BusState) (cpu : List ℕ) (r : Receiver) → b ≡ board_of cpu d r → IsSilent d → opened b ≡ d
+opened_is b d cpu r is off =
+    ap opened is
+    ∙ ap (λ o. record d { offered = o; sent = None }) (sym off.0)
+    ∙ ap (λ p. record d { offered = d.offered; sent = p }) (sym off.1)
 
 pub outcome_is : (b : BoardValue) (cpu : List ℕ) (d : BusState) (r : Receiver) (i : Instr) (answer : Result machine.Stepped Stop) (cpu' : List ℕ)
     (d' : BusState)
-    → b ≡ board_of cpu d r → d.offered ≡ None → cpu_outcome answer cpu' d' ≡ execution board_bus i (registers_of cpu) d
+    → b ≡ board_of cpu d r → IsSilent d → cpu_outcome answer cpu' d' ≡ execution board_bus i (registers_of cpu) d
     → executed b i ≡ board_outcome (board_of cpu d r) (cpu_outcome answer cpu' d')
 outcome_is b cpu d r i answer cpu' d' is off ran =
     ap (λ x. executed x i) is
@@ -49,8 +57,8 @@ outcome_is b cpu d r i answer cpu' d' is off ran =
 
 pub closed_is : (b : BoardValue) (cpu : List ℕ) (d : BusState) (r : Receiver) (i : Instr) (answer : Result machine.Stepped Stop) (cpu' : List ℕ)
     (d' e : BusState) (q : Receiver)
-    → board_of cpu d r ≡ b → d.offered ≡ None → cpu_outcome answer cpu' d' ≡ execution board_bus i (registers_of cpu) d → length cpu' ≡ 16
-    → e ≡ record d' { offered = None } → q ≡ receiver_after d'.outnum d'.offered r
+    → board_of cpu d r ≡ b → IsSilent d → cpu_outcome answer cpu' d' ≡ execution board_bus i (registers_of cpu) d → length cpu' ≡ 16
+    → e ≡ record d' { offered = None; sent = None } → q ≡ receiver_after d'.outnum d'.offered r
     → board_of cpu' e q ≡ (executed b i).board
 closed_is b cpu d r i answer cpu' d' e q is off ran len cleared heard =
     ap (λ s. board_of cpu' s q) cleared
@@ -66,12 +74,12 @@ taken_grows i cpu d answer cpu' d' ran =
 
 -- a stop left all but the readings taken
 pub stopped_keeps : (b : BoardValue) (cpu : List ℕ) (d : BusState) (r : Receiver) (cpu' : List ℕ) (d' e : BusState) (q : Receiver)
-    → board_of cpu d r ≡ b → d.offered ≡ None → cpu' ≡ cpu → OnlyReads board_bus 2 d d'
-    → e ≡ record d' { offered = None } → q ≡ receiver_after d'.outnum d'.offered r
+    → board_of cpu d r ≡ b → IsSilent d → cpu' ≡ cpu → OnlyReads board_bus 2 d d'
+    → e ≡ record d' { offered = None; sent = None } → q ≡ receiver_after d'.outnum d'.offered r
     → KeepsAllButTaken b (board_of cpu' e q)
 stopped_keeps b cpu d r cpu' d' e q is off same reads cleared heard =
     let g = only_takes 2 d d' reads in
-    let quiet : d'.offered ≡ None = ap (λ s. s.offered) g.same ∙ off in
+    let quiet : d'.offered ≡ None = ap (λ s. s.offered) g.same ∙ off.0 in
     let before : b.taken ≡ d.taken = sym (ap (λ x. x.taken) is) in
     let after : e.taken ≡ d'.taken = ap (λ s. s.taken) cleared in
     let from = g.takes.from in

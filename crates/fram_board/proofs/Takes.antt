@@ -10,8 +10,11 @@ use Rattle.msp_step.specs.Effect.{Written}
 use Rattle.msp_step.specs.Step.{effect, execution, outcome_of}
 use Rattle.msp_step.specs.Laws.{AfterWrite}
 use Rattle.msp_step.proofs.Interface.{Ends, effect_ends}
-use Rattle.fram_board.specs.Bus.{BusState, board_bus, after_read, written, port_written, with_word, is_ram, is_word, is_memory, with_byte, memory_word}
-use Rattle.fram_board.specs.Bus.{sensor_port, number_port, data_port, event_port}
+use Rattle.fram_board.specs.Bus.{BusState, board_bus, after_read, written, port_written, data_written, answer_written, with_word, is_ram, is_word, is_memory}
+use Rattle.fram_board.specs.Bus.{with_byte, memory_word}
+use Rattle.fram_board.specs.declared.radio.Radio.{Radio}
+use Rattle.fram_board.specs.declared.radio.Radio.TheVariants.{Alone, Sends, Listens}
+use Rattle.fram_board.specs.Bus.{sensor_port, number_port, data_port, event_port, answer_port}
 use Rattle.fram_board.specs.Events.{EventLine, port_read}
 use Rattle.fram_board.specs.Steps.{line_heard}
 
@@ -78,19 +81,29 @@ pub word_same : (s : BusState) (b : Bool) (r f : List ℕ) → SameInputs s (if 
 word_same s true r f = (refl, refl)
 word_same s false r f = (refl, refl)
 
-port_same : (s : BusState) (b c : Bool) (v : ℕ) → SameIfServed s (if b then Some (record s { outnum = v }) else if c then Some (record s { offered = Some v })
-    else None)
-port_same s true c v = (refl, refl)
-port_same s false true v = (refl, refl)
-port_same s false false v = tt
+data_same : (s : BusState) (x : Radio) (v : ℕ) → SameInputs s (data_written x s v)
+data_same s Alone v = (refl, refl)
+data_same s (Sends greatest) v = (refl, refl)
+data_same s (Listens number) v = (refl, refl)
 
 either_same : (s : BusState) (b : Bool) (x y : Option BusState) → SameIfServed s x → SameIfServed s y → SameIfServed s (if b then x else y)
 either_same s true x y g h = g
 either_same s false x y g h = h
 
+answer_same : (s : BusState) (x : Radio) (a v : ℕ) → SameIfServed s (answer_written x s a v)
+answer_same s Alone a v = tt
+answer_same s (Sends greatest) a v = tt
+answer_same s (Listens number) a v =
+    either_same s (a == answer_port) (Some (record s { offered = None; sent = Some (v, 0) })) None (refl, refl) tt
+
+port_same : (s : BusState) (a v : ℕ) → SameIfServed s (port_written s a v)
+port_same s a v =
+    either_same s (a == number_port) (Some (record s { outnum = v })) _ (refl, refl)
+    (either_same s (a == data_port) (Some (data_written s.radio s v)) (answer_written s.radio s a v) (data_same s s.radio v) (answer_same s s.radio a v))
+
 write_same : (s : BusState) (a : ℕ) (w : Width) (v : ℕ) → SameIfServed s (written s a w v)
 write_same s a Word v = either_same s (is_word a) (Some (with_word s a v)) (port_written s a v) (word_same s (is_ram a) _ _)
-    (port_same s (a == number_port) (a == data_port) v)
+    (port_same s a v)
 write_same s a Byte v = either_same s (is_memory a) (Some (with_word s a (with_byte (memory_word s a) a v))) None (word_same s (is_ram a) _ _) tt
 
 pub after_write_same : (s t : BusState) (w : Option Written) → AfterWrite board_bus w s t → SameInputs s t

@@ -14,7 +14,10 @@ use Rattle.fram_board.specs.declared.board.NextStep.{NextStep}
 use Rattle.fram_board.specs.declared.board.NextStep.TheVariants as next_step
 use Rattle.fram_board.specs.declared.board.Stepped.{Stepped}
 use Rattle.fram_board.specs.declared.receiver.Receiver.{Receiver}
-use Rattle.fram_board.specs.Events.{EventLine, line_of_events, is_full, line_behind_step, line_behind_power_up}
+use Rattle.fram_board.specs.declared.radio.Radio.{Radio}
+use Rattle.fram_board.specs.declared.radio.Radio.TheVariants.{Alone, Sends, Listens}
+use Rattle.fram_board.specs.Events.{EventLine, line_of_events, is_full, bringing, line_behind_step, line_behind_power_up}
+use Rattle.fram_board.specs.Radio.{radio_powered, acknowledged, packet_heard}
 use Rattle.fram_board.specs.Bus.{BusState, board_bus, is_word, with_word}
 
 -- the board between two instructions
@@ -27,6 +30,7 @@ pub record BoardValue : Type 0 where
   pub taken : ℕ  -- how many of them were taken
   pub receiver : Receiver  -- where it started, and its two counts
   pub line : EventLine  -- the port EVENT, and what arises there
+  pub radio : Radio  -- what it has of a radio
 
 -- so many equal words
 unfoldable pub filled_words : ℕ → ℕ → List ℕ
@@ -47,11 +51,20 @@ started fram number readings events = record {
   taken = 0;
   receiver = record { first = number; accepted = 0; repeats = 0 };
   line = line_of_events events;
+  radio = Alone;
 }
 
 -- the same of a board that is loaded with an image
 abbrev pub fresh : List ℕ → List ℕ → List (ℕ × ℕ) → BoardValue
 fresh fram readings events = started fram 0 readings events
+
+-- a board that sends, loaded with an image: it has the ports of that side of a radio, and no events
+abbrev pub fresh_sender : List ℕ → List ℕ → BoardValue
+fresh_sender fram readings = record (fresh fram readings []) { radio = Sends 0 }
+
+-- a board that listens, the same of the other side
+abbrev pub fresh_listener : List ℕ → List ℕ → BoardValue
+fresh_listener fram readings = record (fresh fram readings []) { radio = Listens 0 }
 
 -- the words that a power-up leaves in what doesn't last
 pub record PowerState : Type 0 where
@@ -69,14 +82,15 @@ filled f = record {
   outnum = f;
 }
 
--- a power-up: PC is the reset vector and SR is 0; the port EVENT is emptied, and then the events arise that are due; FRAM,
--- readings and receiver are as before
+-- a power-up: PC is the reset vector and SR is 0; the port EVENT is emptied, and then the events arise that are due; no
+-- acknowledgement was brought since; FRAM, readings and receiver are as before
 abbrev pub powered : BoardValue → PowerState → BoardValue
 powered b p = record b {
   cpu = kept 0 (vector_of b.fram) ∷ kept 1 p.sp ∷ 0 ∷ 0 ∷ p.work;
   ram = p.ram;
   outnum = p.outnum;
   line = line_behind_power_up b.line;
+  radio = radio_powered b.radio;
 }
 
 -- the number of the word that the receiver takes next: as many behind its first as it has accepted, modulo 65536
@@ -112,7 +126,9 @@ opened b = record {
   readings = b.readings;
   taken = b.taken;
   offered = None;
+  sent = None;
   line = b.line;
+  radio = b.radio;
 }
 
 -- the sixteen registers as a list
@@ -132,6 +148,7 @@ closed b r s = record {
   taken = s.taken;
   receiver = receiver_after s.outnum s.offered b.receiver;
   line = s.line;
+  radio = s.radio;
 }
 
 -- what a board answers of what its CPU answered
@@ -142,6 +159,7 @@ answer_of b s (Ok done) = Ok (record {
   took = s.taken - b.taken;
   accepted = accepted_word s.outnum s.offered b.receiver;
   heard = s.line.heard;
+  sent = s.sent;
 })
 answer_of b s (Err stop) = Err stop
 
@@ -230,3 +248,20 @@ at_boundary b = record b { line = line_behind_step b.line }
 abbrev pub board_behind : Result Stepped Stop → BoardValue → BoardValue
 board_behind (Ok done) b = at_boundary b
 board_behind (Err stop) b = b
+
+-- a word is brought to the port EVENT of a board that listens: it waits there, or is lost where the port is full
+abbrev pub word_brought : Radio → ℕ → EventLine → EventLine
+word_brought Alone w q = q
+word_brought (Sends greatest) w q = q
+word_brought (Listens number) w q = bringing w q
+
+-- a packet is brought. On a board that doesn't listen nothing changes
+abbrev pub packet_brought : ℕ → ℕ → BoardValue → BoardValue
+packet_brought number word b = record b {
+  line = word_brought b.radio word b.line;
+  radio = packet_heard number (is_full b.line.port) b.radio;
+}
+
+-- an acknowledgement is brought. On a board that doesn't send nothing changes
+abbrev pub acknowledgement_brought : ℕ → BoardValue → BoardValue
+acknowledgement_brought number b = record b { radio = acknowledged number b.radio }

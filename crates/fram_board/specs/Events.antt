@@ -1,5 +1,5 @@
 -- The port EVENT, and the events that arise there between two steps.
-use Rattle.std.specs.Prelude.{ℕ, ◌+◌, ◌==◌, nat_le, Bool, true, false, if◌then◌else◌, List, [], ◌∷◌, Option, Some, None}
+use Rattle.std.specs.Prelude.{ℕ, ◌+◌, ◌^◌, ◌==◌, nat_le, nat_lt, Bool, true, false, if◌then◌else◌, List, [], ◌∷◌, Option, Some, None}
 use Rattle.fram_board.specs.declared.events.Heard.{Heard}
 use Rattle.fram_board.specs.declared.events.Heard.TheVariants as heard
 
@@ -55,6 +55,10 @@ port_behind w None = Some w
 -- an event arises, in front of these: it waits in the port, or is lost where that is full
 abbrev pub arising : ℕ → List (ℕ × ℕ) → EventLine → EventLine
 arising w coming q = record q { port = port_behind w q.port; coming = coming; arisen = q.arisen + 1; missed = q.missed + words_in q.port }
+
+-- a word is brought beside the events that come: it waits in the port, or is lost where that is full; behind 2^61 of them it doesn't arise
+abbrev pub bringing : ℕ → EventLine → EventLine
+bringing w q = if nat_lt q.arisen (2 ^ 61) then arising w q.coming q else q
 
 -- those of the events that come that are due arise, in order, up to the first that isn't
 abbrev pub arising_due : List (ℕ × ℕ) → EventLine → EventLine

@@ -1,4 +1,6 @@
 pub mod Events
+pub mod Radio
+pub mod Output
 pub mod Bus
 pub mod Board
 pub mod Saved

@@ -5,14 +5,17 @@ ghost use Rattle.msp_step.specs.Registers.{registers_of};
 ghost use Rattle.msp_step.specs.Step.{is_interruptible};
 ghost use Rattle.state_text.specs.address_space.Limits.{fram_words};
 ghost use Rattle.state_text.specs.image_text.ImageValue.{word_at};
-ghost use Rattle.fram_board.specs.Board.{accepted_word, receiver_after, started, fresh, powered, filled, executed, IsNextInstruction, IsStoppedBy};
+ghost use Rattle.fram_board.specs.Board.{accepted_word, receiver_after, started, fresh, fresh_sender, fresh_listener, powered, filled, executed};
+ghost use Rattle.fram_board.specs.Board.{IsNextInstruction, IsStoppedBy, packet_brought, acknowledgement_brought};
+ghost use Rattle.fram_board.specs.declared.radio.Radio.TheVariants.{Alone};
 ghost use Rattle.fram_board.specs.Board.{is_accepting, acceptance, performed, IsNextStep, HasNoStep, step_cycles, at_boundary, board_behind};
 ghost use Rattle.fram_board.specs.declared.board.NextStep.TheVariants.{Acceptance};
 ghost use Rattle.fram_board.specs.Saved.{saved};
 ghost use Rattle.fram_board.specs.Steps.{AreNextWords, AreWordsOfStep, StepCosts, IsStepOf, KeepsAllButTaken, OffersOneAtMost, IsBoard};
 
-use crate::bus::Devices;
+use crate::bus::{Devices, Output};
 use crate::events::Heard;
+use crate::radio::Radio;
 use crate::receiver::Receiver;
 use msp_cycles::cycles;
 use msp_isa::{Instr, Reg};
@@ -37,6 +40,8 @@ pub struct Stepped {
     pub accepted: Option<u16>,
     /// What it read of the port EVENT.
     pub heard: Heard,
+    /// What it sent by a radio: the number and the word of a packet, or an acknowledgement and 0.
+    pub sent: Option<(u16, u16)>,
 }
 
 /// A step of the board.
@@ -48,7 +53,7 @@ pub enum NextStep {
     Acceptance,
 }
 
-/// The CPU with RAM, FRAM, a sensor and its readings, the events of a run, and a receiver.
+/// The CPU with RAM, FRAM, a sensor and its readings, the events of a run, and a receiver; beside it one side of a radio, or none.
 #[derive(Drop)]
 pub struct Board {
     cpu: Cpu,
@@ -71,24 +76,43 @@ impl Model for Board {
       taken = b.devices.taken;
       receiver = b.receiver;
       line = b.devices.line;
+      radio = b.devices.radio;
     } };
 
-    // Between two instructions nothing is offered.
-    ghost invariant = { λ b. b.devices.offered ≡ None };
+    // Between two instructions nothing is offered or sent.
+    ghost invariant = { λ b. (b.devices.offered ≡ None) × (b.devices.sent ≡ None) };
 }
 
-/// The receiver hears the word that an instruction offered. Answers the word if it is accepted.
+/// The word that the receiver accepted of an instruction, and what the instruction sent.
+#[derive(Clone, Copy)]
+struct Emitted {
+    accepted: Option<u16>,
+    sent: Option<(u16, u16)>,
+}
+
+/// The receiver hears the word that an instruction offered. Answers the word if it is accepted, and what the instruction sent.
 #[inline(always)]
-fn receive(devices: &mut Devices, receiver: &mut Receiver) -> Option<u16>
+fn receive(devices: &mut Devices, receiver: &mut Receiver) -> Emitted
     requires accepted { receiver.old.accepted < 2 ^ 64 - 1 }
     requires repeats { receiver.old.repeats < 2 ^ 64 - 1 }
-    ensures word { result ≡ accepted_word devices.old.outnum devices.old.offered receiver.old }
-    ensures devices { devices.new ≡ record devices.old { offered = None } }
+    ensures word { result.accepted ≡ accepted_word devices.old.outnum devices.old.offered receiver.old }
+    ensures sent { result.sent ≡ devices.old.sent }
+    ensures devices { devices.new ≡ record devices.old { offered = None; sent = None } }
     ensures receiver { receiver.new ≡ receiver_after devices.old.outnum devices.old.offered receiver.old }
 {
-    match devices.take_offered() {
-        Some(word) => receiver.offer(devices.number(), word),
-        None => None,
+    match devices.take_output() {
+        Output::Nothing => Emitted {
+            accepted: None,
+            sent: None,
+        },
+        Output::Offered(word) => Emitted {
+            accepted: receiver.offer(devices.number(), word),
+            sent: None,
+        },
+        Output::Sent(number, word) => Emitted {
+            accepted: None,
+            sent: Some((number, word)),
+        },
     }
 }
 
@@ -102,19 +126,20 @@ fn step_cycles(step: &NextStep) -> u32
     }
 }
 
-// A board with this image in its FRAM and these readings and events, whose receiver takes this number next.
+// A board with this image in its FRAM, these readings and events, and this radio, whose receiver takes this number next.
 fn started(
     alloc: Global,
     image: &Image,
     number: u16,
     readings: &[u16],
     events: &[(u32, u16)],
+    radio: Radio,
 ) -> Result<Board, AllocError>
     requires readings { length readings.now ≤ 262144 }
     requires events { length events.now ≤ 65536 }
-    ensures { IfOk result (λ b. b ≡ started image.now.words number readings.now events.now) }
+    ensures { IfOk result (λ b. b ≡ record (started image.now.words number readings.now events.now) { radio = radio }) }
 {
-    let devices = Devices::new(alloc, image.words(), readings, events)?;
+    let devices = Devices::new(alloc, image.words(), readings, events, radio)?;
     Ok(Board {
         cpu: Cpu::new(devices.vector(), 0),
         devices,
@@ -139,7 +164,25 @@ impl Board {
         requires events { length events.now ≤ 65536 }
         ensures { IfOk result (λ b. b ≡ fresh image.now.words readings.now events.now) }
     {
-        started(alloc, image, 0, readings, events)
+        started(alloc, image, 0, readings, events, Radio::Alone)
+    }
+
+    /// A board that sends by a radio, with the ports of that side, else as `new` makes it without events. Fails where memory is
+    /// refused.
+    pub fn new_sender(alloc: Global, image: &Image, readings: &[u16]) -> Result<Board, AllocError>
+        requires { length readings.now ≤ 262144 }
+        ensures { IfOk result (λ b. b ≡ fresh_sender image.now.words readings.now) }
+    {
+        started(alloc, image, 0, readings, &[], Radio::Sends(0))
+    }
+
+    /// A board that listens to a radio, with the ports of that side, else as `new` makes it without events. Fails where memory is
+    /// refused.
+    pub fn new_listener(alloc: Global, image: &Image, readings: &[u16]) -> Result<Board, AllocError>
+        requires { length readings.now ≤ 262144 }
+        ensures { IfOk result (λ b. b ≡ fresh_listener image.now.words readings.now) }
+    {
+        started(alloc, image, 0, readings, &[], Radio::Listens(0))
     }
 
     /// A board that goes on from a saved state: its FRAM and the number that its receiver takes next are the state's. Readings,
@@ -155,17 +198,40 @@ impl Board {
         requires events { length events.now ≤ 65536 }
         ensures { IfOk result (λ b. b ≡ started state.now.image.words state.now.receiver readings.now events.now) }
     {
-        started(alloc, &state.image, state.receiver, readings, events)
+        started(
+            alloc,
+            &state.image,
+            state.receiver,
+            readings,
+            events,
+            Radio::Alone,
+        )
     }
 
     /// Power comes back after a loss. FRAM, readings and receiver are as before; PC is the word at 0xFFFE with bit 0
     /// cleared and SR is 0; each word of RAM, OUTNUM, R4 to R15, and SP with bit 0 cleared hold the fill word. An event that
-    /// waits in the port EVENT is lost, and those that are due arise.
+    /// waits in the port EVENT is lost, and those that are due arise. A board that sends has heard no acknowledgement.
     pub fn power_up(&mut self, fill: u16)
         ensures { self.new ≡ powered self.old (filled fill) }
     {
         self.devices.power_up(fill);
         self.cpu = Cpu::new(self.devices.vector(), fill);
+    }
+
+    /// A packet comes to the port EVENT of a board that listens, between two steps: it waits there, or is lost where the port is
+    /// full. Nothing changes on another board. Takes no memory.
+    pub fn bring_packet(&mut self, number: u16, word: u16)
+        ensures { self.new ≡ packet_brought number word self.old }
+    {
+        self.devices.bring_packet(number, word);
+    }
+
+    /// An acknowledgement comes to a board that sends, between two steps: the greatest one that came since power came back is read
+    /// at the port ACKS. Nothing changes on another board. Takes no memory.
+    pub fn bring_ack(&mut self, number: u16)
+        ensures { self.new ≡ acknowledgement_brought number self.old }
+    {
+        self.devices.bring_acknowledgement(number);
     }
 
     /// Whether the next step is an acceptance: an event waits in the port EVENT, GIE is set, and CPUOFF is clear.
@@ -276,13 +342,14 @@ impl Board {
                 return Err(stop);
             }
         };
-        let accepted = receive(&mut self.devices, &mut self.receiver);
+        let emitted = receive(&mut self.devices, &mut self.receiver);
         Ok(Stepped {
             cycles: done.cycles,
             wrote: done.wrote,
             took: self.devices.taken() - before,
-            accepted,
+            accepted: emitted.accepted,
             heard: self.devices.events().heard(),
+            sent: emitted.sent,
         })
     }
 
@@ -313,6 +380,7 @@ impl Board {
             took: 0,
             accepted: None,
             heard,
+            sent: None,
         })
     }
 
@@ -350,16 +418,17 @@ impl Board {
         }
     }
 
-    /// How many events arose.
-    pub fn arisen(&self) -> u32
+    /// How many events arose; of a board that listens, how many packets were brought.
+    pub fn arisen(&self) -> u64
         ensures { result ≡ self.now.line.arisen }
     {
         self.devices.events().arisen()
     }
 
     /// How many of them were lost at the port: it was full, or a power-up emptied it.
-    pub fn missed(&self) -> u32
-        ensures { result ≡ self.now.line.missed }
+    pub fn missed(&self) -> u64
+        ensures value { result ≡ self.now.line.missed }
+        ensures few { result < 2 ^ 62 }
     {
         self.devices.events().missed()
     }

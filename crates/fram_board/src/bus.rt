@@ -6,12 +6,16 @@ ghost use Rattle.std.proofs.Common.{refl};
 ghost use Rattle.alp_words.specs.declared.Width.TheVariants.{Word, Byte};
 ghost use Rattle.state_text.specs.address_space.Limits.{fram_words, event_vector};
 ghost use Rattle.state_text.specs.image_text.ImageValue.{word_at, place_of};
-ghost use Rattle.fram_board.specs.Bus.{IsBusState, is_ram, is_memory, is_word, memory_word, with_word, byte_of, with_byte, next_reading, port_written};
-ghost use Rattle.fram_board.specs.Bus.{board_bus};
-ghost use Rattle.fram_board.specs.Board.{filled_words, vector_of};
-ghost use Rattle.fram_board.specs.Events.{line_of_events, line_behind_step, line_behind_power_up};
+ghost use Rattle.fram_board.specs.Bus.{IsBusState, is_ram, is_memory, is_word, memory_word, with_word, byte_of, with_byte, next_reading};
+ghost use Rattle.fram_board.specs.Bus.{data_written, answer_written, port_written};
+ghost use Rattle.fram_board.specs.Bus.{board_bus, answer_port};
+ghost use Rattle.fram_board.specs.Board.{filled_words, vector_of, word_brought};
+ghost use Rattle.fram_board.specs.Radio.{radio_powered, acknowledged, packet_heard};
+ghost use Rattle.fram_board.specs.Output.{offered_word, sent_words};
+ghost use Rattle.fram_board.specs.Events.{is_full, line_of_events, line_behind_step, line_behind_power_up};
 
 use crate::events::Events;
+use crate::radio::{ANSWER, Radio};
 use alp_words::{Width, from_bytes, to_bytes};
 use msp_step::{Bus, Refused};
 use state_text::address_space::{
@@ -21,7 +25,18 @@ use state_text::address_space::{
 use std::alloc::{AllocError, Global};
 use std::marker::Model;
 
-/// RAM, FRAM, the sensor's readings, the events and the ports.
+/// What an instruction puts out at a port.
+#[derive(Clone, Copy)]
+pub enum Output {
+    /// Nothing.
+    Nothing,
+    /// A word is offered to the receiver.
+    Offered(u16),
+    /// A number and a word are sent, or an acknowledgement and 0.
+    Sent(u16, u16),
+}
+
+/// RAM, FRAM, the sensor's readings, the events, the ports and the radio.
 #[derive(Drop)]
 pub struct Devices {
     fram: Vec<u16>,
@@ -29,12 +44,14 @@ pub struct Devices {
     outnum: u16,
     readings: Vec<u16>,
     taken: usize,
-    offered: Option<u16>,
+    output: Output,
     events: Events,
+    radio: Radio,
 }
 
 impl Model for Devices {
     ghost use Rattle.fram_board.specs.Bus.{BusState, IsBusState};
+    ghost use Rattle.fram_board.specs.Output.{offered_word, sent_words};
 
     ghost Value = { BusState };
 
@@ -44,8 +61,10 @@ impl Model for Devices {
       outnum = d.outnum;
       readings = d.readings.items;
       taken = d.taken;
-      offered = d.offered;
+      offered = offered_word d.output;
+      sent = sent_words d.output;
       line = d.events;
+      radio = d.radio;
     } };
 
     ghost invariant = { λ d. IsBusState (record {
@@ -54,8 +73,10 @@ impl Model for Devices {
       outnum = d.outnum;
       readings = d.readings.items;
       taken = d.taken;
-      offered = d.offered;
+      offered = offered_word d.output;
+      sent = sent_words d.output;
       line = d.events;
+      radio = d.radio;
     }) };
 }
 
@@ -113,12 +134,13 @@ fn fill_words(words: &mut Vec<u16>, word: u16)
 }
 
 impl Devices {
-    /// This FRAM and these readings and events, none of them taken; RAM and OUTNUM are 0.
+    /// This FRAM and these readings and events, none of them taken, and this radio; RAM and OUTNUM are 0.
     pub fn new(
         alloc: Global,
         fram: &[u16],
         readings: &[u16],
         events: &[(u32, u16)],
+        radio: Radio,
     ) -> Result<Devices, AllocError>
         requires fram { length fram.now ≡ fram_words }
         requires readings { length readings.now ≤ 262144 }
@@ -130,7 +152,9 @@ impl Devices {
           readings = readings.now;
           taken = 0;
           offered = None;
+          sent = None;
           line = line_of_events events.now;
+          radio = radio;
         }) }
     {
         Ok(Devices {
@@ -139,18 +163,51 @@ impl Devices {
             outnum: 0,
             readings: readings.to_vec(alloc)?,
             taken: 0,
-            offered: None,
+            output: Output::Nothing,
             events: Events::new(alloc, events)?,
+            radio,
         })
     }
 
-    /// RAM and OUTNUM hold the fill word, the port EVENT is emptied, and the events that are due arise.
+    /// RAM and OUTNUM hold the fill word, the port EVENT is emptied, the events that are due arise, and no acknowledgement was
+    /// brought since.
     pub fn power_up(&mut self, fill: u16)
-        ensures { self.new ≡ record self.old { ram = filled_words 1024 fill; outnum = fill; line = line_behind_power_up self.old.line } }
+        ensures { self.new ≡ record self.old {
+          ram = filled_words 1024 fill;
+          outnum = fill;
+          line = line_behind_power_up self.old.line;
+          radio = radio_powered self.old.radio;
+        } }
     {
         fill_words(&mut self.ram, fill);
         self.outnum = fill;
         self.events.power_up();
+        self.radio = self.radio.powered();
+    }
+
+    /// A packet is brought to the port EVENT: it waits there, or is lost where that is full. Where the board doesn't listen
+    /// nothing changes.
+    pub fn bring_packet(&mut self, number: u16, word: u16)
+        ensures { self.new ≡ record self.old {
+          line = word_brought self.old.radio word self.old.line;
+          radio = packet_heard number (is_full self.old.line.port) self.old.radio;
+        } }
+    {
+        match self.radio {
+            Radio::Listens(_) => {
+                self.radio = self.radio.with_packet(number, self.events.is_full());
+                self.events.bring(word);
+            }
+            Radio::Alone => {}
+            Radio::Sends(_) => {}
+        }
+    }
+
+    /// An acknowledgement is brought: the greatest one counts. Where the board doesn't send nothing changes.
+    pub fn bring_acknowledgement(&mut self, number: u16)
+        ensures { self.new ≡ record self.old { radio = acknowledged number self.old.radio } }
+    {
+        self.radio = self.radio.acknowledged(number);
     }
 
     /// Behind a step: it is counted, and the events that are due arise.
@@ -299,17 +356,19 @@ impl Devices {
         self.outnum
     }
 
-    /// The word that an instruction offered, which is then forgotten.
-    pub fn take_offered(&mut self) -> Option<u16>
-        ensures word { result ≡ self.old.offered }
-        ensures cleared { self.new ≡ record self.old { offered = None } }
+    /// What an instruction put out, which is then forgotten.
+    #[inline(always)]
+    pub fn take_output(&mut self) -> Output
+        ensures offered { offered_word result ≡ self.old.offered }
+        ensures sent { sent_words result ≡ self.old.sent }
+        ensures cleared { self.new ≡ record self.old { offered = None; sent = None } }
     {
-        match self.offered {
-            Some(word) => {
-                self.offered = None;
-                Some(word)
+        match self.output {
+            Output::Nothing => Output::Nothing,
+            output => {
+                self.output = Output::Nothing;
+                output
             }
-            None => None,
         }
     }
 
@@ -327,6 +386,33 @@ impl Devices {
         }
     }
 
+    // A word written to OUTDATA.
+    fn write_data(&mut self, word: u16)
+        ensures { self.new ≡ data_written self.old.radio self.old word }
+    {
+        self.output = match self.radio {
+            Radio::Alone => Output::Offered(word),
+            Radio::Sends(_) => Output::Sent(self.outnum, word),
+            Radio::Listens(_) => Output::Offered(word),
+        };
+    }
+
+    // A word written to ACKOUT.
+    fn write_answer(&mut self, word: u16) -> Result<(), Refused>
+        ensures ok { OnOk result (answer_written self.old.radio self.old answer_port word ≡ Some self.new) }
+        ensures err { IfErr result (λ e.
+            (e ≡ Refused.Bus) × (answer_written self.old.radio self.old answer_port word ≡ None) × (self.new ≡ self.old)) }
+    {
+        match self.radio {
+            Radio::Listens(_) => {
+                self.output = Output::Sent(word, 0);
+                Ok(())
+            }
+            Radio::Alone => Err(Refused::Bus),
+            Radio::Sends(_) => Err(Refused::Bus),
+        }
+    }
+
     fn write_port(&mut self, address: u16, word: u16) -> Result<(), Refused>
         ensures ok { OnOk result (port_written self.old address word ≡ Some self.new) }
         ensures err { IfErr result (λ e.
@@ -338,9 +424,10 @@ impl Devices {
                 Ok(())
             }
             OUTDATA => {
-                self.offered = Some(word);
+                self.write_data(word);
                 Ok(())
             }
+            ANSWER => self.write_answer(word),
             _ => Err(Refused::Bus),
         }
     }
@@ -367,7 +454,7 @@ impl Bus for Devices {
                     Some(word) => Ok(word),
                     None if address == SENSOR => self.take_reading(),
                     None if address == EVENT => Ok(self.events.read()),
-                    None => Err(Refused::Bus),
+                    None => self.radio.read(self.events.is_full(), address),
                 }
             }
             Width::Byte => {

@@ -1,10 +1,13 @@
 //! The port EVENT and the events that arise there.
 
-ghost use Rattle.std.specs.Prelude.{◌≡◌, ℕ, ◌+◌, ◌<◌, ◌≤◌, length, true, false, IfOk};
-ghost use Rattle.fram_board.specs.Events.{line_of_events, is_full, port_word, port_read, arrived, step_counted, line_behind_step, line_behind_power_up};
+ghost use Rattle.std.specs.Prelude.{◌≡◌, ℕ, ◌+◌, ◌^◌, ◌<◌, ◌≤◌, length, true, false, IfOk};
+ghost use Rattle.fram_board.specs.Events.{line_of_events, is_full, port_word, port_read, arising, bringing, arrived, step_counted, line_behind_step, line_behind_power_up};
 
 use std::alloc::{AllocError, Global};
 use std::marker::Model;
+
+/// How many events arise at most, with those that are brought.
+const COUNTED: u64 = 1 << 61;
 
 /// What was read of EVENT since the last boundary between two steps.
 #[derive(Clone, Copy, PartialEq, Eq, Debug)]
@@ -17,21 +20,22 @@ pub enum Heard {
     Again(Option<u16>),
 }
 
-/// The events of a run, the first of which arose, and the port.
+/// The events of a run, the first of which arose, how many words were brought beside them, and the port.
 #[derive(Drop)]
 pub struct Events {
     port: Option<u16>,
     heard: Heard,
     events: Vec<(u32, u16)>,
     arisen: usize,
-    missed: u32,
+    brought: u64,
+    missed: u64,
     made: u32,
     // Since the last boundary nothing was read, and no event is to come.
     is_quiet: bool,
 }
 
 impl Model for Events {
-    ghost use Rattle.std.specs.Prelude.{◌≡◌, ◌≤◌, ◌+◌, true, drop, length};
+    ghost use Rattle.std.specs.Prelude.{◌≡◌, ◌≤◌, ◌+◌, ◌^◌, true, drop, length};
     ghost use Rattle.fram_board.specs.declared.events.Heard.TheVariants.{Nothing};
     ghost use Rattle.fram_board.specs.Events.{EventLine, words_in};
 
@@ -41,13 +45,14 @@ impl Model for Events {
       port = e.port;
       heard = e.heard;
       coming = drop e.arisen e.events.items;
-      arisen = e.arisen;
+      arisen = e.arisen + e.brought;
       missed = e.missed;
       made = e.made;
     } };
 
     // No more events are lost than arose, without the one that waits.
-    ghost invariant = { λ e. (e.arisen ≤ length e.events.items) × (length e.events.items ≤ 65536) × (e.missed + words_in e.port ≤ e.arisen)
+    ghost invariant = { λ e. (e.arisen ≤ length e.events.items) × (length e.events.items ≤ 65536) × (e.brought ≤ 2 ^ 61)
+        × (e.missed + words_in e.port ≤ e.arisen + e.brought)
         × (e.is_quiet ≡ true → (e.heard ≡ Nothing) × (length (drop e.arisen e.events.items) ≡ 0)) };
 }
 
@@ -63,6 +68,7 @@ impl Events {
             heard: Heard::Nothing,
             events: events.to_vec(alloc)?,
             arisen: 0,
+            brought: 0,
             missed: 0,
             made: 0,
             is_quiet: false,
@@ -88,18 +94,17 @@ impl Events {
         self.heard
     }
 
-    /// How many events arose.
-    pub fn arisen(&self) -> u32
-        ensures value { result ≡ self.now.arisen }
-        ensures few { result ≤ 65536 }
+    /// How many events arose, and words were brought.
+    pub fn arisen(&self) -> u64
+        ensures { result ≡ self.now.arisen }
     {
-        self.arisen as u32
+        self.arisen as u64 + self.brought
     }
 
     /// How many of them were lost at the port.
-    pub fn missed(&self) -> u32
+    pub fn missed(&self) -> u64
         ensures value { result ≡ self.now.missed }
-        ensures few { result ≤ self.now.arisen }
+        ensures few { result < 2 ^ 62 }
     {
         self.missed
     }
@@ -121,6 +126,28 @@ impl Events {
                 word
             }
             None => 0,
+        }
+    }
+
+    /// A word is brought beside the events: it waits in the port, or is lost where that is full. Behind 2^61 of them it doesn't arise.
+    pub fn bring(&mut self, word: u16)
+        ensures { self.new ≡ bringing word self.old }
+    {
+        if self.arisen() < COUNTED {
+            self.arise(word);
+        }
+    }
+
+    // A word arises that was brought.
+    fn arise(&mut self, word: u16)
+        requires { self.old.arisen < 2 ^ 61 }
+        ensures { self.new ≡ arising word self.old.coming self.old }
+    {
+        self.brought += 1;
+        if self.port.is_some() {
+            self.missed += 1;
+        } else {
+            self.port = Some(word);
         }
     }
 

@@ -1,10 +1,12 @@
-//! The board: the CPU with RAM, FRAM, a sensor, a port of events and a receiver, and what a run of it is.
+//! The board: the CPU with RAM, FRAM, a sensor, a port of events, a receiver and one side of a radio, or none, and what a run of it
+//! is.
 #![tactic(auto)]
 
 mod board;
 mod bus;
 mod events;
 mod laws;
+mod radio;
 mod receiver;
 
 pub use board::{Board, NextStep, Stepped};

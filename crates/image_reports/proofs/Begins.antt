@@ -182,6 +182,7 @@ run_of_words fram long are_words number cs starts readings events inputs r run =
       whole = record {
         board = record { fram = whole.board.fram; ram = whole.board.ram; taken = whole.board.taken; few = whole.board.few };
         registers = whole.registers;
+        own = whole.own;
       };
       words = record {
         registers = of_words.registers;
@@ -190,6 +191,7 @@ run_of_words fram long are_words number cs starts readings events inputs r run =
         readings = of_words.readings;
         outnum = of_words.outnum;
         line = of_words.line;
+        radio = of_words.radio;
       };
       starts = starts;
       run = run;

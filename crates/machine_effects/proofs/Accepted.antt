@@ -20,7 +20,9 @@ use Rattle.fram_board.specs.declared.board.NextStep.TheVariants as next_step
 use Rattle.fram_board.specs.declared.board.Stepped.{Stepped}
 use Rattle.fram_board.specs.declared.receiver.Receiver.{Receiver}
 use Rattle.fram_board.specs.Bus.{BusState, board_bus, is_ram, is_fram, is_memory, is_word, memory_word, with_word, with_byte, written, port_written}
-use Rattle.fram_board.specs.Bus.{number_port, data_port}
+use Rattle.fram_board.specs.Bus.{number_port, data_port, answer_port, data_written, answer_written}
+use Rattle.fram_board.specs.declared.radio.Radio.{Radio}
+use Rattle.fram_board.specs.declared.radio.Radio.TheVariants.{Alone, Sends, Listens}
 use Rattle.fram_board.specs.Board.{BoardValue, BoardOutcome, opened, answer_of, board_outcome, executed, acceptance_on, acceptance, performed, at_boundary}
 use Rattle.fram_board.specs.Board.{is_accepted, accepted_word}
 use Rattle.fram_board.specs.Saved.{TakesNextBehind}
@@ -45,20 +47,29 @@ word_stays : (b : Bool) (s : BusState) (r f : List ℕ) → NumberStays s (if b 
 word_stays true s r f = inl refl
 word_stays false s r f = inl refl
 
-port_stays : (b c : Bool) (s : BusState) (v : ℕ) → s.offered ≡ None
-    → StaysIf s (if b then Some (record s { outnum = v }) else if c then Some (record s { offered = Some v }) else None)
-port_stays true c s v off = inr off
-port_stays false true s v off = inl refl
-port_stays false false s v off = tt
-
 either_stays : (b : Bool) (s : BusState) (x y : Option BusState) → StaysIf s x → StaysIf s y → StaysIf s (if b then x else y)
 either_stays true s x y h k = h
 either_stays false s x y h k = k
 
+data_stays : (x : Radio) (s : BusState) (v : ℕ) → NumberStays s (data_written x s v)
+data_stays Alone s v = inl refl
+data_stays (Sends greatest) s v = inl refl
+data_stays (Listens number) s v = inl refl
+
+answer_stays : (x : Radio) (s : BusState) (a v : ℕ) → StaysIf s (answer_written x s a v)
+answer_stays Alone s a v = tt
+answer_stays (Sends greatest) s a v = tt
+answer_stays (Listens number) s a v = either_stays (a == answer_port) s (Some (record s { offered = None; sent = Some (v, 0) })) None (inl refl) tt
+
+port_stays : (s : BusState) (a v : ℕ) → s.offered ≡ None → StaysIf s (port_written s a v)
+port_stays s a v off =
+    either_stays (a == number_port) s (Some (record s { outnum = v })) _ (inr off)
+    (either_stays (a == data_port) s (Some (data_written s.radio s v)) (answer_written s.radio s a v) (data_stays s.radio s v) (answer_stays s.radio s a v))
+
 written_stays : (s : BusState) (a : ℕ) (w : Width) (v : ℕ) → s.offered ≡ None → StaysIf s (written s a w v)
 written_stays s a Word v off =
     either_stays (is_word a) s (Some (with_word s a v)) (port_written s a v) (word_stays (is_ram a) s _ _)
-    (port_stays (a == number_port) (a == data_port) s v off)
+    (port_stays s a v off)
 written_stays s a Byte v off = either_stays (is_memory a) s (Some (with_word s a (with_byte (memory_word s a) a v))) None (word_stays (is_ram a) s _ _) tt
 
 write_stays : (s t : BusState) (w : Option Written) → s.offered ≡ None → AfterWrite board_bus w s t → NumberStays s t

@@ -13,8 +13,12 @@ use Rattle.fram_board.specs.msp_step.declared.bus.Refused.TheVariants as refused
 use Rattle.fram_board.specs.image_text.ImageValue.{place_of}
 use Rattle.fram_board.specs.Bus.{BusState, IsBusState, board_bus, is_ram, is_fram, is_memory, is_word, ram_place, memory_word, with_word, byte_of, with_byte}
 use Rattle.event_places.specs.Places.{handler_place, is_ring}
-use Rattle.fram_board.specs.Bus.{next_reading, read_of, after_read, written, port_written, sensor_port, number_port, data_port, event_port}
-use Rattle.fram_board.specs.Events.{EventLine, port_word, port_read}
+use Rattle.fram_board.specs.Bus.{next_reading, read_of, after_read, written, port_written, data_written, answer_written, sensor_port, number_port, data_port}
+use Rattle.fram_board.specs.Bus.{event_port}
+use Rattle.fram_board.specs.declared.radio.Radio.{Radio}
+use Rattle.fram_board.specs.declared.radio.Radio.TheVariants.{Alone, Sends, Listens}
+use Rattle.fram_board.specs.Events.{EventLine, is_full, port_word, port_read}
+use Rattle.fram_board.specs.Radio.{is_sender, radio_word}
 use Rattle.fram_board.specs.Effects.{Effect, Store, Outside, Offered}
 use Rattle.step_laws.specs.Alike.{ReadAlike, AnswerAlikeUnless, WrittenAlike}
 use Rattle.fram_board.proofs.Interface.{other_is_fram, fram_low}
@@ -38,7 +42,8 @@ abbrev pub SeesFram : Option Look → List ℕ → Type 0
 SeesFram None words = Unit {0}
 SeesFram (Some look) words = (a : ℕ) → is_ring a ≡ true → look a ≡ fram_of words a
 
--- the same memory, ports and inputs, with these readings in all and these looks, and the port EVENT as it was at first
+-- the same memory, ports and inputs, with these readings in all and these looks, and the port EVENT as it was at first; the words of the
+-- board go to its own receiver
 pub record SameBus (readings : List ℕ) (looks : List Look) (begun : EventLine) (s : BusState) (t : MachineBus) : Type 0 where
   pub whole : IsBusState s
   pub fram : t.fram ≡ fram_of s.fram
@@ -48,6 +53,7 @@ pub record SameBus (readings : List ℕ) (looks : List Look) (begun : EventLine)
   pub all : s.readings ≡ readings
   pub line : s.line ≡ begun
   pub seen : SeesFram t.ring s.fram
+  pub own : is_sender s.radio ≡ false
 
 -- memory by addresses, from the list of its words; a word written to the list is one written to the function
 abbrev view : (ℕ → Bool) → ℕ → List ℕ → ℕ → ℕ
@@ -210,12 +216,11 @@ module _ (readings : List ℕ) (looks : List Look) (begun : EventLine) where
       let at = and_parts (a % 2 == 0) (is_memory a) e in
       word_by (is_readable t.floor a) a (memory_word s a) (machine_word t a) (ring_read t.ring a) (word_same s t a h at.1) (ring_on t.ring s a h.seen at.0)
 
-  read_on : (b c d : Bool) (a x z : ℕ) (m p q : Result ℕ Refused) → (b ≡ true → ReadAlike IsRefused a (Ok x) m) → p ≡ q
-      → ReadAlike IsRefused a (if b then Ok x else if c then p else if d then Ok z else Err refused.Bus) (if b then m else if c then q else Err refused.Bus)
-  read_on true c d a x z m p q h e = h refl
-  read_on false true d a x z m p q h e = inl e
-  read_on false false true a x z m p q h e = inr (refused.Bus, refl, refl)
-  read_on false false false a x z m p q h e = inl refl
+  read_on : (b c d : Bool) (a x z : ℕ) (m n p q : Result ℕ Refused) → (b ≡ true → ReadAlike IsRefused a (Ok x) m) → p ≡ q
+      → ReadAlike IsRefused a (if b then Ok x else if c then p else if d then Ok z else n) (if b then m else if c then q else Err refused.Bus)
+  read_on true c d a x z m n p q h e = h refl
+  read_on false true d a x z m n p q h e = inl e
+  read_on false false d a x z m n p q h e = inr (refused.Bus, refl, refl)
 
   byte_on : (b c : Bool) (a x y : ℕ) → (b ≡ true → x ≡ y)
       → ReadAlike IsRefused a (if b then Ok (byte_of x a) else Err refused.Bus) (if b && c then Ok (byte_of y a) else Err refused.Bus)
@@ -226,7 +231,8 @@ module _ (readings : List ℕ) (looks : List Look) (begun : EventLine) where
   reads_same : (s : BusState) (t : MachineBus) (a : ℕ) (w : Width) → SameBus readings looks begun s t
       → ReadAlike IsRefused a (read_of s a w) (machine_read t a w)
   reads_same s t a Word h =
-      read_on (is_word a) (a == sensor_port) (a == event_port) a (memory_word s a) (port_word s.line.port) (word_read t a) (next_reading s)
+      read_on (is_word a) (a == sensor_port) (a == event_port) a (memory_word s a) (port_word s.line.port) (word_read t a)
+      (radio_word s.radio (is_full s.line.port) a) (next_reading s)
       (first_reading t.inputs.readings) (λ e. words_same s t a h e) (next_same s t h)
   reads_same s t a Byte h = byte_on (is_memory a) (is_readable t.floor a) a (memory_word s a) (machine_word t a) (λ e. word_same s t a h e)
 
@@ -259,6 +265,7 @@ module _ (readings : List ℕ) (looks : List Look) (begun : EventLine) where
         all = h.all;
         line = h.line;
         seen = h.seen;
+        own = h.own;
       }
 
   at_sensor : (t : MachineBus) (a v : ℕ) → a ≡ sensor_port → machine_read t a Word ≡ Ok v → first_reading t.inputs.readings ≡ Ok v
@@ -297,6 +304,7 @@ module _ (readings : List ℕ) (looks : List Look) (begun : EventLine) where
         all = h.all;
         line = h.line;
         seen = h.seen;
+        own = h.own;
       }
   stored_same false s t a v log e m low h =
       let g = h.whole in
@@ -309,6 +317,7 @@ module _ (readings : List ℕ) (looks : List Look) (begun : EventLine) where
         all = h.all;
         line = h.line;
         seen = seen_stored t.ring s.fram a v g.fram (other_is_fram a e m) (low refl) h.seen;
+        own = h.own;
       }
 
   word_stored : (s : BusState) (t : MachineBus) (a v : ℕ) → is_memory a ≡ true → (is_ram a ≡ false → a < handler_place) → SameBus readings looks begun s t
@@ -318,22 +327,10 @@ module _ (readings : List ℕ) (looks : List Look) (begun : EventLine) where
   abbrev Alike : Option BusState → Option MachineBus → Type 0
   Alike x y = WrittenAlike (refused.Bus ≡ refused.Bus) (SameBus readings looks begun) x y
 
-  port_same : (b c : Bool) (s : BusState) (t : MachineBus) (v : ℕ) (log : List Effect) → SameBus readings looks begun s t
-      → Alike (if b then Some (record s { outnum = v }) else if c then Some (record s { offered = Some v }) else None)
-      (if b then Some (record t { outnum = v }) else if c then Some (record t { log = log }) else None)
-  port_same true c s t v log h =
-      let g = h.whole in
-      record {
-        whole = record { fram = g.fram; ram = g.ram; taken = g.taken; few = g.few };
-        fram = h.fram;
-        ram = h.ram;
-        left = h.left;
-        outnum = refl;
-        all = h.all;
-        line = h.line;
-        seen = h.seen;
-      }
-  port_same false true s t v log h =
+  -- a word written to OUTDATA of a board whose words go to its own receiver
+  offered_same : (s : BusState) (t : MachineBus) (v : ℕ) (log : List Effect) → SameBus readings looks begun s t
+      → SameBus readings looks begun (record s { offered = Some v; sent = None }) (record t { log = log })
+  offered_same s t v log h =
       let g = h.whole in
       record {
         whole = record { fram = g.fram; ram = g.ram; taken = g.taken; few = g.few };
@@ -344,8 +341,38 @@ module _ (readings : List ℕ) (looks : List Look) (begun : EventLine) where
         all = h.all;
         line = h.line;
         seen = h.seen;
+        own = h.own;
       }
-  port_same false false s t v log h = tt
+
+  data_same : (x : Radio) (s : BusState) (t : MachineBus) (v : ℕ) (log : List Effect) → is_sender x ≡ false → SameBus readings looks begun s t
+      → SameBus readings looks begun (data_written x s v) (record t { log = log })
+  data_same Alone s t v log own h = offered_same s t v log h
+  data_same (Sends greatest) s t v log own h = absurd cc
+  data_same (Listens number) s t v log own h = offered_same s t v log h
+
+  -- the machine refuses what is written to another port
+  unserved : (x : Option BusState) → Alike x None
+  unserved None = tt
+  unserved (Some s) = refl
+
+  port_same : (b c : Bool) (s : BusState) (t : MachineBus) (v : ℕ) (log : List Effect) (x : Option BusState) → SameBus readings looks begun s t
+      → Alike (if b then Some (record s { outnum = v }) else if c then Some (data_written s.radio s v) else x)
+      (if b then Some (record t { outnum = v }) else if c then Some (record t { log = log }) else None)
+  port_same true c s t v log x h =
+      let g = h.whole in
+      record {
+        whole = record { fram = g.fram; ram = g.ram; taken = g.taken; few = g.few };
+        fram = h.fram;
+        ram = h.ram;
+        left = h.left;
+        outnum = refl;
+        all = h.all;
+        line = h.line;
+        seen = h.seen;
+        own = h.own;
+      }
+  port_same false true s t v log x h = data_same s.radio s t v log h.own h
+  port_same false false s t v log x h = unserved x
 
   either : (b : Bool) (x y : Option BusState) (z u : Option MachineBus) → (b ≡ true → Alike x z) → Alike y u
       → Alike (if b then x else y) (if b then z else u)
@@ -378,7 +405,7 @@ module _ (readings : List ℕ) (looks : List Look) (begun : EventLine) where
       either (is_word a) (Some (with_word s a v)) (port_written s a v) (word_written t a v) (machine_port_written t a v)
       (λ e. served_if (nat_lt a handler_place) (with_word s a v) (machine_stored t a v)
       (λ l. word_stored s t a v (and_parts (a % 2 == 0) (is_memory a) e).1 (λ f. ltb-true a handler_place l) h))
-      (port_same (a == number_port) (a == data_port) s t v (t.log ++ Outside (Offered t.outnum v) ∷ []) h)
+      (port_same (a == number_port) (a == data_port) s t v (t.log ++ Outside (Offered t.outnum v) ∷ []) (answer_written s.radio s a v) h)
   writes_same s t a Byte v h =
       either_if (is_memory a) (is_readable t.floor a) (with_word s a (with_byte (memory_word s a) a v))
       (machine_stored t a (with_byte (machine_word t a) a v)) (λ e r. byte_stored s t a v e (readable_low t.floor a r) h)

@@ -46,7 +46,7 @@ line_powered q h = due_words q.coming _ h.coming (record { port = tt; coming = h
 pub boundary_whole : (b : BoardValue) → IsWhole b → IsWhole (at_boundary b)
 boundary_whole b h =
     let g = h.board in
-    record { board = record { fram = g.fram; ram = g.ram; taken = g.taken; few = g.few }; registers = h.registers }
+    record { board = record { fram = g.fram; ram = g.ram; taken = g.taken; few = g.few }; registers = h.registers; own = h.own }
 
 -- and words
 pub boundary_words : (b : BoardValue) → IsOfWords b → IsOfWords (at_boundary b)
@@ -57,6 +57,7 @@ boundary_words b w = record {
   readings = w.readings;
   outnum = w.outnum;
   line = line_stays b.line w.line;
+  radio = w.radio;
 }
 
 pub boundary_keeps_words : BoundaryKeepsWords

@@ -32,7 +32,10 @@ use Rattle.step_laws.specs.Alike.{AlikeUnless}
 use Rattle.step_laws.proofs.Interface.{effect_alike}
 use Rattle.fram_board.specs.image_text.ImageValue.{place_of}
 use Rattle.fram_board.specs.Bus.{BusState, board_bus, is_ram, is_fram, is_memory, is_word, written, port_written, with_word, with_byte, memory_word}
-use Rattle.fram_board.specs.Bus.{number_port, data_port}
+use Rattle.fram_board.specs.Bus.{number_port, data_port, answer_port, data_written, answer_written}
+use Rattle.fram_board.specs.declared.radio.Radio.{Radio}
+use Rattle.fram_board.specs.declared.radio.Radio.TheVariants.{Alone, Sends, Listens}
+use Rattle.fram_board.specs.Radio.{is_sender}
 use Rattle.fram_board.specs.Board.{BoardValue, BoardOutcome, IsStep, opened, closed, board_outcome, executed, register_list, IsNextInstruction}
 use Rattle.fram_board.specs.Effects.{Effect, Store, store_at, sends_of, effects_of}
 use Rattle.fram_board.specs.declared.board.Stepped.{Stepped}
@@ -85,6 +88,7 @@ begins_seeing ring looks b sees h =
       all = refl;
       line = refl;
       seen = sees;
+      own = h.own;
     }
 
 -- both fetch the same
@@ -186,36 +190,56 @@ word_offers : (b : Bool) (s : BusState) (a v : ℕ) (r f : List ℕ) → (a == d
 word_offers true s a v r f e h = offers_none a v s.offered e h
 word_offers false s a v r f e h = offers_none a v s.offered e h
 
-port_offers : (b c : Bool) (s : BusState) (a v : ℕ) → (a == number_port) ≡ b → (a == data_port) ≡ c → s.offered ≡ None
-    → OffersIf a v (if b then Some (record s { outnum = v }) else if c then Some (record s { offered = Some v }) else None)
-port_offers true c s a v e g h = offers_none a v s.offered (number_no_fram a e).1 h
-port_offers false true s a v e g h = ap (λ b. cond b (Some v) None) (sym g)
-port_offers false false s a v e g h = tt
+data_offers : (x : Radio) (s : BusState) (a v : ℕ) → is_sender x ≡ false → (a == data_port) ≡ true → (data_written x s v).offered ≡ offered_by a v
+data_offers Alone s a v own e = ap (λ b. cond b (Some v) None) (sym e)
+data_offers (Sends greatest) s a v own e = absurd cc
+data_offers (Listens number) s a v own e = ap (λ b. cond b (Some v) None) (sym e)
+
+sent_offers : (b : Bool) (s : BusState) (a v : ℕ) → (a == data_port) ≡ false
+    → OffersIf a v (if b then Some (record s { offered = None; sent = Some (v, 0) }) else None)
+sent_offers true s a v e = offers_none a v None e refl
+sent_offers false s a v e = tt
+
+answer_offers : (x : Radio) (s : BusState) (a v : ℕ) → (a == data_port) ≡ false → OffersIf a v (answer_written x s a v)
+answer_offers Alone s a v e = tt
+answer_offers (Sends greatest) s a v e = tt
+answer_offers (Listens number) s a v e = sent_offers (a == answer_port) s a v e
+
+port_offers : (b c : Bool) (s : BusState) (a v : ℕ) → (a == number_port) ≡ b → (a == data_port) ≡ c → s.offered ≡ None → is_sender s.radio ≡ false
+    → OffersIf a v (if b then Some (record s { outnum = v }) else if c then Some (data_written s.radio s v) else answer_written s.radio s a v)
+port_offers true c s a v e g h own = offers_none a v s.offered (number_no_fram a e).1 h
+port_offers false true s a v e g h own = data_offers s.radio s a v own g
+port_offers false false s a v e g h own = answer_offers s.radio s a v g
 
 offers_served : (b : Bool) (a v : ℕ) (x y : Option BusState) → (b ≡ true → OffersIf a v x) → OffersIf a v y → OffersIf a v (if b then x else y)
 offers_served true a v x y g h = g refl
 offers_served false a v x y g h = h
 
-written_offers : (s : BusState) (a : ℕ) (w : Width) (v : ℕ) → s.offered ≡ None → OffersIf a v (written s a w v)
-written_offers s a Word v h =
+written_offers : (s : BusState) (a : ℕ) (w : Width) (v : ℕ) → s.offered ≡ None → is_sender s.radio ≡ false → OffersIf a v (written s a w v)
+written_offers s a Word v h own =
     offers_served (is_word a) a v (Some (with_word s a v)) (port_written s a v) (λ e. word_offers (is_ram a) s a v _ _
-    (memory_no_data a (and_parts (a % 2 == 0) (is_memory a) e).1) h) (port_offers (a == number_port) (a == data_port) s a v refl refl h)
-written_offers s a Byte v h =
+    (memory_no_data a (and_parts (a % 2 == 0) (is_memory a) e).1) h) (port_offers (a == number_port) (a == data_port) s a v refl refl h own)
+written_offers s a Byte v h own =
     offers_served (is_memory a) a v (Some (with_word s a (with_byte (memory_word s a) a v))) None
     (λ e. word_offers (is_ram a) s a v _ _ (memory_no_data a e) h) tt
 
-write_offers : (s t : BusState) (w : Option Written) → s.offered ≡ None → AfterWrite board_bus w s t → t.offered ≡ offered_of w
-write_offers s t None h e = ap (λ x. x.offered) e ∙ h
-write_offers s t (Some w) h e = let P : Option BusState → Type 0 = λ x. OffersIf w.0 w.1 x in subst P e.1 (written_offers s w.0 e.0 w.1 h)
+write_offers : (s t : BusState) (w : Option Written) → s.offered ≡ None → is_sender s.radio ≡ false → AfterWrite board_bus w s t → t.offered ≡ offered_of w
+write_offers s t None h own e = ap (λ x. x.offered) e ∙ h
+write_offers s t (Some w) h own e =
+    let P : Option BusState → Type 0 = λ x. OffersIf w.0 w.1 x in
+    subst P e.1 (written_offers s w.0 e.0 w.1 h own)
 
 -- what the board's bus offers after an access that began with nothing offered
 abbrev OfferedBy : Access BusState (Registers × Option Written) → Type 0
 OfferedBy (Completed x t) = t.offered ≡ offered_of x.1
 OfferedBy (Faulted e a t) = t.offered ≡ None
 
-ends_offered : (s : BusState) (m : Access BusState (Registers × Option Written)) → s.offered ≡ None → Ends board_bus 2 s m → OfferedBy m
-ends_offered s (Completed x t) off h = let g = only_takes 2 s h.0 h.1 in write_offers h.0 t x.1 (ap (λ y. y.offered) g.same ∙ off) h.2
-ends_offered s (Faulted e a t) off h = let g = only_takes 2 s t h in ap (λ y. y.offered) g.same ∙ off
+ends_offered : (s : BusState) (m : Access BusState (Registers × Option Written)) → s.offered ≡ None → is_sender s.radio ≡ false → Ends board_bus 2 s m
+    → OfferedBy m
+ends_offered s (Completed x t) off own h =
+    let g = only_takes 2 s h.0 h.1 in
+    write_offers h.0 t x.1 (ap (λ y. y.offered) g.same ∙ off) (ap (λ y. is_sender y.radio) g.same ∙ own) h.2
+ends_offered s (Faulted e a t) off own h = let g = only_takes 2 s t h in ap (λ y. y.offered) g.same ∙ off
 
 -- the readings that both took
 same_words : (all left words : List ℕ) (from to : ℕ) → from ≤ to → words ++ left ≡ drop from all → left ≡ drop to all → words ≡ slice_range all from to
@@ -304,7 +328,7 @@ module _ (b : BoardValue) (i : Instr) (ring : Option Look) (looks : List Look) w
       same_outcome m (effect machine_bus i r t)
       (effect_alike BusState MachineBus board_bus machine_bus IsRefused (SameBus b.readings looks b.line) (buses_alike b.readings looks b.line) i r (opened b) t
       (begins_seeing ring looks b sees h))
-      (ends_offered (opened b) m refl (effect_ends board_bus i r (opened b)))
+      (ends_offered (opened b) m refl h.own (effect_ends board_bus i r (opened b)))
       (effect_logged i r t)
       (effect_gives board_bus (λ v. Unit {0}) IsFile (λ s. Unit {0}) file_closed i r (opened b) (instruction_free i) (whole_file b h) tt)
       (execution_takes i r (opened b)).from

@@ -32,8 +32,12 @@ use Rattle.fram_board.specs.address_space.Limits.{event_vector}
 use Rattle.event_places.specs.Places.{handler_place, is_ring}
 use Rattle.fram_board.specs.image_text.ImageValue.{place_of}
 use Rattle.fram_board.specs.Bus.{BusState, IsBusState, board_bus, is_ram, is_fram, is_memory, is_word, ram_place, memory_word, with_word, with_byte, byte_of}
-use Rattle.fram_board.specs.Bus.{next_reading, read_of, after_read, written, port_written, sensor_port, number_port, data_port, event_port}
-use Rattle.fram_board.specs.Events.{EventLine, port_word, port_read}
+use Rattle.fram_board.specs.Bus.{next_reading, read_of, after_read, written, port_written, data_written, answer_written, sensor_port, number_port, data_port}
+use Rattle.fram_board.specs.Bus.{event_port, acknowledgements_port, packet_number_port, answer_port}
+use Rattle.fram_board.specs.declared.radio.Radio.{Radio}
+use Rattle.fram_board.specs.declared.radio.Radio.TheVariants.{Alone, Sends, Listens}
+use Rattle.fram_board.specs.Events.{EventLine, is_full, port_word, port_read}
+use Rattle.fram_board.specs.Radio.{is_sender, radio_word, radio_powered}
 use Rattle.fram_board.specs.declared.board.NextStep.{NextStep}
 use Rattle.fram_board.specs.declared.board.NextStep.TheVariants as next_step
 use Rattle.fram_board.specs.Board.{executed, performed, at_boundary, IsNextStep}
@@ -50,7 +54,7 @@ use Rattle.machine_effects.specs.Machine.{is_readable, ring_read, word_read, wor
 use Rattle.machine_effects.specs.Machine.{executed_looking, code_executed}
 use Rattle.machine_effects.specs.Machine.{reading_taken, machine_after_read, machine_stored, machine_port_written, machine_written, machine_opened}
 use Rattle.machine_effects.specs.Machine.{machine_outcome, machine_executed, NoInstruction, Executes, standing, step_with, astray, is_exposed, undisturbed}
-use Rattle.machine_effects.specs.View.{IsWhole, IsLineOfWords, IsOfWords, IsMachineOfWords}
+use Rattle.machine_effects.specs.View.{IsWhole, IsLineOfWords, IsRadioOfWords, IsOfWords, IsMachineOfWords}
 use Rattle.machine_effects.specs.Laws.{LeavesWords, MachineWordsStayWords, CodeWordsStayWords, WordsStayWords, StepLeavesItWhole, MachineIsOfWords}
 use Rattle.machine_effects.specs.Laws.{PowerUpKeepsWords, FreshIsWhole, AcceptanceKeepsWords, ChargeKeepsWords}
 use Rattle.machine_effects.proofs.Along.{IsClosed, InstructionHas, Gives, effect_gives}
@@ -314,6 +318,7 @@ record ListsOfWords (s : BusState) : Type 0 where
   pub readings : All (λ w. w < 0x10000) s.readings
   pub outnum : IsWord s.outnum
   pub line : IsLineOfWords s.line
+  pub radio : IsRadioOfWords s.radio
 
 past_end : (ws : List ℕ) (k : ℕ) → length ws ≤ k → slice_index ws k ≡ 0
 past_end [] k h = refl
@@ -341,17 +346,29 @@ port_small : (port : Option ℕ) → IfSome port (λ w. w < 0x10000) → IsWord 
 port_small None h = omega arith
 port_small (Some w) h = h
 
-port_on : (b c : Bool) (v w : ℕ) (o : Result ℕ Refused) → (o ≡ Ok v → IsWord v) → IsWord w
-    → (if b then o else if c then Ok w else Err refused.Bus) ≡ Ok v → IsWord v
-port_on true c v w o k h e = k e
-port_on false true v w o k h e = let same : w ≡ v = cc in subst IsWord same h
-port_on false false v w o k h e = absurd cc
+number_small : (waits : Bool) (number v : ℕ) → IsWord number → (if waits then number else 0) ≡ v → IsWord v
+number_small waits number v h e = subst IsWord e (either_small waits number 0 h (omega arith))
+
+-- a word that is read of a radio
+radio_small : (x : Radio) (waits : Bool) (a v : ℕ) → IsRadioOfWords x → radio_word x waits a ≡ Ok v → IsWord v
+radio_small Alone waits a v h e = absurd cc
+radio_small (Sends greatest) waits a v h e = ok_on (a == acknowledgements_port) greatest v _ h (λ g. no_word v g) e
+radio_small (Listens number) waits a v h e =
+    let read = if waits then number else 0 in
+    ok_on (a == packet_number_port) read v _ (number_small waits number read h refl) (λ g. no_word v g) e
+
+port_on : (b c : Bool) (v w : ℕ) (o n : Result ℕ Refused) → (o ≡ Ok v → IsWord v) → IsWord w → (n ≡ Ok v → IsWord v)
+    → (if b then o else if c then Ok w else n) ≡ Ok v → IsWord v
+port_on true c v w o n k h r e = k e
+port_on false true v w o n k h r e = let same : w ≡ v = cc in subst IsWord same h
+port_on false false v w o n k h r e = r e
 
 read_small : (s : BusState) (a : ℕ) (w : Width) (v : ℕ) → ListsOfWords s → read_of s a w ≡ Ok v → IsWord v
 read_small s a Word v q e =
     ok_on (is_word a) (memory_word s a) v _ (list_word_small s a q) (λ g. port_on (a == sensor_port) (a == event_port) v (port_word s.line.port)
-    (next_reading s) (λ r. next_on (nat_lt s.taken (length s.readings)) (slice_index s.readings s.taken) v (index_small s.readings s.taken q.readings) r)
-    (port_small s.line.port q.line.port) g) e
+    (next_reading s) (radio_word s.radio (is_full s.line.port) a)
+    (λ r. next_on (nat_lt s.taken (length s.readings)) (slice_index s.readings s.taken) v (index_small s.readings s.taken q.readings) r)
+    (port_small s.line.port q.line.port) (λ r. radio_small s.radio (is_full s.line.port) a v q.radio r) g) e
 read_small s a Byte v q e = ok_on (is_memory a) (byte_of (memory_word s a) a) v _ (byte_small (memory_word s a) a (list_word_small s a q)) (λ g. no_word v g) e
 
 line_read : (b : Bool) (q : EventLine) → IsLineOfWords q → IsLineOfWords (if b then port_read q else q)
@@ -360,7 +377,7 @@ line_read false q h = h
 
 after_lists : (s : BusState) (a : ℕ) (w : Width) → ListsOfWords s → ListsOfWords (after_read s a w)
 after_lists s a Word q =
-    record { fram = q.fram; ram = q.ram; readings = q.readings; outnum = q.outnum; line = line_read (a == event_port) s.line q.line }
+    record { fram = q.fram; ram = q.ram; readings = q.readings; outnum = q.outnum; line = line_read (a == event_port) s.line q.line; radio = q.radio }
 after_lists s a Byte q = q
 
 abbrev ListsIf : Option BusState → Type 0
@@ -374,15 +391,27 @@ if_lists false x y h k = k
 word_lists : (b : Bool) (s : BusState) (i j v : ℕ) → IsWord v → ListsOfWords s
     → ListsOfWords (if b then record s { ram = slice_set s.ram i v } else record s { fram = slice_set s.fram j v })
 word_lists true s i j v h q =
-    record { fram = q.fram; ram = All-set (λ w. w < 0x10000) s.ram i v h q.ram; readings = q.readings; outnum = q.outnum; line = q.line }
+    record { fram = q.fram; ram = All-set (λ w. w < 0x10000) s.ram i v h q.ram; readings = q.readings; outnum = q.outnum; line = q.line; radio = q.radio }
 word_lists false s i j v h q =
-    record { fram = All-set (λ w. w < 0x10000) s.fram j v h q.fram; ram = q.ram; readings = q.readings; outnum = q.outnum; line = q.line }
+    record { fram = All-set (λ w. w < 0x10000) s.fram j v h q.fram; ram = q.ram; readings = q.readings; outnum = q.outnum; line = q.line; radio = q.radio }
+
+data_lists : (x : Radio) (s : BusState) (v : ℕ) → ListsOfWords s → ListsOfWords (data_written x s v)
+data_lists Alone s v q = record { fram = q.fram; ram = q.ram; readings = q.readings; outnum = q.outnum; line = q.line; radio = q.radio }
+data_lists (Sends greatest) s v q = record { fram = q.fram; ram = q.ram; readings = q.readings; outnum = q.outnum; line = q.line; radio = q.radio }
+data_lists (Listens number) s v q = record { fram = q.fram; ram = q.ram; readings = q.readings; outnum = q.outnum; line = q.line; radio = q.radio }
+
+answer_lists : (x : Radio) (s : BusState) (a v : ℕ) → ListsOfWords s → ListsIf (answer_written x s a v)
+answer_lists Alone s a v q = tt
+answer_lists (Sends greatest) s a v q = tt
+answer_lists (Listens number) s a v q =
+    if_lists (a == answer_port) (Some (record s { offered = None; sent = Some (v, 0) })) None (record
+    { fram = q.fram; ram = q.ram; readings = q.readings; outnum = q.outnum; line = q.line; radio = q.radio }) tt
 
 port_lists : (s : BusState) (a v : ℕ) → IsWord v → ListsOfWords s → ListsIf (port_written s a v)
 port_lists s a v h q =
-    if_lists (a == number_port) (Some (record s { outnum = v })) _ (record { fram = q.fram; ram = q.ram; readings = q.readings; outnum = h; line = q.line })
-    (if_lists (a == data_port) (Some (record s { offered = Some v })) None (record
-    { fram = q.fram; ram = q.ram; readings = q.readings; outnum = q.outnum; line = q.line }) tt)
+    if_lists (a == number_port) (Some (record s { outnum = v })) _ (record
+    { fram = q.fram; ram = q.ram; readings = q.readings; outnum = h; line = q.line; radio = q.radio })
+    (if_lists (a == data_port) (Some (data_written s.radio s v)) (answer_written s.radio s a v) (data_lists s.radio s v q) (answer_lists s.radio s a v q))
 
 written_lists : (s : BusState) (a : ℕ) (w : Width) (v : ℕ) → IsWord v → ListsOfWords s → ListsIf (written s a w v)
 written_lists s a Word v h q =
@@ -436,13 +465,13 @@ all_registers r h =
     (h 0, (h 1, (h 2, (h 3, (h 4, (h 5, (h 6, (h 7, (h 8, (h 9, (h 10, (h 11, (h 12, (h 13, (h 14, (h 15, tt))))))))))))))))
 
 closed_lists : (b : BoardValue) (r : Registers) (s : BusState) → AreSmall r → ListsOfWords s → IsOfWords (closed b r s)
-closed_lists b r s h q = record { registers = all_registers r h; fram = q.fram; ram = q.ram; readings = q.readings; outnum = q.outnum; line = q.line }
+closed_lists b r s h q = record { registers = all_registers r h; fram = q.fram; ram = q.ram; readings = q.readings; outnum = q.outnum; line = q.line; radio = q.radio }
 
 registers_small : (b : BoardValue) → IsOfWords b → AreSmall (registers_of b.cpu)
 registers_small b h n = index_small b.cpu n h.registers
 
 opened_lists : (b : BoardValue) → IsOfWords b → ListsOfWords (opened b)
-opened_lists b h = record { fram = h.fram; ram = h.ram; readings = h.readings; outnum = h.outnum; line = h.line }
+opened_lists b h = record { fram = h.fram; ram = h.ram; readings = h.readings; outnum = h.outnum; line = h.line; radio = h.radio }
 
 access_lists : (b : BoardValue) (i : Instr) (m : Access BusState (Registers × Option Written)) → IsOfWords b
     → Gives ListsOfWords (λ y. AreSmall y.0) m → IsOfWords (board_outcome b (outcome_of i (registers_of b.cpu) m)).board
@@ -467,12 +496,22 @@ words_stay_words b x w h is = subst (λ y. IsOfWords y.board) (sym is.2) (outcom
 valid_registers : (b : BoardValue) → IsWhole b → IsValid (registers_of b.cpu)
 valid_registers b h = let r = h.registers in record { pc = r.even_pc; sp = r.even_sp; sr = r.sr; r3 = r.r3 }
 
-closed_whole : (b : BoardValue) (r : Registers) (s : BusState) → IsValid r → IsBusState s → IsWhole (closed b r s)
-closed_whole b r s v g =
+-- memory is whole, and the words of the board go to its own receiver
+record IsWholeBus (s : BusState) : Type 0 where
+  pub lists : IsBusState s
+  pub own : is_sender s.radio ≡ false
+
+opened_whole : (b : BoardValue) → IsWhole b → IsWholeBus (opened b)
+opened_whole b h = record { lists = h.board; own = h.own }
+
+closed_whole : (b : BoardValue) (r : Registers) (s : BusState) → IsValid r → IsWholeBus s → IsWhole (closed b r s)
+closed_whole b r s v whole =
+    let g = whole.lists in
     record {
       board = record { fram = g.fram; ram = g.ram; taken = g.taken; few = g.few };
       registers = record
           { long = refl; even_pc = v.pc; even_sp = v.sp; sr = v.sr; r3 = v.r3 };
+      own = whole.own;
     }
 
 next_left : (b : Bool) (s : BusState) (v : ℕ) → nat_lt s.taken (length s.readings) ≡ b
@@ -487,38 +526,66 @@ taken_within true s a v e g r =
     next_left (nat_lt s.taken (length s.readings)) s v refl sensed
 taken_within false s a v e g r = g.taken
 
-read_whole : (s : BusState) (a : ℕ) (w : Width) (v : ℕ) → IsBusState s → read_of s a w ≡ Ok v → IsBusState (after_read s a w)
-read_whole s a Word v g r = record { fram = g.fram; ram = g.ram; taken = taken_within (a == sensor_port) s a v refl g r; few = g.few }
-read_whole s a Byte v g r = g
+read_whole : (s : BusState) (a : ℕ) (w : Width) (v : ℕ) → IsWholeBus s → read_of s a w ≡ Ok v → IsWholeBus (after_read s a w)
+read_whole s a Word v whole r =
+    let g = whole.lists in
+    record {
+      lists = record { fram = g.fram; ram = g.ram; taken = taken_within (a == sensor_port) s a v refl g r; few = g.few };
+      own = whole.own;
+    }
+read_whole s a Byte v whole r = whole
 
-word_whole : (b : Bool) (s : BusState) (i j v : ℕ) → IsBusState s
-    → IsBusState (if b then record s { ram = slice_set s.ram i v } else record s { fram = slice_set s.fram j v })
-word_whole true s i j v g = record { fram = g.fram; ram = length-set s.ram i v ∙ g.ram; taken = g.taken; few = g.few }
-word_whole false s i j v g = record { fram = length-set s.fram j v ∙ g.fram; ram = g.ram; taken = g.taken; few = g.few }
+word_whole : (b : Bool) (s : BusState) (i j v : ℕ) → IsWholeBus s
+    → IsWholeBus (if b then record s { ram = slice_set s.ram i v } else record s { fram = slice_set s.fram j v })
+word_whole true s i j v whole =
+    let g = whole.lists in
+    record { lists = record { fram = g.fram; ram = length-set s.ram i v ∙ g.ram; taken = g.taken; few = g.few }; own = whole.own }
+word_whole false s i j v whole =
+    let g = whole.lists in
+    record { lists = record { fram = length-set s.fram j v ∙ g.fram; ram = g.ram; taken = g.taken; few = g.few }; own = whole.own }
 
-with_word_whole : (s : BusState) (a v : ℕ) → IsBusState s → IsBusState (with_word s a v)
+with_word_whole : (s : BusState) (a v : ℕ) → IsWholeBus s → IsWholeBus (with_word s a v)
 with_word_whole s a v g = word_whole (is_ram a) s (ram_place a) (place_of a) v g
+
+-- what differs in the ports alone is as whole
+ports_whole : (s : BusState) (number : ℕ) (word : Option ℕ) (packet : Option (ℕ × ℕ)) → IsWholeBus s
+    → IsWholeBus (record s { outnum = number; offered = word; sent = packet })
+ports_whole s number word packet whole =
+    let g = whole.lists in
+    record { lists = record { fram = g.fram; ram = g.ram; taken = g.taken; few = g.few }; own = whole.own }
+
+data_whole : (x : Radio) (s : BusState) (v : ℕ) → IsWholeBus s → IsWholeBus (data_written x s v)
+data_whole Alone s v whole = ports_whole s s.outnum (Some v) None whole
+data_whole (Sends greatest) s v whole = ports_whole s s.outnum None (Some (s.outnum, v)) whole
+data_whole (Listens number) s v whole = ports_whole s s.outnum (Some v) None whole
 
 abbrev WholeIf : Option BusState → Type 0
 WholeIf None = Unit {0}
-WholeIf (Some t) = IsBusState t
+WholeIf (Some t) = IsWholeBus t
 
 if_whole : (b : Bool) (x y : Option BusState) → WholeIf x → WholeIf y → WholeIf (if b then x else y)
 if_whole true x y h k = h
 if_whole false x y h k = k
 
-port_whole : (s : BusState) (a v : ℕ) → IsBusState s → WholeIf (port_written s a v)
-port_whole s a v g =
-    if_whole (a == number_port) (Some (record s { outnum = v })) _ (record { fram = g.fram; ram = g.ram; taken = g.taken; few = g.few })
-    (if_whole (a == data_port) (Some (record s { offered = Some v })) None (record { fram = g.fram; ram = g.ram; taken = g.taken; few = g.few }) tt)
+answer_whole : (x : Radio) (s : BusState) (a v : ℕ) → IsWholeBus s → WholeIf (answer_written x s a v)
+answer_whole Alone s a v whole = tt
+answer_whole (Sends greatest) s a v whole = tt
+answer_whole (Listens number) s a v whole =
+    if_whole (a == answer_port) (Some (record s { offered = None; sent = Some (v, 0) })) None (ports_whole s s.outnum None (Some (v, 0)) whole) tt
 
-written_whole : (s : BusState) (a : ℕ) (w : Width) (v : ℕ) → IsBusState s → WholeIf (written s a w v)
+port_whole : (s : BusState) (a v : ℕ) → IsWholeBus s → WholeIf (port_written s a v)
+port_whole s a v whole =
+    if_whole (a == number_port) (Some (record s { outnum = v })) _ (ports_whole s v s.offered s.sent whole)
+    (if_whole (a == data_port) (Some (data_written s.radio s v)) (answer_written s.radio s a v) (data_whole s.radio s v whole)
+    (answer_whole s.radio s a v whole))
+
+written_whole : (s : BusState) (a : ℕ) (w : Width) (v : ℕ) → IsWholeBus s → WholeIf (written s a w v)
 written_whole s a Word v g = if_whole (is_word a) (Some (with_word s a v)) (port_written s a v) (with_word_whole s a v g) (port_whole s a v g)
 written_whole s a Byte v g =
     let x = with_byte (memory_word s a) a v in
     if_whole (is_memory a) (Some (with_word s a x)) None (with_word_whole s a x g) tt
 
-whole_closed : IsClosed board_bus (λ v. Unit {0}) (λ r. Unit {0}) IsBusState
+whole_closed : IsClosed board_bus (λ v. Unit {0}) (λ r. Unit {0}) IsWholeBus
 whole_closed = record {
   register = λ r n p. tt;
   with = λ r n v low w p. tt;
@@ -537,17 +604,17 @@ whole_closed = record {
   nothing = tt;
 }
 
-access_whole : (b : BoardValue) (i : Instr) (m : Access BusState (Registers × Option Written)) → IsWhole b → Gives IsBusState (λ y. Unit {0}) m
+access_whole : (b : BoardValue) (i : Instr) (m : Access BusState (Registers × Option Written)) → IsWhole b → Gives IsWholeBus (λ y. Unit {0}) m
     → laws.Gives m (λ y. IsValid y.0) → IsWhole (board_outcome b (outcome_of i (registers_of b.cpu) m)).board
 access_whole b i (Completed x s) h g v = closed_whole b x.0 s v g.1
 access_whole b i (Faulted e a s) h g v = closed_whole b (registers_of b.cpu) s (valid_registers b h) g
 
 outcome_whole : (b : BoardValue) (o : Outcome BusState) → IsWhole b → StepResult board_bus (registers_of b.cpu) (opened b) o → IsWhole (board_outcome b o).board
-outcome_whole b o h (Stopped e k) = closed_whole b (registers_of b.cpu) (opened b) (valid_registers b h) h.board
+outcome_whole b o h (Stopped e k) = closed_whole b (registers_of b.cpu) (opened b) (valid_registers b h) (opened_whole b h)
 outcome_whole b o h (Executed i k) =
     let r = registers_of b.cpu in
     access_whole b i (effect board_bus i r (opened b)) h
-    (effect_gives board_bus (λ v. Unit {0}) (λ q. Unit {0}) IsBusState whole_closed i r (opened b) (instruction_free i) tt h.board)
+    (effect_gives board_bus (λ v. Unit {0}) (λ q. Unit {0}) IsWholeBus whole_closed i r (opened b) (instruction_free i) tt (opened_whole b h))
     (stays_valid board_bus i r (opened b) (valid_registers b h))
 
 -- a step leaves a whole board
@@ -584,12 +651,12 @@ acceptance_keeps_words b h w =
     let valid = valid_registers b h in
     let first = word_lists (is_ram (return_place r)) (opened b) (ram_place (return_place r)) (place_of (return_place r)) (r 0) (small 0) (opened_lists b w) in
     let both = word_lists (is_ram (status_place r)) s (ram_place (status_place r)) (place_of (status_place r)) (r 2) (small 2) first in
-    let whole = with_word_whole s (status_place r) (r 2) (with_word_whole (opened b) (return_place r) (r 0) h.board) in
+    let whole = with_word_whole s (status_place r) (r 2) (with_word_whole (opened b) (return_place r) (r 0) (opened_whole b h)) in
     let vector = slice_index t.fram (place_of event_vector) in
     let to = interrupted r vector in
     let P : Outcome BusState → Type 0 = λ o. IsWhole (board_outcome b o).board × IsOfWords (board_outcome b o).board in
     let first_refused : P (acceptance_refused r (opened b) (return_place r)) =
-    (closed_whole b r (opened b) valid h.board, closed_lists b r (opened b) small (opened_lists b w)) in
+    (closed_whole b r (opened b) valid (opened_whole b h), closed_lists b r (opened b) small (opened_lists b w)) in
     let second_refused : P (acceptance_refused r (opened b) (status_place r)) = first_refused in
     by_tests P (is_word (return_place r)) (is_word (status_place r))
     (acceptance_refused r (opened b) (return_place r)) (acceptance_refused r (opened b) (status_place r)) (acceptance_made r t) first_refused second_refused (
@@ -617,11 +684,22 @@ machine_is_of_words b h = record {
   outnum = h.outnum;
 }
 
+-- a radio as power comes back
+powered_own : (x : Radio) → is_sender x ≡ false → is_sender (radio_powered x) ≡ false
+powered_own Alone own = own
+powered_own (Sends greatest) own = own
+powered_own (Listens number) own = own
+
+radio_words : (x : Radio) → IsRadioOfWords (radio_powered x)
+radio_words Alone = tt
+radio_words (Sends greatest) = omega arith
+radio_words (Listens number) = omega arith
+
 -- a power-up
 pub power_up_keeps_words : PowerUpKeepsWords
 power_up_keeps_words b p h w q =
     let l = power_up_leaves_a_board b p h.board q in (
-      record { board = l.0; registers = l.1 },
+      record { board = l.0; registers = l.1; own = powered_own b.radio h.own },
       record {
         registers =
             all_cons (kept 0 (slice_index b.fram (place_of 0xFFFE))) (kept 1 p.sp ∷ 0 ∷ 0 ∷ p.work)
@@ -632,6 +710,7 @@ power_up_keeps_words b p h w q =
         readings = w.readings;
         outnum = q.outnum;
         line = line_powered b.line w.line;
+        radio = radio_words b.radio;
       },
     )
 
@@ -686,6 +765,7 @@ fresh_is_whole fram readings events long few f r e = (
   record {
     board = record { fram = long; ram = blank_length 1024; taken = omega arith; few = few };
     registers = record { long = refl; even_pc = omega arith; even_sp = refl; sr = omega arith; r3 = refl };
+    own = refl;
   },
   record {
     registers = fresh_registers (vector_of fram) (index_small fram (place_of 0xFFFE) f);
@@ -694,6 +774,7 @@ fresh_is_whole fram readings events long few f r e = (
     readings = r;
     outnum = zero_small;
     line = record { port = tt; coming = e };
+    radio = tt;
   },
 )
 

@@ -9,6 +9,9 @@ use Rattle.fram_board.specs.msp_step.Registers.{registers_of}
 use Rattle.fram_board.specs.msp_step.Kept.{IsRegisters}
 use Rattle.fram_board.specs.declared.board.Stepped.{Stepped}
 use Rattle.fram_board.specs.Events.{EventLine}
+use Rattle.fram_board.specs.declared.radio.Radio.{Radio}
+use Rattle.fram_board.specs.declared.radio.Radio.TheVariants.{Alone, Sends, Listens}
+use Rattle.fram_board.specs.Radio.{is_sender}
 use Rattle.fram_board.specs.Board.{BoardValue, BoardOutcome, executed}
 use Rattle.fram_board.specs.Steps.{BoardCosts, IsBoard}
 use Rattle.fram_board.specs.Effects.{Effect, effects_of}
@@ -41,15 +44,22 @@ machine_with looks b = record {
 abbrev pub machine_of : BoardValue → MachineBoard
 machine_of b = machine_with [] b
 
--- memory is whole, and there are sixteen registers, each with what it keeps
+-- memory is whole, there are sixteen registers, each with what it keeps, and the words of the board go to its own receiver
 pub record IsWhole (b : BoardValue) : Type 0 where
   pub board : IsBoard b
   pub registers : IsRegisters b.cpu
+  pub own : is_sender b.radio ≡ false
 
 -- the words that wait in the port EVENT and that come there are words
 pub record IsLineOfWords (q : EventLine) : Type 0 where
   pub port : IfSome q.port (λ w. w < 0x10000)
   pub coming : All (λ e. e.1 < 0x10000) q.coming
+
+-- what a radio reads are words
+abbrev pub IsRadioOfWords : Radio → Type 0
+IsRadioOfWords Alone = Unit {0}
+IsRadioOfWords (Sends greatest) = greatest < 0x10000
+IsRadioOfWords (Listens number) = number < 0x10000
 
 -- all that a board holds are words
 pub record IsOfWords (b : BoardValue) : Type 0 where
@@ -59,6 +69,7 @@ pub record IsOfWords (b : BoardValue) : Type 0 where
   pub readings : All (λ w. w < 0x10000) b.readings
   pub outnum : b.outnum < 0x10000
   pub line : IsLineOfWords b.line
+  pub radio : IsRadioOfWords b.radio
 
 -- all that the machine holds are words
 pub record IsMachineOfWords (s : MachineBoard) : Type 0 where

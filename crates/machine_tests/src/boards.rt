@@ -50,6 +50,7 @@ fn plain(cycles: u32, wrote: Option<u16>) -> Result<Stepped, Stop> {
         took: 0,
         accepted: None,
         heard: Heard::Nothing,
+        sent: None,
     })
 }
 
@@ -60,6 +61,7 @@ fn took(cycles: u32, took: u32) -> Result<Stepped, Stop> {
         took,
         accepted: None,
         heard: Heard::Nothing,
+        sent: None,
     })
 }
 
@@ -71,6 +73,7 @@ fn sent(accepted: Option<u16>) -> Result<Stepped, Stop> {
         took: 0,
         accepted,
         heard: Heard::Nothing,
+        sent: None,
     })
 }
 
@@ -248,6 +251,7 @@ fn heard(cycles: u32, word: Option<u16>) -> Result<Stepped, Stop> {
         took: 0,
         accepted: None,
         heard: Heard::Once(word),
+        sent: None,
     })
 }
 
@@ -313,6 +317,7 @@ fn the_port_is_read(rt: HostRuntime) -> Result<(), Fail> {
         took: 0,
         accepted: None,
         heard: Heard::Again(Some(7)),
+        sent: None,
     };
     assert_eq!(rt; step(&rt, &mut board), Ok(twice));
     assert_eq!(rt; step(&rt, &mut board), heard(3, None));

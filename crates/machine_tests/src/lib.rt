@@ -8,4 +8,6 @@ mod codec;
 #[cfg(test)]
 mod lines;
 #[cfg(test)]
+mod radios;
+#[cfg(test)]
 mod runs;

@@ -7,7 +7,8 @@ use Rattle.board_run.specs.State.{known_so}
 use Rattle.board_run.specs.Tally.{counted}
 use Rattle.board_run.proofs.Written.{follows_but, Once}
 use Rattle.board_run.proofs.Tallies.{step_ends_are, tallied_by}
-use Rattle.board_run.proofs.Turns.{too_dear, refused, turned, turned_partly, IsMade, IsNoted}
+use Rattle.board_run.specs.Parts.{IsMade}
+use Rattle.board_run.proofs.Turns.{too_dear, refused, turned, turned_partly, IsNoted}
 use Rattle.board_run.proofs.spend.execute.Goals as goal
 
 pub returns-then-price-left-clause-turn : goal.returns-then-price-left-clause-turn

@@ -9,15 +9,15 @@ overflow_sub-result c =
     c.execute-answer.ensures.executes in
     let from = grown.from in
     let before = c.taken-before.ensures.taken in
-    let after = c.taken.ensures.taken ∙ ap (λ s. s.taken) c.receive-accepted.ensures.devices in
+    let after = c.taken.ensures.taken ∙ ap (λ s. s.taken) c.receive-emitted.ensures.devices in
     omega arith
 
 pub returns-clause-board : goal.returns-clause-board
 returns-clause-board c =
     closed_is c.args.self.now c.self.inside.cpu c.self.inside.devices c.self.inside.receiver c.args.instruction.now
-    c.execute-answer.result c.execute-answer.new.cpu c.execute-answer.new.bus c.receive-accepted.new.devices c.receive-accepted.new.receiver
+    c.execute-answer.result c.execute-answer.new.cpu c.execute-answer.new.bus c.receive-emitted.new.devices c.receive-emitted.new.receiver
     c.self.view_is c.self.invariant c.execute-answer.ensures.executes c.reg-pc.ensures.valid.long
-    c.receive-accepted.ensures.devices c.receive-accepted.ensures.receiver
+    c.receive-emitted.ensures.devices c.receive-emitted.ensures.receiver
 
 pub returns-in-Err-clause-board : goal.returns-in-Err-clause-board
 returns-in-Err-clause-board c =
@@ -38,14 +38,14 @@ returns-clause-took c =
     c.execute-answer.new.bus c.execute-answer.ensures.executes in
     let to = grown.to in
     let before = c.taken-before.ensures.taken in
-    let after = c.taken.ensures.taken ∙ ap (λ s. s.taken) c.receive-accepted.ensures.devices in
+    let after = c.taken.ensures.taken ∙ ap (λ s. s.taken) c.receive-emitted.ensures.devices in
     omega arith
 
 pub returns-clause-counts : goal.returns-clause-counts
 returns-clause-counts c =
     let d = c.execute-answer.new.bus in
-    heard_few_of d.outnum d.offered c.self.inside.receiver c.args.self.now.receiver c.receive-accepted.new.receiver (ap (λ x. x.receiver) c.self.view_is)
-    c.receive-accepted.ensures.receiver
+    heard_few_of d.outnum d.offered c.self.inside.receiver c.args.self.now.receiver c.receive-emitted.new.receiver (ap (λ x. x.receiver) c.self.view_is)
+    c.receive-emitted.ensures.receiver
 
 pub returns-in-Err-clause-counts : goal.returns-in-Err-clause-counts
 returns-in-Err-clause-counts c =

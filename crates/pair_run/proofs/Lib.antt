@@ -1,0 +1,10 @@
+mod Runs
+mod Lettering
+mod Lines
+mod Doing
+mod Going
+mod RoundByRound
+mod SideA
+mod Listening
+mod SideB
+mod Starts

@@ -1,0 +1,112 @@
+-- The report of a pair, from its first step to its last line.
+use Rattle.std.proofs.Common.{◌≡◌, ◌≤◌, ◌<◌, ◌+◌, ◌*◌, ℕ, arith, refl, sym, ◌∙◌, ap, subst, List, [], ◌∷◌, ◌++◌, append_assoc, length, length-append}
+use Rattle.std.proofs.Common.{Option, Result, Ok, Err}
+use Rattle.std.specs.Io.KnownBytes.{Appends}
+use Rattle.std.proofs.KnownBytes.{Appends-trans}
+use Rattle.alp_io.specs.Sink.{AppendsProperPrefix, Writes}
+use Rattle.alp_io.specs.Report.{pair_line}
+use Rattle.buffered_sink.specs.Front.{Settles}
+use Rattle.prefixed_lines.specs.Prefixes.{prefixed}
+use Rattle.radio_link.specs.declared.entry.Entry.{Entry}
+use Rattle.radio_link.specs.declared.entry.Entry.TheVariants.{StepsOfA, StepsOfB, BringPacket, BringAcknowledgement, Rounds}
+use Rattle.radio_link.specs.Text.{IsEntry}
+use Rattle.board_run.specs.History.{History, bound_lines}
+use Rattle.board_run.specs.Events.{head_of}
+use Rattle.board_run.specs.Tally.{tally_of}
+use Rattle.board_run.specs.Stepwise.{known_of}
+use Rattle.pair_run.specs.declared.sides.Sides.{Sides}
+use Rattle.pair_run.specs.Actions.{all_actions}
+use Rattle.pair_run.specs.Pair.{Pair}
+use Rattle.pair_run.specs.Lines.{PairKnown, letter_a, letter_b, known_at_first, bounds, last_line, pair_lines_from, known_after, pair_lines}
+use Rattle.pair_run.specs.Sides.{Tells, Reaches, GoesOn, HaveEnded, DoesAll, DoesAllPartly, accepted_words}
+use Rattle.pair_run.specs.Told.{IsTold}
+use Rattle.pair_run.proofs.Lines.{prefix_of_longer, prefix_behind}
+use Rattle.pair_run.proofs.Runs.{run_of}
+
+-- what is told at the end, however it came to that
+reached : (s : Sides) (p : Pair) (k : PairKnown) → Reaches s p k → Tells s k
+reached s p k (GoesOn shows) = shows.tells
+reached s p k (HaveEnded a b p_a p_b tells) = tells
+
+-- the last line
+pub told_last : (s : Sides) (p : Pair) (k : PairKnown) → Reaches s p k → pair_line (accepted_words s) s.listener.consumed ≡ last_line k
+told_last s p k reaches =
+    let tells = reached s p k reaches in
+    ap (λ t. pair_line t.accepted s.listener.consumed) tells.tally ∙ ap (pair_line (length k.hand.accepted)) tells.consumed
+
+module _ {T E : Type 0} (p : Pair) (a b : History) (es : List Entry) (old : Option (List ℕ)) where
+  abbrev first : PairKnown
+  first = known_at_first a b
+
+  -- the first line isn't written whole, or the second
+  pub told_cut : (new : Option (List ℕ)) (result : Result T E) (e : E) → result ≡ Err e
+      → (text more : List ℕ) → bounds first ≡ text ++ more → AppendsProperPrefix old new text → IsTold p a b es old new result
+  told_cut new result e is text more split cut =
+      let run = run_of (head_of b.map) (all_actions es) p in
+      let all : pair_lines first run.0 ≡ text ++ (more ++ (pair_lines_from first run.0 ++ last_line (known_after first run.0))) =
+      ap (λ t. t ++ (pair_lines_from first run.0 ++ last_line (known_after first run.0))) split ∙ append_assoc text more _ in
+      record {
+        moments = run.0;
+        last = run.1;
+        run = run.2;
+        written = subst (λ r. Writes old new r (pair_lines first run.0)) (sym is)
+            (record { whole = tt; part = subst (AppendsProperPrefix old new) (sym all) (prefix_of_longer old new text _ cut) });
+      }
+
+  -- the lines of the moments aren't
+  pub told_partly : (mid new : Option (List ℕ)) (result : Result T E) (e : E) → result ≡ Err e → Appends old mid (bounds first)
+      → DoesAllPartly (all_actions es) p first mid new → IsTold p a b es old new result
+  told_partly mid new result e is begun d = record {
+    moments = d.moments;
+    last = d.behind;
+    run = d.run;
+    written = subst (λ r. Writes old new r (pair_lines first d.moments)) (sym is) (record {
+      whole = tt;
+      part = prefix_behind old mid new (bounds first) _ begun (prefix_of_longer mid new (pair_lines_from first d.moments) _ d.written);
+    });
+  }
+
+  -- all lines but the last are
+  pub told_all : (s : Sides) (mid between new : Option (List ℕ)) (result : Result T E) → Appends old mid (bounds first)
+      → (d : DoesAll (all_actions es) p first mid between s) → Writes between new result (pair_line (accepted_words s) s.listener.consumed)
+      → IsTold p a b es old new result
+  told_all s mid between new (Ok x) begun d w = record {
+    moments = d.moments;
+    last = d.behind;
+    run = d.run;
+    written = record {
+      whole = Appends-trans old mid new (bounds first) _ begun (Appends-trans mid between new (pair_lines_from first d.moments) _ d.written
+          (subst (Appends between new) (told_last s d.behind (known_after first d.moments) d.reaches) w.whole));
+      part = tt;
+    };
+  }
+  told_all s mid between new (Err e) begun d w = record {
+    moments = d.moments;
+    last = d.behind;
+    run = d.run;
+    written = record {
+      whole = tt;
+      part = prefix_behind old mid new (bounds first) _ begun (prefix_behind mid between new (pair_lines_from first d.moments) _ d.written
+          (subst (AppendsProperPrefix between new) (told_last s d.behind (known_after first d.moments) d.reaches) w.part));
+    };
+  }
+
+-- ---- what a buffer took of a report, as the sink has it in the end
+
+last_nonempty : (accepted consumed : ℕ) → 0 < length (pair_line accepted consumed)
+unfolding pair_line
+last_nonempty accepted consumed = omega arith
+
+lines_nonempty : (front lines last : List ℕ) → 0 < length last → 0 < length (front ++ (lines ++ last))
+lines_nonempty front lines last some = omega (arith, length-append front (lines ++ last), length-append lines last, some)
+
+pub told_settles : {T E : Type 0} (p : Pair) (a b : History) (es : List Entry) (first taken held : Option (List ℕ)) (written result : Result T E)
+    → IsTold p a b es first taken written → Settles first taken held written result → IsTold p a b es first held result
+told_settles p a b es first taken held written result t settles =
+    let k = known_at_first a b in
+    record {
+      moments = t.moments;
+      last = t.last;
+      run = t.run;
+      written = settles (pair_lines k t.moments) (lines_nonempty (bounds k) (pair_lines_from k t.moments) _ (last_nonempty _ _)) t.written;
+    }

@@ -1,0 +1,131 @@
+//! The entries of a schedule.
+ghost use Rattle.std.specs.Prelude.{◌≡◌, ℕ, ◌+◌, OnOk};
+ghost use Rattle.alp_io.specs.Count.{HasCause};
+ghost use Rattle.radio_link.specs.declared.entry.Entry.TheVariants.{StepsOfA, StepsOfB, Rounds};
+ghost use Rattle.pair_run.specs.Actions.{actions_of, one_round};
+ghost use Rattle.pair_run.specs.Sides.{IsGoingOn, HasRoomFor, steps_of, AreDone};
+
+use crate::sides::Sides;
+use alp_io::Failed;
+use buffered_sink::Holds;
+use radio_link::Entry;
+
+// A round: a step of A, one of B, then the newest packet and the newest acknowledgement.
+fn make_round<S: Holds>(sides: &mut Sides<'_, '_, '_>, sink: &mut S) -> Result<(), Failed>
+    requires going { IsGoingOn sides.old }
+    requires room { HasRoomFor sides.old 1 }
+    ensures going { OnOk result (IsGoingOn sides.new) }
+    ensures room { OnOk result ((n : ℕ) → HasRoomFor sides.old (n + 1) → HasRoomFor sides.new n) }
+    ensures done { AreDone one_round sides.old (S.contents sink.old) (S.contents sink.new) result sides.new }
+    ensures cause { HasCause (S.faults sink.old) (S.faults sink.new) result }
+{
+    if sides.is_full() {
+        return Ok(());
+    }
+    sides.step_a(sink)?;
+    sides.step_b(sink)?;
+    if sides.is_full() {
+        return Ok(());
+    }
+    sides.bring_newest_packet();
+    sides.bring_newest_ack();
+    Ok(())
+}
+
+// So many steps of A.
+fn make_steps_of_a<S: Holds>(
+    count: u32,
+    sides: &mut Sides<'_, '_, '_>,
+    sink: &mut S,
+) -> Result<(), Failed>
+    requires going { IsGoingOn sides.old }
+    requires room { HasRoomFor sides.old count }
+    ensures going { OnOk result (IsGoingOn sides.new) }
+    ensures room { OnOk result ((n : ℕ) → HasRoomFor sides.old (n + count) → HasRoomFor sides.new n) }
+    ensures done { AreDone (actions_of (StepsOfA count)) sides.old (S.contents sink.old) (S.contents sink.new) result sides.new }
+    ensures cause { HasCause (S.faults sink.old) (S.faults sink.new) result }
+{
+    for _ in 0..count {
+        if sides.is_full() || sides.a.has_ended() {
+            return Ok(());
+        }
+        sides.step_a(sink)?;
+    }
+    Ok(())
+}
+
+// So many steps of B.
+fn make_steps_of_b<S: Holds>(
+    count: u32,
+    sides: &mut Sides<'_, '_, '_>,
+    sink: &mut S,
+) -> Result<(), Failed>
+    requires going { IsGoingOn sides.old }
+    requires room { HasRoomFor sides.old count }
+    ensures going { OnOk result (IsGoingOn sides.new) }
+    ensures room { OnOk result ((n : ℕ) → HasRoomFor sides.old (n + count) → HasRoomFor sides.new n) }
+    ensures done { AreDone (actions_of (StepsOfB count)) sides.old (S.contents sink.old) (S.contents sink.new) result sides.new }
+    ensures cause { HasCause (S.faults sink.old) (S.faults sink.new) result }
+{
+    for _ in 0..count {
+        if sides.is_full() || sides.b.has_ended() {
+            return Ok(());
+        }
+        sides.step_b(sink)?;
+    }
+    Ok(())
+}
+
+// So many rounds. Where both runs have ended, no further one writes anything.
+fn make_rounds<S: Holds>(
+    count: u32,
+    sides: &mut Sides<'_, '_, '_>,
+    sink: &mut S,
+) -> Result<(), Failed>
+    requires going { IsGoingOn sides.old }
+    requires room { HasRoomFor sides.old count }
+    ensures going { OnOk result (IsGoingOn sides.new) }
+    ensures room { OnOk result ((n : ℕ) → HasRoomFor sides.old (n + count) → HasRoomFor sides.new n) }
+    ensures done { AreDone (actions_of (Rounds count)) sides.old (S.contents sink.old) (S.contents sink.new) result sides.new }
+    ensures cause { HasCause (S.faults sink.old) (S.faults sink.new) result }
+{
+    for _ in 0..count {
+        if sides.is_full() || sides.have_ended() {
+            return Ok(());
+        }
+        make_round(sides, sink)?;
+    }
+    Ok(())
+}
+
+/// What an entry has done.
+pub fn make_entry<S: Holds>(
+    entry: &Entry,
+    sides: &mut Sides<'_, '_, '_>,
+    sink: &mut S,
+) -> Result<(), Failed>
+    requires going { IsGoingOn sides.old }
+    requires room { HasRoomFor sides.old (steps_of entry.now) }
+    ensures going { OnOk result (IsGoingOn sides.new) }
+    ensures room { OnOk result ((n : ℕ) → HasRoomFor sides.old (n + steps_of entry.now) → HasRoomFor sides.new n) }
+    ensures done { AreDone (actions_of entry.now) sides.old (S.contents sink.old) (S.contents sink.new) result sides.new }
+    ensures cause { HasCause (S.faults sink.old) (S.faults sink.new) result }
+{
+    match *entry {
+        Entry::StepsOfA(count) => make_steps_of_a(count, sides, sink),
+        Entry::StepsOfB(count) => make_steps_of_b(count, sides, sink),
+        Entry::BringPacket(place) => {
+            if !sides.is_full() {
+                sides.bring_packet(place);
+            }
+            Ok(())
+        }
+        Entry::BringAcknowledgement(place) => {
+            if !sides.is_full() {
+                sides.bring_ack(place);
+            }
+            Ok(())
+        }
+        Entry::Rounds(count) => make_rounds(count, sides, sink),
+    }
+}
