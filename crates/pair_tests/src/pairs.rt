@@ -70,7 +70,9 @@ fn report(
     let mut b_watch = Watch::new(alloc, &images.b)?;
     let mut air = Air::new(alloc)?;
     let mut sink = MemSink::new(alloc, 100_000, Vec::new(alloc))?;
-    assert!(rt; a.accepted() < 1000 && a.repeats() < 1000 && b.accepted() < 1000 && b.repeats() < 1000);
+    assert!(rt;
+        a.accepted() < 1000 && a.repeats() < 1000 && b.accepted() < 1000 && b.repeats() < 1000
+    );
     run_pair(
         &mut a,
         &a_trace,
@@ -118,7 +120,16 @@ fn is_whole(rt: &impl Abort, alloc: Global, report: &[u8]) -> Result<(), Fail> {
 fn both_words_come_through(rt: HostRuntime) -> Result<(), Fail> {
     let images = images(&rt, rt.alloc())?;
     for schedule in ["x 20000\n", "x 20000\nd 0\nd 0\nx 2000\n"] {
-        let text = report(&rt, rt.alloc(), &images, Case { a: A, b: B, schedule })?;
+        let text = report(
+            &rt,
+            rt.alloc(),
+            &images,
+            Case {
+                a: A,
+                b: B,
+                schedule,
+            },
+        )?;
         is_whole(&rt, rt.alloc(), text.as_slice())?;
     }
     Ok(())
@@ -222,7 +233,9 @@ fn the_listener_is_cut(rt: HostRuntime) -> Result<(), Fail> {
 fn the_sender_is_cut(rt: HostRuntime) -> Result<(), Fail> {
     let images = images(&rt, rt.alloc())?;
     for k in 0..=300u32 {
-        let trace = format!(in rt.alloc(); "s {k} 3\nc 10000000 0\nr 10 11 12 13 14 15 16 17 18 19\n")?;
+        let trace = format!(in rt.alloc();
+            "s {k} 3\nc 10000000 0\nr 10 11 12 13 14 15 16 17 18 19\n"
+        )?;
         let case = Case {
             a: &trace,
             b: B,
