@@ -7,4 +7,6 @@ mod RoundByRound
 mod SideA
 mod Listening
 mod SideB
+mod Rooms
+mod Entries
 mod Starts

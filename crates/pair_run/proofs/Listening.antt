@@ -21,7 +21,7 @@ use Rattle.board_run.specs.Stepwise.{ring_of, answer_of_ring, events_in}
 use Rattle.board_run.proofs.Interface.{after_map}
 use Rattle.pair_run.specs.declared.listener.Listener.{Listener}
 use Rattle.pair_run.specs.declared.listener.Progress.{Progress}
-use Rattle.pair_run.specs.Consuming.{Consuming, is_written, is_consumed, answers_behind, gate_behind, consuming_anew, consuming_by, consuming_in, gate_in}
+use Rattle.pair_run.specs.Consuming.{Consuming, is_written, is_consumed, answers_behind, gate_behind, consuming_anew, consuming_by, consuming_in}
 use Rattle.pair_run.specs.Consuming.{consuming_behind}
 use Rattle.pair_run.specs.Lines.{PairKnown, accepted_between, known_behind_b}
 use Rattle.pair_run.specs.Listening.{with_power, with_power_by, word_behind, raises, consumes_on, consumes, consumes_if, with_step, accepted_word}
@@ -135,7 +135,7 @@ ring_step ring p l gate now before after is_gate is_now is_before is_after =
     ∙ ap₂ (λ g n. gate_behind g n (consuming_so l) (answers_behind ring p.done.wrote l.events p.events (consuming_so l))) is_gate is_now
     ∙ ap₂ (λ x y. gate_behind gate now (consuming_so l) (answers_behind ring p.done.wrote x y (consuming_so l))) is_before is_after
 
-either : (P : Listener → Type 0) (d e : Bool) (x y z : Listener) → P x → P y → P z → P (if d then x else if e then y else z)
+pub either : (P : Listener → Type 0) (d e : Bool) (x y z : Listener) → P x → P y → P z → P (if d then x else if e then y else z)
 either P true e x y z h g f = h
 either P false true x y z h g f = g
 either P false false x y z h g f = f
@@ -157,7 +157,7 @@ pub record IsProgress (p : Progress) (k : PairKnown) (m : Moment) (done : Steppe
   pub done_is : p.done ≡ done
   pub accepts : p.accepts ≡ nat_lt (length k.hand.accepted) (length (hand_behind (head_of k.b.map) m k.hand).accepted)
   pub before : p.gate_before ≡ k.b.gate
-  pub gate : p.gate ≡ gate_in k.b.map m.after.fram
+  pub gate : p.gate ≡ (noted k.b m).gate
   pub events : p.events ≡ events_in (ring_of k.b.map) m.after.fram
 
 -- the map stays
@@ -183,7 +183,7 @@ module _ (k : PairKnown) (b : BoardValue) (n : NextStep) (done : Stepped) (l : L
   taken = record l { word = word_behind p.done.heard l.word }
 
   kept_by : (ring : Option RingPlaces) → ring_of k.b.map ≡ ring
-      → KeptBehind l (consumes_if (answer_of_ring ring) p taken) ring after (consuming_in ring k.b.gate made (gate_in k.b.map after) k.consuming)
+      → KeptBehind l (consumes_if (answer_of_ring ring) p taken) ring after (consuming_in ring k.b.gate made (noted k.b made).gate k.consuming)
       (word_behind p.done.heard l.word)
   kept_by None is = record {
     place = listens.place ∙ ap answer_of_ring is;
@@ -199,11 +199,11 @@ module _ (k : PairKnown) (b : BoardValue) (n : NextStep) (done : Stepped) (l : L
         place = rest.place ∙ listens.place ∙ ap answer_of_ring is;
         events = rest.events ∙ now;
         word = rest.word;
-        consuming = ring_step ring p taken k.b.gate (gate_in k.b.map after) (word_in b.fram ring.event_count) (word_in after ring.event_count)
+        consuming = ring_step ring p taken k.b.gate (noted k.b made).gate (word_in b.fram ring.event_count) (word_in after ring.event_count)
             progress.before progress.gate before now
-            ∙ ap (λ d. gate_behind k.b.gate (gate_in k.b.map after) (consuming_so l)
+            ∙ ap (λ d. gate_behind k.b.gate (noted k.b made).gate (consuming_so l)
             (answers_behind ring d.wrote (word_in b.fram ring.event_count) (word_in after ring.event_count) (consuming_so l))) progress.done_is
-            ∙ ap (λ c. gate_behind k.b.gate (gate_in k.b.map after) c
+            ∙ ap (λ c. gate_behind k.b.gate (noted k.b made).gate c
             (answers_behind ring done.wrote (word_in b.fram ring.event_count) (word_in after ring.event_count) c)) listens.consuming;
       }
 
@@ -215,9 +215,9 @@ module _ (k : PairKnown) (b : BoardValue) (n : NextStep) (done : Stepped) (l : L
   unfolding consuming_behind
   step_listens =
       let ring = ring_of k.b.map in
-      let kept : KeptBehind l (with_step p l) ring after (consuming_in ring k.b.gate made (gate_in k.b.map after) k.consuming)
+      let kept : KeptBehind l (with_step p l) ring after (consuming_in ring k.b.gate made (noted k.b made).gate k.consuming)
       (word_behind p.done.heard l.word) =
-      subst (λ o. KeptBehind l (consumes_if o p taken) ring after (consuming_in ring k.b.gate made (gate_in k.b.map after) k.consuming)
+      subst (λ o. KeptBehind l (consumes_if o p taken) ring after (consuming_in ring k.b.gate made (noted k.b made).gate k.consuming)
       (word_behind p.done.heard l.word)) (sym listens.place) (kept_by ring refl) in
       let same = map_stays k.b made in
       let last : (with_step p l).word ≡ word_behind done.heard l.word = kept.word ∙ ap (λ d. word_behind d.heard l.word) progress.done_is in
@@ -270,7 +270,7 @@ power_listens l k b q listens =
       events = rest.2 ∙ listens.events ∙ ap (λ m. events_in (ring_of m) b.fram) (sym same);
       word = subst (λ o. IfSome o (λ w. (with_power l).word ≡ w)) (sym lost.1) tt;
       consuming = ap (λ o. consuming_so (with_power_by o l)) listens.place
-          ∙ power_kept ring l k b q (gate_in k.b.map b.fram) listens.consuming;
+          ∙ power_kept ring l k b q (noted k.b up).gate listens.consuming;
     }
 
 -- A is told of nothing then

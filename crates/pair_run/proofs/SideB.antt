@@ -22,9 +22,9 @@ use Rattle.pair_run.specs.declared.listener.Progress.{Progress}
 use Rattle.pair_run.specs.declared.sides.Sides.{Sides}
 use Rattle.pair_run.specs.Actions.{StepOfB}
 use Rattle.pair_run.specs.Pair.{Pair, PairMoment, OfB, with_acknowledgement, acknowledgements_behind, behind_b, ActsB}
-use Rattle.pair_run.specs.Consuming.{Consuming, consuming_in, consuming_behind, gate_in}
+use Rattle.pair_run.specs.Consuming.{Consuming, consuming_in, consuming_behind}
 use Rattle.pair_run.specs.Lines.{PairKnown, letter_b, known_behind_b, pair_lines_from, known_after}
-use Rattle.pair_run.specs.Listening.{with_power_by, with_power, with_step, accepted_word, Listens}
+use Rattle.pair_run.specs.Listening.{with_power_by, with_power, power_if, with_step, accepted_word, Listens}
 use Rattle.pair_run.specs.Sides.{Lettered, LetteredPartly, Shows, Does, DoesPartly, sent_in_step, sent_in}
 use Rattle.pair_run.proofs.Listening.{map_stays, IsProgress, step_listens, step_accepts, power_listens, power_accepts, power_keeps_words, twice_powered}
 use Rattle.pair_run.proofs.SideA.{last_same, last_more}
@@ -32,11 +32,6 @@ use Rattle.pair_run.proofs.SideA.{last_same, last_more}
 -- the moments of B
 pub of_b : List Moment → List PairMoment
 of_b ms = map (λ m. OfB m) ms
-
--- a listener behind power-ups, if there were any
-abbrev pub power_if : Bool → Listener → Listener
-power_if true l = with_power l
-power_if false l = l
 
 power_once : (flag : Bool) (l : Listener) → power_if flag (with_power l) ≡ with_power l
 power_once true l = twice_powered l
@@ -47,7 +42,7 @@ pub record IsOver (p : Progress) (k now : PairKnown) (fram : List ℕ) (done : S
   pub done_is : p.done ≡ done
   pub accepts : p.accepts ≡ nat_lt (length k.hand.accepted) (length now.hand.accepted)
   pub before : p.gate_before ≡ k.b.gate
-  pub gate : p.gate ≡ gate_in k.b.map fram
+  pub gate : p.gate ≡ now.b.gate
   pub events : p.events ≡ events_in (ring_of k.b.map) fram
 
 -- what a step of B makes known
@@ -110,7 +105,7 @@ told_up s t c cs more k l told =
             done_is = over.done_is;
             accepts = over.accepts ∙ ap (λ xs. nat_lt (length xs) (length now.hand.accepted)) (sym known.accepted);
             before = over.before ∙ sym known.gate;
-            gate = over.gate ∙ ap (λ m. gate_in m t.board.fram) (sym known.mapped);
+            gate = over.gate;
             events = over.events ∙ ap (λ m. events_in (ring_of m) t.board.fram) (sym known.mapped);
           } in
           let n = told.some done (same (Some done) e) p over1 (power_listens l k s.board c.start listens) in

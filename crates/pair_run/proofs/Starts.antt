@@ -1,5 +1,5 @@
 -- The report of a pair, from its first step to its last line.
-use Rattle.std.proofs.Common.{◌≡◌, ◌≤◌, ◌<◌, ◌+◌, ◌*◌, ℕ, arith, refl, sym, ◌∙◌, ap, subst, List, [], ◌∷◌, ◌++◌, append_assoc, length, length-append}
+use Rattle.std.proofs.Common.{◌≡◌, ◌<◌, ◌+◌, ◌^◌, ℕ, arith, refl, sym, ◌∙◌, ap, subst, List, [], ◌∷◌, ◌++◌, append_assoc, length, length-append}
 use Rattle.std.proofs.Common.{Option, Result, Ok, Err}
 use Rattle.std.specs.Io.KnownBytes.{Appends}
 use Rattle.std.proofs.KnownBytes.{Appends-trans}
@@ -8,20 +8,67 @@ use Rattle.alp_io.specs.Report.{pair_line}
 use Rattle.buffered_sink.specs.Front.{Settles}
 use Rattle.prefixed_lines.specs.Prefixes.{prefixed}
 use Rattle.radio_link.specs.declared.entry.Entry.{Entry}
-use Rattle.radio_link.specs.declared.entry.Entry.TheVariants.{StepsOfA, StepsOfB, BringPacket, BringAcknowledgement, Rounds}
-use Rattle.radio_link.specs.Text.{IsEntry}
+use Rattle.fram_board.specs.Board.{BoardValue}
+use Rattle.fram_board.specs.Run.{BoardCharge}
 use Rattle.board_run.specs.History.{History, bound_lines}
-use Rattle.board_run.specs.Events.{head_of}
-use Rattle.board_run.specs.Tally.{tally_of}
-use Rattle.board_run.specs.Stepwise.{known_of}
+use Rattle.board_run.specs.Events.{no_hand, head_of}
+use Rattle.board_run.specs.Tally.{no_tally, tally_of, words_of}
+use Rattle.board_run.specs.Parts.{Known}
+use Rattle.board_run.specs.declared.stepwise.StepwiseRun.{StepwiseRun}
+use Rattle.board_run.specs.Stepwise.{RunState, HasRoom, not_begun, state_of, known_of, ring_of, answer_of_ring, events_in}
 use Rattle.pair_run.specs.declared.sides.Sides.{Sides}
 use Rattle.pair_run.specs.Actions.{all_actions}
 use Rattle.pair_run.specs.Pair.{Pair}
 use Rattle.pair_run.specs.Lines.{PairKnown, letter_a, letter_b, known_at_first, bounds, last_line, pair_lines_from, known_after, pair_lines}
-use Rattle.pair_run.specs.Sides.{Tells, Reaches, GoesOn, HaveEnded, DoesAll, DoesAllPartly, accepted_words}
+use Rattle.pair_run.specs.Listening.{new_listener, consuming_so, HasCountsFor}
+use Rattle.pair_run.specs.Sides.{Shows, Tells, Reaches, GoesOn, HaveEnded, DoesAll, DoesAllPartly, accepted_words}
 use Rattle.pair_run.specs.Told.{IsTold}
 use Rattle.pair_run.proofs.Lines.{prefix_of_longer, prefix_behind}
 use Rattle.pair_run.proofs.Runs.{run_of}
+
+-- ---- before the first step
+
+-- what is known of a run that has not begun
+abbrev pub known_first : History → Known
+known_first h = record { history = h; tally = no_tally }
+
+-- the counts have room
+pub room_first : (r : StepwiseRun) (b : BoardValue) (cs : List BoardCharge) (h : History) (n : ℕ) → state_of r ≡ not_begun b cs → known_of r ≡ known_first h
+    → b.receiver.accepted < 2 ^ 63 → b.receiver.repeats < 2 ^ 63 → n < 2 ^ 63 → HasRoom r n
+room_first r b cs h n state known accepted repeats few =
+    let board = ap (λ (x : RunState). x.board) state in
+    let words = ap (λ (x : Known). words_of x.tally) known in
+    record {
+      accepted = subst (λ (x : BoardValue). x.receiver.accepted + n < 2 ^ 64) (sym board) (omega (arith, accepted, few));
+      repeats = subst (λ (x : BoardValue). x.receiver.repeats + n < 2 ^ 64) (sym board) (omega (arith, repeats, few));
+      words = omega (arith, words, few);
+    }
+
+pub counts_first : (place : Option ℕ) (events n : ℕ) → n < 2 ^ 63 → HasCountsFor (new_listener place events) n
+counts_first place events n few = record { taken = omega (arith, few); decided = omega (arith, few) }
+
+-- so the sides are the pair before its first step
+pub shows_first : (s : Sides) (p : Pair) (a b : History) → state_of s.a ≡ p.a → state_of s.b ≡ p.b → s.air.now.packets ≡ p.packets
+    → s.air.now.acknowledgements ≡ p.acknowledgements → p.hand ≡ no_hand → known_of s.a ≡ known_first a → known_of s.b ≡ known_first b
+    → s.listener ≡ new_listener (answer_of_ring (ring_of b.map)) (events_in (ring_of b.map) p.b.board.fram) → Shows s p (known_at_first a b)
+shows_first s p a b is_a is_b packets acknowledgements hand a_known b_known listener = record {
+  a = is_a;
+  b = is_b;
+  packets = packets;
+  acknowledgements = acknowledgements;
+  hand = sym hand;
+  a_known = ap (λ (x : Known). x.history) a_known;
+  b_known = ap (λ (x : Known). x.history) b_known;
+  tells = record { tally = ap (λ (x : Known). x.tally) b_known; consumed = ap (λ x. x.consumed) listener };
+  listens = λ on. record {
+    place = ap (λ x. x.answer_place) listener;
+    events = ap (λ x. x.events) listener;
+    word = tt;
+    consuming = ap consuming_so listener;
+  };
+}
+
+-- ---- the report
 
 -- what is told at the end, however it came to that
 reached : (s : Sides) (p : Pair) (k : PairKnown) → Reaches s p k → Tells s k

@@ -1,12 +1,11 @@
 -- Which words of its ring the committed attempts of a board consume.
 -- An answer is a word that an instruction stores at ANS in an attempt, which goes from a power-up or a done to a decide. It is consumed where EC is raised
 -- behind that store, before the next store at ANS and before the decide; and the attempt is committed at the done.
-use Rattle.std.specs.Prelude.{ℕ, ◌+◌, ◌-◌, ◌%◌, ◌==◌, ◌&&◌, nat_lt, Bool, true, false, if◌then◌else◌, List, Option, Some, None}
+use Rattle.std.specs.Prelude.{ℕ, ◌+◌, ◌-◌, ◌%◌, ◌==◌, ◌&&◌, nat_lt, Bool, true, false, if◌then◌else◌, Option, Some, None}
 use Rattle.image_text.specs.image_map.declared.parts.RingPlaces.{RingPlaces}
-use Rattle.image_text.specs.image_map.MapValue.{MapValue}
 use Rattle.fram_board.specs.Gate.{is_decide, is_done}
 use Rattle.fram_board.specs.Run.{Moment, Action, PowerUp, Execute}
-use Rattle.board_run.specs.History.{History, word_in}
+use Rattle.board_run.specs.History.{History, word_in, noted}
 use Rattle.board_run.specs.Stepwise.{ring_of}
 
 -- whether an answer waits for EC; how many answers the attempt has consumed so far; how many those of the last decide were; and how many those of all
@@ -56,11 +55,6 @@ consuming_in None gate m now c = c
 consuming_in (Some ring) gate m now c =
     consuming_by ring m.action gate now (word_in m.before.fram ring.event_count) (word_in m.after.fram ring.event_count) c
 
--- GATE of a map in a FRAM
-abbrev pub gate_in : Option MapValue → List ℕ → ℕ
-gate_in None fram = 0
-gate_in (Some m) fram = word_in fram m.words.gate
-
 -- behind a moment, told from what is known in front of it
 unfoldable pub consuming_behind : History → Moment → Consuming → Consuming
-consuming_behind h m c = consuming_in (ring_of h.map) h.gate m (gate_in h.map m.after.fram) c
+consuming_behind h m c = consuming_in (ring_of h.map) h.gate m (noted h m).gate c

@@ -21,6 +21,11 @@ with_power_by (Some place) l = record l { is_answered = false; taken = 0 }
 abbrev pub with_power : Listener → Listener
 with_power l = with_power_by l.answer_place l
 
+-- it came up, or it didn't
+abbrev pub power_if : Bool → Listener → Listener
+power_if true l = with_power l
+power_if false l = l
+
 -- the word that was taken last, with what a step read
 abbrev pub word_behind : Heard → ℕ → ℕ
 word_behind heard.Nothing w = w

@@ -1,11 +1,9 @@
 -- Both sides of a pair as they stand in memory.
-use Rattle.std.specs.Prelude.{◌≡◌, ℕ, ◌+◌, List, [], ◌∷◌, ◌++◌, true, false, Option, Some, None, Result, Ok, Err}
+use Rattle.std.specs.Prelude.{◌≡◌, ℕ, nat_lt, List, [], true, false, Option, Some, None, Result, Ok, Err}
 use Rattle.std.specs.Io.KnownBytes.{Appends}
 use Rattle.alp_io.specs.Sink.{AppendsProperPrefix}
 use Rattle.alp_io.specs.declared.sink.Failed.{Failed}
 use Rattle.prefixed_lines.specs.Prefixes.{prefixed}
-use Rattle.radio_link.specs.declared.entry.Entry.{Entry}
-use Rattle.radio_link.specs.declared.entry.Entry.TheVariants.{StepsOfA, StepsOfB, BringPacket, BringAcknowledgement, Rounds}
 use Rattle.fram_board.specs.declared.board.Stepped.{Stepped}
 use Rattle.fram_board.specs.Run.{Moment}
 use Rattle.board_run.specs.declared.stepwise.Advance.{Advance}
@@ -13,7 +11,9 @@ use Rattle.board_run.specs.Events.{head_of}
 use Rattle.board_run.specs.Tally.{tally_of, tally_after}
 use Rattle.board_run.specs.Report.{lines_from, after_all}
 use Rattle.board_run.specs.Parts.{Known, known_head}
-use Rattle.board_run.specs.Stepwise.{RunState, StepsOn, state_of, known_of, IsGoing, HasRoom, last_done, powers_up}
+use Rattle.board_run.specs.Stepwise.{RunState, StepsOn, state_of, known_of, ring_of, events_in, IsGoing, HasRoom, last_done, powers_up}
+use Rattle.board_run.specs.declared.stepwise.StepwiseRun.{StepwiseRun}
+use Rattle.pair_run.specs.declared.listener.Progress.{Progress}
 use Rattle.pair_run.specs.declared.sides.Sides.{Sides}
 use Rattle.pair_run.specs.Actions.{PairAction}
 use Rattle.pair_run.specs.Pair.{Pair, PairMoment, Acts, PairRun}
@@ -55,11 +55,25 @@ pub record IsGoingOn (s : Sides) : Type 0 where
   pub a : IsGoing s.a
   pub b : IsGoing s.b
 
--- the counts have room for so many steps of either
-pub record HasRoomFor (s : Sides) (n : ℕ) : Type 0 where
+-- the counts have room for so many steps of A and so many of B
+pub record HasRoomForBoth (s : Sides) (n m : ℕ) : Type 0 where
   pub a : HasRoom s.a n
-  pub b : HasRoom s.b n
-  pub listener : HasCountsFor s.listener n
+  pub b : HasRoom s.b m
+  pub listener : HasCountsFor s.listener m
+
+-- for so many of either
+abbrev pub HasRoomFor : Sides → ℕ → Type 0
+HasRoomFor s n = HasRoomForBoth s n n
+
+-- what a step of B is told to its listener as, behind it: in front of it B had accepted so many words, and GATE was this
+abbrev pub progress_in : StepwiseRun → Stepped → ℕ → ℕ → Progress
+progress_in run done accepted gate = record {
+  done = done;
+  accepts = nat_lt accepted (known_of run).tally.accepted;
+  gate_before = gate;
+  gate = (known_of run).history.gate;
+  events = events_in (ring_of (known_of run).history.map) (state_of run).board.fram;
+}
 
 -- how many words B has accepted
 abbrev pub accepted_words : Sides → ℕ
@@ -135,14 +149,6 @@ DoesAllSo acts p k old new (Err e) s = DoesAllPartly acts p k old new
 abbrev pub AreDone : {T : Type 0} → List PairAction → Sides → Option (List ℕ) → Option (List ℕ) → Result T Failed → Sides → Type 0
 AreDone acts before old new result s = (p : Pair) (k : PairKnown) → Shows before p k → DoesAllSo acts p k old new result s
 
--- how many steps of a side an entry asks for
-abbrev pub steps_of : Entry → ℕ
-steps_of (StepsOfA n) = n
-steps_of (StepsOfB n) = n
-steps_of (BringPacket k) = 0
-steps_of (BringAcknowledgement k) = 0
-steps_of (Rounds n) = n
-
-abbrev pub all_steps : List Entry → ℕ
-all_steps [] = 0
-all_steps (e ∷ es) = steps_of e + all_steps es
+-- the most steps of a side that an entry asks for
+abbrev pub most_steps : ℕ
+most_steps = 4294967295

@@ -2,6 +2,7 @@
 ghost use Rattle.std.specs.Prelude.{◌≡◌};
 ghost use Rattle.fram_board.specs.Gate.{is_decide, is_done};
 ghost use Rattle.pair_run.specs.Consuming.{is_written};
+ghost use Rattle.pair_run.specs.Listening.{word_behind};
 
 use fram_board::{Heard, Stepped};
 use image_text::RingPlaces;
@@ -49,9 +50,19 @@ fn is_written(wrote: Option<u16>, place: u16) -> bool
     }
 }
 
+// The word that was taken from EVENT last, with what a step read.
+fn word_behind(heard: Heard, word: u16) -> u16
+    ensures { result ≡ word_behind heard word }
+{
+    match heard {
+        Heard::Once(Some(taken)) => taken,
+        _ => word,
+    }
+}
+
 impl Listener {
     ghost use Rattle.std.specs.Prelude.{◌≡◌};
-    ghost use Rattle.pair_run.specs.Listening.{new_listener, with_power, consumes, with_step, accepted_word, HasCountsFor};
+    ghost use Rattle.pair_run.specs.Listening.{new_listener, power_if, consumes_on, consumes, with_step, accepted_word, HasCountsFor};
 
     /// A listener whose ring has ANS at this address, if it has a ring, before its first step; EC is this word.
     pub fn new(answer_place: Option<u16>, events: u16) -> Listener
@@ -68,14 +79,28 @@ impl Listener {
         }
     }
 
-    /// Power came up: the attempt begins anew.
-    pub fn power_up(&mut self)
-        ensures { self.new ≡ with_power self.old }
+    /// Power came up, or it didn't: where it did, the attempt begins anew.
+    pub fn hear_power(&mut self, powers_up: bool)
+        ensures { self.new ≡ power_if powers_up self.old }
     {
-        if self.answer_place.is_some() {
+        if powers_up && self.answer_place.is_some() {
             self.is_answered = false;
             self.taken = 0;
         }
+    }
+
+    // The answers that the attempt has consumed behind a step.
+    fn count_answers(&mut self, place: u16, step: &Progress)
+        requires { HasCountsFor self.old 1 }
+        ensures { self.new ≡ consumes_on place step.now self.old }
+    {
+        let is_answer = is_written(step.done.wrote, place);
+        let is_consumed = self.is_answered && self.events < step.events;
+        if is_consumed {
+            self.taken += 1;
+        }
+        self.is_answered = is_answer || (self.is_answered && !is_consumed);
+        self.events = step.events;
     }
 
     // A step: the answers that the attempt consumes, up to a decide, and then up to a done.
@@ -83,24 +108,20 @@ impl Listener {
         requires { HasCountsFor self.old 1 }
         ensures { self.new ≡ consumes place step.now self.old }
     {
-        let is_consumed = self.is_answered && self.events < step.events;
-        let taken = self.taken;
-        if is_consumed {
-            self.taken += 1;
-            self.is_answered = false;
-        }
-        if is_written(step.done.wrote, place) {
-            self.is_answered = true;
-        }
+        let decides = is_decide(step.gate_before, step.gate);
         if is_done(step.gate_before, step.gate) {
             self.is_answered = false;
             self.taken = 0;
             self.consumed += self.decided;
             self.decided = 0;
-        } else if is_decide(step.gate_before, step.gate) {
+            self.events = step.events;
+            return;
+        }
+        let taken = self.taken;
+        self.count_answers(place, step);
+        if decides {
             self.decided = taken;
         }
-        self.events = step.events;
     }
 
     /// A step was made. Answers the word that was accepted in it, if one was.
@@ -109,10 +130,7 @@ impl Listener {
         ensures word { result ≡ accepted_word step.now self.old }
         ensures state { self.new ≡ with_step step.now self.old }
     {
-        match step.done.heard {
-            Heard::Once(Some(word)) => self.word = word,
-            _ => {}
-        }
+        self.word = word_behind(step.done.heard, self.word);
         if let Some(place) = self.answer_place {
             self.consume(place, step);
         }

@@ -3,7 +3,7 @@ ghost use Rattle.std.specs.Prelude.{◌≡◌, ℕ, ◌+◌, OnOk};
 ghost use Rattle.alp_io.specs.Count.{HasCause};
 ghost use Rattle.radio_link.specs.declared.entry.Entry.TheVariants.{StepsOfA, StepsOfB, Rounds};
 ghost use Rattle.pair_run.specs.Actions.{actions_of, one_round};
-ghost use Rattle.pair_run.specs.Sides.{IsGoingOn, HasRoomFor, steps_of, AreDone};
+ghost use Rattle.pair_run.specs.Sides.{IsGoingOn, HasRoomFor, most_steps, AreDone};
 
 use crate::sides::Sides;
 use alp_io::Failed;
@@ -105,9 +105,9 @@ pub fn make_entry<S: Holds>(
     sink: &mut S,
 ) -> Result<(), Failed>
     requires going { IsGoingOn sides.old }
-    requires room { HasRoomFor sides.old (steps_of entry.now) }
+    requires room { HasRoomFor sides.old most_steps }
     ensures going { OnOk result (IsGoingOn sides.new) }
-    ensures room { OnOk result ((n : ℕ) → HasRoomFor sides.old (n + steps_of entry.now) → HasRoomFor sides.new n) }
+    ensures room { OnOk result ((n : ℕ) → HasRoomFor sides.old (n + most_steps) → HasRoomFor sides.new n) }
     ensures done { AreDone (actions_of entry.now) sides.old (S.contents sink.old) (S.contents sink.new) result sides.new }
     ensures cause { HasCause (S.faults sink.old) (S.faults sink.new) result }
 {

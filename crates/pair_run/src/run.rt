@@ -1,9 +1,9 @@
 //! The run of a pair.
-ghost use Rattle.std.specs.Prelude.{◌≡◌, ◌^◌, ◌<◌, OnOk};
+ghost use Rattle.std.specs.Prelude.{◌≡◌, ◌*◌, ◌^◌, ◌<◌, OnOk, length};
 ghost use Rattle.alp_io.specs.Count.{HasCause};
 ghost use Rattle.board_run.specs.Charges.{charges_of};
 ghost use Rattle.pair_run.specs.Actions.{all_actions};
-ghost use Rattle.pair_run.specs.Sides.{IsGoingOn, HasRoomFor, all_steps, AreDone};
+ghost use Rattle.pair_run.specs.Sides.{IsGoingOn, HasRoomFor, most_steps, AreDone};
 ghost use Rattle.pair_run.specs.Told.{pair_at_first, IsTold};
 
 use crate::listener::Listener;
@@ -24,7 +24,7 @@ fn make_entries<S: Holds>(
     sink: &mut S,
 ) -> Result<(), Failed>
     requires going { IsGoingOn sides.old }
-    requires room { HasRoomFor sides.old (all_steps entries.now) }
+    requires room { HasRoomFor sides.old (most_steps * length entries.now) }
     ensures going { OnOk result (IsGoingOn sides.new) }
     ensures done { AreDone (all_actions entries.now) sides.old (S.contents sink.old) (S.contents sink.new) result sides.new }
     ensures cause { HasCause (S.faults sink.old) (S.faults sink.new) result }

@@ -5,12 +5,17 @@ ghost use Rattle.alp_io.specs.Sink.{Writes};
 ghost use Rattle.prefixed_lines.specs.Prefixes.{prefixed};
 ghost use Rattle.board_run.specs.History.{bound_lines};
 ghost use Rattle.board_run.specs.Stepwise.{state_of, known_of, IsGoing, HasRoom};
-ghost use Rattle.pair_run.specs.Sides.{IsLettered, sent_in};
+ghost use Rattle.fram_board.specs.Run.{word_list};
+ghost use Rattle.board_run.specs.History.{with_words};
+ghost use Rattle.pair_run.specs.Pair.{with_packet, with_acknowledgement};
+ghost use Rattle.pair_run.specs.Listening.{with_step, accepted_word, HasCountsFor};
+ghost use Rattle.pair_run.specs.Sides.{IsLettered, sent_in, progress_in};
 
 use crate::listener::{Listener, Progress};
 use alp_io::{Failed, Report};
 use board_run::{Advance, StepwiseRun, Watch};
 use buffered_sink::Holds;
+use fram_board::Stepped;
 use prefixed_lines::{LineOrigin, PrefixedLines};
 use radio_link::{Air, Packet};
 use std::marker::Brand;
@@ -105,7 +110,7 @@ impl<'r, 'x, 'y> Sides<'r, 'x, 'y> {
     ghost use Rattle.board_run.specs.Stepwise.{state_of};
     ghost use Rattle.alp_io.specs.Count.{HasCause};
     ghost use Rattle.pair_run.specs.Actions.{StepOfA, StepOfB, PacketToB, AcknowledgementToA, NewestPacketToB, NewestAcknowledgementToA};
-    ghost use Rattle.pair_run.specs.Sides.{accepted_words, IsGoingOn, HasRoomFor, IsDone, IsBrought};
+    ghost use Rattle.pair_run.specs.Sides.{accepted_words, IsGoingOn, HasRoomForBoth, IsDone, IsBrought};
     ghost use Rattle.pair_run.specs.Pair.{most_words};
 
     /// Whether B has accepted as many words as it may.
@@ -127,48 +132,40 @@ impl<'r, 'x, 'y> Sides<'r, 'x, 'y> {
     /// A step of A: what it sends goes into the air.
     pub fn step_a<S: Holds>(&mut self, sink: &mut S) -> Result<(), Failed>
         requires going { IsGoingOn self.old }
-        requires room { HasRoomFor self.old 1 }
+        requires room { HasRoomForBoth self.old 1 0 }
         ensures going { OnOk result (IsGoingOn self.new) }
-        ensures room { OnOk result ((n : ℕ) → HasRoomFor self.old (n + 1) → HasRoomFor self.new n) }
+        ensures room { OnOk result ((n m : ℕ) → HasRoomForBoth self.old (n + 1) m → HasRoomForBoth self.new n m) }
         ensures done { IsDone StepOfA self.old (S.contents sink.old) (S.contents sink.new) result self.new }
         ensures cause { HasCause (S.faults sink.old) (S.faults sink.new) result }
     {
         let advance = advance(sink, A, &mut self.a)?;
-        if let Some((number, word)) = sent(&advance) {
-            self.air.packets.send(Packet { number, word });
-        }
+        send_packet(self.air, sent(&advance));
         Ok(())
     }
 
     /// A step of B: what it sends goes into the air, and A is told of the word that it accepts.
     pub fn step_b<S: Holds>(&mut self, sink: &mut S) -> Result<(), Failed>
         requires going { IsGoingOn self.old }
-        requires room { HasRoomFor self.old 1 }
+        requires room { HasRoomForBoth self.old 0 1 }
         ensures going { OnOk result (IsGoingOn self.new) }
-        ensures room { OnOk result ((n : ℕ) → HasRoomFor self.old (n + 1) → HasRoomFor self.new n) }
+        ensures room { OnOk result ((n m : ℕ) → HasRoomForBoth self.old n (m + 1) → HasRoomForBoth self.new n m) }
         ensures done { IsDone StepOfB self.old (S.contents sink.old) (S.contents sink.new) result self.new }
         ensures cause { HasCause (S.faults sink.old) (S.faults sink.new) result }
     {
         let accepted = self.b.accepted_events();
         let gate_before = self.b.gate();
         let advance = advance(sink, B, &mut self.b)?;
-        if let Some((number, _)) = sent(&advance) {
-            self.air.acknowledgements.send(number);
-        }
-        if advance.powers_up {
-            self.listener.power_up();
-        }
+        send_acknowledgement(self.air, sent(&advance));
+        self.listener.hear_power(advance.powers_up);
         if let Some(done) = advance.done {
-            let step = Progress {
+            note_step(
+                &mut self.listener,
+                &mut self.a,
+                &self.b,
                 done,
-                accepts: self.b.accepted_events() > accepted,
+                accepted,
                 gate_before,
-                gate: self.b.gate(),
-                events: self.b.events_taken(),
-            };
-            if let Some(word) = self.listener.note(&step) {
-                self.a.took(word);
-            }
+            );
         }
         Ok(())
     }
@@ -177,7 +174,7 @@ impl<'r, 'x, 'y> Sides<'r, 'x, 'y> {
     pub fn bring_packet(&mut self, place: u32)
         requires { IsGoingOn self.old }
         ensures going { IsGoingOn self.new }
-        ensures room { (n : ℕ) → HasRoomFor self.old n → HasRoomFor self.new n }
+        ensures room { (n m : ℕ) → HasRoomForBoth self.old n m → HasRoomForBoth self.new n m }
         ensures brought { IsBrought (PacketToB place) self.old self.new }
     {
         if let Some(packet) = self.air.packets.bring(place) {
@@ -189,7 +186,7 @@ impl<'r, 'x, 'y> Sides<'r, 'x, 'y> {
     pub fn bring_ack(&mut self, place: u32)
         requires { IsGoingOn self.old }
         ensures going { IsGoingOn self.new }
-        ensures room { (n : ℕ) → HasRoomFor self.old n → HasRoomFor self.new n }
+        ensures room { (n m : ℕ) → HasRoomForBoth self.old n m → HasRoomForBoth self.new n m }
         ensures brought { IsBrought (AcknowledgementToA place) self.old self.new }
     {
         if let Some(number) = self.air.acknowledgements.bring(place) {
@@ -201,7 +198,7 @@ impl<'r, 'x, 'y> Sides<'r, 'x, 'y> {
     pub fn bring_newest_packet(&mut self)
         requires { IsGoingOn self.old }
         ensures going { IsGoingOn self.new }
-        ensures room { (n : ℕ) → HasRoomFor self.old n → HasRoomFor self.new n }
+        ensures room { (n m : ℕ) → HasRoomForBoth self.old n m → HasRoomForBoth self.new n m }
         ensures brought { IsBrought NewestPacketToB self.old self.new }
     {
         if let Some(packet) = self.air.packets.bring_newest() {
@@ -213,7 +210,7 @@ impl<'r, 'x, 'y> Sides<'r, 'x, 'y> {
     pub fn bring_newest_ack(&mut self)
         requires { IsGoingOn self.old }
         ensures going { IsGoingOn self.new }
-        ensures room { (n : ℕ) → HasRoomFor self.old n → HasRoomFor self.new n }
+        ensures room { (n m : ℕ) → HasRoomForBoth self.old n m → HasRoomForBoth self.new n m }
         ensures brought { IsBrought NewestAcknowledgementToA self.old self.new }
     {
         if let Some(number) = self.air.acknowledgements.bring_newest() {
@@ -230,4 +227,78 @@ fn sent(advance: &Advance) -> Option<(u16, u16)>
         Some(done) => done.sent,
         None => None,
     }
+}
+
+// What A sent goes into the air.
+fn send_packet(air: &mut Air, sent: Option<(u16, u16)>)
+    ensures packets { air.new.packets ≡ with_packet sent air.old.packets }
+    ensures acknowledgements { air.new.acknowledgements ≡ air.old.acknowledgements }
+{
+    if let Some((number, word)) = sent {
+        air.packets.send(Packet { number, word });
+    }
+}
+
+// What B sent goes into the air: its number alone.
+fn send_acknowledgement(air: &mut Air, sent: Option<(u16, u16)>)
+    ensures packets { air.new.packets ≡ air.old.packets }
+    ensures acknowledgements { air.new.acknowledgements ≡ with_acknowledgement sent air.old.acknowledgements }
+{
+    if let Some((number, _)) = sent {
+        air.acknowledgements.send(number);
+    }
+}
+
+// A step of B, as far as its words are concerned, told behind it.
+fn progress(
+    b: &StepwiseRun<'_, '_>,
+    done: Stepped,
+    accepted: u64,
+    gate_before: u16,
+) -> Progress
+    ensures { result ≡ progress_in b.now done accepted gate_before }
+{
+    Progress {
+        done,
+        accepts: b.accepted_events() > accepted,
+        gate_before,
+        gate: b.gate(),
+        events: b.events_taken(),
+    }
+}
+
+// A is told of the word that B accepted, if it did.
+fn tell_word(a: &mut StepwiseRun<'_, '_>, word: Option<u16>)
+    requires { IsGoing a.old }
+    ensures going { IsGoing a.new }
+    ensures room { (n : ℕ) → HasRoom a.old n → HasRoom a.new n }
+    ensures state { state_of a.new ≡ state_of a.old }
+    ensures history { (known_of a.new).history ≡ with_words (known_of a.old).history (word_list word) }
+{
+    if let Some(word) = word {
+        a.took(word);
+    }
+}
+
+// What a step of B did with its words: its listener is told of it, and A of the word that was accepted.
+fn note_step(
+    listener: &mut Listener,
+    a: &mut StepwiseRun<'_, '_>,
+    b: &StepwiseRun<'_, '_>,
+    done: Stepped,
+    accepted: u64,
+    gate_before: u16,
+)
+    requires going { IsGoing a.old }
+    requires counts { HasCountsFor listener.old 1 }
+    ensures going { IsGoing a.new }
+    ensures room { (n : ℕ) → HasRoom a.old n → HasRoom a.new n }
+    ensures state { state_of a.new ≡ state_of a.old }
+    ensures listener { listener.new ≡ with_step (progress_in b.now done accepted gate_before) listener.old }
+    ensures history { (known_of a.new).history ≡ with_words (known_of a.old).history
+        (word_list (accepted_word (progress_in b.now done accepted gate_before) listener.old)) }
+{
+    let step = progress(b, done, accepted, gate_before);
+    let word = listener.note(&step);
+    tell_word(a, word);
 }

@@ -1,0 +1,15 @@
+use Rattle.std.proofs.Common.{◌≤◌, ◌+◌, ◌-◌, ℕ}
+use Rattle.pair_run.specs.Actions.{one_round, repeated}
+use Rattle.pair_run.specs.Pair.{Pair}
+use Rattle.pair_run.specs.Lines.{PairKnown}
+use Rattle.pair_run.specs.Sides.{IsGoingOn, HasRoomFor, Shows, DoesAll}
+use Rattle.pair_run.proofs.rounds.make_rounds.Given as goal
+
+abbrev pub invariant-loop : goal.invariant-loop
+invariant-loop g l = record {
+  going : IsGoingOn l.sides;
+  room : (n : ℕ) → HasRoomFor l.fn.sides (n + l.fn.count) → HasRoomFor l.sides (n + (l.fn.count - l.counter));
+  faults : g.S.Sink.faults l.fn.sink ≤ g.S.Sink.faults l.sink;
+  on : (p : Pair) (k : PairKnown) → Shows l.fn.sides p k
+      → DoesAll (repeated l.counter one_round) p k (g.S.Sink.contents l.fn.sink) (g.S.Sink.contents l.sink) l.sides;
+}
