@@ -7,6 +7,7 @@ mod RoundByRound
 mod SideA
 mod Listening
 mod SideB
+mod Bringing
 mod Rooms
 mod Entries
 mod Starts

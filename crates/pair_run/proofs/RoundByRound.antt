@@ -87,6 +87,11 @@ once_more i acts p k old mid new s t d e =
     one_of [] = refl
     one_of (a ∷ as) = ap (λ xs. a ∷ xs) (one_of as)
 
+-- all are done
+pub all_of_them : (i n : ℕ) (acts : List PairAction) (p : Pair) (k : PairKnown) (old new : Option (List ℕ)) (s : Sides) → i ≡ n
+    → DoesAll (repeated i acts) p k old new s → DoesAll (repeated n acts) p k old new s
+all_of_them i n acts p k old new s same d = subst (λ m. DoesAll (repeated m acts) p k old new s) same d
+
 -- some are done, and the rest isn't needed
 pub rest_of_them : (i n : ℕ) (acts : List PairAction) (p : Pair) (k : PairKnown) (old new : Option (List ℕ)) (s : Sides) → i ≤ n
     → (d : DoesAll (repeated i acts) p k old new s)

@@ -12,6 +12,15 @@ use Rattle.pair_run.specs.Pair.{Pair, PairMoment, most_words, with_packet_brough
 use Rattle.pair_run.specs.Pair.{newest_packet, newest_acknowledgement, behind_a, behind_b}
 use Rattle.pair_run.specs.Pair.{Acts, ActsA, ActsB, Brings, Acknowledges, BringsNewest, AcknowledgesNewest, PairRun, Over, Full, Then}
 
+-- what is brought to a board leaves whether its run has ended
+pub packet_leaves : (o : Option Packet) (s : RunState) → (with_packet_brought o s).has_ended ≡ s.has_ended
+packet_leaves None s = refl
+packet_leaves (Some x) s = refl
+
+pub acknowledgement_leaves : (o : Option ℕ) (s : RunState) → (with_acknowledgement_brought o s).has_ended ≡ s.has_ended
+acknowledgement_leaves None s = refl
+acknowledgement_leaves (Some n) s = refl
+
 module _ (head : Option ℕ) where
   -- ---- a full run goes no further
 
@@ -91,14 +100,6 @@ module _ (head : Option ℕ) where
   pub record HaveEndedIn (p : Pair) : Type 0 where
     pub a : p.a.has_ended ≡ true
     pub b : p.b.has_ended ≡ true
-
-  packet_leaves : (o : Option Packet) (s : RunState) → (with_packet_brought o s).has_ended ≡ s.has_ended
-  packet_leaves None s = refl
-  packet_leaves (Some x) s = refl
-
-  acknowledgement_leaves : (o : Option ℕ) (s : RunState) → (with_acknowledgement_brought o s).has_ended ≡ s.has_ended
-  acknowledgement_leaves None s = refl
-  acknowledgement_leaves (Some n) s = refl
 
   -- then nothing has moments
   pub record RestsBehind (acts : List PairAction) (p : Pair) : Type 0 where

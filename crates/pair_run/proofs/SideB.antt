@@ -16,7 +16,7 @@ use Rattle.board_run.specs.Tally.{tally_of, tally_after}
 use Rattle.board_run.specs.Report.{lines_from, after_all}
 use Rattle.board_run.specs.Stepwise.{RunState, StepsOn, Idle, Makes, Halts, Ends, Powers, behind_power, state_of, known_of, last_done, powers_up}
 use Rattle.board_run.specs.Stepwise.{ring_of, events_in}
-use Rattle.board_run.proofs.Interface.{tally_of_moments}
+use Rattle.board_run.proofs.Interface.{tally_of_moments, after_map}
 use Rattle.pair_run.specs.declared.listener.Listener.{Listener}
 use Rattle.pair_run.specs.declared.listener.Progress.{Progress}
 use Rattle.pair_run.specs.declared.sides.Sides.{Sides}
@@ -25,7 +25,7 @@ use Rattle.pair_run.specs.Pair.{Pair, PairMoment, OfB, with_acknowledgement, ack
 use Rattle.pair_run.specs.Consuming.{Consuming, consuming_in, consuming_behind}
 use Rattle.pair_run.specs.Lines.{PairKnown, letter_b, known_behind_b, pair_lines_from, known_after}
 use Rattle.pair_run.specs.Listening.{with_power_by, with_power, power_if, with_step, accepted_word, Listens}
-use Rattle.pair_run.specs.Sides.{Lettered, LetteredPartly, Shows, Does, DoesPartly, sent_in_step, sent_in}
+use Rattle.pair_run.specs.Sides.{Lettered, LetteredPartly, Shows, Does, DoesPartly, sent_in_step, sent_in, progress_in}
 use Rattle.pair_run.proofs.Listening.{map_stays, IsProgress, step_listens, step_accepts, power_listens, power_accepts, power_keeps_words, twice_powered}
 use Rattle.pair_run.proofs.SideA.{last_same, last_more}
 
@@ -158,6 +158,24 @@ pub data LeavesB (before s : Sides) (flag : Bool) (k now : PairKnown) (fram : Li
       → (known_of s.a).history ≡ with_words (known_of before.a).history (word_list (accepted_word p (power_if flag before.listener)))
       → LeavesB before s flag k now fram (Some done)
 
+-- what a step of B leaves of the air and of A's run
+pub record SentB (before s : Sides) (answer : Advance) : Type 0 where
+  pub a : state_of s.a ≡ state_of before.a
+  pub packets : s.air.now.packets ≡ before.air.now.packets
+  pub acknowledgements : s.air.now.acknowledgements ≡ with_acknowledgement (sent_in answer) before.air.now.acknowledgements
+
+-- what its listener and A are told of it, where so many words had been accepted in front of it and GATE was this
+pub record NotedB (before s : Sides) (answer : Advance) : Type 0 where
+  pub done : Stepped
+  pub made : answer.done ≡ Some done
+  pub accepted : ℕ
+  pub accepted_is : accepted ≡ (known_of before.b).tally.accepted
+  pub gate : ℕ
+  pub gate_is : gate ≡ (known_of before.b).history.gate
+  pub listener : s.listener ≡ with_step (progress_in s.b done accepted gate) (power_if answer.powers_up before.listener)
+  pub history : (known_of s.a).history ≡ with_words (known_of before.a).history
+      (word_list (accepted_word (progress_in s.b done accepted gate) (power_if answer.powers_up before.listener)))
+
 -- B goes on after a step that was made
 step_goes_on : (s t : RunState) (ms : List Moment) → StepsOn s ms t → (done : Stepped) → last_done ms ≡ Some done → s.has_ended ≡ false
 step_goes_on s t ms (Idle _ is) done e = cc
@@ -215,34 +233,69 @@ module _ (before s : Sides) (p : Pair) (k : PairKnown) (shows : Shows before p k
       ∙ ap (tally_after (head_of k.b.map) ms) (shows.tells.tally ∙ ap tally_of (sym is))
       ∙ sym (tally_of_moments (head_of k.b.map) ms h)
 
-  pub b_does : (answer : Advance) → (l : Lettered letter_b (state_of before.b) (known_of before.b) old new answer (state_of s.b) (known_of s.b))
-      → state_of s.a ≡ state_of before.a → s.air.now.packets ≡ before.air.now.packets
-      → s.air.now.acknowledgements ≡ with_acknowledgement (sent_in answer) before.air.now.acknowledgements
-      → LeavesB before s answer.powers_up k (known_after k (of_b l.moments)) (state_of s.b).board.fram answer.done → Does StepOfB p k old new s
-  b_does answer l a packets acknowledgements leaves =
-      let ms = l.moments in
-      let steps = subst (λ x. StepsOn x ms (state_of s.b)) shows.b l.steps in
-      let told = told_b p.b (state_of s.b) ms k before.listener steps in
-      let now = known_after k (of_b ms) in
-      let on = listens_on ms answer.powers_up answer.done steps l.powers l.done leaves in
-      record {
-        moments = of_b ms;
-        behind = behind_b (head_of k.b.map) p ms (state_of s.b);
-        acts = ActsB p ms (state_of s.b) steps;
-        shows = record {
-          a = a ∙ shows.a;
-          b = refl;
-          packets = packets ∙ shows.packets;
-          acknowledgements = acknowledgements ∙ ap (λ d. with_acknowledgement (sent_in_step d) before.air.now.acknowledgements) l.done
-              ∙ ap (with_acknowledgement (sent_in_step (last_done ms))) shows.acknowledgements ∙ sym (sent_b _ _ ms p.acknowledgements steps);
-          hand = told.hand ∙ ap (hand_after (head_of k.b.map) ms) shows.hand;
-          a_known = on.a;
-          b_known = l.history ∙ ap (λ h. after_all h ms) shows.b_known ∙ sym told.b;
-          tells = record { tally = hand_told ms k.hand refl l.tally ∙ ap tally_of (sym told.hand); consumed = on.consumed };
-          listens = on.listens;
-        };
-        written = subst (Appends old new) (ap (λ h. prefixed letter_b (lines_from h ms)) shows.b_known ∙ sym told.lines) l.written;
-      }
+  module _ (answer : Advance) (l : Lettered letter_b (state_of before.b) (known_of before.b) old new answer (state_of s.b) (known_of s.b))
+      (sent : SentB before s answer) where
+    abbrev behind_it : PairKnown
+    behind_it = known_after k (of_b l.moments)
+
+    steps_here : StepsOn p.b l.moments (state_of s.b)
+    steps_here = subst (λ x. StepsOn x l.moments (state_of s.b)) shows.b l.steps
+
+    told_here : ToldB p.b (state_of s.b) l.moments k before.listener
+    told_here = told_b p.b (state_of s.b) l.moments k before.listener steps_here
+
+    history_here : (known_of s.b).history ≡ behind_it.b
+    history_here = l.history ∙ ap (λ h. after_all h l.moments) shows.b_known ∙ sym told_here.b
+
+    tally_here : (known_of s.b).tally ≡ tally_of behind_it.hand
+    tally_here = hand_told l.moments k.hand refl l.tally ∙ ap tally_of (sym told_here.hand)
+
+    does_so : LeavesB before s answer.powers_up k behind_it (state_of s.b).board.fram answer.done → Does StepOfB p k old new s
+    does_so leaves =
+        let ms = l.moments in
+        let on = listens_on ms answer.powers_up answer.done steps_here l.powers l.done leaves in
+        record {
+          moments = of_b ms;
+          behind = behind_b (head_of k.b.map) p ms (state_of s.b);
+          acts = ActsB p ms (state_of s.b) steps_here;
+          shows = record {
+            a = sent.a ∙ shows.a;
+            b = refl;
+            packets = sent.packets ∙ shows.packets;
+            acknowledgements = sent.acknowledgements
+                ∙ ap (λ d. with_acknowledgement (sent_in_step d) before.air.now.acknowledgements) l.done
+                ∙ ap (with_acknowledgement (sent_in_step (last_done ms))) shows.acknowledgements ∙ sym (sent_b _ _ ms p.acknowledgements steps_here);
+            hand = told_here.hand ∙ ap (hand_after (head_of k.b.map) ms) shows.hand;
+            a_known = on.a;
+            b_known = history_here;
+            tells = record { tally = tally_here; consumed = on.consumed };
+            listens = on.listens;
+          };
+          written = subst (Appends old new) (ap (λ h. prefixed letter_b (lines_from h ms)) shows.b_known ∙ sym told_here.lines) l.written;
+        }
+
+    -- no step was made
+    pub b_does_nothing : answer.done ≡ None → s.listener ≡ power_if answer.powers_up before.listener
+        → (known_of s.a).history ≡ (known_of before.a).history → Does StepOfB p k old new s
+    b_does_nothing none listener a =
+        does_so (subst (LeavesB before s answer.powers_up k behind_it (state_of s.b).board.fram) (sym none) (Nowhere listener a))
+
+    -- a step was, of which the listener and A are told
+    pub b_does : NotedB before s answer → Does StepOfB p k old new s
+    b_does noted =
+        let told = progress_in s.b noted.done noted.accepted noted.gate in
+        let words = ap (λ t. t.accepted) shows.tells.tally in
+        let map_is : (known_of s.b).history.map ≡ k.b.map =
+        ap (λ (h : History). h.map) (history_here ∙ told_here.b) ∙ after_map k.b l.moments in
+        let over : IsOver told k behind_it (state_of s.b).board.fram noted.done = record {
+          done_is = refl;
+          accepts = ap₂ nat_lt (noted.accepted_is ∙ words) (ap (λ t. t.accepted) tally_here);
+          before = noted.gate_is ∙ ap (λ (h : History). h.gate) shows.b_known;
+          gate = ap (λ (h : History). h.gate) history_here;
+          events = ap (λ m. events_in (ring_of m) (state_of s.b).board.fram) map_is;
+        } in
+        does_so (subst (LeavesB before s answer.powers_up k behind_it (state_of s.b).board.fram) (sym noted.made)
+        (Somewhere noted.done told over noted.listener noted.history))
 
   pub b_does_partly : LetteredPartly letter_b (state_of before.b) (known_of before.b) old new → DoesPartly StepOfB p k old new
   b_does_partly l =

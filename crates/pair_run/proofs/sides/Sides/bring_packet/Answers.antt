@@ -1,0 +1,13 @@
+use Rattle.std.proofs.Common.{refl, sym, ◌∙◌}
+use Rattle.pair_run.proofs.Bringing.{packet_brings}
+use Rattle.pair_run.proofs.sides.Sides.bring_packet.Goals as goal
+
+pub returns-in-Some-clause-brought : goal.returns-in-Some-clause-brought
+returns-in-Some-clause-brought c p k shows =
+    packet_brings _ _ p k shows _ _ (record { a = refl; known = refl; known_b = c.bring_packet.ensures.known; listener = refl; acknowledgements = refl })
+    (sym c.bring.ensures.value ∙ c.in-Some.is) c.bring_packet.ensures.state c.bring.ensures.left
+
+pub returns-in_default-clause-brought : goal.returns-in_default-clause-brought
+returns-in_default-clause-brought c p k shows =
+    packet_brings _ _ p k shows _ _ (record { a = refl; known = refl; known_b = refl; listener = refl; acknowledgements = refl })
+    (sym c.bring.ensures.value ∙ c.in_default.is) refl c.bring.ensures.left
