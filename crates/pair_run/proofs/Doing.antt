@@ -141,7 +141,7 @@ idle_rest_b s n p k old shows b = record {
 -- ---- so often
 
 pub repeated_more : (n m : ℕ) (acts : List PairAction) → repeated (n + m) acts ≡ repeated n acts ++ repeated m acts
-repeated_more zero m acts = refl
+repeated_more zero m acts = let e : 0 + m ≡ m = omega arith in ap (λ k. repeated k acts) e
 repeated_more (suc n) m acts =
     let e : suc n + m ≡ suc (n + m) = omega arith in
     ap (λ k. repeated k acts) e

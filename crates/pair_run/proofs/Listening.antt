@@ -51,15 +51,15 @@ change_if true = ChangesHead ∷ []
 change_if false = []
 
 -- behind the rest of a step
-record Behind (g h : Hand) (changes : Bool) : Type 0 where
+record Behind (g h : Hand) (changes : Bool) (last : ℕ) : Type 0 where
   accepted : h.accepted ≡ (if changes then g.accepted ++ word_list g.word else g.accepted)
-  word : (P : ℕ → Type 0) → IfSome g.word P → IfSome h.word P
+  word : IfSome g.word (λ w. last ≡ w) → IfSome h.word (λ w. last ≡ w)
 
-ends_behind : (changes returns : Bool) (g : Hand) → Behind g (handed_all (change_if changes ++ return_ends returns) g) changes
-ends_behind true true g = record { accepted = refl; word = λ P h. tt }
-ends_behind true false g = record { accepted = refl; word = λ P h. tt }
-ends_behind false true g = record { accepted = refl; word = λ P h. tt }
-ends_behind false false g = record { accepted = refl; word = λ P h. h }
+ends_behind : (changes returns : Bool) (g : Hand) (last : ℕ) → Behind g (handed_all (change_if changes ++ return_ends returns) g) changes last
+ends_behind true true g last = record { accepted = refl; word = λ h. tt }
+ends_behind true false g last = record { accepted = refl; word = λ h. tt }
+ends_behind false true g last = record { accepted = refl; word = λ h. tt }
+ends_behind false false g last = record { accepted = refl; word = λ h. h }
 
 change_is : (test : Bool) → (if test then [] else ChangesHead ∷ []) ≡ change_if (if test then false else true)
 change_is true = refl
@@ -106,7 +106,7 @@ hand_step head b n done h last holds =
     ≡ handed_all (change_if changes ++ return_ends returns) g =
     all_append (reads_of done.heard) (head_ends head b.fram after ++ return_ends returns) h
     ∙ ap (λ es. handed_all (es ++ return_ends returns) g) (head_ends_are head b.fram after) in
-    let behind = ends_behind changes returns g in
+    let behind = ends_behind changes returns g (word_behind done.heard last) in
     let held = reads_hold done.heard h last holds in
     let xs = h.accepted in
     let all : (handed_all (change_if changes ++ return_ends returns) g).accepted ≡ (if changes then xs ++ word_list g.word else xs) =
@@ -115,7 +115,7 @@ hand_step head b n done h last holds =
     record {
       accepted = subst P (sym is) (all ∙ one_accepted changes xs g.word (word_behind done.heard last) held
           ∙ ap (λ ys. xs ++ word_list (if nat_lt (length xs) (length ys) then Some (word_behind done.heard last) else None)) (sym all));
-      word = subst (λ x. IfSome x.word (λ w. word_behind done.heard last ≡ w)) (sym is) (behind.word (λ w. word_behind done.heard last ≡ w) held);
+      word = subst (λ x. IfSome x.word (λ w. word_behind done.heard last ≡ w)) (sym is) (behind.word held);
     }
 
 -- ---- the answers

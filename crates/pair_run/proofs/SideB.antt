@@ -30,7 +30,7 @@ use Rattle.pair_run.proofs.Listening.{map_stays, IsProgress, step_listens, step_
 use Rattle.pair_run.proofs.SideA.{last_same, last_more}
 
 -- the moments of B
-pub of_b : List Moment → List PairMoment
+abbrev pub of_b : List Moment → List PairMoment
 of_b ms = map (λ m. OfB m) ms
 
 power_once : (flag : Bool) (l : Listener) → power_if flag (with_power l) ≡ with_power l
@@ -162,7 +162,9 @@ pub data LeavesB (before s : Sides) (flag : Bool) (k now : PairKnown) (fram : Li
 pub record SentB (before s : Sides) (answer : Advance) : Type 0 where
   pub a : state_of s.a ≡ state_of before.a
   pub packets : s.air.now.packets ≡ before.air.now.packets
-  pub acknowledgements : s.air.now.acknowledgements ≡ with_acknowledgement (sent_in answer) before.air.now.acknowledgements
+  pub sent : Option (ℕ × ℕ)
+  pub sent_is : sent ≡ sent_in answer
+  pub acknowledgements : s.air.now.acknowledgements ≡ with_acknowledgement sent before.air.now.acknowledgements
 
 -- what its listener and A are told of it, where so many words had been accepted in front of it and GATE was this
 pub record NotedB (before s : Sides) (answer : Advance) : Type 0 where
@@ -172,9 +174,10 @@ pub record NotedB (before s : Sides) (answer : Advance) : Type 0 where
   pub accepted_is : accepted ≡ (known_of before.b).tally.accepted
   pub gate : ℕ
   pub gate_is : gate ≡ (known_of before.b).history.gate
-  pub listener : s.listener ≡ with_step (progress_in s.b done accepted gate) (power_if answer.powers_up before.listener)
-  pub history : (known_of s.a).history ≡ with_words (known_of before.a).history
-      (word_list (accepted_word (progress_in s.b done accepted gate) (power_if answer.powers_up before.listener)))
+  pub powered : Listener
+  pub powered_is : powered ≡ power_if answer.powers_up before.listener
+  pub listener : s.listener ≡ with_step (progress_in s.b done accepted gate) powered
+  pub history : (known_of s.a).history ≡ with_words (known_of before.a).history (word_list (accepted_word (progress_in s.b done accepted gate) powered))
 
 -- B goes on after a step that was made
 step_goes_on : (s t : RunState) (ms : List Moment) → StepsOn s ms t → (done : Stepped) → last_done ms ≡ Some done → s.has_ended ≡ false
@@ -263,6 +266,7 @@ module _ (before s : Sides) (p : Pair) (k : PairKnown) (shows : Shows before p k
             b = refl;
             packets = sent.packets ∙ shows.packets;
             acknowledgements = sent.acknowledgements
+                ∙ ap (λ d. with_acknowledgement d before.air.now.acknowledgements) sent.sent_is
                 ∙ ap (λ d. with_acknowledgement (sent_in_step d) before.air.now.acknowledgements) l.done
                 ∙ ap (with_acknowledgement (sent_in_step (last_done ms))) shows.acknowledgements ∙ sym (sent_b _ _ ms p.acknowledgements steps_here);
             hand = told_here.hand ∙ ap (hand_after (head_of k.b.map) ms) shows.hand;
@@ -295,7 +299,8 @@ module _ (before s : Sides) (p : Pair) (k : PairKnown) (shows : Shows before p k
           events = ap (λ m. events_in (ring_of m) (state_of s.b).board.fram) map_is;
         } in
         does_so (subst (LeavesB before s answer.powers_up k behind_it (state_of s.b).board.fram) (sym noted.made)
-        (Somewhere noted.done told over noted.listener noted.history))
+        (Somewhere noted.done told over (noted.listener ∙ ap (with_step told) noted.powered_is)
+        (noted.history ∙ ap (λ l. with_words (known_of before.a).history (word_list (accepted_word told l))) noted.powered_is)))
 
   pub b_does_partly : LetteredPartly letter_b (state_of before.b) (known_of before.b) old new → DoesPartly StepOfB p k old new
   b_does_partly l =

@@ -1,6 +1,6 @@
 -- The report of a pair, from its first step to its last line.
-use Rattle.std.proofs.Common.{◌≡◌, ◌<◌, ◌+◌, ◌^◌, ℕ, arith, refl, sym, ◌∙◌, ap, subst, List, [], ◌∷◌, ◌++◌, append_assoc, length, length-append}
-use Rattle.std.proofs.Common.{Option, Result, Ok, Err}
+use Rattle.std.proofs.Common.{◌≡◌, ◌<◌, ◌+◌, ◌^◌, ℕ, arith, refl, sym, ◌∙◌, ap, subst, List, [], ◌∷◌, ◌++◌, append_assoc, append-nil, length, length-append}
+use Rattle.std.proofs.Common.{Option, Result, Ok, Err, IsErr}
 use Rattle.std.specs.Io.KnownBytes.{Appends}
 use Rattle.std.proofs.KnownBytes.{Appends-trans}
 use Rattle.alp_io.specs.Sink.{AppendsProperPrefix, Writes}
@@ -85,32 +85,54 @@ module _ {T E : Type 0} (p : Pair) (a b : History) (es : List Entry) (old : Opti
   abbrev first : PairKnown
   first = known_at_first a b
 
-  -- the first line isn't written whole, or the second
-  pub told_cut : (new : Option (List ℕ)) (result : Result T E) (e : E) → result ≡ Err e
-      → (text more : List ℕ) → bounds first ≡ text ++ more → AppendsProperPrefix old new text → IsTold p a b es old new result
-  told_cut new result e is text more split cut =
+  cut_err : (new : Option (List ℕ)) (result : Result T E) (text : List ℕ) → IsErr result → AppendsProperPrefix old new text → Writes old new result text
+  cut_err new (Ok x) text e cut = absurd (cc)
+  cut_err new (Err x) text e cut = record { whole = tt; part = cut }
+
+  -- the bounds aren't written whole
+  told_cut : (new : Option (List ℕ)) (result : Result T E) (text more : List ℕ) → IsErr result → bounds first ≡ text ++ more
+      → AppendsProperPrefix old new text → IsTold p a b es old new result
+  told_cut new result text more e split cut =
       let run = run_of (head_of b.map) (all_actions es) p in
-      let all : pair_lines first run.0 ≡ text ++ (more ++ (pair_lines_from first run.0 ++ last_line (known_after first run.0))) =
-      ap (λ t. t ++ (pair_lines_from first run.0 ++ last_line (known_after first run.0))) split ∙ append_assoc text more _ in
+      let behind = pair_lines_from first run.0 ++ last_line (known_after first run.0) in
+      let all : pair_lines first run.0 ≡ text ++ (more ++ behind) = ap (λ t. t ++ behind) split ∙ append_assoc text more behind in
       record {
         moments = run.0;
         last = run.1;
         run = run.2;
-        written = subst (λ r. Writes old new r (pair_lines first run.0)) (sym is)
-            (record { whole = tt; part = subst (AppendsProperPrefix old new) (sym all) (prefix_of_longer old new text _ cut) });
+        written = cut_err new result (pair_lines first run.0) e
+            (subst (AppendsProperPrefix old new) (sym all) (prefix_of_longer old new text (more ++ behind) cut));
       }
 
+  abbrev bound_a : List ℕ
+  bound_a = prefixed letter_a (bound_lines a.map)
+
+  abbrev bound_b : List ℕ
+  bound_b = prefixed letter_b (bound_lines b.map)
+
+  -- A's isn't
+  pub told_cut_a : (new : Option (List ℕ)) (result : Result T E) → IsErr result → AppendsProperPrefix old new bound_a → IsTold p a b es old new result
+  told_cut_a new result e cut = told_cut new result bound_a bound_b e refl cut
+
+  -- or B's
+  pub told_cut_b : (mid new : Option (List ℕ)) (result : Result T E) → IsErr result → Appends old mid bound_a → AppendsProperPrefix mid new bound_b
+      → IsTold p a b es old new result
+  told_cut_b mid new result e whole cut =
+      told_cut new result (bound_a ++ bound_b) [] e (sym (append-nil (bound_a ++ bound_b))) (prefix_behind old mid new bound_a bound_b whole cut)
+
+  -- both are
+  pub bounds_told : (mid new : Option (List ℕ)) → Appends old mid bound_a → Appends mid new bound_b → Appends old new (bounds first)
+  bounds_told mid new one two = Appends-trans old mid new bound_a bound_b one two
+
   -- the lines of the moments aren't
-  pub told_partly : (mid new : Option (List ℕ)) (result : Result T E) (e : E) → result ≡ Err e → Appends old mid (bounds first)
+  pub told_partly : (mid new : Option (List ℕ)) (result : Result T E) → IsErr result → Appends old mid (bounds first)
       → DoesAllPartly (all_actions es) p first mid new → IsTold p a b es old new result
-  told_partly mid new result e is begun d = record {
+  told_partly mid new result e begun d = record {
     moments = d.moments;
     last = d.behind;
     run = d.run;
-    written = subst (λ r. Writes old new r (pair_lines first d.moments)) (sym is) (record {
-      whole = tt;
-      part = prefix_behind old mid new (bounds first) _ begun (prefix_of_longer mid new (pair_lines_from first d.moments) _ d.written);
-    });
+    written = cut_err new result (pair_lines first d.moments) e
+        (prefix_behind old mid new (bounds first) _ begun (prefix_of_longer mid new (pair_lines_from first d.moments) _ d.written));
   }
 
   -- all lines but the last are

@@ -46,7 +46,10 @@ fn make_steps_of_a<S: Holds>(
     ensures cause { HasCause (S.faults sink.old) (S.faults sink.new) result }
 {
     for _ in 0..count {
-        if sides.is_full() || sides.a.has_ended() {
+        if sides.is_full() {
+            return Ok(());
+        }
+        if sides.a.has_ended() {
             return Ok(());
         }
         sides.step_a(sink)?;
@@ -68,7 +71,10 @@ fn make_steps_of_b<S: Holds>(
     ensures cause { HasCause (S.faults sink.old) (S.faults sink.new) result }
 {
     for _ in 0..count {
-        if sides.is_full() || sides.b.has_ended() {
+        if sides.is_full() {
+            return Ok(());
+        }
+        if sides.b.has_ended() {
             return Ok(());
         }
         sides.step_b(sink)?;
@@ -90,7 +96,10 @@ fn make_rounds<S: Holds>(
     ensures cause { HasCause (S.faults sink.old) (S.faults sink.new) result }
 {
     for _ in 0..count {
-        if sides.is_full() || sides.have_ended() {
+        if sides.is_full() {
+            return Ok(());
+        }
+        if sides.have_ended() {
             return Ok(());
         }
         make_round(sides, sink)?;

@@ -30,7 +30,10 @@ fn make_entries<S: Holds>(
     ensures cause { HasCause (S.faults sink.old) (S.faults sink.new) result }
 {
     for entry in entries {
-        if sides.is_full() || sides.have_ended() {
+        if sides.is_full() {
+            return Ok(());
+        }
+        if sides.have_ended() {
             return Ok(());
         }
         make_entry(entry, sides, sink)?;

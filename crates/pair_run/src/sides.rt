@@ -4,7 +4,7 @@ ghost use Rattle.alp_io.specs.Count.{HasCause};
 ghost use Rattle.alp_io.specs.Sink.{Writes};
 ghost use Rattle.prefixed_lines.specs.Prefixes.{prefixed};
 ghost use Rattle.board_run.specs.History.{bound_lines};
-ghost use Rattle.board_run.specs.Stepwise.{state_of, known_of, IsGoing, HasRoom};
+ghost use Rattle.board_run.specs.Stepwise.{state_of, known_of, IsGoing, HasRoom, IsAdvance};
 ghost use Rattle.fram_board.specs.Run.{word_list};
 ghost use Rattle.board_run.specs.History.{with_words};
 ghost use Rattle.pair_run.specs.Pair.{with_packet, with_acknowledgement};
@@ -12,7 +12,7 @@ ghost use Rattle.pair_run.specs.Listening.{with_step, accepted_word, HasCountsFo
 ghost use Rattle.pair_run.specs.Sides.{IsLettered, sent_in, progress_in};
 
 use crate::listener::{Listener, Progress};
-use alp_io::{Failed, Report};
+use alp_io::{Failed, Report, Sink};
 use board_run::{Advance, StepwiseRun, Watch};
 use buffered_sink::Holds;
 use fram_board::Stepped;
@@ -35,6 +35,15 @@ pub struct Sides<'r, 'x, 'y> {
     pub listener: Listener,
 }
 
+// The line of a side's bound.
+fn write_bound_line<L: Sink>(lines: &mut L, watch: &Watch<'_>) -> Result<(), Failed>
+    ensures bytes { Writes (L.contents lines.old) (L.contents lines.new) result (bound_lines watch.now.map) }
+    ensures cause { HasCause (L.faults lines.old) (L.faults lines.new) result }
+{
+    let mut report = Report::new(lines);
+    watch.write_bound(&mut report)
+}
+
 // The line of a side's bound, in front of which its letter stands.
 fn write_bound_through<'s, S: Holds, P: LineOrigin>(
     sink: &'s mut S,
@@ -49,7 +58,7 @@ fn write_bound_through<'s, S: Holds, P: LineOrigin>(
     ensures cause { HasCause (S.faults sink.old) (S.faults result.0.now) result.1 }
 {
     let mut lines = PrefixedLines::<S, P>::new(sink, letter);
-    let written = watch.write_bound(&mut Report::new(&mut lines));
+    let written = write_bound_line(&mut lines, watch);
     lines.finish(written)
 }
 
@@ -60,6 +69,21 @@ pub fn write_bound<S: Holds>(sink: &mut S, letter: u8, watch: &Watch<'_>) -> Res
 {
     let (_, result) = write_bound_through::<S, Brand>(sink, letter, watch);
     result
+}
+
+// A step of one side.
+#[inline(always)]
+fn advance_by_line<L: Sink>(lines: &mut L, run: &mut StepwiseRun<'_, '_>) -> Result<Advance, Failed>
+    requires going { IsGoing run.old }
+    requires room { HasRoom run.old 1 }
+    ensures going { OnOk result (IsGoing run.new) }
+    ensures room { OnOk result ((n : ℕ) → HasRoom run.old (n + 1) → HasRoom run.new n) }
+    ensures step { IsAdvance (state_of run.old) (known_of run.old) (L.contents lines.old) (L.contents lines.new)
+        result (state_of run.new) (known_of run.new) }
+    ensures cause { HasCause (L.faults lines.old) (L.faults lines.new) result }
+{
+    let mut report = Report::new(lines);
+    run.advance(&mut report)
 }
 
 // A step of one side, whose letter stands in front of its lines.
@@ -82,7 +106,7 @@ fn advance_through<'s, S: Holds, P: LineOrigin>(
     ensures cause { HasCause (S.faults sink.old) (S.faults result.0.now) result.1 }
 {
     let mut lines = PrefixedLines::<S, P>::new(sink, letter);
-    let answer = run.advance(&mut Report::new(&mut lines));
+    let answer = advance_by_line(&mut lines, run);
     lines.finish(answer)
 }
 

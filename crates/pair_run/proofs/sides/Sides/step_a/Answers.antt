@@ -15,4 +15,4 @@ returns-clause-room g c n m h = record { a = c.in_ok-advance.ensures.room n h.a;
 pub returns-clause-done : goal.returns-clause-done
 returns-clause-done g c p k shows =
     a_does _ _ p k shows _ _ _ c.in_ok-advance.ensures.step refl refl refl
-    (c.send_packet.ensures.packets ∙ ap (λ d. with_packet d _) c.sent.ensures) c.send_packet.ensures.acknowledgements
+    (c.send_packet.ensures.packets ∙ ap (λ d. with_packet d c.args.self.now.air.now.packets) c.sent.ensures) c.send_packet.ensures.acknowledgements

@@ -1,9 +1,5 @@
-use Rattle.std.proofs.Common.{refl, ◌+◌, ◌∙◌, ap, arith}
-use Rattle.fram_board.specs.Run.{word_list}
-use Rattle.board_run.specs.History.{with_words}
+use Rattle.std.proofs.Common.{refl, ◌+◌, arith}
 use Rattle.pair_run.specs.Actions.{StepOfB}
-use Rattle.pair_run.specs.Pair.{with_acknowledgement}
-use Rattle.pair_run.specs.Listening.{with_step, accepted_word}
 use Rattle.pair_run.proofs.Going.{one_err}
 use Rattle.pair_run.proofs.Rooms.{counts_powered, counts_stepped, counts_less}
 use Rattle.pair_run.proofs.SideB.{b_does, b_does_nothing, b_does_partly}
@@ -26,17 +22,21 @@ returns-in-Some-clause-done g c p k shows =
     (record {
       a = c.note_step.ensures.state;
       packets = c.send_acknowledgement.ensures.packets;
-      acknowledgements = c.send_acknowledgement.ensures.acknowledgements ∙ ap (λ d. with_acknowledgement d _) c.sent.ensures;
+      acknowledgements = c.send_acknowledgement.ensures.acknowledgements;
+      sent = c.sent.result;
+      sent_is = c.sent.ensures;
     })
     (record {
       done = c.in-Some.done;
       made = c.in-Some.is;
-      accepted = _;
+      accepted = c.accepted_events-accepted.result;
       accepted_is = c.accepted_events-accepted.ensures;
-      gate = _;
+      gate = c.gate-gate_before.result;
       gate_is = c.gate-gate_before.ensures;
-      listener = c.note_step.ensures.listener ∙ ap (λ l. with_step _ l) c.hear_power.ensures;
-      history = c.note_step.ensures.history ∙ ap (λ l. with_words _ (word_list (accepted_word _ l))) c.hear_power.ensures;
+      powered = c.hear_power.new.self;
+      powered_is = c.hear_power.ensures;
+      listener = c.note_step.ensures.listener;
+      history = c.note_step.ensures.history;
     })
 
 pub returns-in_default-clause-room : goal.returns-in_default-clause-room
@@ -52,6 +52,8 @@ returns-in_default-clause-done g c p k shows =
     (record {
       a = refl;
       packets = c.send_acknowledgement.ensures.packets;
-      acknowledgements = c.send_acknowledgement.ensures.acknowledgements ∙ ap (λ d. with_acknowledgement d _) c.sent.ensures;
+      acknowledgements = c.send_acknowledgement.ensures.acknowledgements;
+      sent = c.sent.result;
+      sent_is = c.sent.ensures;
     })
     c.in_default.is c.hear_power.ensures refl

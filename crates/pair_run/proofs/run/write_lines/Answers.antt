@@ -1,0 +1,28 @@
+use Rattle.std.proofs.Common.{◌*◌, ◌∙◌, refl, sym, ap, subst, arith, length}
+use Rattle.board_run.specs.Charges.{charges_of}
+use Rattle.pair_run.specs.Lines.{known_at_first}
+use Rattle.pair_run.specs.Told.{pair_at_first}
+use Rattle.pair_run.proofs.Starts.{room_first, counts_first, shows_first, told_cut_a, told_cut_b, bounds_told, told_partly, told_all}
+use Rattle.pair_run.proofs.run.write_lines.Goals as goal
+
+pub make_entries-requires-clause-room : goal.make_entries-requires-clause-room
+make_entries-requires-clause-room g c =
+    let few = c.entries.ensures.few in
+    record {
+      a = room_first _ _ _ _ _ c.stepwise-a.ensures.state c.stepwise-a.ensures.known c.requires.a_accepted c.requires.a_repeats (omega (arith, few));
+      b = room_first _ _ _ _ _ c.stepwise-b.ensures.state c.stepwise-b.ensures.known c.requires.b_accepted c.requires.b_repeats (omega (arith, few));
+      listener = rw c.new-listener.ensures (counts_first _ _ _ (omega (arith, few)));
+    }
+
+pub returns-in_err-write_bound-clause-told : goal.returns-in_err-write_bound-clause-told
+returns-in_err-write_bound-clause-told g c = told_cut_a _ _ _ _ _ _ _ c.from_residual.ensures.0 c.in_err-write_bound.ensures.bytes.part
+
+pub returns-in_err-write_bound-2-clause-told : goal.returns-in_err-write_bound-2-clause-told
+returns-in_err-write_bound-2-clause-told g c =
+    told_cut_b _ _ _ _ _ _ _ _ c.from_residual-in_err-write_bound-2.ensures.0 c.in_ok-write_bound.ensures.bytes.whole c.in_err-write_bound-2.ensures.bytes.part
+
+pub returns-in_err-make_entries-clause-told : goal.returns-in_err-make_entries-clause-told
+returns-in_err-make_entries-clause-told g c = ?
+
+pub returns-clause-told : goal.returns-clause-told
+returns-clause-told g c = ?
