@@ -85,7 +85,7 @@ once_more i acts p k old mid new s t d e =
   where
     one_of : (acts : List PairAction) → repeated 1 acts ≡ acts
     one_of [] = refl
-    one_of (a ∷ as) = ap (λ xs. a ∷ xs) (one_of as)
+    one_of (act ∷ more) = ap (λ xs. act ∷ xs) (one_of more)
 
 -- all are done
 pub all_of_them : (i n : ℕ) (acts : List PairAction) (p : Pair) (k : PairKnown) (old new : Option (List ℕ)) (s : Sides) → i ≡ n

@@ -1,5 +1,5 @@
 -- The report of a pair, from its first step to its last line.
-use Rattle.std.proofs.Common.{◌≡◌, ◌<◌, ◌+◌, ◌^◌, ℕ, arith, refl, sym, ◌∙◌, ap, subst, List, [], ◌∷◌, ◌++◌, append_assoc, append-nil, length, length-append}
+use Rattle.std.proofs.Common.{◌≡◌, ◌<◌, ◌+◌, ◌^◌, ℕ, arith, refl, sym, ◌∙◌, ap, ap₂, subst, List, [], ◌∷◌, ◌++◌, append_assoc, append-nil, length, length-append}
 use Rattle.std.proofs.Common.{Option, Result, Ok, Err, IsErr}
 use Rattle.std.specs.Io.KnownBytes.{Appends}
 use Rattle.std.proofs.KnownBytes.{Appends-trans}
@@ -16,6 +16,7 @@ use Rattle.board_run.specs.Tally.{no_tally, tally_of, words_of}
 use Rattle.board_run.specs.Parts.{Known}
 use Rattle.board_run.specs.declared.stepwise.StepwiseRun.{StepwiseRun}
 use Rattle.board_run.specs.Stepwise.{RunState, HasRoom, not_begun, state_of, known_of, ring_of, answer_of_ring, events_in}
+use Rattle.pair_run.specs.declared.listener.Listener.{Listener}
 use Rattle.pair_run.specs.declared.sides.Sides.{Sides}
 use Rattle.pair_run.specs.Actions.{all_actions}
 use Rattle.pair_run.specs.Pair.{Pair}
@@ -46,6 +47,16 @@ room_first r b cs h n state known accepted repeats few =
 
 pub counts_first : (place : Option ℕ) (events n : ℕ) → n < 2 ^ 63 → HasCountsFor (new_listener place events) n
 counts_first place events n few = record { taken = omega (arith, few); decided = omega (arith, few) }
+
+-- the listener is the one of B's ring
+pub listener_first : (r : StepwiseRun) (b : BoardValue) (cs : List BoardCharge) (h : History) (l : Listener) (place : Option ℕ) (events : ℕ)
+    → state_of r ≡ not_begun b cs → known_of r ≡ known_first h → place ≡ answer_of_ring (ring_of (known_of r).history.map)
+    → events ≡ events_in (ring_of (known_of r).history.map) (state_of r).board.fram → l ≡ new_listener place events
+    → l ≡ new_listener (answer_of_ring (ring_of h.map)) (events_in (ring_of h.map) b.fram)
+listener_first r b cs h l place events state known is_place is_events is =
+    let map = ap (λ (x : Known). x.history.map) known in
+    let fram = ap (λ (x : RunState). x.board.fram) state in
+    is ∙ ap₂ new_listener (is_place ∙ ap (λ m. answer_of_ring (ring_of m)) map) (is_events ∙ ap₂ (λ m f. events_in (ring_of m) f) map fram)
 
 -- so the sides are the pair before its first step
 pub shows_first : (s : Sides) (p : Pair) (a b : History) → state_of s.a ≡ p.a → state_of s.b ≡ p.b → s.air.now.packets ≡ p.packets
@@ -81,16 +92,16 @@ told_last s p k reaches =
     let tells = reached s p k reaches in
     ap (λ t. pair_line t.accepted s.listener.consumed) tells.tally ∙ ap (pair_line (length k.hand.accepted)) tells.consumed
 
-module _ {T E : Type 0} (p : Pair) (a b : History) (es : List Entry) (old : Option (List ℕ)) where
+module _ (p : Pair) (a b : History) (es : List Entry) (old : Option (List ℕ)) where
   abbrev first : PairKnown
   first = known_at_first a b
 
-  cut_err : (new : Option (List ℕ)) (result : Result T E) (text : List ℕ) → IsErr result → AppendsProperPrefix old new text → Writes old new result text
+  cut_err : {T E : Type 0} (new : Option (List ℕ)) (result : Result T E) (text : List ℕ) → IsErr result → AppendsProperPrefix old new text → Writes old new result text
   cut_err new (Ok x) text e cut = absurd (cc)
   cut_err new (Err x) text e cut = record { whole = tt; part = cut }
 
   -- the bounds aren't written whole
-  told_cut : (new : Option (List ℕ)) (result : Result T E) (text more : List ℕ) → IsErr result → bounds first ≡ text ++ more
+  told_cut : {T E : Type 0} (new : Option (List ℕ)) (result : Result T E) (text more : List ℕ) → IsErr result → bounds first ≡ text ++ more
       → AppendsProperPrefix old new text → IsTold p a b es old new result
   told_cut new result text more e split cut =
       let run = run_of (head_of b.map) (all_actions es) p in
@@ -111,11 +122,11 @@ module _ {T E : Type 0} (p : Pair) (a b : History) (es : List Entry) (old : Opti
   bound_b = prefixed letter_b (bound_lines b.map)
 
   -- A's isn't
-  pub told_cut_a : (new : Option (List ℕ)) (result : Result T E) → IsErr result → AppendsProperPrefix old new bound_a → IsTold p a b es old new result
+  pub told_cut_a : {T E : Type 0} (new : Option (List ℕ)) (result : Result T E) → IsErr result → AppendsProperPrefix old new bound_a → IsTold p a b es old new result
   told_cut_a new result e cut = told_cut new result bound_a bound_b e refl cut
 
   -- or B's
-  pub told_cut_b : (mid new : Option (List ℕ)) (result : Result T E) → IsErr result → Appends old mid bound_a → AppendsProperPrefix mid new bound_b
+  pub told_cut_b : {T E : Type 0} (mid new : Option (List ℕ)) (result : Result T E) → IsErr result → Appends old mid bound_a → AppendsProperPrefix mid new bound_b
       → IsTold p a b es old new result
   told_cut_b mid new result e whole cut =
       told_cut new result (bound_a ++ bound_b) [] e (sym (append-nil (bound_a ++ bound_b))) (prefix_behind old mid new bound_a bound_b whole cut)
@@ -125,7 +136,7 @@ module _ {T E : Type 0} (p : Pair) (a b : History) (es : List Entry) (old : Opti
   bounds_told mid new one two = Appends-trans old mid new bound_a bound_b one two
 
   -- the lines of the moments aren't
-  pub told_partly : (mid new : Option (List ℕ)) (result : Result T E) → IsErr result → Appends old mid (bounds first)
+  pub told_partly : {T E : Type 0} (mid new : Option (List ℕ)) (result : Result T E) → IsErr result → Appends old mid (bounds first)
       → DoesAllPartly (all_actions es) p first mid new → IsTold p a b es old new result
   told_partly mid new result e begun d = record {
     moments = d.moments;
@@ -136,7 +147,7 @@ module _ {T E : Type 0} (p : Pair) (a b : History) (es : List Entry) (old : Opti
   }
 
   -- all lines but the last are
-  pub told_all : (s : Sides) (mid between new : Option (List ℕ)) (result : Result T E) → Appends old mid (bounds first)
+  pub told_all : {T E : Type 0} (s : Sides) (mid between new : Option (List ℕ)) (result : Result T E) → Appends old mid (bounds first)
       → (d : DoesAll (all_actions es) p first mid between s) → Writes between new result (pair_line (accepted_words s) s.listener.consumed)
       → IsTold p a b es old new result
   told_all s mid between new (Ok x) begun d w = record {

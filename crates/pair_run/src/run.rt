@@ -1,6 +1,8 @@
 //! The run of a pair.
 ghost use Rattle.std.specs.Prelude.{◌≡◌, ◌*◌, ◌^◌, ◌<◌, OnOk, length};
 ghost use Rattle.alp_io.specs.Count.{HasCause};
+ghost use Rattle.alp_io.specs.Sink.{Writes};
+ghost use Rattle.alp_io.specs.Report.{pair_line};
 ghost use Rattle.board_run.specs.Charges.{charges_of};
 ghost use Rattle.pair_run.specs.Actions.{all_actions};
 ghost use Rattle.pair_run.specs.Sides.{IsGoingOn, HasRoomFor, most_steps, AreDone};
@@ -41,6 +43,15 @@ fn make_entries<S: Holds>(
     Ok(())
 }
 
+// The last line.
+fn write_last<S: Sink>(sink: &mut S, accepted: u64, consumed: u64) -> Result<(), Failed>
+    ensures bytes { Writes (S.contents sink.old) (S.contents sink.new) result (pair_line accepted consumed) }
+    ensures cause { HasCause (S.faults sink.old) (S.faults sink.new) result }
+{
+    let mut report = Report::new(sink);
+    report.pair(accepted, consumed)
+}
+
 // The report of a pair, on a sink that takes short pieces whole.
 fn write_lines<S: Holds>(
     a: &mut Board,
@@ -73,7 +84,7 @@ fn write_lines<S: Holds>(
         listener,
     };
     make_entries(schedule.entries(), &mut sides, sink)?;
-    Report::new(sink).pair(sides.b.accepted_events(), sides.listener.consumed)
+    write_last(sink, sides.b.accepted_events(), sides.listener.consumed)
 }
 
 // The same through a buffer before any sink, which is given back.

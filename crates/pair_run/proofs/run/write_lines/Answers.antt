@@ -1,8 +1,9 @@
-use Rattle.std.proofs.Common.{◌*◌, ◌∙◌, refl, sym, ap, subst, arith, length}
+use Rattle.std.proofs.Common.{◌*◌, refl, arith, length}
 use Rattle.board_run.specs.Charges.{charges_of}
 use Rattle.pair_run.specs.Lines.{known_at_first}
+use Rattle.pair_run.specs.Sides.{Shows}
 use Rattle.pair_run.specs.Told.{pair_at_first}
-use Rattle.pair_run.proofs.Starts.{room_first, counts_first, shows_first, told_cut_a, told_cut_b, bounds_told, told_partly, told_all}
+use Rattle.pair_run.proofs.Starts.{room_first, counts_first, listener_first, shows_first, told_cut_a, told_cut_b, bounds_told, told_partly, told_all}
 use Rattle.pair_run.proofs.run.write_lines.Goals as goal
 
 pub make_entries-requires-clause-room : goal.make_entries-requires-clause-room
@@ -22,7 +23,26 @@ returns-in_err-write_bound-2-clause-told g c =
     told_cut_b _ _ _ _ _ _ _ _ c.from_residual-in_err-write_bound-2.ensures.0 c.in_ok-write_bound.ensures.bytes.whole c.in_err-write_bound-2.ensures.bytes.part
 
 pub returns-in_err-make_entries-clause-told : goal.returns-in_err-make_entries-clause-told
-returns-in_err-make_entries-clause-told g c = ?
+returns-in_err-make_entries-clause-told g c =
+    let p = pair_at_first c.args.a.now (charges_of c.args.a_trace.now.charges) c.args.b.now (charges_of c.args.b_trace.now.charges) c.args.air.now in
+    let listener = listener_first _ _ _ _ _ _ _ c.stepwise-b.ensures.state c.stepwise-b.ensures.known c.answer_place.ensures c.events_taken.ensures
+    c.new-listener.ensures in
+    let shows = shows_first _ p c.args.a_watch.now c.args.b_watch.now c.stepwise-a.ensures.state c.stepwise-b.ensures.state refl refl refl
+    c.stepwise-a.ensures.known c.stepwise-b.ensures.known listener in
+    let begun = bounds_told p c.args.a_watch.now c.args.b_watch.now c.args.schedule.now _ _ _ c.in_ok-write_bound.ensures.bytes.whole
+    c.in_ok-write_bound-2.ensures.bytes.whole in
+    told_partly p _ _ _ _ _ _ _ c.from_residual-in_err-make_entries.ensures.0 begun
+    (rw c.entries.ensures.value at (c.in_err-make_entries.ensures.done p (known_at_first c.args.a_watch.now c.args.b_watch.now) shows))
 
 pub returns-clause-told : goal.returns-clause-told
-returns-clause-told g c = ?
+returns-clause-told g c =
+    let p = pair_at_first c.args.a.now (charges_of c.args.a_trace.now.charges) c.args.b.now (charges_of c.args.b_trace.now.charges) c.args.air.now in
+    let listener = listener_first _ _ _ _ _ _ _ c.stepwise-b.ensures.state c.stepwise-b.ensures.known c.answer_place.ensures c.events_taken.ensures
+    c.new-listener.ensures in
+    let shows = shows_first _ p c.args.a_watch.now c.args.b_watch.now c.stepwise-a.ensures.state c.stepwise-b.ensures.state refl refl refl
+    c.stepwise-a.ensures.known c.stepwise-b.ensures.known listener in
+    let begun = bounds_told p c.args.a_watch.now c.args.b_watch.now c.args.schedule.now _ _ _ c.in_ok-write_bound.ensures.bytes.whole
+    c.in_ok-write_bound-2.ensures.bytes.whole in
+    told_all p _ _ _ _ _ _ _ _ _ begun
+    (rw c.entries.ensures.value at (c.in_ok-make_entries.ensures.done p (known_at_first c.args.a_watch.now c.args.b_watch.now) shows))
+    (rw c.accepted_events.ensures at c.write_last.ensures.bytes)
