@@ -1,5 +1,7 @@
 -- What tasks cost, as the code's laws take it: for each any number that has its cycles, so that the same proof has the bound and the need.
-use Rattle.std.proofs.Common.{◌≡◌, ◌<◌, ◌≤◌, ◌+◌, ℕ, zero, suc, true, List, [], ◌∷◌, length, map, Some, slice_get, refl, sym, ap, ◌∙◌, subst, arith}
+use Rattle.std.proofs.Common.{◌≡◌, ◌<◌, ◌≤◌, ◌+◌, ℕ, true, List, [], ◌∷◌, length, sym, ap, ◌∙◌, subst, arith}
+use Rattle.std.specs.Option.{option_map}
+use Rattle.std.proofs.lemmas.Option.{slice_get-map}
 use Rattle.fram_board.specs.Effects.{Effect, Store}
 use Rattle.machine_effects.specs.World.{World, put, fram_after, world_after, world_after_one}
 use Rattle.machine_effects.specs.Inputs.{Inputs, InputsAreWords}
@@ -7,7 +9,7 @@ use Rattle.machine_effects.proofs.Interface.{fram_after-append}
 use Rattle.code_forms.specs.Forms.{Core}
 use Rattle.crash_rules.proofs.Interface.{world_fram}
 use Rattle.cost_bound.specs.Summaries.{summaries}
-use Rattle.cost_bound.specs.Allowance.{list_of}
+use Rattle.cost_bound.specs.Allowance.{CheckedTask, list_of}
 use Rattle.cost_bound.specs.Counts.{emits_of}
 use Rattle.war_analysis.proofs.Interface.{element}
 use Rattle.source_values.specs.Runs.{CheckedProgram, State, task_body}
@@ -79,17 +81,11 @@ pub programs_are : (p : CheckedProgram) (l : MemoryMap) → CanRun p l → lengt
 programs_are p l r = let a = programs_count l.tasks (lowered l p) r.fits.tasks in a ∙ r.count
 
 -- so each program is a task's
-of_task : (p : CheckedProgram) (l : MemoryMap) → CanRun p l → (k : ℕ) → k < length (lowered l p) → k < length p.tasks
+pub of_task : (p : CheckedProgram) (l : MemoryMap) → CanRun p l → (k : ℕ) → k < length (lowered l p) → k < length p.tasks
 of_task p l r k h = let n = programs_are p l r in omega (arith, h, n)
 
 abbrev pub are_whole : (p : CheckedProgram) (l : MemoryMap) → CanRun p l → ProgramsAreWhole l.runtime.events (lowered l p)
 are_whole p l r = record { whole = λ k h. r.programs.whole k (of_task p l r k h); of_words = λ k h. r.programs.of_words k (of_task p l r k h) }
-
--- what a function makes of the elements of a list, by their number
-of_each : {A B : Type 0} (f : A → B) (xs : List A) (k : ℕ) (x : A) → slice_get xs k ≡ Some x → slice_get (map f xs) k ≡ Some (f x)
-of_each f [] k x e = absurd (cc (e))
-of_each f (y ∷ xs) zero x e = let d : y ≡ x = cc e in ap (λ z. Some (f z)) d
-of_each f (y ∷ xs) (suc k) x e = of_each f xs k x e
 
 -- and each has its stack
 pub has_stack : (p : CheckedProgram) (l : MemoryMap) (r : CanRun p l) (k : ℕ) (named : k < length (lowered l p))
@@ -97,13 +93,14 @@ pub has_stack : (p : CheckedProgram) (l : MemoryMap) (r : CanRun p l) (k : ℕ) 
 has_stack p l r k named =
     let below = of_task p l r k named in
     let count = r.count in
+    let low : CheckedTask → ℕ = stack_low l.runtime.events (summaries p) in
     let task = element p.tasks k below in
     let place = element l.tasks k (omega (arith, below, count)) in
     record {
       place = place.0;
       at = place.1;
-      low = stack_low l.runtime.events (summaries p) task.0;
-      is_low = of_each (stack_low l.runtime.events (summaries p)) p.tasks k task.0 task.1;
+      low = low task.0;
+      is_low = slice_get-map low p.tasks k ∙ ap (option_map low) task.1;
       lowest = r.stacks k below task.0 task.1;
     }
 

@@ -29,7 +29,7 @@ use Rattle.compiled_runs.specs.Laws.{CodeIsPlaced, RunsLeaveTheCode}
 use Rattle.compiled_runs.proofs.Bound.{code_keeps_the_laws}
 
 -- the code stands in FRAM, and goes astray where SP leaves its stack
-abbrev pub code_is_placed : CodeIsPlaced
+pub code_is_placed : CodeIsPlaced
 code_is_placed p l f =
     let k = linked_is_code l (lowered l p) f in
     let a = apart_of l f.rules in
@@ -53,6 +53,7 @@ code_is_placed p l f =
 
 -- so its registers may be as they are where SP keeps to the stacks
 pub placed_keeps_stacks : (p : CheckedProgram) (l : MemoryMap) (f : CodeFits l (lowered l p)) → (code_is_placed p l f).may ≡ keeps_stacks l (stack_lows p l)
+unfolding code_is_placed
 placed_keeps_stacks p l f = refl
 
 -- all that a run does stores in front of the code, or at a word that counts events
