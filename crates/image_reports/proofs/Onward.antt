@@ -437,12 +437,12 @@ module _ (onward : Onward) where
 
     -- the handler is no code of a task
     kept_by : StandsAs t st.u → StackIsKept p l t
-    kept_by (AtCode shows) k task place own at is =
-        stack_is_kept p l new.fits.rules (registers_of t.cpu) k task place own at is
+    kept_by (AtCode shows) k task place is_task is_place inside =
+        stack_is_kept p l new.fits.rules (registers_of t.cpu) k task place is_task is_place inside
         (subst (λ g. keeps_stacks l (stack_lows p l) g ≡ true) shows.registers on_stack)
-    kept_by (stance.InHandler from stage shows interrupted inside) k task place own at is =
-        let high = handler_is_high from t stage inside in
-        let low = below_end p l new.fits.rules (registers_of t.cpu) k task place own at is in
+    kept_by (stance.InHandler from stage shows interrupted handles) k task place is_task is_place inside =
+        let high = handler_is_high from t stage handles in
+        let low = below_end p l new.fits.rules (registers_of t.cpu) k task place is_task is_place inside in
         let end = ready.code.apart.high in
         absurd (omega (arith, high, low, end))
 
