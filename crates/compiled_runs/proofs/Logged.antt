@@ -101,7 +101,7 @@ module _ (p : CheckedProgram) (l : MemoryMap) (logs : l.runtime.logging ≡ Undo
   -- what boot and commit do by themselves the code of the source does under watch
   so : {es : List Effect} {n cycles : ℕ} {u : Core} {P : Core → Type 0} → Comes (around l (lowered l p) r.fits whole) es n cycles u P
       → StackedComes l (lowered l p) (stack_lows p l) es n cycles u P
-  so = under_watch l (lowered l p) r.fits whole (stack_lows p l)
+  so a = under_watch l (lowered l p) r.fits whole (stack_lows p l) a
 
   start_keeps : LoggingContract (program_places p l) (state_view p l) (private_homes l) start
   start_keeps = logging_starts State (program_places p l) (state_view p l) (private_homes l) r.apart r.room (by_undo p l logs r).privates

@@ -75,7 +75,7 @@ module _ (source : Source) where
   -- what boot and commit do by themselves the code of the source does under watch
   so : {es : List Effect} {n cycles : ℕ} {u : Core} {P : Core → Type 0} → Comes (around l (lowered l p) r.fits whole) es n cycles u P
       → StackedComes l (lowered l p) (stack_lows p l) es n cycles u P
-  so = under_watch l (lowered l p) r.fits whole (stack_lows p l)
+  so a = under_watch l (lowered l p) r.fits whole (stack_lows p l) a
 
   -- a board, and the start of an attempt behind it
   record ReachesStart (b : MachineBoard) : Type 0 where
