@@ -49,6 +49,7 @@ pub use Rattle.word_code.specs.Code.{routine_code, light_call, framed_call, give
 pub use Rattle.word_code.specs.Code.{stack_base, stack_set, waiting_behind, waiting_after, step_code, test_code, steps_code, block_code, code_of}
 pub use Rattle.word_code.specs.array_versions.machine_effects.address_space.Limits.{stack_start}
 pub use Rattle.word_code.specs.Laws.{IsEntry, HasJumped, ComesToWithin as ComesTo, StepRoutinesStand, RoutinesStand}
+pub use Rattle.word_code.specs.array_versions.machine_effects.Machine.{Code}
 pub use Rattle.code_paths.specs.Paths.{forward_most}
 pub use Rattle.code_paths.proofs.Interface.{runs_so, starves_so, stands_alone, tidy_alone}
 pub use Rattle.code_costs.specs.Dearest.{bits_in, by_number_most, any_most, flush_most, leaf_most, back_cycles, turn_most, turns_most, step_most, test_most}

@@ -25,7 +25,7 @@ use Rattle.code_costs.proofs.Names.{Divide, Remainder, Plain, LongOperation, any
 use Rattle.word_code.specs.array_versions.declared.operations.LongOperation.TheVariants as with_longs
 use Rattle.code_costs.proofs.Names.{rules_of, IsKept}
 use Rattle.code_costs.proofs.Names.{begun, EachLocal, FitsEvents, IsEntry, Owns, bounds_of, at_start, at_base, uncalled, uncalled_owns, IsFormed}
-use Rattle.code_costs.proofs.Names.{RoutinesStand, StepRoutinesStand, length, with_stack, with_top, dearer_stall, Gives, call, give, called}
+use Rattle.code_costs.proofs.Names.{RoutinesStand, StepRoutinesStand, Code, length, with_stack, with_top, dearer_stall, Gives, call, give, called}
 use Rattle.code_costs.proofs.Names.{called_behind}
 use Rattle.code_costs.proofs.Names.{popped, callee, light_reaches, framed_reaches, give_part, call_room, call_ready, routine_code, light_call, framed_call}
 use Rattle.code_costs.proofs.Names.{give_code, call_most, give_most}
