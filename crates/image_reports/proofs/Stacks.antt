@@ -54,7 +54,7 @@ module _ (may : Registers → Bool) (code : Code) where
   steps_made zero s t h = h
   steps_made (suc n) s t h =
       (elim (watched may (exec code) s) as (λ o. watched may (exec code) s ≡ o → (continued o (going (watched may (exec code)) n)).status ≡ At t
-          → (going (exec code) (suc n) s).status ≡ At t) [
+      → (going (exec code) (suc n) s).status ≡ At t) [
         | Goes es c u ↦ λ e q. ap (λ o. (continued o (going (exec code) n)).status) (step_made s u es c (may s.registers) e) ∙ steps_made n u t q
         | Stops es price x ↦ λ e q. absurd cc
       ]) refl h
@@ -73,10 +73,10 @@ in_regions a from (r ∷ rs) end o e =
     let up = in_order_end (end_of r) rs end o.1 in
     either_true (is_in_region a r) (list_any (is_in_region a) rs) e
     (λ here.
-      let sides = and_parts (nat_le r.address a) _ here in
-      let low = leb-true r.address a sides.0 in
-      let high = ltb-true a (end_of r) sides.1 in
-      (omega (arith, low, start), omega (arith, high, up)))
+    let sides = and_parts (nat_le r.address a) _ here in
+    let low = leb-true r.address a sides.0 in
+    let high = ltb-true a (end_of r) sides.1 in
+    (omega (arith, low, start), omega (arith, high, up)))
     (λ behind. let k = in_regions a (end_of r) rs end o.1 behind in let low = k.0 in (omega (arith, low, start), k.1))
 
 -- and so is one in the code of tasks
@@ -128,16 +128,16 @@ own_stack top pc sp from (u ∷ ts) end o (n ∷ lows) zero t low a b is e =
     let lowest : n ≡ low = cc b in
     either_true (is_in_task pc u && (nat_le n sp && nat_le sp top)) (is_on_some top pc sp ts lows) e
     (λ here.
-      let sides = and_parts (nat_le n sp) (nat_le sp top) (and_parts (is_in_task pc u) _ here).1 in
-      subst (λ m. (m ≤ sp) × (sp ≤ top)) lowest (leb-true n sp sides.0, leb-true sp top sides.1))
+    let sides = and_parts (nat_le n sp) (nat_le sp top) (and_parts (is_in_task pc u) _ here).1 in
+    subst (λ m. (m ≤ sp) × (sp ≤ top)) lowest (leb-true n sp sides.0, leb-true sp top sides.1))
     (λ behind.
-      absurd (no_other pc from u ts end o (subst (λ x. is_in_task pc x ≡ true) (sym same) is) (on_some_task top pc sp ts lows behind)))
+    absurd (no_other pc from u ts end o (subst (λ x. is_in_task pc x ≡ true) (sym same) is) (on_some_task top pc sp ts lows behind)))
 own_stack top pc sp from (u ∷ ts) end o (n ∷ lows) (suc k) t low a b is e =
     either_true (is_in_task pc u && (nat_le n sp && nat_le sp top)) (is_on_some top pc sp ts lows) e
     (λ here. absurd (no_other pc from u ts end o (and_parts (is_in_task pc u) _ here).0 (some_task pc ts k t a is)))
     (λ behind.
-      let s = in_order_split from (code_regions u) (flat_map code_regions ts) end o in
-      own_stack top pc sp s.0 ts end s.2 lows k t low a b is behind)
+    let s = in_order_split from (code_regions u) (flat_map code_regions ts) end o in
+    own_stack top pc sp s.0 ts end s.2 lows k t low a b is behind)
 
 -- where the registers are as they may be
 module _ (p : CheckedProgram) (l : MemoryMap) (rules : IsLaidOut l) (r : Registers) (k : ℕ) (task : CheckedTask) (place : TaskPlace)
