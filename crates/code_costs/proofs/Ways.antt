@@ -23,7 +23,7 @@ use Rattle.code_costs.proofs.Names.{unary, binary, long, unary_cycles, long_cycl
 use Rattle.code_costs.proofs.Names.{Multiply}
 use Rattle.code_costs.proofs.Names.{Divide, Remainder, Plain, LongOperation, any_most}
 use Rattle.word_code.specs.array_versions.declared.operations.LongOperation.TheVariants as with_longs
-use Rattle.code_costs.proofs.Names.{anywhere, rules_of, IsKept, KeepsWithin, keeps_anywhere}
+use Rattle.code_costs.proofs.Names.{rules_of, IsKept}
 use Rattle.code_costs.proofs.Names.{begun, EachLocal, FitsEvents, IsEntry, Owns, bounds_of, at_start, at_base, uncalled, uncalled_owns, IsFormed}
 use Rattle.code_costs.proofs.Names.{RoutinesStand, StepRoutinesStand, Code, length, with_stack, with_top, dearer_stall, Gives, call, give, called}
 use Rattle.code_costs.proofs.Names.{called_behind}
@@ -512,33 +512,32 @@ module _ (z : Setting) (p : Program) (whole : IsWhole p) (of_words : OfWords p) 
 
 -- the code keeps to its dearest way: with events its stack is there at the entry, else it is set where a local stands in RAM
 pub code_keeps_to_its_ways : CodeKeepsToItsWays
-code_keeps_to_its_ways code at p u tidy h routines whole fits o entry = by code.events refl h fits entry
+code_keeps_to_its_ways code at p u tidy h routines whole keeps fits o entry = by code.code.events refl h fits entry
   where
-    keeps : KeepsWithin (anywhere code) p whole
-    keeps = keeps_anywhere code p whole
-
-    by : (events : Bool) → code.events ≡ events → Stands code at (code_of events p) → (events ≡ true → FitsEvents p whole) → IsEntry events at u
-        → let b = behaviour p (started u.fram u.inputs) in ComesTo (anywhere code) (most_spent events p) u b.effects b.end
+    by : (events : Bool) → code.code.events ≡ events → Stands code.code at (code_of events p) → (events ≡ true → FitsEvents p whole) → IsEntry events at u
+        → let b = behaviour p (started u.fram u.inputs) in ComesTo code (most_spent events p) u b.effects b.end
     by true e h fits entry =
-        let b = at_start code p whole (fits refl) in
-        let z = uncalled (anywhere code) tidy u p whole keeps b in
-        steps_keep z p whole o (uncalled_owns (anywhere code) tidy u p whole keeps b) refl (whole.formed, routines) at at
+        let b = at_start code.code p whole (fits refl) in
+        let z = uncalled code tidy u p whole keeps b in
+        steps_keep z p whole o (uncalled_owns code tidy u p whole keeps b) refl (whole.formed, routines) at at
         (forward_most (stack_set true (locals_of p)) 2) h
         (subst (λ b. IsEntry b at u) (sym e) entry)
         (dearer z (omega arith) (nothing_run z (record { at = entry.pc; sp = entry.sp; fram = refl; inputs = refl; ram = refl; work = refl })))
     by false e h fits entry =
-        let b = at_base code p whole e in
-        let z = uncalled (anywhere code) tidy u p whole keeps b in
+        let b = at_base code.code p whole e in
+        let z = uncalled code tidy u p whole keeps b in
         let locals = locals_of p in
         let top = stack_base locals in
         let front = stack_set false locals in
         let mid = at + forms_bytes front in
-        let stays : IsKept (rules_of (anywhere code)) top = (omega arith, omega arith) in
-        let sets : Stands code at front = stands_front code at front (block_code [] p) h in
+        let stays : IsKept (rules_of code) top =
+        (let deep = b.deep in let floor = whole.floor in let low = keeps.low in let within = b.within in let high = keeps.high in
+        (omega arith, omega arith)) in
+        let sets : Stands code.code at front = stands_front code.code at front (block_code [] p) h in
         let y = alone z at front sets in
-        let set : Runs (anywhere code) [] (forward_most front 2) u (HasStack mid top u) =
+        let set : Runs code [] (forward_most front 2) u (HasStack mid top u) =
         runs_there z at front sets entry.pc
         (subst (λ n. Runs y.kept [] 2 u (HasStack (n + forms_bytes front) top u)) entry.pc
         (stack_part y locals u e stays entry.sp (subst (λ n. Stands y.code n front) (sym entry.pc) (stand z at front sets)))) (λ t j. j) in
-        steps_keep z p whole o (uncalled_owns (anywhere code) tidy u p whole keeps b) refl (whole.formed, routines) at mid (forward_most front 2)
-        (stands_back code at front (block_code [] p) h) (subst (λ b. IsEntry b at u) (sym e) entry) set
+        steps_keep z p whole o (uncalled_owns code tidy u p whole keeps b) refl (whole.formed, routines) at mid (forward_most front 2)
+        (stands_back code.code at front (block_code [] p) h) (subst (λ b. IsEntry b at u) (sym e) entry) set

@@ -21,13 +21,11 @@ pub fn code_keeps_to_needs()
 {}
 
 /// The code stands in FRAM, and a power-up comes to the boot where the reset vector says so.
-#[tactic(auto, using(crate::proofs::Leaves::code_is_placed))]
 pub fn code_is_placed()
     ensures { CodeIsPlaced }
 {}
 
 /// From a power-up with GATE 0 and VER not 65535 on, the fifth instruction raises VER.
-#[tactic(auto, using(crate::proofs::Raises::power_ups_raise_version))]
 pub fn power_ups_raise_version()
     ensures { PowerUpsRaiseVersion }
 {}

@@ -14,8 +14,8 @@ use Rattle.function_locals.specs.Locals.{is_light, base_of, all_locals}
 use Rattle.function_locals.specs.Events.{all_light, task_fits, tasks_fit, has_none, fits_events}
 use Rattle.function_locals.proofs.Interface.{locals_stand}
 use Rattle.array_versions.specs.Form.{stack_base}
+use Rattle.linked_code.specs.runtime_code.Addresses.{stack_origin}
 use Rattle.whole_programs.proofs.Rooms.{room_of}
-use Rattle.whole_programs.specs.Laws.{stack_entry}
 use Rattle.whole_programs.proofs.Called.{Stack}
 
 -- ---- lists
@@ -55,7 +55,7 @@ pub record HasEventRoom (top low locals room : ℕ) (framed : Bool) : Type 0 whe
 -- a task's own locals are below a number; its stack has room below them, and above those of all that it calls
 pub record Ground (program : CheckedProgram) (body : CheckedBlock) : Type 0 where
   pub stack : Stack program body
-  pub begins : stack.top ≡ stack_entry (uses_events program)
+  pub begins : stack.top ≡ stack_origin (uses_events program)
   pub locals : ℕ
   pub below : (n : ℕ) → n < 256 → n < block_locals body → base_of (all_locals program.functions) body + n < locals
   pub fits : HasStackRoom (stack_base locals) (room_of body)
@@ -78,7 +78,7 @@ module _ (program : CheckedProgram) (body : CheckedBlock) (few : stack_of (summa
       whole = λ e. absurd (let no : false ≡ true = e in cc);
       light = λ e. light;
     };
-    begins = sym (ap stack_entry takes);
+    begins = sym (ap stack_origin takes);
     locals = 256;
     below = below;
     fits = record { fits = omega arith };
@@ -97,7 +97,7 @@ module _ (program : CheckedProgram) (body : CheckedBlock) (few : stack_of (summa
           whole = λ e. refl;
           light = λ e. absurd (let no : true ≡ false = e in cc);
         };
-        begins = sym (ap stack_entry takes);
+        begins = sym (ap stack_origin takes);
         locals = base + block_locals body;
         below = λ n l own. omega (arith, own);
         fits = record { fits = omega (arith, few, registers) };

@@ -1,6 +1,5 @@
 -- What holds of the word programs of accepted sources.
-use Rattle.std.specs.Prelude.{◌≡◌, ◌≤◌, ℕ, ◌-◌, ◌*◌, Bool, if◌then◌else◌, List, All, Some, slice_get}
-use Rattle.address_space.specs.Limits.{stack_start, stack_top}
+use Rattle.std.specs.Prelude.{◌≡◌, ◌≤◌, ℕ, ◌-◌, ◌*◌, Bool, List, All, Some, slice_get}
 use Rattle.task_ast.specs.Paths.{CheckedProgram, CheckedTask}
 use Rattle.cost_bound.specs.declared.allowance.Allow.{Allow}
 use Rattle.cost_bound.specs.Frames.{stack_of}
@@ -16,6 +15,7 @@ use Rattle.privatise.specs.Layouts.{IsLayoutFor}
 use Rattle.array_versions.specs.Program.{Program}
 use Rattle.array_versions.specs.Form.{IsWhole, FitsTheStack, LocalsBelow, OfWords}
 use Rattle.linked_code.specs.Linked.{CallsAmong}
+use Rattle.linked_code.specs.runtime_code.Addresses.{stack_origin}
 use Rattle.lower.specs.Lowered.{lowered_task, lowered}
 
 -- an accepted text, with a plan and a layout of its source for some runtime
@@ -41,14 +41,10 @@ abbrev pub TasksAreWhole : Type 0
 TasksAreWhole = OfTasks (λ program task l t. FitsTheStack l.runtime.events (lowered_task program.functions l t task.body).own
     × OfWords (lowered_task program.functions l t task.body).own)
 
--- where the stack of compiled code begins
-abbrev pub stack_entry : Bool → ℕ
-stack_entry events = if events then stack_start else stack_top
-
 -- a program fits the stack, and its stack and those of what it calls stay within so many words, of which 16 are left to handlers
 pub record KeepsToWords (events : Bool) (words : ℕ) (p : Program) : Type 0 where
   pub fits : FitsTheStack events p
-  pub floor : stack_entry events - 2 * (words - 16) ≤ fits.whole.bounds.floor
+  pub floor : stack_origin events - 2 * (words - 16) ≤ fits.whole.bounds.floor
 
 -- each task's program keeps to the words of its stack
 abbrev pub TasksKeepTheirStacks : Type 0
