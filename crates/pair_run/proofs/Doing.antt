@@ -22,7 +22,7 @@ pub none_done : (s : Sides) (p : Pair) (k : PairKnown) (old : Option (List ℕ))
 none_done s p k old shows = record { moments = []; behind = p; run = Over p; reaches = GoesOn shows; written = Appends-nil old }
 
 -- one thing is done, where B may accept more
-pub one_done : (s : Sides) (act : PairAction) (p : Pair) (k : PairKnown) (old new : Option (List ℕ)) → length p.hand.accepted < most_words
+abbrev pub one_done : (s : Sides) (act : PairAction) (p : Pair) (k : PairKnown) (old new : Option (List ℕ)) → length p.hand.accepted < most_words
     → Does act p k old new s → DoesAll (act ∷ []) p k old new s
 one_done s act p k old new few d = record {
   moments = d.moments;
@@ -44,7 +44,7 @@ one_partly act p k old new few d = record {
 }
 
 -- something is brought
-pub one_brought : (act : PairAction) (before s : Sides) (p : Pair) (k : PairKnown) (old : Option (List ℕ)) → length p.hand.accepted < most_words
+abbrev pub one_brought : (act : PairAction) (before s : Sides) (p : Pair) (k : PairKnown) (old : Option (List ℕ)) → length p.hand.accepted < most_words
     → IsBrought act before s → Shows before p k → DoesAll (act ∷ []) p k old old s
 one_brought act before s p k old few brought shows =
     let b = brought p k shows in

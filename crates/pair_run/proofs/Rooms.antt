@@ -1,5 +1,5 @@
 -- The counts have room for fewer steps, too.
-use Rattle.std.proofs.Common.{◌≤◌, ◌+◌, if◌then◌else◌, arith, ℕ, Bool, true, false, Option, Some, None}
+use Rattle.std.proofs.Common.{◌≤◌, ◌+◌, if◌then◌else◌, arith, ℕ, Bool, true, false, Option, Some, None, Result, Ok, Err, OnOk}
 use Rattle.fram_board.specs.Gate.{is_decide, is_done}
 use Rattle.board_run.specs.declared.stepwise.StepwiseRun.{StepwiseRun}
 use Rattle.board_run.specs.Stepwise.{HasRoom}
@@ -7,7 +7,7 @@ use Rattle.pair_run.specs.declared.listener.Listener.{Listener}
 use Rattle.pair_run.specs.declared.listener.Progress.{Progress}
 use Rattle.pair_run.specs.declared.sides.Sides.{Sides}
 use Rattle.pair_run.specs.Listening.{with_power_by, power_if, word_behind, raises, consumes_on, consumes, consumes_if, with_step, HasCountsFor}
-use Rattle.pair_run.specs.Sides.{HasRoomForBoth, HasRoomFor}
+use Rattle.pair_run.specs.Sides.{HasRoomForBoth, HasRoomFor, most_steps}
 use Rattle.pair_run.proofs.Listening.{either}
 
 one_less : (r : StepwiseRun) (n m : ℕ) → m ≤ n → HasRoom r n → HasRoom r m
@@ -29,6 +29,12 @@ rooms_less s n m k l fewer less h = record {
 
 pub room_less : (s : Sides) (n m : ℕ) → m ≤ n → HasRoomFor s n → HasRoomFor s m
 room_less s n m less h = rooms_less s n n m m less less h
+
+-- where fewer steps are made than an entry may ask for
+pub room_of_fewer : {T E : Type 0} (r : Result T E) (s t : Sides) (count : ℕ) → count ≤ most_steps
+    → OnOk r ((n : ℕ) → HasRoomFor s (n + count) → HasRoomFor t n) → OnOk r ((n : ℕ) → HasRoomFor s (n + most_steps) → HasRoomFor t n)
+room_of_fewer (Ok x) s t count few room = λ n h. room n (room_less s (n + most_steps) (n + count) (omega (arith, few)) h)
+room_of_fewer (Err e) s t count few room = tt
 
 -- ---- the counts behind a step of the listener
 

@@ -1,6 +1,6 @@
 -- The report of a pair, from its first step to its last line.
-use Rattle.std.proofs.Common.{◌≡◌, ◌<◌, ◌+◌, ◌^◌, ℕ, arith, refl, sym, ◌∙◌, ap, ap₂, subst, List, [], ◌∷◌, ◌++◌, append_assoc, append-nil, length, length-append}
-use Rattle.std.proofs.Common.{Option, Result, Ok, Err, IsErr}
+use Rattle.std.proofs.Common.{◌≡◌, ◌<◌, ◌+◌, ◌^◌, ℕ, arith, refl, sym, ◌∙◌, ap, ap₂, subst, List, [], ◌∷◌, ◌++◌, append_assoc, append-nil}
+use Rattle.std.proofs.Common.{length, length-append, Option, Result, Ok, Err, IsErr}
 use Rattle.std.specs.Io.KnownBytes.{Appends}
 use Rattle.std.proofs.KnownBytes.{Appends-trans}
 use Rattle.alp_io.specs.Sink.{AppendsProperPrefix, Writes}
@@ -96,7 +96,8 @@ module _ (p : Pair) (a b : History) (es : List Entry) (old : Option (List ℕ)) 
   abbrev first : PairKnown
   first = known_at_first a b
 
-  cut_err : {T E : Type 0} (new : Option (List ℕ)) (result : Result T E) (text : List ℕ) → IsErr result → AppendsProperPrefix old new text → Writes old new result text
+  cut_err : {T E : Type 0} (new : Option (List ℕ)) (result : Result T E) (text : List ℕ) → IsErr result → AppendsProperPrefix old new text
+      → Writes old new result text
   cut_err new (Ok x) text e cut = absurd (cc)
   cut_err new (Err x) text e cut = record { whole = tt; part = cut }
 
@@ -122,12 +123,13 @@ module _ (p : Pair) (a b : History) (es : List Entry) (old : Option (List ℕ)) 
   bound_b = prefixed letter_b (bound_lines b.map)
 
   -- A's isn't
-  pub told_cut_a : {T E : Type 0} (new : Option (List ℕ)) (result : Result T E) → IsErr result → AppendsProperPrefix old new bound_a → IsTold p a b es old new result
+  pub told_cut_a : {T E : Type 0} (new : Option (List ℕ)) (result : Result T E) → IsErr result → AppendsProperPrefix old new bound_a
+      → IsTold p a b es old new result
   told_cut_a new result e cut = told_cut new result bound_a bound_b e refl cut
 
   -- or B's
-  pub told_cut_b : {T E : Type 0} (mid new : Option (List ℕ)) (result : Result T E) → IsErr result → Appends old mid bound_a → AppendsProperPrefix mid new bound_b
-      → IsTold p a b es old new result
+  pub told_cut_b : {T E : Type 0} (mid new : Option (List ℕ)) (result : Result T E) → IsErr result → Appends old mid bound_a
+      → AppendsProperPrefix mid new bound_b → IsTold p a b es old new result
   told_cut_b mid new result e whole cut =
       told_cut new result (bound_a ++ bound_b) [] e (sym (append-nil (bound_a ++ bound_b))) (prefix_behind old mid new bound_a bound_b whole cut)
 

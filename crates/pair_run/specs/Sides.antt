@@ -1,5 +1,5 @@
 -- Both sides of a pair as they stand in memory.
-use Rattle.std.specs.Prelude.{◌≡◌, ℕ, nat_lt, List, [], true, false, Option, Some, None, Result, Ok, Err}
+use Rattle.std.specs.Prelude.{◌≡◌, ℕ, nat_lt, List, [], ◌∷◌, true, false, Option, Some, None, Result, Ok, Err}
 use Rattle.std.specs.Io.KnownBytes.{Appends}
 use Rattle.alp_io.specs.Sink.{AppendsProperPrefix}
 use Rattle.alp_io.specs.declared.sink.Failed.{Failed}
@@ -148,6 +148,10 @@ DoesAllSo acts p k old new (Err e) s = DoesAllPartly acts p k old new
 
 abbrev pub AreDone : {T : Type 0} → List PairAction → Sides → Option (List ℕ) → Option (List ℕ) → Result T Failed → Sides → Type 0
 AreDone acts before old new result s = (p : Pair) (k : PairKnown) → Shows before p k → DoesAllSo acts p k old new result s
+
+-- something is brought, unless B has accepted all words that it may
+abbrev pub IsBroughtIn : PairAction → Sides → Sides → Type 0
+IsBroughtIn act before s = (p : Pair) (k : PairKnown) (old : Option (List ℕ)) → Shows before p k → DoesAll (act ∷ []) p k old old s
 
 -- the most steps of a side that an entry asks for
 abbrev pub most_steps : ℕ

@@ -2,8 +2,8 @@
 ghost use Rattle.std.specs.Prelude.{◌≡◌, ℕ, ◌+◌, OnOk};
 ghost use Rattle.alp_io.specs.Count.{HasCause};
 ghost use Rattle.radio_link.specs.declared.entry.Entry.TheVariants.{StepsOfA, StepsOfB, Rounds};
-ghost use Rattle.pair_run.specs.Actions.{actions_of, one_round};
-ghost use Rattle.pair_run.specs.Sides.{IsGoingOn, HasRoomFor, most_steps, AreDone};
+ghost use Rattle.pair_run.specs.Actions.{PacketToB, AcknowledgementToA, actions_of, one_round};
+ghost use Rattle.pair_run.specs.Sides.{IsGoingOn, HasRoomFor, most_steps, AreDone, IsBroughtIn};
 
 use crate::sides::Sides;
 use alp_io::Failed;
@@ -107,6 +107,32 @@ fn make_rounds<S: Holds>(
     Ok(())
 }
 
+// The packet of this place is brought, unless B has accepted all words that it may.
+fn bring_packet(place: u32, sides: &mut Sides<'_, '_, '_>)
+    requires { IsGoingOn sides.old }
+    ensures going { IsGoingOn sides.new }
+    ensures room { (n : ℕ) → HasRoomFor sides.old n → HasRoomFor sides.new n }
+    ensures done { IsBroughtIn (PacketToB place) sides.old sides.new }
+{
+    if sides.is_full() {
+        return;
+    }
+    sides.bring_packet(place);
+}
+
+// The same with an acknowledgement.
+fn bring_ack(place: u32, sides: &mut Sides<'_, '_, '_>)
+    requires { IsGoingOn sides.old }
+    ensures going { IsGoingOn sides.new }
+    ensures room { (n : ℕ) → HasRoomFor sides.old n → HasRoomFor sides.new n }
+    ensures done { IsBroughtIn (AcknowledgementToA place) sides.old sides.new }
+{
+    if sides.is_full() {
+        return;
+    }
+    sides.bring_ack(place);
+}
+
 /// What an entry has done.
 pub fn make_entry<S: Holds>(
     entry: &Entry,
@@ -124,15 +150,11 @@ pub fn make_entry<S: Holds>(
         Entry::StepsOfA(count) => make_steps_of_a(count, sides, sink),
         Entry::StepsOfB(count) => make_steps_of_b(count, sides, sink),
         Entry::BringPacket(place) => {
-            if !sides.is_full() {
-                sides.bring_packet(place);
-            }
+            bring_packet(place, sides);
             Ok(())
         }
         Entry::BringAcknowledgement(place) => {
-            if !sides.is_full() {
-                sides.bring_ack(place);
-            }
+            bring_ack(place, sides);
             Ok(())
         }
         Entry::Rounds(count) => make_rounds(count, sides, sink),

@@ -22,13 +22,14 @@ step_b-requires-clause-room g c = c.in_ok-step_a.ensures.room 0 1 c.requires.roo
 pub returns-in_err-step_a-clause-done : goal.returns-in_err-step_a-clause-done
 returns-in_err-step_a-clause-done g c p k shows =
     all_err _ p k _ _ _ _ c.from_residual.ensures.0
-    (round_partly_a _ c.step_a.new.sides p k _ _ shows (sym c.is_full.ensures ∙ c.if-is_full.false) (c.in_err-step_a.ensures.done p k shows))
+    (round_partly_a _ c.step_a.new.self p k _ _ shows (sym c.is_full.ensures ∙ c.if-is_full.false) (c.in_err-step_a.ensures.done p k shows))
 
 pub returns-in_err-step_b-clause-done : goal.returns-in_err-step_b-clause-done
 returns-in_err-step_b-clause-done g c p k shows =
     let d = c.in_ok-step_a.ensures.done p k shows in
     all_err _ p k _ _ _ _ c.from_residual-in_err-step_b.ensures.0
-    (round_partly_b _ _ p k _ _ shows (sym c.is_full.ensures ∙ c.if-is_full.false) d c.step_b.new.sides _ (c.in_err-step_b.ensures.done d.behind (known_after k d.moments) d.shows))
+    (round_partly_b _ _ p k _ _ shows (sym c.is_full.ensures ∙ c.if-is_full.false) d c.step_b.new.self _
+    (c.in_err-step_b.ensures.done d.behind (known_after k d.moments) d.shows))
 
 pub returns-then-is_full-2-clause-room : goal.returns-then-is_full-2-clause-room
 returns-then-is_full-2-clause-room g c n h = c.in_ok-step_b.ensures.room n n (c.in_ok-step_a.ensures.room n (n + 1) h)
@@ -47,4 +48,6 @@ pub returns-clause-done : goal.returns-clause-done
 returns-clause-done g c p k shows =
     let d = c.in_ok-step_a.ensures.done p k shows in
     let e = c.in_ok-step_b.ensures.done d.behind (known_after k d.moments) d.shows in
-    round_whole _ _ p k _ _ shows (sym c.is_full.ensures ∙ c.if-is_full.false) d _ _ e _ _ (sym c.is_full-2.ensures ∙ c.if-is_full-2.false) c.bring_newest_packet.ensures.brought c.bring_newest_ack.ensures.brought
+    let few = sym c.is_full-2.ensures ∙ c.if-is_full-2.false in
+    round_whole _ _ p k _ _ shows (sym c.is_full.ensures ∙ c.if-is_full.false) d _ _ e _ _ few
+    c.bring_newest_packet.ensures.brought c.bring_newest_ack.ensures.brought

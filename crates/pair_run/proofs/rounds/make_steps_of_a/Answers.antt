@@ -63,4 +63,4 @@ pub returns-clause-room : goal.returns-clause-room
 returns-clause-room g c n h = room_less _ _ _ (omega arith) (c.loop.invariant.room n h)
 
 pub returns-clause-done : goal.returns-clause-done
-returns-clause-done g c p k shows = all_of_them _ _ _ p k _ _ _ (omega arith) (c.loop.invariant.on p k shows)
+returns-clause-done g c p k shows = all_of_them c.loop.counter c.args.count (StepOfA ∷ []) p k _ _ _ (omega arith) (c.loop.invariant.on p k shows)

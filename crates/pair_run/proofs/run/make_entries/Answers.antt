@@ -10,7 +10,7 @@ use Rattle.pair_run.proofs.run.make_entries.Goals as goal
 pub loop-entry-init : goal.loop-entry-init
 loop-entry-init g c = record {
   going = c.requires.going;
-  room = c.requires.room;
+  room = room_less _ _ _ (omega arith) c.requires.room;
   faults = omega arith;
   on = λ p k shows. none_done _ p k _ shows;
 }
@@ -21,19 +21,19 @@ make_entry-requires-clause-room g c = room_less _ _ _ (omega arith) c.loop-entry
 pub returns-then-is_full-clause-done : goal.returns-then-is_full-clause-done
 returns-then-is_full-clause-done g c p k shows =
     let d = c.loop-entry.invariant.on p k shows in
-    entries_rest _ _ p k _ _ _ d (λ acts. rest_full _ acts d.behind (known_after k d.moments) _ d.reaches (sym c.is_full.ensures ∙ c.if-is_full.true))
+    entries_rest c.args.entries.now c.loop-entry.entry-index p k _ _ _ d (λ acts. rest_full _ acts d.behind (known_after k d.moments) _ d.reaches (sym c.is_full.ensures ∙ c.if-is_full.true))
 
 pub returns-then-have_ended-clause-done : goal.returns-then-have_ended-clause-done
 returns-then-have_ended-clause-done g c p k shows =
     let d = c.loop-entry.invariant.on p k shows in
-    entries_rest _ _ p k _ _ _ d (λ acts. rest_ended _ acts d.behind (known_after k d.moments) _ d.reaches (sym c.have_ended.ensures ∙ c.if-have_ended.true))
+    entries_rest c.args.entries.now c.loop-entry.entry-index p k _ _ _ d (λ acts. rest_ended _ acts d.behind (known_after k d.moments) _ d.reaches (sym c.have_ended.ensures ∙ c.if-have_ended.true))
 
 pub returns-in_err-make_entry-clause-done : goal.returns-in_err-make_entry-clause-done
 returns-in_err-make_entry-clause-done g c p k shows =
     let d = c.loop-entry.invariant.on p k shows in
     let on = gone_on _ _ _ d.reaches (sym c.have_ended.ensures ∙ c.if-have_ended.false) in
     all_err _ p k _ _ _ _ c.from_residual.ensures.0
-    (entry_partly _ _ p k _ _ _ d _ c.loop-entry-test.true (c.in_err-make_entry.ensures.done d.behind (known_after k d.moments) on))
+    (entry_partly c.args.entries.now c.loop-entry.entry-index p k _ _ _ d _ c.loop-entry-test.true (c.in_err-make_entry.ensures.done d.behind (known_after k d.moments) on))
 
 pub loop-entry-preserved : goal.loop-entry-preserved
 loop-entry-preserved g c = record {
@@ -43,8 +43,8 @@ loop-entry-preserved g c = record {
   on = λ p k shows.
       let d = c.loop-entry.invariant.on p k shows in
       let on = gone_on _ _ _ d.reaches (sym c.have_ended.ensures ∙ c.if-have_ended.false) in
-      entry_more _ _ p k _ _ _ d _ _ c.loop-entry-test.true (c.in_ok-make_entry.ensures.done d.behind (known_after k d.moments) on);
+      entry_more c.args.entries.now c.loop-entry.entry-index p k _ _ _ d _ _ c.loop-entry-test.true (c.in_ok-make_entry.ensures.done d.behind (known_after k d.moments) on);
 }
 
 pub returns-clause-done : goal.returns-clause-done
-returns-clause-done g c p k shows = entries_end _ _ p k _ _ _ (c.loop-entry.invariant.on p k shows) c.loop-entry-test.false
+returns-clause-done g c p k shows = entries_end c.args.entries.now c.loop-entry.entry-index p k _ _ _ (c.loop-entry.invariant.on p k shows) c.loop-entry-test.false

@@ -25,24 +25,34 @@ returns-in_err-write_bound-2-clause-told g c =
 pub returns-in_err-make_entries-clause-told : goal.returns-in_err-make_entries-clause-told
 returns-in_err-make_entries-clause-told g c =
     let p = pair_at_first c.args.a.now (charges_of c.args.a_trace.now.charges) c.args.b.now (charges_of c.args.b_trace.now.charges) c.args.air.now in
-    let listener = listener_first _ _ _ _ _ _ _ c.stepwise-b.ensures.state c.stepwise-b.ensures.known c.answer_place.ensures c.events_taken.ensures
-    c.new-listener.ensures in
-    let shows = shows_first _ p c.args.a_watch.now c.args.b_watch.now c.stepwise-a.ensures.state c.stepwise-b.ensures.state refl refl refl
+    let a = c.args.a_watch.now in
+    let b = c.args.b_watch.now in
+    let es = c.args.schedule.now in
+    let old = g.S.Sink.contents c.args.sink.now in
+    let half = g.S.Sink.contents c.write_bound.new.sink in
+    let mid = g.S.Sink.contents c.write_bound-2.new.sink in
+    let listener = listener_first c.stepwise-b.result _ _ _ _ _ _ c.stepwise-b.ensures.state c.stepwise-b.ensures.known c.answer_place.ensures
+    c.events_taken.ensures c.new-listener.ensures in
+    let shows = shows_first _ p a b c.stepwise-a.ensures.state c.stepwise-b.ensures.state refl refl refl
     c.stepwise-a.ensures.known c.stepwise-b.ensures.known listener in
-    let begun = bounds_told p c.args.a_watch.now c.args.b_watch.now c.args.schedule.now _ _ _ c.in_ok-write_bound.ensures.bytes.whole
-    c.in_ok-write_bound-2.ensures.bytes.whole in
-    told_partly p _ _ _ _ _ _ _ c.from_residual-in_err-make_entries.ensures.0 begun
-    (rw c.entries.ensures.value at (c.in_err-make_entries.ensures.done p (known_at_first c.args.a_watch.now c.args.b_watch.now) shows))
+    let begun = bounds_told p a b es old half mid c.in_ok-write_bound.ensures.bytes.whole c.in_ok-write_bound-2.ensures.bytes.whole in
+    told_partly p a b es old mid _ _ c.from_residual-in_err-make_entries.ensures.0 begun
+    (rw c.entries.ensures.value at (c.in_err-make_entries.ensures.done p (known_at_first a b) shows))
 
 pub returns-clause-told : goal.returns-clause-told
 returns-clause-told g c =
     let p = pair_at_first c.args.a.now (charges_of c.args.a_trace.now.charges) c.args.b.now (charges_of c.args.b_trace.now.charges) c.args.air.now in
-    let listener = listener_first _ _ _ _ _ _ _ c.stepwise-b.ensures.state c.stepwise-b.ensures.known c.answer_place.ensures c.events_taken.ensures
-    c.new-listener.ensures in
-    let shows = shows_first _ p c.args.a_watch.now c.args.b_watch.now c.stepwise-a.ensures.state c.stepwise-b.ensures.state refl refl refl
+    let a = c.args.a_watch.now in
+    let b = c.args.b_watch.now in
+    let es = c.args.schedule.now in
+    let old = g.S.Sink.contents c.args.sink.now in
+    let half = g.S.Sink.contents c.write_bound.new.sink in
+    let mid = g.S.Sink.contents c.write_bound-2.new.sink in
+    let listener = listener_first c.stepwise-b.result _ _ _ _ _ _ c.stepwise-b.ensures.state c.stepwise-b.ensures.known c.answer_place.ensures
+    c.events_taken.ensures c.new-listener.ensures in
+    let shows = shows_first _ p a b c.stepwise-a.ensures.state c.stepwise-b.ensures.state refl refl refl
     c.stepwise-a.ensures.known c.stepwise-b.ensures.known listener in
-    let begun = bounds_told p c.args.a_watch.now c.args.b_watch.now c.args.schedule.now _ _ _ c.in_ok-write_bound.ensures.bytes.whole
-    c.in_ok-write_bound-2.ensures.bytes.whole in
-    told_all p _ _ _ _ _ _ _ _ _ begun
-    (rw c.entries.ensures.value at (c.in_ok-make_entries.ensures.done p (known_at_first c.args.a_watch.now c.args.b_watch.now) shows))
+    let begun = bounds_told p a b es old half mid c.in_ok-write_bound.ensures.bytes.whole c.in_ok-write_bound-2.ensures.bytes.whole in
+    told_all p a b es old _ mid _ _ _ begun
+    (rw c.entries.ensures.value at (c.in_ok-make_entries.ensures.done p (known_at_first a b) shows))
     (rw c.accepted_events.ensures at c.write_last.ensures.bytes)
