@@ -58,9 +58,11 @@ module _ (before s : Sides) (p : Pair) (k : PairKnown) (shows : Shows before p k
       let b_is : state_of s.b ≡ with_packet_brought one p.b =
       b ∙ ap (λ x. with_packet_brought x (state_of before.b)) (sym is)
       ∙ ap (λ (x : SentValue Packet). with_packet_brought (slice_get x.items place) (state_of before.b)) shows.packets
-      ∙ ap (with_packet_brought one) shows.b in
-      (packet_at place p, Brings p place,
-          shown_b one (with_brought p.packets place) keeps b_is (sent ∙ ap (λ x. with_brought x place) shows.packets))
+      ∙ ap (with_packet_brought one) shows.b in (
+        packet_at place p,
+        Brings p place,
+        shown_b one (with_brought p.packets place) keeps b_is (sent ∙ ap (λ x. with_brought x place) shows.packets),
+      )
 
   -- the newest packet
   pub newest_packet_brings : (o : Option Packet) → KeepsA → newest before.air.now.packets ≡ o
@@ -71,9 +73,11 @@ module _ (before s : Sides) (p : Pair) (k : PairKnown) (shows : Shows before p k
       let b_is : state_of s.b ≡ with_packet_brought one p.b =
       b ∙ ap (λ x. with_packet_brought x (state_of before.b)) (sym is)
       ∙ ap (λ x. with_packet_brought (newest x) (state_of before.b)) shows.packets
-      ∙ ap (with_packet_brought one) shows.b in
-      (newest_packet p, BringsNewest p,
-          shown_b one (with_newest_brought p.packets) keeps b_is (sent ∙ ap with_newest_brought shows.packets))
+      ∙ ap (with_packet_brought one) shows.b in (
+        newest_packet p,
+        BringsNewest p,
+        shown_b one (with_newest_brought p.packets) keeps b_is (sent ∙ ap with_newest_brought shows.packets),
+      )
 
   -- what stays as something is brought to A
   pub record KeepsB : Type 0 where
@@ -111,9 +115,11 @@ module _ (before s : Sides) (p : Pair) (k : PairKnown) (shows : Shows before p k
       let a_is : state_of s.a ≡ with_acknowledgement_brought one p.a =
       a ∙ ap (λ x. with_acknowledgement_brought x (state_of before.a)) (sym is)
       ∙ ap (λ (x : SentValue ℕ). with_acknowledgement_brought (slice_get x.items place) (state_of before.a)) shows.acknowledgements
-      ∙ ap (with_acknowledgement_brought one) shows.a in
-      (acknowledgement_at place p, Acknowledges p place,
-          shown_a one (with_brought p.acknowledgements place) keeps a_is (sent ∙ ap (λ x. with_brought x place) shows.acknowledgements))
+      ∙ ap (with_acknowledgement_brought one) shows.a in (
+        acknowledgement_at place p,
+        Acknowledges p place,
+        shown_a one (with_brought p.acknowledgements place) keeps a_is (sent ∙ ap (λ x. with_brought x place) shows.acknowledgements),
+      )
 
   -- the newest acknowledgement
   pub newest_acknowledgement_brings : (o : Option ℕ) → KeepsB → newest before.air.now.acknowledgements ≡ o
@@ -125,6 +131,8 @@ module _ (before s : Sides) (p : Pair) (k : PairKnown) (shows : Shows before p k
       let a_is : state_of s.a ≡ with_acknowledgement_brought one p.a =
       a ∙ ap (λ x. with_acknowledgement_brought x (state_of before.a)) (sym is)
       ∙ ap (λ x. with_acknowledgement_brought (newest x) (state_of before.a)) shows.acknowledgements
-      ∙ ap (with_acknowledgement_brought one) shows.a in
-      (newest_acknowledgement p, AcknowledgesNewest p,
-          shown_a one (with_newest_brought p.acknowledgements) keeps a_is (sent ∙ ap with_newest_brought shows.acknowledgements))
+      ∙ ap (with_acknowledgement_brought one) shows.a in (
+        newest_acknowledgement p,
+        AcknowledgesNewest p,
+        shown_a one (with_newest_brought p.acknowledgements) keeps a_is (sent ∙ ap with_newest_brought shows.acknowledgements),
+      )

@@ -182,9 +182,9 @@ last_nonempty accepted consumed = omega arith
 lines_nonempty : (front lines last : List ℕ) → 0 < length last → 0 < length (front ++ (lines ++ last))
 lines_nonempty front lines last some = omega (arith, length-append front (lines ++ last), length-append lines last, some)
 
-pub told_settles : {T E : Type 0} (p : Pair) (a b : History) (es : List Entry) (first taken held : Option (List ℕ)) (written result : Result T E)
-    → IsTold p a b es first taken written → Settles first taken held written result → IsTold p a b es first held result
-told_settles p a b es first taken held written result t settles =
+pub told_settles : {T E : Type 0} (p : Pair) (a b : History) (es : List Entry) (begun taken held : Option (List ℕ)) (written result : Result T E)
+    → IsTold p a b es begun taken written → Settles begun taken held written result → IsTold p a b es begun held result
+told_settles p a b es begun taken held written result t settles =
     let k = known_at_first a b in
     record {
       moments = t.moments;

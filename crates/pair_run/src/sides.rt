@@ -274,12 +274,7 @@ fn send_acknowledgement(air: &mut Air, sent: Option<(u16, u16)>)
 }
 
 // A step of B, as far as its words are concerned, told behind it.
-fn progress(
-    b: &StepwiseRun<'_, '_>,
-    done: Stepped,
-    accepted: u64,
-    gate_before: u16,
-) -> Progress
+fn progress(b: &StepwiseRun<'_, '_>, done: Stepped, accepted: u64, gate_before: u16) -> Progress
     ensures { result ≡ progress_in b.now done accepted gate_before }
 {
     Progress {

@@ -18,11 +18,13 @@ returns-in-BringPacket-clause-room g c n h = c.bring_packet.ensures.room n (room
 
 pub returns-in-BringPacket-clause-done : goal.returns-in-BringPacket-clause-done
 returns-in-BringPacket-clause-done g c p k shows =
-    subst (λ e. DoesAll (actions_of e) p k _ _ _) (sym c.in-BringPacket.is) (c.bring_packet.ensures.done p k _ shows)
+    let old = g.S.Sink.contents c.args.sink.now in
+    subst (λ e. DoesAll (actions_of e) p k old old c.bring_packet.new.sides) (sym c.in-BringPacket.is) (c.bring_packet.ensures.done p k old shows)
 
 pub returns-in-BringAcknowledgement-clause-room : goal.returns-in-BringAcknowledgement-clause-room
 returns-in-BringAcknowledgement-clause-room g c n h = c.bring_ack.ensures.room n (room_less _ _ n (omega arith) h)
 
 pub returns-in-BringAcknowledgement-clause-done : goal.returns-in-BringAcknowledgement-clause-done
 returns-in-BringAcknowledgement-clause-done g c p k shows =
-    subst (λ e. DoesAll (actions_of e) p k _ _ _) (sym c.in-BringAcknowledgement.is) (c.bring_ack.ensures.done p k _ shows)
+    let old = g.S.Sink.contents c.args.sink.now in
+    subst (λ e. DoesAll (actions_of e) p k old old c.bring_ack.new.sides) (sym c.in-BringAcknowledgement.is) (c.bring_ack.ensures.done p k old shows)

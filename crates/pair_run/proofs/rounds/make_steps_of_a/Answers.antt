@@ -29,6 +29,9 @@ returns-then-is_full-clause-done g c p k shows =
     rest_of_them c.loop.counter c.args.count (StepOfA ∷ []) p k _ _ _ (omega arith) d
     (λ rest. rest_full _ (repeated rest (StepOfA ∷ [])) d.behind (known_after k d.moments) _ d.reaches (sym c.is_full.ensures ∙ c.if-is_full.true))
 
+pub returns-then-has_ended-clause-room : goal.returns-then-has_ended-clause-room
+returns-then-has_ended-clause-room g c n h = room_less _ _ _ (omega arith) (c.loop.invariant.room n h)
+
 pub returns-then-has_ended-clause-done : goal.returns-then-has_ended-clause-done
 returns-then-has_ended-clause-done g c p k shows =
     let d = c.loop.invariant.on p k shows in
