@@ -1,19 +1,17 @@
 -- Things that are done one after the other, with their lines.
-use Rattle.std.proofs.Common.{◌≡◌, ◌≤◌, ◌<◌, ◌+◌, ◌-◌, ℕ, zero, suc, arith, refl, sym, ◌∙◌, ap, subst, true, List, [], ◌∷◌, ◌++◌, append_assoc}
+use Rattle.std.proofs.Common.{◌≡◌, ◌≤◌, ◌<◌, ◌+◌, ℕ, zero, suc, arith, sym, ◌∙◌, ap, subst, true, List, [], ◌∷◌, ◌++◌, append_assoc}
 use Rattle.std.proofs.Common.{append-nil, length}
-use Rattle.std.proofs.Common.{Option, Result, Ok, Err}
+use Rattle.std.proofs.Common.{Option}
 use Rattle.std.specs.Io.KnownBytes.{Appends}
 use Rattle.std.proofs.KnownBytes.{Appends-nil, Appends-trans}
 use Rattle.alp_io.specs.Sink.{AppendsProperPrefix}
-use Rattle.alp_io.specs.declared.sink.Failed.{Failed}
 use Rattle.board_run.specs.Events.{head_of}
 use Rattle.board_run.specs.Stepwise.{state_of}
 use Rattle.pair_run.specs.declared.sides.Sides.{Sides}
 use Rattle.pair_run.specs.Actions.{PairAction, StepOfA, StepOfB, repeated}
-use Rattle.pair_run.specs.Pair.{Pair, PairMoment, most_words, Acts, PairRun, Over, Then}
-use Rattle.pair_run.specs.Lines.{PairKnown, pair_lines_from, known_after}
-use Rattle.pair_run.specs.Sides.{Shows, Tells, Reaches, GoesOn, HaveEnded, Does, DoesPartly, DoesSo, IsDone, IsBrought, DoesAll, DoesAllPartly}
-use Rattle.pair_run.specs.Sides.{DoesAllSo, AreDone}
+use Rattle.pair_run.specs.Pair.{Pair, most_words, PairRun, Over, Then}
+use Rattle.pair_run.specs.Lines.{PairKnown, known_after}
+use Rattle.pair_run.specs.Sides.{Shows, Reaches, GoesOn, HaveEnded, Does, DoesPartly, IsBrought, DoesAll, DoesAllPartly}
 use Rattle.pair_run.proofs.Lines.{lines_behind, known_both, same_head, prefix_of_longer, prefix_behind}
 use Rattle.pair_run.proofs.Runs.{full_run, run_behind, run_of, idle_a, idle_b, HaveEndedIn, rests}
 

@@ -1,12 +1,11 @@
 -- How things that are done one after the other go on, and where they end early.
-use Rattle.std.proofs.Common.{◌≡◌, ◌≤◌, ◌<◌, ◌+◌, ◌&&◌, nat_le, arith, ℕ, refl, sym, ◌∙◌, ap, ap₂, Bool, true, false, List, [], ◌∷◌, length}
+use Rattle.std.proofs.Common.{◌≡◌, ◌≤◌, ◌<◌, ◌&&◌, nat_le, arith, ℕ, refl, sym, ◌∙◌, ap, Bool, true, false, List, [], ◌∷◌, length}
 use Rattle.std.proofs.Common.{Option, Result, Ok, Err, IsErr}
 use Rattle.std.proofs.lemmas.Bool.Decides.{nat_tests}
 use Rattle.std.proofs.KnownBytes.{Appends-nil}
 use Rattle.alp_io.specs.declared.sink.Failed.{Failed}
 use Rattle.board_run.specs.Events.{head_of}
-use Rattle.board_run.specs.Tally.{tally_of}
-use Rattle.board_run.specs.Stepwise.{state_of, known_of}
+use Rattle.board_run.specs.Stepwise.{state_of}
 use Rattle.pair_run.specs.declared.sides.Sides.{Sides}
 use Rattle.pair_run.specs.Actions.{PairAction, StepOfA, StepOfB, repeated}
 use Rattle.pair_run.specs.Pair.{Pair, most_words}

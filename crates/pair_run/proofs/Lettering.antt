@@ -1,6 +1,5 @@
 -- A step of a side, and a line of its, behind the side's letter.
-use Rattle.std.proofs.Common.{◌≡◌, ℕ, false, List, Option, Result, Ok, Err, subst}
-use Rattle.alp_io.specs.Sink.{Writes}
+use Rattle.std.proofs.Common.{ℕ, false, List, Option, Result, Ok, Err}
 use Rattle.alp_io.specs.declared.sink.Failed.{Failed}
 use Rattle.prefixed_lines.specs.Prefixes.{text_behind, Prefixes}
 use Rattle.board_run.specs.declared.stepwise.Advance.{Advance}

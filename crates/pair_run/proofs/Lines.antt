@@ -1,14 +1,12 @@
 -- The lines of a pair's moments, one stretch behind the other.
-use Rattle.std.proofs.Common.{◌≡◌, ◌<◌, ◌+◌, ℕ, arith, refl, sym, ◌∙◌, ap, subst, List, [], ◌∷◌, ◌++◌, append_assoc, append-nil, length}
+use Rattle.std.proofs.Common.{◌≡◌, ◌<◌, ◌+◌, ℕ, arith, refl, sym, ◌∙◌, ap, subst, List, [], ◌∷◌, ◌++◌, append_assoc, length}
 use Rattle.std.proofs.Common.{length-append, take, Option}
 use Rattle.std.proofs.lemmas.List.{take-append-le}
 use Rattle.std.proofs.Math.Seq.{take-append-add}
 use Rattle.std.specs.Io.KnownBytes.{Appends}
 use Rattle.std.proofs.KnownBytes.{Appends-trans}
 use Rattle.alp_io.specs.Sink.{AppendsProperPrefix}
-use Rattle.fram_board.specs.Run.{Moment}
 use Rattle.board_run.specs.Events.{head_of}
-use Rattle.board_run.specs.History.{noted}
 use Rattle.board_run.proofs.Interface.{after_map}
 use Rattle.pair_run.specs.Pair.{PairMoment, OfA, OfB}
 use Rattle.pair_run.specs.Lines.{PairKnown, known_behind, lines_of, pair_lines_from, known_after}

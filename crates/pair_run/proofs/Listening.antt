@@ -1,12 +1,11 @@
 -- A listener is told what its board's moments say of its words.
-use Rattle.std.proofs.Common.{◌≡◌, ◌==◌, ◌&&◌, nat_lt, nat_le, if◌then◌else◌, arith, ℕ, refl, sym, ◌∙◌, ap, ap₂, subst, Bool, true, false, List, []}
+use Rattle.std.proofs.Common.{◌≡◌, ◌==◌, nat_lt, if◌then◌else◌, arith, ℕ, refl, sym, ◌∙◌, ap, ap₂, subst, Bool, true, false, List, []}
 use Rattle.std.proofs.Common.{◌∷◌, ◌++◌}
-use Rattle.std.proofs.Common.{append_assoc, append-nil, length, length-append, drop, Option, Some, None}
+use Rattle.std.proofs.Common.{append-nil, length, length-append, drop, Option, Some, None}
 use Rattle.std.specs.Prelude.{IfSome}
 use Rattle.std.proofs.Math.Seq.{drop-append_seam, drop-length}
 use Rattle.std.proofs.lemmas.Bool.Decides.{nat_tests}
 use Rattle.image_text.specs.image_map.declared.parts.RingPlaces.{RingPlaces}
-use Rattle.image_text.specs.image_map.MapValue.{MapValue}
 use Rattle.fram_board.specs.declared.events.Heard.{Heard}
 use Rattle.fram_board.specs.declared.events.Heard.TheVariants as heard
 use Rattle.fram_board.specs.declared.board.NextStep.{NextStep}
@@ -14,17 +13,17 @@ use Rattle.fram_board.specs.declared.board.Stepped.{Stepped}
 use Rattle.fram_board.specs.Gate.{is_decide, is_done}
 use Rattle.fram_board.specs.Board.{BoardValue, PowerState, performed, at_boundary}
 use Rattle.fram_board.specs.Run.{Moment, kind_of, moment_of, power_up_of, word_list}
-use Rattle.board_run.specs.History.{History, word_in, noted, gated, behind_instruction, with_words}
-use Rattle.board_run.specs.Events.{Hand, HandEnd, ChangesHead, handed, handed_all, head_of, reads_of, change_ends, head_ends, is_return, return_ends}
+use Rattle.board_run.specs.History.{History, word_in, noted}
+use Rattle.board_run.specs.Events.{Hand, HandEnd, ChangesHead, handed, handed_all, head_of, reads_of, head_ends, is_return, return_ends}
 use Rattle.board_run.specs.Events.{hand_behind}
 use Rattle.board_run.specs.Stepwise.{ring_of, answer_of_ring, events_in}
 use Rattle.board_run.proofs.Interface.{after_map}
 use Rattle.pair_run.specs.declared.listener.Listener.{Listener}
 use Rattle.pair_run.specs.declared.listener.Progress.{Progress}
-use Rattle.pair_run.specs.Consuming.{Consuming, is_written, is_consumed, answers_behind, gate_behind, consuming_anew, consuming_by, consuming_in}
+use Rattle.pair_run.specs.Consuming.{Consuming, answers_behind, gate_behind, consuming_anew, consuming_in}
 use Rattle.pair_run.specs.Consuming.{consuming_behind}
 use Rattle.pair_run.specs.Lines.{PairKnown, accepted_between, known_behind_b}
-use Rattle.pair_run.specs.Listening.{with_power, with_power_by, word_behind, raises, consumes_on, consumes, consumes_if, with_step, accepted_word}
+use Rattle.pair_run.specs.Listening.{with_power, with_power_by, word_behind, consumes_on, consumes, consumes_if, with_step, accepted_word}
 use Rattle.pair_run.specs.Listening.{consuming_so, Listens}
 
 -- ---- the hand

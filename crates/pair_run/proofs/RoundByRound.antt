@@ -3,11 +3,11 @@ use Rattle.std.proofs.Common.{◌≡◌, ◌≤◌, ◌<◌, ◌+◌, ◌-◌, n
 use Rattle.board_run.specs.Events.{head_of}
 use Rattle.pair_run.specs.declared.sides.Sides.{Sides}
 use Rattle.pair_run.specs.Actions.{PairAction, StepOfA, StepOfB, NewestPacketToB, NewestAcknowledgementToA, one_round, repeated}
-use Rattle.pair_run.specs.Pair.{Pair, PairMoment, most_words, Acts, ActsA, ActsB, BringsNewest}
+use Rattle.pair_run.specs.Pair.{Pair, PairMoment, most_words, Acts, ActsA, BringsNewest}
 use Rattle.pair_run.specs.Lines.{PairKnown, known_after}
 use Rattle.pair_run.specs.Sides.{accepted_words, Shows, Does, DoesPartly, IsBrought, DoesAll, DoesAllPartly}
 use Rattle.pair_run.proofs.Doing.{one_done, one_partly, one_brought, all_behind, partly_behind, partly_more, repeated_more}
-use Rattle.pair_run.proofs.Going.{few_in, full_in, rest_full}
+use Rattle.pair_run.proofs.Going.{few_in, rest_full}
 
 -- a step of A leaves the words that B has accepted
 a_leaves_words : (head : Option ℕ) (p q : Pair) (ms : List PairMoment) → Acts head StepOfA p ms q → q.hand ≡ p.hand

@@ -1,15 +1,14 @@
 -- Runs of pairs: one behind the other, and where nothing more happens.
-use Rattle.std.proofs.Common.{◌≡◌, ◌≤◌, ◌<◌, ℕ, zero, suc, arith, refl, sym, ◌∙◌, ap, subst, true, ◌⊎◌, inl, inr, List, [], ◌∷◌, ◌++◌, append_assoc, length}
+use Rattle.std.proofs.Common.{◌≡◌, ◌≤◌, ◌<◌, ℕ, zero, suc, arith, refl, sym, ◌∙◌, subst, true, ◌⊎◌, inl, inr, List, [], ◌∷◌, ◌++◌, append_assoc, length}
 use Rattle.std.proofs.Common.{Option, Some, None, slice_get}
 use Rattle.std.proofs.lemmas.Bool.{cases_lt}
 use Rattle.radio_link.specs.declared.air.Packet.{Packet}
 use Rattle.radio_link.specs.Sent.{newest}
-use Rattle.board_run.specs.Events.{Hand}
 use Rattle.board_run.specs.Stepwise.{RunState, Idle}
 use Rattle.board_run.proofs.Interface.{has_step}
 use Rattle.pair_run.specs.Actions.{PairAction, StepOfA, StepOfB, PacketToB, AcknowledgementToA, NewestPacketToB, NewestAcknowledgementToA, repeated}
 use Rattle.pair_run.specs.Pair.{Pair, PairMoment, most_words, with_packet_brought, with_acknowledgement_brought, packet_at, acknowledgement_at}
-use Rattle.pair_run.specs.Pair.{newest_packet, newest_acknowledgement, behind_a, behind_b}
+use Rattle.pair_run.specs.Pair.{newest_packet, newest_acknowledgement}
 use Rattle.pair_run.specs.Pair.{Acts, ActsA, ActsB, Brings, Acknowledges, BringsNewest, AcknowledgesNewest, PairRun, Over, Full, Then}
 
 -- what is brought to a board leaves whether its run has ended

@@ -11,7 +11,7 @@ use Rattle.fram_board.specs.Board.{BoardValue, PowerState}
 use Rattle.fram_board.specs.Run.{Moment, BoardCharge, power_up_of, moment_of, word_list}
 use Rattle.board_run.specs.declared.stepwise.Advance.{Advance}
 use Rattle.board_run.specs.History.{History, moment_lines, noted, behind_power_up, with_words}
-use Rattle.board_run.specs.Events.{Hand, head_of, hand_behind, hand_after}
+use Rattle.board_run.specs.Events.{Hand, head_of, hand_after}
 use Rattle.board_run.specs.Tally.{tally_of, tally_after}
 use Rattle.board_run.specs.Report.{lines_from, after_all}
 use Rattle.board_run.specs.Stepwise.{RunState, StepsOn, Idle, Makes, Halts, Ends, Powers, behind_power, state_of, known_of, last_done, powers_up}

@@ -1,5 +1,5 @@
 -- The report of a pair, from its first step to its last line.
-use Rattle.std.proofs.Common.{◌≡◌, ◌<◌, ◌+◌, ◌^◌, ℕ, arith, refl, sym, ◌∙◌, ap, ap₂, subst, List, [], ◌∷◌, ◌++◌, append_assoc, append-nil}
+use Rattle.std.proofs.Common.{◌≡◌, ◌<◌, ◌+◌, ◌^◌, ℕ, arith, refl, sym, ◌∙◌, ap, ap₂, subst, List, [], ◌++◌, append_assoc, append-nil}
 use Rattle.std.proofs.Common.{length, length-append, Option, Result, Ok, Err, IsErr}
 use Rattle.std.specs.Io.KnownBytes.{Appends}
 use Rattle.std.proofs.KnownBytes.{Appends-trans}
@@ -12,7 +12,7 @@ use Rattle.fram_board.specs.Board.{BoardValue}
 use Rattle.fram_board.specs.Run.{BoardCharge}
 use Rattle.board_run.specs.History.{History, bound_lines}
 use Rattle.board_run.specs.Events.{no_hand, head_of}
-use Rattle.board_run.specs.Tally.{no_tally, tally_of, words_of}
+use Rattle.board_run.specs.Tally.{no_tally, words_of}
 use Rattle.board_run.specs.Parts.{Known}
 use Rattle.board_run.specs.declared.stepwise.StepwiseRun.{StepwiseRun}
 use Rattle.board_run.specs.Stepwise.{RunState, HasRoom, not_begun, state_of, known_of, ring_of, answer_of_ring, events_in}

@@ -1,6 +1,6 @@
 -- Two boards over a radio. What A sends goes into the air as packets, what B sends as acknowledgements, and a schedule brings them to the other side,
 -- any of them, any number of times, in any order, or never.
-use Rattle.std.specs.Prelude.{ℕ, ◌<◌, ◌≤◌, ◌≡◌, List, [], ◌∷◌, ◌++◌, length, map, slice_get, false, Option, Some, None}
+use Rattle.std.specs.Prelude.{ℕ, ◌<◌, ◌≤◌, List, [], ◌∷◌, ◌++◌, length, map, slice_get, false, Option, Some, None}
 use Rattle.radio_link.specs.declared.air.Packet.{Packet}
 use Rattle.radio_link.specs.Sent.{SentValue, with_sent, with_brought, newest}
 use Rattle.fram_board.specs.Board.{packet_brought, acknowledgement_brought}

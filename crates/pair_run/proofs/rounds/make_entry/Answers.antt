@@ -1,4 +1,4 @@
-use Rattle.std.proofs.Common.{◌+◌, arith, sym, subst}
+use Rattle.std.proofs.Common.{arith, sym, subst}
 use Rattle.pair_run.specs.Actions.{actions_of}
 use Rattle.pair_run.specs.Sides.{DoesAll}
 use Rattle.pair_run.proofs.Rooms.{room_less, room_of_fewer}

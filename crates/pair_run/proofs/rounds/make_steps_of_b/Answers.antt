@@ -1,4 +1,4 @@
-use Rattle.std.proofs.Common.{◌+◌, ◌-◌, arith, [], ◌∷◌, ◌∙◌, sym}
+use Rattle.std.proofs.Common.{arith, [], ◌∷◌, ◌∙◌, sym}
 use Rattle.pair_run.specs.Actions.{StepOfB, repeated}
 use Rattle.pair_run.specs.Lines.{known_after}
 use Rattle.pair_run.proofs.Doing.{none_done, one_done, one_partly}

@@ -1,6 +1,5 @@
-use Rattle.std.proofs.Common.{◌+◌, ◌-◌, ◌*◌, arith, length, ◌∙◌, sym}
+use Rattle.std.proofs.Common.{arith, ◌∙◌, sym}
 use Rattle.pair_run.specs.Lines.{known_after}
-use Rattle.pair_run.specs.Sides.{most_steps}
 use Rattle.pair_run.proofs.Doing.{none_done}
 use Rattle.pair_run.proofs.Going.{gone_on, rest_full, rest_ended, all_err}
 use Rattle.pair_run.proofs.Entries.{entry_more, entry_partly, entries_rest, entries_end}

@@ -1,7 +1,6 @@
-use Rattle.std.proofs.Common.{◌*◌, refl, arith, length}
+use Rattle.std.proofs.Common.{refl, arith}
 use Rattle.board_run.specs.Charges.{charges_of}
 use Rattle.pair_run.specs.Lines.{known_at_first}
-use Rattle.pair_run.specs.Sides.{Shows}
 use Rattle.pair_run.specs.Told.{pair_at_first}
 use Rattle.pair_run.proofs.Starts.{room_first, counts_first, listener_first, shows_first, told_cut_a, told_cut_b, bounds_told, told_partly, told_all}
 use Rattle.pair_run.proofs.run.write_lines.Goals as goal
