@@ -7,7 +7,9 @@ use Rattle.lower.proofs.Names.{step, block_emits, statement_count, choice_count,
 use Rattle.lower.proofs.Names.{Unsigned, Int, Long, runs_go_on_along_paths, PlainOperation, plain_word, stacked, Program, keep, emit_word}
 use Rattle.lower.proofs.Names.{choose, repeat, nothing, joined, WordState, Behaviour, then_on, local_updated, is_place, at_place, stored}
 use Rattle.lower.proofs.Names.{with_local, word_emitted, pushed, way_by_top, tested, behaviour, with_stack, step_behaviour, joined_go_on, joined_assoc}
+use Rattle.lower.proofs.Names.{ShiftOperator, Literal}
 use Rattle.lower.proofs.Names.{decided_by_truth, update_step, write_long, setting, long_setting, updating, of_words, sides_set, scalar_assignment}
+use Rattle.lower.proofs.Names.{doubling, shift_set}
 use Rattle.lower.proofs.Names.{lowered_long, one, write_step, written_array, list_place, store_step, update_element_step, loop_local, assignment}
 use Rattle.lower.proofs.Names.{index_and_value, element_setting, element_updating, element_sides_set, element_assignment, lowered_transition}
 use Rattle.lower.proofs.Names.{lowered_expression, lowered_test, lowered_statement, lowered_choice, lowered_block, lowered_task, lowered_tasks}
@@ -23,7 +25,7 @@ use Rattle.source_values.specs.Statements.{goes_on}
 use Rattle.task_ast.specs.Types.{type_of, joined_type}
 use Rattle.lower.proofs.Declared.{IsTarget, IsLongTarget, IsTargetOf, local_target, target_of, array_target}
 use Rattle.lower.proofs.Addresses.{fram_place, placed, spot_place, first_address}
-use Rattle.lower.proofs.Updates.{is_update, update_goes_on, is_element_update, element_update_goes_on, is_of_words, joined_words}
+use Rattle.lower.proofs.Updates.{is_update, update_goes_on, is_doubling, doubling_goes_on, is_element_update, element_update_goes_on, is_of_words, joined_words}
 use Rattle.cost_bound.specs.Counts.{stores_of}
 use Rattle.lower.proofs.Assigned.{word_value, word_as_value, if_same, if_converted, both_assigned, assigned_as, same_conversion, words_commute}
 use Rattle.lower.proofs.Names.{AdmitsBlock, AdmitsChoice, AdmitsStatement, Answering, IsFit, answered_by, conditions_count, conditions_emit, max}
@@ -398,12 +400,31 @@ module _ (z : Scene) (known : KnownAgree z) where
       (value_taken b here none_spare (one (update_step (code_places z) o x)) next (right_room op a b none_spare room) (right_fits op a b fits)
       (λ v there. update_does o x (behind_value here none_spare there) v target))
 
+  shift_does : (x : Variable) (op : ShiftOperator) (e : CheckedExpression) (k : Literal) (o : Option PlainOperation) {n : ℕ} {count : ℕ → ℕ}
+      (here : Start z n count) → of_words (type_of e) (doubling x op e k.value) ≡ o
+      → HasSpare (t.shift op e k) n count none_spare → Fits (t.shift op e k) → IsTarget z.p z.written x
+      → Sets x (t.shift op e k) here (shift_set (code_places z) z.fs.bodies x op e k o)
+  shift_does x op e k None here is room fits target = setting_does x (t.shift op e k) here room fits target
+  shift_does x op e k (Some o) here is room fits target =
+      let word = is_of_words (type_of e) (doubling x op e k.value) o is in
+      let given : ℕ → Attempt → Outcome = λ v s. goes_on (source.assigned s x 0 v) in
+      let next : ℕ → Attempt → Outcome = λ v s. goes_on (source.assigned s x 0 (plain_word o (word_at s.variables x 0) v)) in
+      let same : (m : Attempt) → if_value (word_value z.fs.meanings e m) next ≡ if_value (word_value z.fs.meanings (t.shift op e k) m) given =
+      λ m. ap (λ r. if_value r next) (word_as_value z.fs.meanings e m word.word)
+      ∙ sym (doubling_goes_on z.fs.meanings x op e k o m (is_doubling x op e k.value o word.is) word.word)
+      ∙ sym (ap (λ r. if_value r given) (word_as_value z.fs.meanings (t.shift op e k) m word.word)) in
+      subst (DoesFrom here (behaviour (shift_set (code_places z) z.fs.bodies x op e k (Some o)) here.w)) (λ j. λ m. same m j)
+      (value_taken e here none_spare (one (update_step (code_places z) o x)) next room (fits.0.0, fits.1, fits.2)
+      (λ v there. update_does o x (behind_value here none_spare there) v target))
+
   -- by the kind of the expression: the first clause makes it a proof by cases
   assignment_does : (x : Variable) (e : CheckedExpression) {n : ℕ} {count : ℕ → ℕ} (here : Start z n count)
       → HasSpare e n count none_spare → Fits e → IsTarget z.p z.written x
       → Sets x e here (assignment (code_places z) z.fs.bodies x e)
   assignment_does x (t.binary op a b) here room fits target =
       sides_do x op a b (of_words (joined_type (type_of a) (type_of b)) (updating x op.operator a b)) here refl room fits target
+  assignment_does x (t.shift op e count) here room fits target =
+      shift_does x op e count (of_words (type_of e) (doubling x op e count.value)) here refl room fits target
   assignment_does x e here room fits target = setting_does x e here room fits target
 
   long_setting_does : (x : Variable) (e : CheckedExpression) {n : ℕ} {count : ℕ → ℕ} (here : Start z n count)

@@ -1,7 +1,7 @@
 -- The programs as they are made, with the bodies of functions in their calls, are those that behave.
 use Rattle.lower.proofs.Names.{◌≡◌, ℕ, ◌%◌, Bool, true, false, List, [], ◌∷◌, Option, Some, None, refl, sym, ap, ◌∙◌, if◌then◌else◌, CheckedExpression}
 use Rattle.lower.proofs.Names.{CheckedValues}
-use Rattle.lower.proofs.Names.{CheckedStatement, CheckedChoice, CheckedBlock, PlacedOperator, UnaryOperator, BinaryOperator, ShiftOperator}
+use Rattle.lower.proofs.Names.{CheckedStatement, CheckedChoice, CheckedBlock, PlacedOperator, UnaryOperator, BinaryOperator, ShiftOperator, Literal}
 use Rattle.lower.proofs.Names.{ShortCircuitOperator, BothHold, OneHolds, WordType, Int, Unsigned, Long, Variable, Shared, Local, Places, RoutinePlace}
 use Rattle.lower.proofs.Names.{routine_of, VariablePlace, Scalar, Array, ArrayPlace, ListPlace, Logging, Redo, Undo, PlainOperation, Step, Test, Program}
 use Rattle.lower.proofs.Names.{nothing}
@@ -13,6 +13,7 @@ use Rattle.lower.proofs.Names.{long_zero, name_lowering, operand_lowering, binar
 use Rattle.lower.proofs.Names.{sides_test, widened_type, lowering, arguments, call_at, call_count, lowered_expression, lowered_long, lowered_test}
 use Rattle.lower.proofs.Names.{read_step, write_step, update_step, write_long, element_read, element_step, own_read, own_write, own_update, stored_array}
 use Rattle.lower.proofs.Names.{list_place, array_place, store_step, update_element_step, updating, of_words, sides_set, setting, long_setting, assignment}
+use Rattle.lower.proofs.Names.{doubling, shift_set}
 use Rattle.lower.proofs.Names.{scalar_assignment, index_and_value, element_setting, element_updating, element_sides_set, element_assignment, emission}
 use Rattle.lower.proofs.Names.{entries, freezing, lowered_transition, lowered_statement, lowered_choice, lowered_block, loop_local}
 use Rattle.std.proofs.Common.{slice_get}
@@ -281,9 +282,15 @@ module _ (p : Places) (os rs : List Program) (bodies : ℕ → Program) (fills :
   sides_set_filled x op a b None = setting_filled x (t.binary op a b)
   sides_set_filled x op a b (Some o) = last_filled (lowered_expression p os b) _ (update_step p o x) (expression_filled b) (update_filled bodies p o x)
 
+  shift_set_filled : (x : Variable) (op : ShiftOperator) (e : CheckedExpression) (count : Literal) (o : Option PlainOperation)
+      → filled bodies (shift_set p os x op e count o) ≡ shift_set p rs x op e count o
+  shift_set_filled x op e count None = setting_filled x (t.shift op e count)
+  shift_set_filled x op e count (Some o) = last_filled (lowered_expression p os e) _ (update_step p o x) (expression_filled e) (update_filled bodies p o x)
+
   -- the first clause makes it a proof by cases
   assignment_filled : (x : Variable) (e : CheckedExpression) → filled bodies (assignment p os x e) ≡ assignment p rs x e
   assignment_filled x (t.binary op a b) = sides_set_filled x op a b (of_words (joined_type (type_of a) (type_of b)) (updating x op.operator a b))
+  assignment_filled x (t.shift op e count) = shift_set_filled x op e count (of_words (type_of e) (doubling x op e count.value))
   assignment_filled x e = setting_filled x e
 
   scalar_filled : (of : WordType) (x : Variable) (e : CheckedExpression) → filled bodies (scalar_assignment p os of x e) ≡ scalar_assignment p rs of x e

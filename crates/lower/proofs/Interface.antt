@@ -8,7 +8,7 @@ pub use Rattle.lower.proofs.Paths.{AreCallable, some_writes, writes_some, privat
 -- A program that takes events where its source uses some admits each task and each function.
 pub use Rattle.lower.proofs.Admits.{tasks_are_admitted, functions_are_admitted}
 -- An assignment in place has the variable on the left side.
-pub use Rattle.lower.proofs.Updates.{IsUpdate, is_update}
+pub use Rattle.lower.proofs.Updates.{IsUpdate, is_update, IsDoubling, is_doubling}
 -- What an entry more of the commit list leaves, and that no run is without a word.
 pub use Rattle.lower.proofs.Transitions.{after_entry}
 pub use Rattle.lower.proofs.Lists.{entered_pairs}

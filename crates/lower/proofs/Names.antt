@@ -71,6 +71,7 @@ pub use Rattle.task_ast.specs.declared.BinaryOperator.{BinaryOperator}
 pub use Rattle.task_ast.specs.declared.PlacedOperator.{PlacedOperator}
 pub use Rattle.task_ast.specs.declared.SharedDeclaration.{SharedDeclaration}
 pub use Rattle.task_ast.specs.declared.ShiftOperator.{ShiftOperator}
+pub use Rattle.task_ast.specs.declared.Literal.{Literal}
 pub use Rattle.task_ast.specs.declared.ShortCircuitOperator.{ShortCircuitOperator}
 pub use Rattle.task_ast.specs.declared.ShortCircuitOperator.TheVariants.{And as BothHold, Or as OneHolds}
 pub use Rattle.task_ast.specs.declared.Stmt.{Stmt}
@@ -145,7 +146,7 @@ pub use Rattle.lower.specs.Lowered.{long_words, long_zero, loop_local, lowered_b
 pub use Rattle.lower.specs.Lowered.{lowered_task, lowered_tasks, lowered_test, lowered_transition, lowering, name_lowering, of_words, one, operand_lowering}
 pub use Rattle.lower.specs.Lowered.{read_long, read_step, scalar_assignment, setting, shift_lowering, sides_lowering, sides_set, sides_test, store_step}
 pub use Rattle.lower.specs.Lowered.{unary_lowering, update_element_step, update_step, updating, value_test, widened_type, widening, word_program, write_long}
-pub use Rattle.lower.specs.Lowered.{write_step, written_array}
+pub use Rattle.lower.specs.Lowered.{doubling, shift_set, write_step, written_array}
 pub use Rattle.lower.specs.Operations.{binary_meaning, long_meaning, long_shift, operand_type, plain_operation, shift_operation}
 pub use Rattle.lower.specs.Runs.{is_followed_by, longer, run_at, runs_from, runs_of}
 pub use Rattle.lower.specs.Seen.{place_seen, places_seen, task_seen}

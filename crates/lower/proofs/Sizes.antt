@@ -3,7 +3,7 @@ use Rattle.lower.proofs.Names.{freeze_events, freezing, nothing, Logging, Redo, 
 use Rattle.lower.proofs.Names.{list_place, stored_array}
 use Rattle.lower.proofs.Names.{◌≡◌, ℕ, ◌+◌, ◌*◌, ◌<◌, ◌≤◌, ◌==◌, Bool, true, false, List, [], ◌∷◌, length, Option, Some, None, refl, sym, ap, arith, nat_le}
 use Rattle.lower.proofs.Names.{if◌then◌else◌, nat_tests, CheckedExpression, CheckedStatement, CheckedChoice, CheckedBlock, WordType, Unsigned, Int, Long}
-use Rattle.lower.proofs.Names.{is_long, binary_type, unary_type, literal_type, UnaryOperator, BinaryOperator, PlacedOperator, ShiftOperator}
+use Rattle.lower.proofs.Names.{is_long, binary_type, unary_type, literal_type, UnaryOperator, BinaryOperator, PlacedOperator, ShiftOperator, Literal}
 use Rattle.lower.proofs.Names.{ShortCircuitOperator, BothHold, OneHolds, Variable, Shared, Local, width_least, cycles_column, words_column, operator_price}
 use Rattle.lower.proofs.Names.{Summary, expression_price, statement_price, conditions_price, blocks_price, block_price, Negate, Complement, Plain}
 use Rattle.lower.proofs.Names.{PlainOperation}
@@ -16,6 +16,7 @@ use Rattle.lower.proofs.Names.{long_meaning, long_shift, BlocksKeepToWords, one,
 use Rattle.lower.proofs.Names.{store_step, Lowering, as_word, as_test, as_bits, as_long, word_program, value_test, widening, long_words, long_program}
 use Rattle.lower.proofs.Names.{name_lowering, unary_lowering, long_zero, operand_lowering, answer, long_binary_lowering, sides_lowering, shift_lowering}
 use Rattle.lower.proofs.Names.{update_step, setting, long_setting, updating, of_words, sides_set, scalar_assignment, widened_type, lowered_long}
+use Rattle.lower.proofs.Names.{doubling, shift_set}
 use Rattle.lower.proofs.Names.{index_and_value, element_setting, update_element_step, element_updating, element_sides_set, binary_lowering, sides_test}
 use Rattle.lower.proofs.Names.{lowering, assignment, element_assignment, emission, entries, lowered_transition, lowered_expression, lowered_test}
 use Rattle.lower.proofs.Names.{lowered_statement, lowered_choice, lowered_block}
@@ -463,10 +464,20 @@ module _ (known : List Summary) (rs : List Program) (cheap : BodiesKeep known rs
       let h = (lowering_has known rs cheap p s b).word in
       (omega (arith, c, l, h), omega (arith, c, l, h))
 
+  shift_set_keeps : (p : Places) (s : ℕ) (x : Variable) (op : ShiftOperator) (e : CheckedExpression) (count : Literal) (o : Option PlainOperation)
+      → Keeps (shift_set p rs x op e count o) (beside 24 40 (price known s (t.shift op e count)))
+  shift_set_keeps p s x op e count None = setting_keeps p s x (t.shift op e count)
+  shift_set_keeps p s x op e count (Some o) =
+      let l = added (lowered_expression p rs e) (one (update_step p o x)) in
+      let c = update_costs p o x in
+      let h = (lowering_has known rs cheap p s e).word in
+      (omega (arith, c, l, h), omega (arith, c, l, h))
+
   -- the first clause makes it a proof by cases
   pub assignment_keeps : (p : Places) (s : ℕ) (x : Variable) (e : CheckedExpression) → Keeps (assignment p rs x e) (beside 24 40 (price known s e))
   assignment_keeps p s x (t.binary op a b) =
       sides_set_keeps p s x op a b (of_words (joined_type (type_of a) (type_of b)) (updating x op.operator a b))
+  assignment_keeps p s x (t.shift op e count) = shift_set_keeps p s x op e count (of_words (type_of e) (doubling x op e count.value))
   assignment_keeps p s x e = setting_keeps p s x e
 
   long_setting_keeps : (p : Places) (s : ℕ) (x : Variable) (e : CheckedExpression) → Keeps (long_setting p rs x e) (beside 40 80 (price known s e))

@@ -2,14 +2,16 @@
 use Rattle.lower.proofs.Names.{List, [], ◌≡◌, ℕ, Bool, true, false, not, ◌&&◌, ◌||◌, Option, Some, None, refl, sym, ap, subst, ◌∙◌, if◌then◌else◌, eqb-true}
 use Rattle.lower.proofs.Names.{and_parts}
 use Rattle.lower.proofs.Names.{CheckedExpression, WordType, Unsigned, Int, Long, BinaryOperator, Variable, Shared, Local, VariableName, PlacedOperator}
+use Rattle.lower.proofs.Names.{ShiftOperator, Literal, ◌+◌, ◌*◌, ◌%◌, ◌==◌, arith}
 use Rattle.lower.proofs.Names.{IsOneWord, by_one_word, joined_word, ◌>>?◌, Evaluated, gives, made_of, word_at, scalar_value, binary_value, binary_result}
 use Rattle.lower.proofs.Names.{value_of, scalar_word, value_keeps, Outcome, if_value, with_value, PlainOperation, plain_word, plain_operation, is_same}
-use Rattle.lower.proofs.Names.{has_call, is_settled, shift_result, truth_word, unary_result, is_name, updating, of_words, is_number, are_alike}
+use Rattle.lower.proofs.Names.{has_call, is_settled, shift_result, truth_word, unary_result, is_name, updating, doubling, of_words, is_number, are_alike}
 use Rattle.lower.proofs.Names.{element_updating}
 use Rattle.source_values.specs.Values.{Attempt, Meaning, joined_type, type_of}
 use Rattle.source_values.specs.Statements.{goes_on, assigned}
 use Rattle.task_ast.specs.Tree as t
 use Rattle.task_ast.specs.declared.BinaryOperator.TheVariants as operator
+use Rattle.task_ast.specs.declared.ShiftOperator.TheVariants as shift_operator
 use Rattle.array_versions.specs.declared.operations.PlainOperation.TheVariants as plain
 
 -- an operation that is one of words
@@ -170,6 +172,28 @@ plain_result : (op : BinaryOperator) (o : PlainOperation) (s of : WordType) (a b
 plain_result op o s of a b of_left of_right h =
     by_one_word (joined_type s of) _ _ (joined_word s of of_left of_right) ∙ plain_value op o (joined_type s of) a b h
 
+-- a shift of the variable alone, by one bit to the left
+pub record IsDoubling (x : Variable) (op : ShiftOperator) (e : CheckedExpression) (k : ℕ) (o : PlainOperation) : Type 0 where
+  pub name : VariableName
+  pub is : e ≡ t.name name
+  pub same : name.variable ≡ x
+  pub left : op ≡ shift_operator.Left
+  pub once : k ≡ 1
+  pub sum : o ≡ plain.Add
+
+-- where it isn't the variable, or another count of bits, there is none
+by_bits : (may : Bool) (x : Variable) (y : VariableName) (k : ℕ) (o : PlainOperation) → (is_same x y.variable && (k == 1)) ≡ may
+    → (if may then Some plain.Add else None) ≡ Some o → IsDoubling x shift_operator.Left (t.name y) k o
+by_bits true x y k o is h =
+    let both = and_parts (is_same x y.variable) (k == 1) is in
+    record { name = y; is = refl; same = same_variable x y.variable both.0; left = refl; once = eqb-true k 1 both.1; sum = cc }
+by_bits false x y k o is h = absurd (cc)
+
+pub is_doubling : (x : Variable) (op : ShiftOperator) (e : CheckedExpression) (k : ℕ) (o : PlainOperation) → doubling x op e k ≡ Some o
+    → IsDoubling x op e k o
+is_doubling x shift_operator.Left (t.name y) k o h = by_bits (is_same x y.variable && (k == 1)) x y k o refl h
+is_doubling x op e k o h = absurd (cc)
+
 -- an assignment to a word of a variable goes on with what the operation does, the word on the left side being that before the right side is
 -- evaluated
 updated_value : (fs : List Meaning) (x : Variable) (i : ℕ) (b : CheckedExpression) (m : Attempt) (f : ℕ → ℕ) (o : PlainOperation)
@@ -200,6 +224,38 @@ update_goes_on fs x op a b o m u of_left of_right =
     same v =
         ap (λ n. binary_result op.operator u.name.word_type (type_of b) n v) (scalar_word m.variables u.name one ∙ ap (λ y. word_at m.variables y 0) u.same)
         ∙ plain_result op.operator o u.name.word_type (type_of b) (word_at m.variables x 0) v one of_right u.operation
+
+-- a word shifted by one bit to the left is the sum of it and itself
+doubled_value : (of : WordType) (w : ℕ) → IsOneWord of → shift_result shift_operator.Left of w 1 ≡ plain_word plain.Add w w
+doubled_value of w one =
+    let twice : w * 2 ≡ w + w = omega arith in
+    by_one_word of _ _ one ∙ ap (λ n. n % 65536) twice
+
+pub doubling_goes_on : (fs : List Meaning) (x : Variable) (op : ShiftOperator) (e : CheckedExpression) (count : Literal) (o : PlainOperation) (m : Attempt)
+    → IsDoubling x op e count.value o → IsOneWord (type_of e)
+    → with_value fs (t.shift op e count) m (λ v s. goes_on (assigned s x 0 v))
+    ≡ with_value fs e m (λ v s. goes_on (assigned s x 0 (plain_word o (word_at s.variables x 0) v)))
+doubling_goes_on fs x op e count o m u of_word =
+    ap (λ f. with_value fs (t.shift op f count) m (λ v s. goes_on (assigned s x 0 v))) u.is
+    ∙ ap (λ v. goes_on (assigned m x 0 v)) same
+    ∙ sym (ap (λ f. with_value fs f m (λ v s. goes_on (assigned s x 0 (plain_word o (word_at s.variables x 0) v)))) u.is)
+  where
+    one : IsOneWord u.name.word_type
+    one = subst (λ f. IsOneWord (type_of f)) u.is of_word
+
+    word : ℕ
+    word = scalar_value m.variables u.name
+
+    its_word : word ≡ word_at m.variables x 0
+    its_word = scalar_word m.variables u.name one ∙ ap (λ y. word_at m.variables y 0) u.same
+
+    same : shift_result op u.name.word_type word count.value ≡ plain_word o (word_at m.variables x 0) word
+    same =
+        ap (λ p. shift_result p u.name.word_type word count.value) u.left
+        ∙ ap (λ k. shift_result shift_operator.Left u.name.word_type word k) u.once
+        ∙ doubled_value u.name.word_type word one
+        ∙ ap (λ n. plain_word plain.Add n word) its_word
+        ∙ ap (λ p. plain_word p (word_at m.variables x 0) word) (sym u.sum)
 
 -- what an assignment to an element goes on with, where the index is evaluated first
 abbrev pub stored_value : List Meaning → Variable → CheckedExpression → ℕ → Attempt → Outcome

@@ -11,6 +11,8 @@ use Rattle.task_ast.specs.declared.UnaryOperator.TheVariants as unary_operator
 use Rattle.task_ast.specs.declared.BinaryOperator.{BinaryOperator}
 use Rattle.task_ast.specs.declared.PlacedOperator.{PlacedOperator}
 use Rattle.task_ast.specs.declared.ShiftOperator.{ShiftOperator}
+use Rattle.task_ast.specs.declared.ShiftOperator.TheVariants as shift_operator
+use Rattle.task_ast.specs.declared.Literal.{Literal}
 use Rattle.task_ast.specs.declared.ShortCircuitOperator.{ShortCircuitOperator}
 use Rattle.task_ast.specs.declared.ShortCircuitOperator.TheVariants.{And as BothHold, Or as OneHolds}
 use Rattle.task_ast.specs.declared.names.Variable.{Variable}
@@ -21,7 +23,7 @@ use Rattle.source_values.specs.Runs.{CheckedProgram}
 use Rattle.checked_trees.specs.WellFormed.{values_in}
 use Rattle.array_versions.specs.declared.operations.UnaryOperation.TheVariants.{Negate, Complement}
 use Rattle.array_versions.specs.declared.operations.PlainOperation.{PlainOperation}
-use Rattle.array_versions.specs.declared.operations.PlainOperation.TheVariants.{Subtract, And, Xor, Or}
+use Rattle.array_versions.specs.declared.operations.PlainOperation.TheVariants.{Add, Subtract, And, Xor, Or}
 use Rattle.array_versions.specs.declared.operations.BinaryOperation.TheVariants.{Plain}
 use Rattle.array_versions.specs.declared.operations.Comparison.TheVariants.{CommonBit}
 use Rattle.array_versions.specs.declared.operations.LongOperation.TheVariants as with_longs
@@ -310,9 +312,20 @@ abbrev pub sides_set : Places → List Program → Variable → PlacedOperator �
 sides_set p rs x op a b None = setting p rs x (t.binary op a b)
 sides_set p rs x op a b (Some o) = behind (lowered_expression p rs b) (update_step p o x)
 
--- an assignment to a variable of one word; `x = x + e` and its like are in place, since `e` leaves x, where both sides are of one word
+-- the operation that sets a variable to what a shift gives of it and of itself: one bit to the left is a sum
+abbrev pub doubling : Variable → ShiftOperator → CheckedExpression → ℕ → Option PlainOperation
+doubling x shift_operator.Left e k = if is_name x e && (k == 1) then Some Add else None
+doubling x shift_operator.Right e k = None
+
+-- sets a variable to a shift: in place, where an operation does
+abbrev pub shift_set : Places → List Program → Variable → ShiftOperator → CheckedExpression → Literal → Option PlainOperation → Program
+shift_set p rs x op e count None = setting p rs x (t.shift op e count)
+shift_set p rs x op e count (Some o) = behind (lowered_expression p rs e) (update_step p o x)
+
+-- an assignment to a variable of one word; `x = x + e` and its like are in place, since `e` leaves x, where both sides are of one word, and so is `x = x << 1`
 abbrev pub assignment : Places → List Program → Variable → CheckedExpression → Program
 assignment p rs x (t.binary op a b) = sides_set p rs x op a b (of_words (joined_type (type_of a) (type_of b)) (updating x op.operator a b))
+assignment p rs x (t.shift op e count) = shift_set p rs x op e count (of_words (type_of e) (doubling x op e count.value))
 assignment p rs x e = setting p rs x e
 
 -- an assignment, by the type of the variable

@@ -1,12 +1,14 @@
 //! What an assignment in place does: where the left side of its operator is what is assigned.
 ghost use Rattle.std.specs.Prelude.{◌≡◌};
 ghost use Rattle.task_ast.specs.View.{expression_of};
-ghost use Rattle.lower.specs.Lowered.{has_call, is_name, updating, of_words, is_number, are_alike, is_element, element_updating};
+ghost use Rattle.lower.specs.Lowered.{has_call, is_name, updating, doubling, of_words, is_number, are_alike, is_element, element_updating};
 
 use crate::operations::plain_operation;
 use array_versions::PlainOperation;
 use path_sums::is_same;
-use task_ast::{BinaryOperator, Expr, FunctionName, Variable, VariableName, WordType};
+use task_ast::{
+    BinaryOperator, Expr, FunctionName, ShiftOperator, Variable, VariableName, WordType,
+};
 
 // Whether an expression is a variable alone.
 fn is_name(variable: Variable, e: &Expr<VariableName, FunctionName>) -> bool
@@ -56,6 +58,22 @@ pub fn updating(
         plain_operation(op)
     } else {
         None
+    }
+}
+
+/// The operation that sets a variable to what a shift by this count gives of it, where it is given the variable twice: one bit to the
+/// left is a sum.
+pub fn doubling(
+    variable: Variable,
+    op: ShiftOperator,
+    e: &Expr<VariableName, FunctionName>,
+    count: u16,
+) -> Option<PlainOperation>
+    ensures { result ≡ doubling variable op (expression_of e.now) count }
+{
+    match op {
+        ShiftOperator::Left if is_name(variable, e) && count == 1 => Some(PlainOperation::Add),
+        ShiftOperator::Left | ShiftOperator::Right => None,
     }
 }
 

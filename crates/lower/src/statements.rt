@@ -14,7 +14,7 @@ ghost use Rattle.lower.specs.Lowered.{assignment, scalar_assignment, index_and_v
 ghost use Rattle.lower.specs.Lowered.{lowered_expression, freezing, lowered_transition, lowered_statement, lowered_choice, lowered_block};
 
 use crate::expressions::{append, append_expression, lower_long, lower_test};
-use crate::in_place::{element_updating, of_words, updating};
+use crate::in_place::{doubling, element_updating, of_words, updating};
 use crate::runs::list_entries;
 use array_versions::{ArrayPlace, LoggedPlace, LongOperation, PlainOperation, WordProgram};
 use memory_map::{Logging, RuntimeWord};
@@ -125,7 +125,7 @@ fn set_in_place(
     update(operation, variable, places, program)
 }
 
-// A variable of one word: `x = x + e` and its like are in place, where both sides are of one word.
+// A variable of one word: `x = x + e` and its like are in place, where both sides are of one word, and so is `x = x << 1`.
 fn assign(
     alloc: Global,
     variable: Variable,
@@ -144,6 +144,13 @@ fn assign(
             Some(operation) => set_in_place(alloc, operation, variable, right, places, program),
             None => set(alloc, variable, e, places, program),
         },
+        Expr::Shift(op, operand, count) => match of_words(
+            type_of(operand),
+            doubling(variable, *op, operand, count.value),
+        ) {
+            Some(operation) => set_in_place(alloc, operation, variable, operand, places, program),
+            None => set(alloc, variable, e, places, program),
+        },
         Expr::Number(_)
         | Expr::LongNumber(_)
         | Expr::Name(_)
@@ -152,7 +159,6 @@ fn assign(
         | Expr::NextEvent
         | Expr::Call(..)
         | Expr::Unary(..)
-        | Expr::Shift(..)
         | Expr::ShortCircuit(..) => set(alloc, variable, e, places, program),
     }
 }
