@@ -26,7 +26,6 @@ pub fn code_is_placed()
 {}
 
 /// From a power-up with GATE 0 and VER not 65535 on, the fifth instruction raises VER.
-#[tactic(auto, using(crate::proofs::Raises::power_ups_raise_version))]
 pub fn power_ups_raise_version()
     ensures { PowerUpsRaiseVersion }
 {}
