@@ -11,6 +11,8 @@ use Rattle.task_ast.specs.declared.WordType.TheVariants.{Unsigned, Int, Long}
 use Rattle.task_ast.specs.declared.UnaryOperator.{UnaryOperator}
 use Rattle.task_ast.specs.declared.UnaryOperator.TheVariants.{Negate, Complement, Not}
 use Rattle.task_ast.specs.declared.PlacedOperator.{PlacedOperator}
+use Rattle.task_ast.specs.declared.ShiftOperator.{ShiftOperator}
+use Rattle.task_ast.specs.declared.Literal.{Literal}
 use Rattle.task_ast.specs.declared.ShortCircuitOperator.{ShortCircuitOperator}
 use Rattle.task_ast.specs.declared.ShortCircuitOperator.TheVariants.{And as BothHold, Or as OneHolds}
 use Rattle.task_ast.specs.declared.names.Variable.{Variable}
@@ -43,6 +45,7 @@ use Rattle.lower.specs.Lowered.{Lowering, as_word, as_test, as_bits, as_long, on
 use Rattle.lower.specs.Lowered.{element_step, store_step, update_element_step, word_program, value_test, widening, long_words, long_program, unary_lowering}
 use Rattle.lower.specs.Lowered.{long_zero, long_unary_lowering, binary_lowering, answer, long_binary_lowering, sides_test}
 use Rattle.lower.specs.Lowered.{widened_type, lowering, lowered_expression, lowered_long, setting, long_setting, updating, of_words, sides_set}
+use Rattle.lower.specs.Lowered.{doubling, shift_set}
 use Rattle.lower.specs.Lowered.{assignment, index_and_value, element_setting, element_updating, element_sides_set, element_assignment}
 use Rattle.lower.specs.Lowered.{entries, freezing, lowered_transition, lowered_statement, lowered_choice, lowered_block, lowered_tasks}
 use Rattle.lower.specs.Lowered.{arguments, body_at, call_at, call_count, call_step, routine_body, routine_bodies, task_places}
@@ -276,6 +279,12 @@ module _ (counts : List ℕ) (rs : List Program) (few : AreFew counts rs) where
       behind_few (expression_readings counts a + expression_readings counts b) (lowered_expression p rs b) (update_step p o x) (update_none p o x)
       (let value = value_few p b in omega (arith, value))
 
+  shift_set_few : (p : Places) (x : Variable) (op : ShiftOperator) (e : CheckedExpression) (count : Literal) (o : Option PlainOperation)
+      → senses (shift_set p rs x op e count o) ≤ expression_readings counts e
+  shift_set_few p x op e count None = setting_few p x (t.shift op e count)
+  shift_set_few p x op e count (Some o) =
+      behind_few (expression_readings counts e) (lowered_expression p rs e) (update_step p o x) (update_none p o x) (value_few p e)
+
   assignment_few : (p : Places) (x : Variable) (e : CheckedExpression) → senses (assignment p rs x e) ≤ expression_readings counts e
   assignment_few p x (t.binary op a b) = sides_few p x op a b (of_words (joined_type (type_of a) (type_of b)) (updating x op.operator a b))
   assignment_few p x (t.number w) = setting_few p x (t.number w)
@@ -286,7 +295,7 @@ module _ (counts : List ℕ) (rs : List Program) (few : AreFew counts rs) where
   assignment_few p x t.next_event = setting_few p x t.next_event
   assignment_few p x (t.call f values) = setting_few p x (t.call f values)
   assignment_few p x (t.unary op e) = setting_few p x (t.unary op e)
-  assignment_few p x (t.shift op e count) = setting_few p x (t.shift op e count)
+  assignment_few p x (t.shift op e count) = shift_set_few p x op e count (of_words (type_of e) (doubling x op e count.value))
   assignment_few p x (t.short_circuit op a b) = setting_few p x (t.short_circuit op a b)
 
   sides_of_few : (p : Places) (index e : CheckedExpression)

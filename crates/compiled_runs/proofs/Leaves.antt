@@ -1,6 +1,6 @@
 -- A run leaves the code as it is, and stays in it.
 use Rattle.msp_step.specs.declared.machine.Stop.TheVariants as stop
-use Rattle.std.proofs.Common.{◌≡◌, ◌*◌, ◌/◌, ℕ, length, true, refl, inl, inr, ⊎_elim, sym, subst, arith}
+use Rattle.std.proofs.Common.{◌≡◌, ◌*◌, ◌/◌, ℕ, length, refl, inl, inr, ⊎_elim, sym, subst, arith}
 use Rattle.memory_map.proofs.Interface.{apart_of, even_of}
 use Rattle.machine_effects.specs.Machine.{machine_powered}
 use Rattle.code_forms.specs.Forms.{core_of}

@@ -11,6 +11,7 @@ use Rattle.task_ast.specs.declared.WordType.{WordType}
 use Rattle.task_ast.specs.declared.WordType.TheVariants.{Unsigned, Int, Long}
 use Rattle.task_ast.specs.declared.BinaryOperator.{BinaryOperator}
 use Rattle.task_ast.specs.declared.ShiftOperator.{ShiftOperator}
+use Rattle.task_ast.specs.declared.Literal.{Literal}
 use Rattle.task_ast.specs.declared.ShiftOperator.TheVariants as shift_operator
 use Rattle.task_ast.specs.declared.UnaryOperator.{UnaryOperator}
 use Rattle.task_ast.specs.declared.UnaryOperator.TheVariants as unary_operator
@@ -57,6 +58,7 @@ use Rattle.lower.specs.Lowered.{stored_array, element_read, element_step, store_
 use Rattle.lower.specs.Lowered.{word_program, value_test, widening, long_words, long_program, name_lowering, unary_lowering, long_zero, operand_lowering}
 use Rattle.lower.specs.Lowered.{binary_lowering, answer, long_binary_lowering, sides_lowering, shift_lowering, sides_test, widened_type, lowering}
 use Rattle.lower.specs.Lowered.{lowered_expression, lowered_long, lowered_test, setting, updating, of_words, sides_set, assignment, scalar_assignment}
+use Rattle.lower.specs.Lowered.{doubling, shift_set}
 use Rattle.lower.specs.Lowered.{own_read, own_write, own_update, logged_place}
 use Rattle.array_versions.specs.Program.{versioned_write, versioned_update, logged_write, logged_update}
 use Rattle.memory_map.specs.declared.runtime.Logging.{Logging}
@@ -70,7 +72,7 @@ use Rattle.checked_trees.specs.WellFormed.{ExpressionNames, ValuesName}
 use Rattle.whole_programs.proofs.Placed.{PlaceOfWords, PlacesOfWords}
 use Rattle.whole_programs.proofs.Rooms.{IsRoomFor}
 use Rattle.whole_programs.proofs.Fit.{OfCalls, ExpressionEachCall, ValuesEachCall, Setting, IsFitExpression, IsFitStatement, IsFitChoice, IsFitBlock}
-use Rattle.whole_programs.proofs.Fit.{right_fit, first_fit, rest_fit, choice_fit, otherwise_fit, taken_fit, passed_fit}
+use Rattle.whole_programs.proofs.Fit.{right_fit, shifted_fit, first_fit, rest_fit, choice_fit, otherwise_fit, taken_fit, passed_fit}
 
 -- ---- steps of expressions
 
@@ -586,9 +588,16 @@ module _ (p : Places) (rs : List Program) (g : Setting) (G : EachStep p rs g) (w
   sides_set_has x op b c (Some o) h is =
       then_step (lowered_expression p rs c) (update_step p o x) (word_has 0 c (right_fit g 0 op b c is)) (update_has o x h)
 
+  shift_set_has : (x : Variable) (op : ShiftOperator) (e : CheckedExpression) (count : Literal) (o : Option PlainOperation) → IsTarget x
+      → IsFitExpression g 0 (t.shift op e count) → G.of_program (shift_set p rs x op e count o)
+  shift_set_has x op e count None h is = setting_has x (t.shift op e count) h is
+  shift_set_has x op e count (Some o) h is =
+      then_step (lowered_expression p rs e) (update_step p o x) (word_has 0 e (shifted_fit g 0 op e count is)) (update_has o x h)
+
   -- the first clause makes it a proof by cases
   assignment_has : (x : Variable) (e : CheckedExpression) → IsTarget x → IsFitExpression g 0 e → G.of_program (assignment p rs x e)
   assignment_has x (t.binary op b c) h is = sides_set_has x op b c (of_words (joined_type (type_of b) (type_of c)) (updating x op.operator b c)) h is
+  assignment_has x (t.shift op e count) h is = shift_set_has x op e count (of_words (type_of e) (doubling x op e count.value)) h is
   assignment_has x e h is = setting_has x e h is
 
   typed_assignment_has : (of : WordType) (x : Variable) (e : CheckedExpression) → IsTarget x → IsFitExpression g 0 e

@@ -7,6 +7,8 @@ use Rattle.task_ast.specs.Calls.{CallsAreBelow, ValuesCallBelow, StatementCallsB
 use Rattle.task_ast.specs.Paths.{CheckedExpression, CheckedValues, CheckedStatement, CheckedChoice, CheckedBlock, CheckedFunction}
 use Rattle.task_ast.specs.declared.SharedDeclaration.{SharedDeclaration}
 use Rattle.task_ast.specs.declared.PlacedOperator.{PlacedOperator}
+use Rattle.task_ast.specs.declared.ShiftOperator.{ShiftOperator}
+use Rattle.task_ast.specs.declared.Literal.{Literal}
 use Rattle.task_check.specs.Placed.{statement_ends, choice_ends, block_ends}
 use Rattle.cost_bound.specs.Counts.{expression_calls, values_call, statement_calls, choice_calls, block_calls}
 use Rattle.checked_trees.specs.WellFormed.{values_in, HasParameters, ExpressionCounts, ValuesCount, StatementCounts, ChoiceCounts, BlockCounts}
@@ -209,6 +211,10 @@ module _ (g : Setting) where
   right_fit d op b c is =
       let few = is.fits in
       record { formed = is.formed.1; fits = omega (arith, few); names = is.names.1; calls = is.calls.1 }
+
+  -- what is shifted
+  pub shifted_fit : (d : ℕ) (op : ShiftOperator) (e : CheckedExpression) (count : Literal) → IsFitExpression g d (t.shift op e count) → IsFitExpression g d e
+  shifted_fit d op e count is = record { formed = is.formed.0; fits = is.fits; names = is.names; calls = is.calls }
 
   pub first_fit : (s : CheckedStatement) (more : CheckedBlock) → IsFitBlock g (t.step s more) → IsFitStatement g s
   first_fit s more is = record {

@@ -13,6 +13,8 @@ use Rattle.task_ast.specs.declared.SharedDeclaration.{SharedDeclaration}
 use Rattle.task_ast.specs.declared.WordType.{WordType}
 use Rattle.task_ast.specs.declared.WordType.TheVariants.{Unsigned, Int, Long}
 use Rattle.task_ast.specs.declared.PlacedOperator.{PlacedOperator}
+use Rattle.task_ast.specs.declared.ShiftOperator.{ShiftOperator}
+use Rattle.task_ast.specs.declared.Literal.{Literal}
 use Rattle.task_ast.specs.declared.names.Variable.{Variable}
 use Rattle.task_ast.specs.declared.names.Variable.TheVariants.{Shared, Local}
 use Rattle.task_ast.specs.declared.names.VariableName.{VariableName}
@@ -32,7 +34,7 @@ use Rattle.memory_map.specs.Spots.{Places, routine_of}
 use Rattle.lower.specs.Lowered.{one, write_step, write_long, store_step}
 use Rattle.lower.specs.Lowered.{lowering, lowered_expression, widened_type, lowered_long, assignment}
 use Rattle.lower.specs.Lowered.{scalar_assignment}
-use Rattle.lower.specs.Lowered.{update_step, setting, long_setting, updating, of_words, sides_set}
+use Rattle.lower.specs.Lowered.{update_step, setting, long_setting, updating, doubling, of_words, sides_set, shift_set}
 use Rattle.lower.specs.Lowered.{update_element_step, index_and_value, element_updating, element_sides_set, element_assignment}
 use Rattle.array_versions.specs.Program.{freeze_events}
 use Rattle.lower.specs.Lowered.{own_write, own_update, stored_array, list_place}
@@ -43,7 +45,7 @@ use Rattle.memory_map.specs.declared.runtime.Logging.TheVariants.{Redo, Undo}
 use Rattle.lower.specs.Lowered.{call_at, call_step, local_number}
 use Rattle.lower.specs.Lowered.{freezing, loop_local, entries, lowered_transition, lowered_statement, lowered_choice, lowered_block}
 use Rattle.checked_trees.specs.WellFormed.{IsWordName, IsArrayName, WellFormedExpression, WellFormedValues}
-use Rattle.lower.proofs.Interface.{is_update}
+use Rattle.lower.proofs.Interface.{is_update, is_doubling}
 use Rattle.whole_programs.proofs.Placed.{PlacesOfWords}
 use Rattle.whole_programs.proofs.Built.{Leaf, a_number, a_load, a_reading, an_event, a_unary, a_shift, an_element, a_version, a_binary, a_widening, a_join}
 use Rattle.whole_programs.proofs.Built.{a_low_word}
@@ -167,6 +169,11 @@ module _ (p : Places) (rs : List Program) (room : ℕ) (a : ℕ → Bool) where
 -- a well-formed expression with room above so many words, whose locals are assigned
 abbrev Ready : Places → List SharedDeclaration → ℕ → (ℕ → Bool) → ℕ → CheckedExpression → Type 0
 Ready p shared room a d e = FitsAbove shared room d e × Reads (Assigned p a) e
+
+-- so is what is shifted
+shifted_ready : (p : Places) (shared : List SharedDeclaration) (room : ℕ) (a : ℕ → Bool) (d : ℕ) (op : ShiftOperator) (e : CheckedExpression)
+    (count : Literal) → Ready p shared room a d (t.shift op e count) → Ready p shared room a d e
+shifted_ready p shared room a d op e count r = ((r.0.0.0, r.0.1), r.1)
 
 -- so is the right side of an operator
 right_ready : (p : Places) (shared : List SharedDeclaration) (room : ℕ) (a : ℕ → Bool) (d : ℕ) (op : PlacedOperator) (b e : CheckedExpression)
@@ -379,6 +386,17 @@ module _ (p : Places) (rs : List Program) (words : PlacesOfWords p) (functions :
       (expression_way p rs words shared room 0 a e _ (right_ready p shared room a 0 op b e r)
       (update_way a o x.variable next own (write_behind u a x (t.binary op b e) next c h)))
 
+  shift_set_way : (u a : ℕ → Bool) (x : VariableName) (op : ShiftOperator) (e : CheckedExpression) (count : Literal) (o : Option PlainOperation)
+      (next : Place → Type 0) → doubling x.variable op e count.value ≡ o → Ready p shared room a 0 (t.shift op e count) → Covers p u a
+      → Written u x (t.shift op e count) next → EachWay room (shift_set p rs x.variable op e count o) next (at 0 a)
+  shift_set_way u a x op e count None next is r c h = setting_way u a x (t.shift op e count) next r c h
+  shift_set_way u a x op e count (Some o) next is r c h =
+      let double = is_doubling x.variable op e count.value o is in
+      let own : ReadOf (Assigned p a) x.variable = subst (ReadOf (Assigned p a)) double.same (subst (Reads (Assigned p a)) double.is r.1) in
+      joined_way room (lowered_expression p rs e) (one (update_step p o x.variable)) next (at 0 a)
+      (expression_way p rs words shared room 0 a e _ (shifted_ready p shared room a 0 op e count r)
+      (update_way a o x.variable next own (write_behind u a x (t.shift op e count) next c h)))
+
   -- the first clause makes it a proof by cases
   assignment_way : (u a : ℕ → Bool) (x : VariableName) (e : CheckedExpression) (next : Place → Type 0) → Ready p shared room a 0 e → Covers p u a
       → Written u x e next → EachWay room (assignment p rs x.variable e) next (at 0 a)
@@ -388,6 +406,12 @@ module _ (p : Places) (rs : List Program) (words : PlacesOfWords p) (functions :
       by_type Long = setting_way u a x (t.binary op b e) next r c h
       by_type Int = sides_set_way u a x op b e (updating x.variable op.operator b e) next refl r c h
       by_type Unsigned = sides_set_way u a x op b e (updating x.variable op.operator b e) next refl r c h
+  assignment_way u a x (t.shift op e count) next r c h = by_type (type_of e)
+    where
+      by_type : (of : WordType) → EachWay room (shift_set p rs x.variable op e count (of_words of (doubling x.variable op e count.value))) next (at 0 a)
+      by_type Long = setting_way u a x (t.shift op e count) next r c h
+      by_type Int = shift_set_way u a x op e count (doubling x.variable op e count.value) next refl r c h
+      by_type Unsigned = shift_set_way u a x op e count (doubling x.variable op e count.value) next refl r c h
   assignment_way u a x e next r c h = setting_way u a x e next r c h
 
   typed_assignment_way : (u a : ℕ → Bool) (of : WordType) (x : VariableName) (e : CheckedExpression) (next : Place → Type 0) → Ready p shared room a 0 e
