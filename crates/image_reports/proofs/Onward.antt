@@ -64,7 +64,7 @@ use Rattle.image_reports.proofs.HandlerWords.{stage_holds}
 use Rattle.image_reports.proofs.Accounted.{moments_account}
 use Rattle.image_reports.proofs.Cuts.{CutAtPower, Uncut, Cut, cut_at_power, none_serves, own_part, ring_stays}
 use Rattle.image_reports.proofs.Cuts.{encoding_has_words, prepared_bounds, handler_is_closed, two_less}
-use Rattle.image_reports.proofs.Stacks.{may_stand, goes_by_code, steps_made, stack_is_kept, below_end}
+use Rattle.image_reports.proofs.Stacks.{may_stand, goes_by_code, steps_made, stack_is_kept, before_code_end}
 use Rattle.image_reports.proofs.Opens.{opens as machine_opens}
 use Rattle.linked_code.specs.Watch.{keeps_stacks}
 use Rattle.compiled_runs.specs.Program.{stack_lows}
@@ -441,8 +441,8 @@ module _ (onward : Onward) where
         stack_is_kept p l new.fits.rules (registers_of t.cpu) k task place is_task is_place inside
         (subst (λ g. keeps_stacks l (stack_lows p l) g ≡ true) shows.registers on_stack)
     kept_by (stance.InHandler from stage shows interrupted handles) k task place is_task is_place inside =
-        let high = handler_is_high from t stage handles in
-        let low = below_end p l new.fits.rules (registers_of t.cpu) k task place is_task is_place inside in
+        let high = handler_is_high from stage t handles in
+        let low = before_code_end p l new.fits.rules (registers_of t.cpu) k task place is_task is_place inside in
         let end = ready.code.apart.high in
         absurd (omega (arith, high, low, end))
 

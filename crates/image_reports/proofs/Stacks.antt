@@ -158,5 +158,5 @@ module _ (p : CheckedProgram) (l : MemoryMap) (rules : IsLaidOut l) (r : Registe
       record { from = own.0; to = own.1 }
 
   -- the code of tasks ends where all code does
-  pub below_end : r 0 < end_of l.code
-  below_end = (in_tasks (r 0) l.code.address l.tasks (end_of l.code) rules.code in_some).1
+  pub before_code_end : r 0 < end_of l.code
+  before_code_end = (in_tasks (r 0) l.code.address l.tasks (end_of l.code) rules.code in_some).1
