@@ -38,7 +38,7 @@ struct Images {
     b: Image,
 }
 
-fn images(rt: &impl Abort, alloc: Global) -> Result<Images, Fail> {
+fn both_images(rt: &impl Abort, alloc: Global) -> Result<Images, Fail> {
     Ok(Images {
         a: image_of(rt, alloc, SENDER, SENDER_MAP)?,
         b: image_of(rt, alloc, LISTENER, LISTENER_MAP)?,
@@ -118,7 +118,7 @@ fn is_whole(rt: &impl Abort, alloc: Global, report: &[u8]) -> Result<(), Fail> {
 
 #[test]
 fn both_words_come_through(rt: HostRuntime) -> Result<(), Fail> {
-    let images = images(&rt, rt.alloc())?;
+    let images = both_images(&rt, rt.alloc())?;
     for schedule in ["x 20000\n", "x 20000\nd 0\nd 0\nx 2000\n"] {
         let text = report(
             &rt,
@@ -142,7 +142,7 @@ fn nothing_comes_through(rt: HostRuntime) -> Result<(), Fail> {
         b: B,
         schedule: "a 5000\nb 2\n",
     };
-    let images = images(&rt, rt.alloc())?;
+    let images = both_images(&rt, rt.alloc())?;
     let text = report(&rt, rt.alloc(), &images, case)?;
     assert!(rt; text.as_slice() == b"a bound 640\nb bound 872\npair 0 0\n".as_slice());
     Ok(())
@@ -156,7 +156,7 @@ fn ended_runs_stay_so(rt: HostRuntime) -> Result<(), Fail> {
         b: "s 1 0\n",
         schedule: "x 4294967295\na 4294967295\nb 4294967295\n",
     };
-    let images = images(&rt, rt.alloc())?;
+    let images = both_images(&rt, rt.alloc())?;
     let text = report(&rt, rt.alloc(), &images, case)?;
     assert!(rt; text.as_slice() == b"a bound 640\nb bound 872\npair 0 0\n".as_slice());
     Ok(())
@@ -171,7 +171,7 @@ fn last_line(report: &[u8]) -> Result<&str, Fail> {
 // Each packet is brought, and no acknowledgement: A sends one word on and on, and B accepts it once.
 #[test]
 fn only_packets_come_through(rt: HostRuntime) -> Result<(), Fail> {
-    let images = images(&rt, rt.alloc())?;
+    let images = both_images(&rt, rt.alloc())?;
     let mut schedule = String::new(rt.alloc());
     for k in 0..60u32 {
         schedule.push_str(&format!(in rt.alloc(); "a 20\nd {k}\nb 40\n")?)?;
@@ -189,7 +189,7 @@ fn only_packets_come_through(rt: HostRuntime) -> Result<(), Fail> {
 // Packets and acknowledgements come late, the oldest first, and the packets twice.
 #[test]
 fn the_oldest_come_first(rt: HostRuntime) -> Result<(), Fail> {
-    let images = images(&rt, rt.alloc())?;
+    let images = both_images(&rt, rt.alloc())?;
     let mut schedule = String::new(rt.alloc());
     schedule.push_str("a 400\n")?;
     for _ in 0..2u32 {
@@ -213,7 +213,7 @@ fn the_oldest_come_first(rt: HostRuntime) -> Result<(), Fail> {
 // B's power fails behind every fifth of its first 200 steps.
 #[test]
 fn the_listener_is_cut(rt: HostRuntime) -> Result<(), Fail> {
-    let images = images(&rt, rt.alloc())?;
+    let images = both_images(&rt, rt.alloc())?;
     for k in 0..=40u32 {
         let step = 5 * k;
         let trace = format!(in rt.alloc(); "s {step} 3\n{B}")?;
@@ -232,7 +232,7 @@ fn the_listener_is_cut(rt: HostRuntime) -> Result<(), Fail> {
 // is the one reading of its transition.
 #[test]
 fn the_sender_is_cut(rt: HostRuntime) -> Result<(), Fail> {
-    let images = images(&rt, rt.alloc())?;
+    let images = both_images(&rt, rt.alloc())?;
     for k in 0..=30u32 {
         let step = 10 * k;
         let trace = format!(in rt.alloc();
