@@ -1,0 +1,8 @@
+mod Numbers
+mod Fronts
+mod Sides
+mod Moments
+mod Steps
+mod Actions
+mod Telling
+mod Runs
