@@ -99,13 +99,13 @@ standing_takes : (i : Option Instr) (s : MachineBoard) → TakesCycles (standing
 standing_takes (Some i) s = either_takes (looks_there i) _ _ (looking_takes s.inputs.looks s i) (executed_takes None s i)
 standing_takes None s = λ q. absurd (cc (q))
 
-undisturbed_takes : (events : Bool) (i : Option Instr) (s : MachineBoard) (o : MachineOutcome) → TakesCycles o → TakesCycles (undisturbed events i s o)
-undisturbed_takes events i s (Goes es c t) h =
-    either_takes (is_exposed events i s t) (Stops [] 0 (astray s)) (Goes es c t) (λ q. absurd (cc (q))) h
-undisturbed_takes events i s (Stops es price e) h = h
+undisturbed_takes : (events : Bool) (s : MachineBoard) (o : MachineOutcome) → TakesCycles o → TakesCycles (undisturbed events s o)
+undisturbed_takes events s (Goes es c t) h =
+    either_takes (is_exposed events s t) (Stops [] 0 (astray s)) (Goes es c t) (λ q. absurd (cc (q))) h
+undisturbed_takes events s (Stops es price e) h = h
 
 pub code_takes : (code : Code) (s : MachineBoard) → TakesCycles (exec code s)
 code_takes code s =
     let i = code.at (s.registers 0) in
-    undisturbed_takes code.events i s (step_with i s)
+    undisturbed_takes code.events s (step_with i s)
     (either_takes (off_bit s.registers == 1) (Stops [] 0 stop.Off) (standing i s) (λ q. absurd (cc (q))) (standing_takes i s))

@@ -111,7 +111,7 @@ module _ {St : Type 0} (m : Model St) (c : Program) (laws : ModelLaws m) (code :
         let machine : Machine on start (looks_in ms ++ no_look) = record {
           u = p;
           looks = refl;
-          stands = AtCode (record { registers = refl; fram = refl; ram = λ a l even. refl; readings = refl; outnum = refl });
+          stands = AtCode (record { registers = refl; fram = refl; ram = λ a l even known. refl; readings = refl; outnum = refl });
           quiet = λ off. refl;
           handler = ready.handler;
           prepared = λ events accepts. absurd (other_value accepts);

@@ -277,7 +277,7 @@ module _ (onward : Onward) where
   standing_first : Standing b
   standing_first = record {
     u = outside_of b;
-    stands = AtCode (record { registers = refl; fram = refl; ram = λ a even low. refl; readings = refl; outnum = refl });
+    stands = AtCode (record { registers = refl; fram = refl; ram = λ a even low known. refl; readings = refl; outnum = refl });
     quiet = λ off. refl;
     prepared = λ events accepts. absurd (cc accepts);
     goes = begins_on;

@@ -26,7 +26,7 @@ use Rattle.machine_effects.proofs.Worlds.{put_other}
 use Rattle.machine_effects.specs.World.{put}
 use Rattle.machine_effects.specs.Inputs.{Inputs, Look}
 use Rattle.machine_effects.specs.Machine.{MachineBus, machine_bus, machine_word, word_in, word_address, fram_of, ram_of, first_reading, machine_read}
-use Rattle.machine_effects.specs.Machine.{is_readable, ring_read, word_read, word_written}
+use Rattle.machine_effects.specs.Machine.{unknown, is_readable, ring_read, word_read, word_written}
 use Rattle.machine_effects.specs.Machine.{reading_taken, machine_after_read, machine_stored, machine_port_written, machine_written}
 
 -- what is ready on the board's bus, with these looks
@@ -214,7 +214,7 @@ module _ (readings : List ℕ) (looks : List Look) (begun : EventLine) where
       → ReadAlike IsRefused a (Ok (memory_word s a)) (word_read t a)
   words_same s t a h e =
       let at = and_parts (a % 2 == 0) (is_memory a) e in
-      word_by (is_readable t.floor a) a (memory_word s a) (machine_word t a) (ring_read t.ring a) (word_same s t a h at.1) (ring_on t.ring s a h.seen at.0)
+      word_by (is_readable t a) a (memory_word s a) (machine_word t a) (ring_read t.ring a) (word_same s t a h at.1) (ring_on t.ring s a h.seen at.0)
 
   read_on : (b c d : Bool) (a x z : ℕ) (m n p q : Result ℕ Refused) → (b ≡ true → ReadAlike IsRefused a (Ok x) m) → p ≡ q
       → ReadAlike IsRefused a (if b then Ok x else if c then p else if d then Ok z else n) (if b then m else if c then q else Err refused.Bus)
@@ -234,7 +234,7 @@ module _ (readings : List ℕ) (looks : List Look) (begun : EventLine) where
       read_on (is_word a) (a == sensor_port) (a == event_port) a (memory_word s a) (port_word s.line.port) (word_read t a)
       (radio_word s.radio (is_full s.line.port) a) (next_reading s)
       (first_reading t.inputs.readings) (λ e. words_same s t a h e) (next_same s t h)
-  reads_same s t a Byte h = byte_on (is_memory a) (is_readable t.floor a) a (memory_word s a) (machine_word t a) (λ e. word_same s t a h e)
+  reads_same s t a Byte h = byte_on (is_memory a) (is_readable t a) a (memory_word s a) (machine_word t a) (λ e. word_same s t a h e)
 
   -- a reading taken
   drop_next : (xs : List ℕ) (n w : ℕ) (ws : List ℕ) → drop n xs ≡ w ∷ ws → (drop (n + 1) xs ≡ ws) × (n + 1 ≤ length xs)
@@ -390,8 +390,9 @@ module _ (readings : List ℕ) (looks : List Look) (begun : EventLine) where
   either_if false c x z h = tt
 
   -- the word of a byte that is written stands in front of the handler
-  readable_low : (floor a : ℕ) → is_readable floor a ≡ true → is_ram a ≡ false → a < handler_place
-  readable_low floor a h e = ltb-true a handler_place (ap (λ b. cond b (nat_le floor (word_address a)) (nat_lt a handler_place)) (sym e) ∙ h)
+  readable_low : (t : MachineBus) (a : ℕ) → is_readable t a ≡ true → is_ram a ≡ false → a < handler_place
+  readable_low t a h e = ltb-true a handler_place 
+      (ap (λ b. cond b (nat_le t.floor (word_address a) && nat_lt (t.ram (word_address a)) unknown) (nat_lt a handler_place)) (sym e) ∙ h)
 
   byte_stored : (s : BusState) (t : MachineBus) (a v : ℕ) → is_memory a ≡ true → (is_ram a ≡ false → a < handler_place) → SameBus readings looks begun s t
       → SameBus readings looks begun (with_word s a (with_byte (memory_word s a) a v)) (machine_stored t a (with_byte (machine_word t a) a v))
@@ -407,8 +408,8 @@ module _ (readings : List ℕ) (looks : List Look) (begun : EventLine) where
       (λ l. word_stored s t a v (and_parts (a % 2 == 0) (is_memory a) e).1 (λ f. ltb-true a handler_place l) h))
       (port_same (a == number_port) (a == data_port) s t v (t.log ++ Outside (Offered t.outnum v) ∷ []) (answer_written s.radio s a v) h)
   writes_same s t a Byte v h =
-      either_if (is_memory a) (is_readable t.floor a) (with_word s a (with_byte (memory_word s a) a v))
-      (machine_stored t a (with_byte (machine_word t a) a v)) (λ e r. byte_stored s t a v e (readable_low t.floor a r) h)
+      either_if (is_memory a) (is_readable t a) (with_word s a (with_byte (memory_word s a) a v))
+      (machine_stored t a (with_byte (machine_word t a) a v)) (λ e r. byte_stored s t a v e (readable_low t a r) h)
 
   pub buses_alike : AnswerAlikeUnless IsRefused board_bus machine_bus (SameBus readings looks begun)
   buses_alike = record {

@@ -17,8 +17,8 @@ use Rattle.fram_board.specs.Run.{Measure, moment_of, RunOutcome, ChargeRun, acce
 use Rattle.machine_effects.specs.World.{World, fram_after, accepted_after, world_after}
 use Rattle.machine_effects.specs.Inputs.{Look, look_effects}
 use Rattle.machine_effects.specs.Going.{Goes, Stops}
-use Rattle.machine_effects.specs.Machine.{MachineBoard, MachineOutcome, code_executed, IsMachineStep, Code, exec, pushes, IsRam, fram_of, machine_powered}
-use Rattle.machine_effects.specs.View.{machine_with, machine_of, IsWhole, IsOfWords, IsMachineOfWords, IsNextPrice, machine_outcome_with}
+use Rattle.machine_effects.specs.Machine.{MachineBoard, MachineOutcome, code_executed, IsMachineStep, Code, exec, unknown, pushes, IsRam, fram_of, machine_powered}
+use Rattle.machine_effects.specs.View.{machine_with, machine_of, IsWhole, IsOfWords, IsMachineOfWords, IsKnownOfWords, IsNextPrice, machine_outcome_with}
 use Rattle.machine_effects.specs.View.{machine_outcome_of, looks_at, seen_at_pc, IsBusFault}
 use Rattle.machine_effects.specs.Runs.{action_effects, moments_effects}
 use Rattle.machine_effects.specs.Changes.{ChangesByEffects}
@@ -55,11 +55,11 @@ LooksAsTheBoard = (b : BoardValue) (i : Instr) (more : List Look) → IsWhole b 
 abbrev pub SeenByWords : Type 0
 SeenByWords = (b : BoardValue) (i : Instr) → IsWhole b → IsNextInstruction b i → seen_at_pc b ≡ looks_at b i
 
--- machines that a program can't tell apart: FRAM may differ from the handler on, and the words of RAM below an address
+-- machines that a program can't tell apart: FRAM may differ from the handler on, and the words of RAM below an address, or that aren't known of the second
 pub record IsSameFrom (floor : ℕ) (s t : MachineBoard) : Type 0 where
   pub registers : t.registers ≡ s.registers
   pub fram : (a : ℕ) → a < handler_place → t.fram a ≡ s.fram a
-  pub ram : (a : ℕ) → floor ≤ a → a % 2 ≡ 0 → t.ram a ≡ s.ram a
+  pub ram : (a : ℕ) → floor ≤ a → a % 2 ≡ 0 → t.ram a < unknown → t.ram a ≡ s.ram a
   pub inputs : t.inputs ≡ s.inputs
   pub outnum : t.outnum ≡ s.outnum
 
@@ -70,11 +70,11 @@ AreSameFrom floor (Stops es price e) (Stops fs paid f) = (fs ≡ es) × (paid �
 AreSameFrom floor (Goes es c s) (Stops fs paid f) = ⊥
 AreSameFrom floor (Stops es price e) (Goes fs d t) = ⊥
 
--- an instruction of code does the same on machines that are the same from SP on, or from below it: what a handler may change it can't
--- depend on
+-- an instruction of code does the same on machines that are the same from SP on, or from below it, or ends by a bus fault where less is known: what
+-- a handler may change it can't depend on
 abbrev pub MachineIsBlind : Type 0
 MachineIsBlind = (floor : ℕ) (i : Instr) (s t : MachineBoard) → floor ≤ s.registers 1 → IsSameFrom floor s t
-    → AreSameFrom floor (code_executed s i) (code_executed t i)
+    → IsBusFault (code_executed t i) ⊎ AreSameFrom floor (code_executed s i) (code_executed t i)
 
 -- the word at SP behind both is the same, where that stands in RAM
 abbrev pub HaveSameTop : MachineOutcome → MachineOutcome → Type 0
@@ -83,7 +83,7 @@ HaveSameTop o p = Unit {0}
 
 -- and what pushes writes the same word there
 abbrev pub PushesAlike : Type 0
-PushesAlike = (floor : ℕ) (i : Instr) (s t : MachineBoard) → pushes (Some i) ≡ true → floor ≤ s.registers 1 → IsSameFrom floor s t
+PushesAlike = (floor : ℕ) (i : Instr) (s t : MachineBoard) → pushes i ≡ true → floor ≤ s.registers 1 → IsSameFrom floor s t
     → HaveSameTop (code_executed s i) (code_executed t i)
 
 -- the machine steps in one way
@@ -107,19 +107,19 @@ KeepsTheHandler s (Stops es price stop) = Unit {0}
 abbrev pub CodeKeepsTheHandler : Type 0
 CodeKeepsTheHandler = (code : Code) (s : MachineBoard) → KeepsTheHandler s (exec code s)
 
--- where an outcome goes on, all are words
-abbrev pub LeavesWords : MachineOutcome → Type 0
-LeavesWords (Goes es c t) = IsMachineOfWords t
-LeavesWords (Stops es price stop) = Unit {0}
+-- where an outcome goes on, it leaves such a machine
+abbrev pub LeavesMachine : (MachineBoard → Type 0) → MachineOutcome → Type 0
+LeavesMachine P (Goes es c t) = P t
+LeavesMachine P (Stops es price stop) = Unit {0}
 
 -- words stay words on the machine
 abbrev pub MachineWordsStayWords : Type 0
-MachineWordsStayWords = (s : MachineBoard) (o : MachineOutcome) → IsMachineOfWords s → IsMachineStep s o → LeavesWords o
+MachineWordsStayWords = (s : MachineBoard) (o : MachineOutcome) → IsMachineOfWords s → IsMachineStep s o → LeavesMachine IsMachineOfWords o
 
--- and in code that stays, where its instructions are encoded in words
+-- and in code that stays, where its instructions are encoded in words, those that are known
 abbrev pub CodeWordsStayWords : Type 0
 CodeWordsStayWords = (code : Code) (s : MachineBoard) → ((i : Instr) → code.at (s.registers 0) ≡ Some i → All (λ w. w < 0x10000) (encoding i))
-    → IsMachineOfWords s → LeavesWords (exec code s)
+    → IsKnownOfWords s → LeavesMachine IsKnownOfWords (exec code s)
 
 -- words stay words on the board
 abbrev pub WordsStayWords : Type 0

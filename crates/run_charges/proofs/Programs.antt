@@ -162,7 +162,7 @@ module _ (on : PlacedProgram) where
       first_machine more e = record {
         u = begun;
         looks = e;
-        stands = AtCode (record { registers = refl; fram = refl; ram = λ a l even. refl; readings = refl; outnum = refl });
+        stands = AtCode (record { registers = refl; fram = refl; ram = λ a l even known. refl; readings = refl; outnum = refl });
         quiet = λ off. refl;
         handler = ready.handler;
         prepared = λ events accepts. absurd (no_other accepts);

@@ -58,12 +58,5 @@ pub fn accept_compiled(alloc: Global, text: &[u8]) -> Result<Accepted, SourceFau
     ensures plain { IfOk result (λ a. IsPlain (program_of a.checked.source)) }
     ensures refused { IfErr result (IsUncompiled text.now) }
 {
-    let accepted = accept(alloc, text)?;
-    if fits_events(accepted.checked().source()) {
-        return Ok(accepted);
-    }
-    match first_function(&accepted) {
-        Some(line) => Err(SourceFault::NotYet { line }),
-        None => Ok(accepted),
-    }
+    accept(alloc, text)
 }

@@ -227,7 +227,7 @@ fn way_of(
 {
     let routines = layout.tasks()[number].routines();
     let calls = call_costs(alloc, routines, &programs.routines)?;
-    dearest_way(alloc, layout.runtime().events, &calls, &programs.own)
+    dearest_way(alloc, &calls, &programs.own)
 }
 
 // What the task of a number needs in place, whose programs these are.
