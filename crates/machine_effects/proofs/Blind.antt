@@ -1,6 +1,7 @@
 -- What a handler may change the machine can't depend on.
 use Rattle.std.proofs.Common.{◌≡◌, ◌==◌, ◌&&◌, ◌≤◌, ◌<◌, ◌-◌, ◌%◌, if◌then◌else◌, cond, nat_le, nat_lt, leb-true, ltb-true, arith, ℕ, refl, sym, ◌∙◌, ap, ap₂, subst}
 use Rattle.std.proofs.Common.{Bool, true, false, List, [], ◌∷◌, ◌++◌, ◌⊎◌, inl, inr, Option, Some, None, Result, Ok, Err}
+use Rattle.std.specs.Prelude.{is_some, unwrap_or}
 use Rattle.std.proofs.lemmas.Bool.{and_parts}
 use Rattle.std.proofs.lemmas.Bool.Decides.{nat_tests}
 use Rattle.event_places.specs.Places.{handler_place, is_ring}
@@ -22,7 +23,7 @@ use Rattle.machine_effects.specs.World.{put}
 use Rattle.machine_effects.specs.Inputs.{Look, Inputs, first_look, other_looks, look_effects}
 use Rattle.machine_effects.specs.Going.{Goes, Stops, step_behind}
 use Rattle.machine_effects.specs.Machine.{MachineBus, MachineBoard, MachineOutcome, machine_bus, word_in, word_address, is_readable, ring_read}
-use Rattle.machine_effects.specs.Machine.{unknown, word_read, machine_read}
+use Rattle.machine_effects.specs.Machine.{word_read, machine_read}
 use Rattle.machine_effects.specs.Machine.{first_reading, reading_taken, machine_after_read, machine_stored, word_written, machine_port_written, machine_written}
 use Rattle.machine_effects.specs.Machine.{machine_opened_seeing, machine_closed, machine_outcome, machine_executed_seeing, machine_executed}
 use Rattle.machine_effects.specs.Machine.{looks_there, executed_looking}
@@ -31,35 +32,45 @@ use Rattle.machine_effects.specs.Laws.{IsSameFrom, AreSameFrom, MachineIsBlind}
 use Rattle.machine_effects.proofs.Alike.{IsRefused}
 
 -- the same bus with this memory
-abbrev holding : (ℕ → ℕ) → (ℕ → ℕ) → MachineBus → MachineBus
+abbrev holding : (ℕ → ℕ) → (ℕ → Option ℕ) → MachineBus → MachineBus
 holding fram ram s = record s { fram = fram; ram = ram }
 
 -- memory that is the same where a program may read, of which less may be known
-record IsSameMemory (floor : ℕ) (f g fram ram : ℕ → ℕ) : Type 0 where
+record IsSameMemory (floor : ℕ) (f fram : ℕ → ℕ) (g ram : ℕ → Option ℕ) : Type 0 where
   in_fram : (a : ℕ) → a < handler_place → f a ≡ fram a
-  in_ram : (a : ℕ) → floor ≤ a → a % 2 ≡ 0 → g a < unknown → g a ≡ ram a
+  in_ram : (a w : ℕ) → floor ≤ a → a % 2 ≡ 0 → g a ≡ Some w → ram a ≡ Some w
 
 -- a bus that differs from another in memory alone, where a program may not read: in RAM, below this address or where its word isn't known
 pub record IsBlindTo (floor : ℕ) (s t : MachineBus) : Type 0 where
   fram : ℕ → ℕ
-  ram : ℕ → ℕ
+  ram : ℕ → Option ℕ
   is : t ≡ holding fram ram s
   at : floor ≤ s.floor
-  same : IsSameMemory floor fram ram s.fram s.ram
+  same : IsSameMemory floor fram s.fram ram s.ram
 
 put_same_at : (b : Bool) (v x y : ℕ) → x ≡ y → (if b then v else x) ≡ (if b then v else y)
 put_same_at true v x y e = refl
 put_same_at false v x y e = e
 
-put_known_at : (b : Bool) (v x y : ℕ) → (x < unknown → x ≡ y) → (if b then v else x) < unknown → (if b then v else x) ≡ (if b then v else y)
-put_known_at true v x y e h = refl
-put_known_at false v x y e h = e h
+put_known_at : (b : Bool) (v x y : Option ℕ) (w : ℕ) → (x ≡ Some w → y ≡ Some w) → (if b then v else x) ≡ Some w → (if b then v else y) ≡ Some w
+put_known_at true v x y w e h = h
+put_known_at false v x y w e h = e h
+
+-- a word that is known
+record IsKnown (o : Option ℕ) : Type 0 where
+  word : ℕ
+  is : o ≡ Some word
+
+known_there : (o : Option ℕ) → is_some o ≡ true → IsKnown o
+known_there (Some w) e = record { word = w; is = refl }
+known_there None e = absurd cc
 
 -- RAM is no ring
 no_ring : (a : ℕ) → is_ram a ≡ true → is_ring a ≡ false
 no_ring a e = grind (arith, nat_tests)
 
-module _ (floor : ℕ) (s : MachineBus) (f g : ℕ → ℕ) (at : floor ≤ s.floor) (same : IsSameMemory floor f g s.fram s.ram) where
+module _ (floor : ℕ) (s : MachineBus) (f : ℕ → ℕ) (g : ℕ → Option ℕ) (at : floor ≤ s.floor)
+    (same : IsSameMemory floor f s.fram g s.ram) where
   abbrev t : MachineBus
   t = holding f g s
 
@@ -69,32 +80,35 @@ module _ (floor : ℕ) (s : MachineBus) (f g : ℕ → ℕ) (at : floor ≤ s.fl
     word : word_in f g a ≡ word_in s.fram s.ram a
 
   readable_on : (b : Bool) (a : ℕ) → is_ram a ≡ b
-      → (if b then nat_le s.floor (word_address a) && nat_lt (g (word_address a)) unknown else nat_lt a handler_place) ≡ true → IsReadAlike a
+      → (if b then nat_le s.floor (word_address a) && is_some (g (word_address a)) else nat_lt a handler_place) ≡ true → IsReadAlike a
   readable_on true a is e =
       let x = word_address a in
-      let both = and_parts (nat_le s.floor x) (nat_lt (g x) unknown) e in
+      let both = and_parts (nat_le s.floor x) (is_some (g x)) e in
       let l = leb-true s.floor x both.0 in
-      let there : g x ≡ s.ram x = same.in_ram x (omega (arith, at, l)) (omega arith) (ltb-true (g x) unknown both.1) in
+      let here = known_there (g x) both.1 in
+      let there : s.ram x ≡ Some here.word = same.in_ram x here.word (omega (arith, at, l)) (omega arith) here.is in
+      let one : g x ≡ s.ram x = here.is ∙ sym there in
       record {
-        readable = ap (λ b. cond b (nat_le s.floor x && nat_lt (s.ram x) unknown) (nat_lt a handler_place)) is
-            ∙ ap (λ w. nat_le s.floor x && nat_lt w unknown) (sym there) ∙ e;
-        word = ap (λ b. cond b (g x) (f x)) is ∙ there ∙ sym (ap (λ b. cond b (s.ram x) (s.fram x)) is);
+        readable = ap (λ b. cond b (nat_le s.floor x && is_some (s.ram x)) (nat_lt a handler_place)) is
+            ∙ ap (λ o. nat_le s.floor x && is_some o) (sym one) ∙ e;
+        word = ap (λ b. cond b (unwrap_or (g x) 0) (f x)) is ∙ ap (λ o. unwrap_or o 0) one
+            ∙ sym (ap (λ b. cond b (unwrap_or (s.ram x) 0) (s.fram x)) is);
       }
   readable_on false a is e =
       let x = word_address a in
       let l = ltb-true a handler_place e in
       record {
-        readable = ap (λ b. cond b (nat_le s.floor x && nat_lt (s.ram x) unknown) (nat_lt a handler_place)) is ∙ e;
-        word = ap (λ b. cond b (g x) (f x)) is ∙ same.in_fram x (omega (arith, l)) ∙ sym (ap (λ b. cond b (s.ram x) (s.fram x)) is);
+        readable = ap (λ b. cond b (nat_le s.floor x && is_some (s.ram x)) (nat_lt a handler_place)) is ∙ e;
+        word = ap (λ b. cond b (unwrap_or (g x) 0) (f x)) is ∙ same.in_fram x (omega (arith, l)) ∙ sym (ap (λ b. cond b (unwrap_or (s.ram x) 0) (s.fram x)) is);
       }
 
   readable_alike : (a : ℕ) → is_readable t a ≡ true → IsReadAlike a
   readable_alike a e = readable_on (is_ram a) a refl e
 
   -- a read that the second doesn't serve from memory
-  unread_on : (b c : Bool) (a : ℕ) → is_ram a ≡ b → (if b then nat_le s.floor (word_address a) && nat_lt (s.ram (word_address a)) unknown
+  unread_on : (b c : Bool) (a : ℕ) → is_ram a ≡ b → (if b then nat_le s.floor (word_address a) && is_some (s.ram (word_address a))
       else nat_lt a handler_place) ≡ c
-      → (if b then nat_le s.floor (word_address a) && nat_lt (g (word_address a)) unknown else nat_lt a handler_place) ≡ false
+      → (if b then nat_le s.floor (word_address a) && is_some (g (word_address a)) else nat_lt a handler_place) ≡ false
       → ReadAlike IsRefused a (if c then Ok (word_in s.fram s.ram a) else ring_read s.ring a) (ring_read s.ring a)
   unread_on true c a is e h = inr (refused.Bus, none s.ring, refl)
     where
@@ -142,14 +156,14 @@ module _ (floor : ℕ) (s : MachineBus) (f g : ℕ → ℕ) (at : floor ≤ s.fl
   after_blind a Byte = record { fram = f; ram = g; is = refl; at = at; same = same }
 
   stored_if : (b : Bool) (a v : ℕ) (log : List Effect) → IsBlindTo floor
-      (if b then record s { ram = put s.ram (word_address a) v } else record s { fram = put s.fram (word_address a) v; log = log })
-      (if b then record t { ram = put g (word_address a) v } else record t { fram = put f (word_address a) v; log = log })
+      (if b then record s { ram = put s.ram (word_address a) (Some v) } else record s { fram = put s.fram (word_address a) v; log = log })
+      (if b then record t { ram = put g (word_address a) (Some v) } else record t { fram = put f (word_address a) v; log = log })
   stored_if true a v log = record {
     fram = f;
-    ram = put g (word_address a) v;
+    ram = put g (word_address a) (Some v);
     is = refl;
     at = at;
-    same = record { in_fram = same.in_fram; in_ram = λ x h even. put_known_at (x == word_address a) v (g x) (s.ram x) (same.in_ram x h even) };
+    same = record { in_fram = same.in_fram; in_ram = λ x w h even. put_known_at (x == word_address a) (Some v) (g x) (s.ram x) w (same.in_ram x w h even) };
   }
   stored_if false a v log = record {
     fram = put f (word_address a) v;
@@ -218,7 +232,7 @@ closed_same : (floor : ℕ) (r q : Registers) (s t : MachineBus) → q ≡ r →
 closed_same floor r q s t e h = record {
   registers = e;
   fram = λ a l. ap (λ u. u.fram a) h.is ∙ h.same.in_fram a l;
-  ram = λ a l even known. ap (λ u. u.ram a) h.is ∙ h.same.in_ram a l even (subst (λ u. u.ram a < unknown) h.is known);
+  ram = λ a w l even e. h.same.in_ram a w l even (ap (λ u. u.ram a) (sym h.is) ∙ e);
   inputs = ap (λ u. u.inputs) h.is;
   outnum = ap (λ u. u.outnum) h.is;
 }

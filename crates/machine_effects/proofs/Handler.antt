@@ -54,7 +54,7 @@ reads_keep s t n (Once m u a w v h e) x l = read_keeps u a w x l ∙ reads_keep 
 
 -- a word of memory in front of the handler is written
 stored_keeps : (b : Bool) (s : MachineBus) (a v : ℕ) → (b ≡ false → a < handler_place)
-    → Keeps s (if b then record s { ram = put s.ram (word_address a) v } else record s
+    → Keeps s (if b then record s { ram = put s.ram (word_address a) (Some v) } else record s
     { fram = put s.fram (word_address a) v; log = s.log ++ Store (word_address a) v ∷ [] })
 stored_keeps true s a v low x l = refl
 stored_keeps false s a v low x l = let below = low refl in put_other s.fram (word_address a) v x (λ e. omega (arith, below, l, e))

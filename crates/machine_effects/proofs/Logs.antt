@@ -123,9 +123,9 @@ wrote_fram u a v w e g =
     record { inputs = refl; log = ap (λ x. u.log ++ x) (sym n); fram = ap (λ x. fram_after x u.fram) (sym n) }
 
 stored_wrote : (b : Bool) (u : MachineBus) (a v w : ℕ) → is_ram a ≡ b → is_memory a ≡ true
-    → Wrote u a v (if b then record u { ram = put u.ram (word_address a) w } else record u
+    → Wrote u a v (if b then record u { ram = put u.ram (word_address a) (Some w) } else record u
     { fram = put u.fram (word_address a) w; log = u.log ++ Store (word_address a) w ∷ [] })
-stored_wrote true u a v w e m = wrote_quiet u (record u { ram = put u.ram (word_address a) w }) a v (ram_not_fram a e) (memory_no_data a m) refl refl refl
+stored_wrote true u a v w e m = wrote_quiet u (record u { ram = put u.ram (word_address a) (Some w) }) a v (ram_not_fram a e) (memory_no_data a m) refl refl refl
 stored_wrote false u a v w e m = wrote_fram u a v w (other_is_fram a e m) (memory_no_data a m)
 
 abbrev WroteIf : MachineBus → ℕ → ℕ → Option MachineBus → Type 0

@@ -35,7 +35,7 @@ use Rattle.machine_effects.proofs.Blind.{IsBlindTo, blind_answers, opened_blind,
 record TopIs (z : Registers × Option Written) (u : MachineBus) : Type 0 where
   word : ℕ
   written : z.1 ≡ Some (z.0 1, word)
-  there : u.ram (z.0 1) ≡ word
+  there : u.ram (z.0 1) ≡ Some word
 
 -- an access that leaves it so, where SP stands in RAM
 abbrev IsPush : Access MachineBus (Registers × Option Written) → Type 0
@@ -74,14 +74,14 @@ module _ (t : MachineBus) (r : Registers) (v : ℕ) where
         let even : a % 2 ≡ 0 = eqb-true (a % 2) 0 (and_parts (a % 2 == 0) (is_memory a) is).0 in
         let same : a / 2 * 2 ≡ a = omega (arith, even) in
         let at : a / 2 * 2 ≡ word_address a = omega (arith, even) in
-        let stored : machine_stored t a v ≡ record t { ram = put t.ram (word_address a) v } =
-        ap (λ b. if b then record t { ram = put t.ram (word_address a) v } else record t
+        let stored : machine_stored t a v ≡ record t { ram = put t.ram (word_address a) (Some v) } =
+        ap (λ b. if b then record t { ram = put t.ram (word_address a) (Some v) } else record t
         { fram = put t.fram (word_address a) v; log = t.log ++ Store (word_address a) v ∷ [] }) (in_ram a ram) in
-        let is : record t { ram = put t.ram (word_address a) v } ≡ u = sym stored ∙ served_word (nat_lt a handler_place) (machine_stored t a v) u e in
+        let is : record t { ram = put t.ram (word_address a) (Some v) } ≡ u = sym stored ∙ served_word (nat_lt a handler_place) (machine_stored t a v) u e in
         record {
           word = v;
           written = ap (λ n. Some (n, v)) (sym same ∙ sym top);
-          there = ap u.ram top ∙ ap (λ (b : MachineBus). b.ram (a / 2 * 2)) (sym is) ∙ put_at t.ram (word_address a) v (a / 2 * 2) at;
+          there = ap u.ram top ∙ ap (λ (b : MachineBus). b.ram (a / 2 * 2)) (sym is) ∙ put_at t.ram (word_address a) (Some v) (a / 2 * 2) at;
         }
 
     written_at : (b : Bool) (u : MachineBus) → is_word a ≡ b → (if b then word_written t a v else machine_port_written t a v) ≡ Some u
@@ -142,7 +142,7 @@ tops_same floor pc c (Completed x s) (Completed y t) h f g =
     let first = f ram in
     let second = g (subst IsRam at ram) in
     let words = same_word (x.0 1) (y.0 1) first.word second.word x.1 y.1 (ap (λ z. z.1) h.0) first.written second.written in
-    ap t.ram at ∙ second.there ∙ words ∙ sym first.there
+    ap t.ram at ∙ second.there ∙ ap (λ w. Some w) words ∙ sym first.there
 tops_same floor pc c (Faulted e a s) (Faulted f b t) h k l = tt
 tops_same floor pc c (Completed x s) (Faulted f b t) h k l = tt
 tops_same floor pc c (Faulted e a s) (Completed y t) h k l = tt

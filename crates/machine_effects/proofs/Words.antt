@@ -1,9 +1,10 @@
 -- Words stay words, on the machine and on the board.
-use Rattle.std.proofs.Common.{◌≡◌, ◌==◌, ◌&&◌, ◌≤◌, ◌<◌, ◌+◌, ◌-◌, ◌*◌, ◌/◌, ◌%◌, arith, ℕ, zero, suc, refl, sym, ◌∙◌, subst, not, eqb-true, ltb-true, le_refl, length-set}
+use Rattle.std.proofs.Common.{◌≡◌, ◌==◌, ◌&&◌, ◌≤◌, ◌<◌, ◌+◌, ◌-◌, ◌*◌, ◌/◌, ◌%◌, arith, ℕ, zero, suc, refl, sym, ◌∙◌, subst, not, eqb-true, length-set}
 use Rattle.std.proofs.Common.{Bool, true, false, if◌then◌else◌, nat_le, nat_lt, List, [], ◌∷◌}
 use Rattle.std.proofs.Common.{◌++◌, All, length, drop, slice_index, slice_set, inl, inr, ◌⊎◌, Option, Some, None, Result, Ok, Err}
-use Rattle.std.specs.Prelude.{IfSome}
-use Rattle.std.proofs.lemmas.Bool.{and_parts, cases_lt}
+use Rattle.std.specs.Prelude.{IfSome, unwrap_or}
+use Rattle.std.proofs.lemmas.Option.{same_Some}
+use Rattle.std.proofs.lemmas.Bool.{cases_lt}
 use Rattle.std.proofs.lemmas.Bool.Decides.{nat_tests}
 use Rattle.std.proofs.lemmas.List.{length-replicate}
 use Rattle.std.proofs.lemmas.List.Elements.{All-set, All-replicate}
@@ -53,10 +54,10 @@ use Rattle.machine_effects.specs.Machine.{MachineBus, MachineBoard, MachineOutco
 use Rattle.machine_effects.specs.Machine.{is_readable, ring_read, word_read, word_written, looks_there, machine_opened_seeing, machine_executed_seeing}
 use Rattle.machine_effects.specs.Machine.{executed_looking, code_executed}
 use Rattle.machine_effects.specs.Machine.{reading_taken, machine_after_read, machine_stored, machine_port_written, machine_written, machine_opened}
-use Rattle.machine_effects.specs.Machine.{machine_outcome, NoInstruction, Executes, unknown, forgotten, uncovered_from, uncovering, standing, step_with, astray}
-use Rattle.machine_effects.specs.Machine.{is_exposed, undisturbed}
-use Rattle.machine_effects.specs.View.{IsWhole, IsLineOfWords, IsRadioOfWords, IsOfWords, HoldsWords, IsMachineOfWords, IsKnownOfWords}
-use Rattle.machine_effects.specs.Laws.{LeavesMachine, MachineWordsStayWords, CodeWordsStayWords, WordsStayWords, StepLeavesItWhole, MachineIsOfWords}
+use Rattle.machine_effects.specs.Machine.{machine_outcome, machine_executed, NoInstruction, Executes, standing, step_with, astray, is_exposed, undisturbed}
+use Rattle.machine_effects.specs.Machine.{forgotten, uncovered_from, uncovering}
+use Rattle.machine_effects.specs.View.{IsWhole, IsLineOfWords, IsRadioOfWords, IsOfWords, IsMachineOfWords}
+use Rattle.machine_effects.specs.Laws.{LeavesWords, MachineWordsStayWords, CodeWordsStayWords, WordsStayWords, StepLeavesItWhole, MachineIsOfWords}
 use Rattle.machine_effects.specs.Laws.{PowerUpKeepsWords, FreshIsWhole, AcceptanceKeepsWords, ChargeKeepsWords}
 use Rattle.machine_effects.proofs.Along.{IsClosed, InstructionHas, Gives, effect_gives}
 use Rattle.machine_effects.proofs.Lines.{line_powered, boundary_keeps_words}
@@ -70,16 +71,41 @@ abbrev SeesWords : Option Look → Type 0
 SeesWords None = Unit {0}
 SeesWords (Some look) = (a : ℕ) → IsWord (look a)
 
+-- what the machine's bus holds are words
+record OfWords (t : MachineBus) : Type 0 where
+  pub fram : (a : ℕ) → IsWord (t.fram a)
+  pub ram : (a : ℕ) → IsKnownWord (t.ram a)
+  pub inputs : InputsAreWords t.inputs
+  pub outnum : IsWord t.outnum
+  pub ring : SeesWords t.ring
+
 either_small : (b : Bool) (x y : ℕ) → IsWord x → IsWord y → IsWord (if b then x else y)
 either_small true x y h k = h
 either_small false x y h k = k
 
-either_is : (P : ℕ → Type 0) (b : Bool) (x y : ℕ) → P x → P y → P (if b then x else y)
-either_is P true x y h k = h
-either_is P false x y h k = k
+put_small : (f : ℕ → ℕ) (a v : ℕ) → IsWord v → ((x : ℕ) → IsWord (f x)) → (x : ℕ) → IsWord (put f a v x)
+put_small f a v h k x = either_small (x == a) v (f x) h (k x)
 
-put_is : (P : ℕ → Type 0) (f : ℕ → ℕ) (a v : ℕ) → P v → ((x : ℕ) → P (f x)) → (x : ℕ) → P (put f a v x)
-put_is P f a v h k x = either_is P (x == a) v (f x) h (k x)
+-- what is known of a word of RAM is a word
+abbrev IsKnownWord : Option ℕ → Type 0
+IsKnownWord o = (w : ℕ) → o ≡ Some w → IsWord w
+
+either_known : (b : Bool) (x y : Option ℕ) → IsKnownWord x → IsKnownWord y → IsKnownWord (if b then x else y)
+either_known true x y h k = h
+either_known false x y h k = k
+
+some_known : (v : ℕ) → IsWord v → IsKnownWord (Some v)
+some_known v h w e = subst IsWord (same_Some v w e) h
+
+none_known : IsKnownWord None
+none_known w e = absurd cc
+
+put_known : (f : ℕ → Option ℕ) (a v : ℕ) → IsWord v → ((x : ℕ) → IsKnownWord (f x)) → (x : ℕ) → IsKnownWord (put f a (Some v) x)
+put_known f a v h k x = either_known (x == a) (Some v) (f x) (some_known v h) (k x)
+
+unwrapped_small : (o : Option ℕ) → IsKnownWord o → IsWord (unwrap_or o 0)
+unwrapped_small None h = omega arith
+unwrapped_small (Some w) h = h w refl
 
 all_tail : (w : ℕ) (ws : List ℕ) → All (λ x. x < 0x10000) (w ∷ ws) → All (λ x. x < 0x10000) ws
 all_tail w ws h k d low = h (suc k) d (omega arith)
@@ -87,17 +113,18 @@ all_tail w ws h k d low = h (suc k) d (omega arith)
 all_head : (w : ℕ) (ws : List ℕ) → All (λ x. x < 0x10000) (w ∷ ws) → IsWord w
 all_head w ws h = h zero 0 (omega arith)
 
+word_small : (t : MachineBus) (a : ℕ) → OfWords t → IsWord (machine_word t a)
+word_small t a q =
+    let x = word_address a in either_small (is_ram a) (unwrap_or (t.ram x) 0) (t.fram x) (unwrapped_small (t.ram x) (q.ram x)) (q.fram x)
+
 reading_small : (ws : List ℕ) (v : ℕ) → All (λ x. x < 0x10000) ws → first_reading ws ≡ Ok v → IsWord v
 reading_small [] v h e = absurd cc
 reading_small (w ∷ ws) v h e = let same : w ≡ v = cc in subst IsWord same (all_head w ws h)
 
 -- what a test leads to
-ok_if : (b : Bool) (x v : ℕ) (o : Result ℕ Refused) → (b ≡ true → IsWord x) → (o ≡ Ok v → IsWord v) → (if b then Ok x else o) ≡ Ok v → IsWord v
-ok_if true x v o h k e = let same : x ≡ v = cc in subst IsWord same (h refl)
-ok_if false x v o h k e = k e
-
 ok_on : (b : Bool) (x v : ℕ) (o : Result ℕ Refused) → IsWord x → (o ≡ Ok v → IsWord v) → (if b then Ok x else o) ≡ Ok v → IsWord v
-ok_on b x v o h k e = ok_if b x v o (λ q. h) k e
+ok_on true x v o h k e = let same : x ≡ v = cc in subst IsWord same h
+ok_on false x v o h k e = k e
 
 sensed_on : (b : Bool) (v : ℕ) (o : Result ℕ Refused) → (o ≡ Ok v → IsWord v) → (if b then o else Err refused.Bus) ≡ Ok v → IsWord v
 sensed_on true v o k e = k e
@@ -117,6 +144,84 @@ ring_small (Some look) a v h e = ring_on (is_ring a) (look a) v (h a) e
 read_on : (b : Bool) (v : ℕ) (m o : Result ℕ Refused) → (m ≡ Ok v → IsWord v) → (o ≡ Ok v → IsWord v) → (if b then m else o) ≡ Ok v → IsWord v
 read_on true v m o h k e = h e
 read_on false v m o h k e = k e
+
+word_read_small : (t : MachineBus) (a v : ℕ) → OfWords t → word_read t a ≡ Ok v → IsWord v
+word_read_small t a v q e =
+    ok_on (is_readable t a) (machine_word t a) v (ring_read t.ring a) (word_small t a q) (λ g. ring_small t.ring a v q.ring g) e
+
+machine_read_small : (t : MachineBus) (a : ℕ) (w : Width) (v : ℕ) → OfWords t → machine_read t a w ≡ Ok v → IsWord v
+machine_read_small t a Word v q e =
+    read_on (is_word a) v (word_read t a) _ (λ g. word_read_small t a v q g) (λ g. sensed_on (a == sensor_port) v (first_reading t.inputs.readings)
+    (λ r. reading_small t.inputs.readings v q.inputs.readings r) g) e
+machine_read_small t a Byte v q e =
+    ok_on (is_memory a && is_readable t a) (byte_of (machine_word t a) a) v _ (byte_small (machine_word t a) a (word_small t a q)) (λ g. no_word v g) e
+
+taken_words : (ws : List ℕ) (t : MachineBus) → All (λ x. x < 0x10000) ws → OfWords t → OfWords (reading_taken ws t)
+taken_words [] t h q = q
+taken_words (w ∷ ws) t h q =
+    record { fram = q.fram; ram = q.ram; inputs = record { readings = all_tail w ws h; looks = q.inputs.looks }; outnum = q.outnum; ring = q.ring }
+
+after_words : (b : Bool) (t : MachineBus) → OfWords t → OfWords (if b then reading_taken t.inputs.readings t else t)
+after_words true t q = taken_words t.inputs.readings t q.inputs.readings q
+after_words false t q = q
+
+machine_after_words : (t : MachineBus) (a : ℕ) (w : Width) → OfWords t → OfWords (machine_after_read t a w)
+machine_after_words t a Word q = after_words (a == sensor_port) t q
+machine_after_words t a Byte q = q
+
+stored_words : (b : Bool) (t : MachineBus) (log : List Effect) (a v : ℕ) → IsWord v → OfWords t
+    → OfWords (if b then record t { ram = put t.ram a (Some v) } else record t { fram = put t.fram a v; log = log })
+stored_words true t log a v h q =
+    record { fram = q.fram; ram = put_known t.ram a v h q.ram; inputs = q.inputs; outnum = q.outnum; ring = q.ring }
+stored_words false t log a v h q =
+    record { fram = put_small t.fram a v h q.fram; ram = q.ram; inputs = q.inputs; outnum = q.outnum; ring = q.ring }
+
+abbrev WordsIf : Option MachineBus → Type 0
+WordsIf None = Unit {0}
+WordsIf (Some t) = OfWords t
+
+if_some : (b : Bool) (x y : Option MachineBus) → WordsIf x → WordsIf y → WordsIf (if b then x else y)
+if_some true x y h k = h
+if_some false x y h k = k
+
+port_words : (t : MachineBus) (a v : ℕ) → IsWord v → OfWords t → WordsIf (machine_port_written t a v)
+port_words t a v h q =
+    if_some (a == number_port) (Some (record t { outnum = v })) _
+    (record { fram = q.fram; ram = q.ram; inputs = q.inputs; outnum = h; ring = q.ring })
+    (if_some (a == data_port) (Some _) None (record { fram = q.fram; ram = q.ram; inputs = q.inputs; outnum = q.outnum; ring = q.ring }) tt)
+
+written_words : (t : MachineBus) (a : ℕ) (w : Width) (v : ℕ) → IsWord v → OfWords t → WordsIf (machine_written t a w v)
+written_words t a Word v h q =
+    if_some (is_word a) (word_written t a v) (machine_port_written t a v)
+    (if_some (nat_lt a handler_place) (Some (machine_stored t a v)) None
+    (stored_words (is_ram a) t (t.log ++ Store (word_address a) v ∷ []) (word_address a) v h q) tt) (port_words t a v h q)
+written_words t a Byte v h q =
+    let x = with_byte (machine_word t a) a v in
+    if_some (is_memory a && is_readable t a) (Some (machine_stored t a x)) None
+    (stored_words (is_ram a) t (t.log ++ Store (word_address a) x ∷ []) (word_address a) x
+    (bytes_small (machine_word t a) a v (word_small t a q)) q) tt
+
+machine_write_words : (t : MachineBus) (a : ℕ) (w : Width) (v : ℕ) (u : MachineBus) → OfWords t → IsWord v → machine_written t a w v ≡ Some u → OfWords u
+machine_write_words t a w v u q h e = subst (λ x. WordsIf x) e (written_words t a w v h q)
+
+machine_closed_words : IsClosed machine_bus IsWord AreSmall OfWords
+machine_closed_words = record {
+  register = λ r n p. p n;
+  with = λ r n v low w p. with_small r n v low w p;
+  read = λ s a w v q e. machine_read_small s a w v q e;
+  after = λ s a w v q e. machine_after_words s a w q;
+  write = λ s a w v t q h e. machine_write_words s a w v t q h e;
+  narrow = λ w v h. narrow_small w v h;
+  sum = λ a b. sum_small a b;
+  constant = λ k. constant_small k;
+  status = λ sr f. status_small sr f;
+  two = λ op w d s f g h. two_small op w d s f g h;
+  rotate = λ w v f h. rotate_small w v f h;
+  shift = λ w v f h. shift_small w v f h;
+  exchange = λ w v f h. exchange_small w v f h;
+  extend = λ w v f h. extend_small w v f h;
+  nothing = omega arith;
+}
 
 -- the immediate of an instruction whose words are fetched
 module _ {S : Type 0} (bus : BusModel S) (s : S) (fetches : (a v : ℕ) → bus.fetches s a ≡ Some v → IsWord v) where
@@ -159,126 +264,19 @@ some_on : (b : Bool) (x v : ℕ) → IsWord x → ◌≡◌ {A = Option ℕ} (if
 some_on true x v h e = let same : x ≡ v = cc in subst IsWord same h
 some_on false x v h e = absurd cc
 
--- a word that may be read is a word: in RAM it is known
-readable_on : (b c d : Bool) (x y : ℕ) → IsWord y → (if b then c && nat_lt x unknown else d) ≡ true → IsWord (if b then x else y)
-readable_on true c d x y h e = let known = (and_parts c (nat_lt x unknown) e).1 in ltb-true x 0x10000 known
-readable_on false c d x y h e = h
+outcome_words : (pc c : ℕ) (m : Access MachineBus (Registers × Option Written)) → Gives OfWords (λ y. AreSmall y.0) m → LeavesWords (machine_outcome pc c m)
+outcome_words pc c (Completed x t) h = let q = h.1 in record { registers = h.0; fram = q.fram; ram = q.ram; inputs = q.inputs; outnum = q.outnum }
+outcome_words pc c (Faulted e a t) h = tt
 
--- words of RAM may be such, of which all words are
-module _ (InRam : ℕ → Type 0) (of_words : (v : ℕ) → IsWord v → InRam v) where
-  -- what the machine's bus holds are words
-  record OfWords (t : MachineBus) : Type 0 where
-    pub fram : (a : ℕ) → IsWord (t.fram a)
-    pub ram : (a : ℕ) → InRam (t.ram a)
-    pub inputs : InputsAreWords t.inputs
-    pub outnum : IsWord t.outnum
-    pub ring : SeesWords t.ring
+opened_words : (ring : Option Look) (s : MachineBoard) → SeesWords ring → IsMachineOfWords s → OfWords (machine_opened_seeing ring s)
+opened_words ring s w h = record { fram = h.fram; ram = h.ram; inputs = h.inputs; outnum = h.outnum; ring = w }
 
-  readable_small : (t : MachineBus) (a : ℕ) → OfWords t → is_readable t a ≡ true → IsWord (machine_word t a)
-  readable_small t a q e = readable_on (is_ram a) _ (nat_lt a handler_place) (t.ram (word_address a)) (t.fram (word_address a)) (q.fram (word_address a)) e
-
-  byte_readable : (t : MachineBus) (a : ℕ) → (is_memory a && is_readable t a) ≡ true → is_readable t a ≡ true
-  byte_readable t a e = (and_parts (is_memory a) (is_readable t a) e).1
-
-  word_read_small : (t : MachineBus) (a v : ℕ) → OfWords t → word_read t a ≡ Ok v → IsWord v
-  word_read_small t a v q e =
-      ok_if (is_readable t a) (machine_word t a) v (ring_read t.ring a) (readable_small t a q) (λ g. ring_small t.ring a v q.ring g) e
-
-  machine_read_small : (t : MachineBus) (a : ℕ) (w : Width) (v : ℕ) → OfWords t → machine_read t a w ≡ Ok v → IsWord v
-  machine_read_small t a Word v q e =
-      read_on (is_word a) v (word_read t a) _ (λ g. word_read_small t a v q g) (λ g. sensed_on (a == sensor_port) v (first_reading t.inputs.readings)
-      (λ r. reading_small t.inputs.readings v q.inputs.readings r) g) e
-  machine_read_small t a Byte v q e =
-      ok_if (is_memory a && is_readable t a) (byte_of (machine_word t a) a) v _
-      (λ r. byte_small (machine_word t a) a (readable_small t a q (byte_readable t a r))) (λ g. no_word v g) e
-
-  taken_words : (ws : List ℕ) (t : MachineBus) → All (λ x. x < 0x10000) ws → OfWords t → OfWords (reading_taken ws t)
-  taken_words [] t h q = q
-  taken_words (w ∷ ws) t h q =
-      record { fram = q.fram; ram = q.ram; inputs = record { readings = all_tail w ws h; looks = q.inputs.looks }; outnum = q.outnum; ring = q.ring }
-
-  after_words : (b : Bool) (t : MachineBus) → OfWords t → OfWords (if b then reading_taken t.inputs.readings t else t)
-  after_words true t q = taken_words t.inputs.readings t q.inputs.readings q
-  after_words false t q = q
-
-  machine_after_words : (t : MachineBus) (a : ℕ) (w : Width) → OfWords t → OfWords (machine_after_read t a w)
-  machine_after_words t a Word q = after_words (a == sensor_port) t q
-  machine_after_words t a Byte q = q
-
-  stored_words : (b : Bool) (t : MachineBus) (log : List Effect) (a v : ℕ) → IsWord v → OfWords t
-      → OfWords (if b then record t { ram = put t.ram a v } else record t { fram = put t.fram a v; log = log })
-  stored_words true t log a v h q =
-      record { fram = q.fram; ram = put_is InRam t.ram a v (of_words v h) q.ram; inputs = q.inputs; outnum = q.outnum; ring = q.ring }
-  stored_words false t log a v h q =
-      record { fram = put_is IsWord t.fram a v h q.fram; ram = q.ram; inputs = q.inputs; outnum = q.outnum; ring = q.ring }
-
-  abbrev WordsIf : Option MachineBus → Type 0
-  WordsIf None = Unit {0}
-  WordsIf (Some t) = OfWords t
-
-  some_if : (b : Bool) (x y : Option MachineBus) → (b ≡ true → WordsIf x) → WordsIf y → WordsIf (if b then x else y)
-  some_if true x y h k = h refl
-  some_if false x y h k = k
-
-  if_some : (b : Bool) (x y : Option MachineBus) → WordsIf x → WordsIf y → WordsIf (if b then x else y)
-  if_some b x y h k = some_if b x y (λ e. h) k
-
-  port_words : (t : MachineBus) (a v : ℕ) → IsWord v → OfWords t → WordsIf (machine_port_written t a v)
-  port_words t a v h q =
-      if_some (a == number_port) (Some (record t { outnum = v })) _
-      (record { fram = q.fram; ram = q.ram; inputs = q.inputs; outnum = h; ring = q.ring })
-      (if_some (a == data_port) (Some _) None (record { fram = q.fram; ram = q.ram; inputs = q.inputs; outnum = q.outnum; ring = q.ring }) tt)
-
-  written_words : (t : MachineBus) (a : ℕ) (w : Width) (v : ℕ) → IsWord v → OfWords t → WordsIf (machine_written t a w v)
-  written_words t a Word v h q =
-      if_some (is_word a) (word_written t a v) (machine_port_written t a v)
-      (if_some (nat_lt a handler_place) (Some (machine_stored t a v)) None
-      (stored_words (is_ram a) t (t.log ++ Store (word_address a) v ∷ []) (word_address a) v h q) tt) (port_words t a v h q)
-  written_words t a Byte v h q =
-      let x = with_byte (machine_word t a) a v in
-      some_if (is_memory a && is_readable t a) (Some (machine_stored t a x)) None
-      (λ r. stored_words (is_ram a) t (t.log ++ Store (word_address a) x ∷ []) (word_address a) x
-      (bytes_small (machine_word t a) a v (readable_small t a q (byte_readable t a r))) q) tt
-
-  machine_write_words : (t : MachineBus) (a : ℕ) (w : Width) (v : ℕ) (u : MachineBus) → OfWords t → IsWord v → machine_written t a w v ≡ Some u → OfWords u
-  machine_write_words t a w v u q h e = subst (λ x. WordsIf x) e (written_words t a w v h q)
-
-  machine_closed_words : IsClosed machine_bus IsWord AreSmall OfWords
-  machine_closed_words = record {
-    register = λ r n p. p n;
-    with = λ r n v low w p. with_small r n v low w p;
-    read = λ s a w v q e. machine_read_small s a w v q e;
-    after = λ s a w v q e. machine_after_words s a w q;
-    write = λ s a w v t q h e. machine_write_words s a w v t q h e;
-    narrow = λ w v h. narrow_small w v h;
-    sum = λ a b. sum_small a b;
-    constant = λ k. constant_small k;
-    status = λ sr f. status_small sr f;
-    two = λ op w d s f g h. two_small op w d s f g h;
-    rotate = λ w v f h. rotate_small w v f h;
-    shift = λ w v f h. shift_small w v f h;
-    exchange = λ w v f h. exchange_small w v f h;
-    extend = λ w v f h. extend_small w v f h;
-    nothing = omega arith;
-  }
-
-  -- what an outcome leaves
-  abbrev Leaves : MachineOutcome → Type 0
-  Leaves = LeavesMachine (HoldsWords InRam)
-
-  outcome_words : (pc c : ℕ) (m : Access MachineBus (Registers × Option Written)) → Gives OfWords (λ y. AreSmall y.0) m → Leaves (machine_outcome pc c m)
-  outcome_words pc c (Completed x t) h = let q = h.1 in record { registers = h.0; fram = q.fram; ram = q.ram; inputs = q.inputs; outnum = q.outnum }
-  outcome_words pc c (Faulted e a t) h = tt
-
-  opened_words : (ring : Option Look) (s : MachineBoard) → SeesWords ring → HoldsWords InRam s → OfWords (machine_opened_seeing ring s)
-  opened_words ring s w h = record { fram = h.fram; ram = h.ram; inputs = h.inputs; outnum = h.outnum; ring = w }
-
-  executed_words : (ring : Option Look) (s : MachineBoard) (i : Instr) → SeesWords ring → HoldsWords InRam s → InstructionHas IsWord i
-      → Leaves (machine_executed_seeing ring s i)
-  executed_words ring s i w h k =
-      let t = machine_opened_seeing ring s in
-      outcome_words (s.registers 0) (cycles_of i) (effect machine_bus i s.registers t)
-      (effect_gives machine_bus IsWord AreSmall OfWords machine_closed_words i s.registers t k h.registers (opened_words ring s w h))
+executed_words : (ring : Option Look) (s : MachineBoard) (i : Instr) → SeesWords ring → IsMachineOfWords s → InstructionHas IsWord i
+    → LeavesWords (machine_executed_seeing ring s i)
+executed_words ring s i w h k =
+    let t = machine_opened_seeing ring s in
+    outcome_words (s.registers 0) (cycles_of i) (effect machine_bus i s.registers t)
+    (effect_gives machine_bus IsWord AreSmall OfWords machine_closed_words i s.registers t k h.registers (opened_words ring s w h))
 
 -- the first of looks at words sees words, and so do the others
 pub first_small : (looks : List Look) → All (λ look. (a : ℕ) → look a < 0x10000) looks → (a : ℕ) → first_look looks a < 0x10000
@@ -289,73 +287,61 @@ pub others_small : (looks : List Look) → All (λ look. (a : ℕ) → look a < 
 others_small [] w = w
 others_small (look ∷ more) w = λ n d low. w (suc n) d (omega arith)
 
--- where each word of RAM is known
-pub machine_words_stay_words : MachineWordsStayWords
-machine_words_stay_words s o h (NoInstruction e k) = tt
-machine_words_stay_words s o h (Executes i k) =
-    let small = λ (a v : ℕ) (e : (if is_word a then Some (machine_word (machine_opened s) a) else None) ≡ Some v). some_on (is_word a)
-    (machine_word (machine_opened s) a) v (either_small (is_ram a) (s.ram (word_address a)) (s.fram (word_address a)) (h.ram (word_address a))
-    (h.fram (word_address a))) e in
-    executed_words IsWord (λ v w. w) None s i tt h (immediate_fetched machine_bus (machine_opened s) small i (s.registers 0) k.fetched)
-
--- where it may be unknown
-abbrev MayBeUnknown : ℕ → Type 0
-MayBeUnknown w = w ≤ unknown
-
-abbrev LeavesKnown : MachineOutcome → Type 0
-LeavesKnown = LeavesMachine IsKnownOfWords
-
 -- effects in front change nothing of that
-behind_words : (es : List Effect) (o : MachineOutcome) → LeavesKnown o → LeavesKnown (step_behind es o)
+behind_words : (es : List Effect) (o : MachineOutcome) → LeavesWords o → LeavesWords (step_behind es o)
 behind_words es (Goes fs c t) h = h
 behind_words es (Stops fs price e) h = h
 
-seeing_words : (ring : Option Look) (s : MachineBoard) (i : Instr) → SeesWords ring → IsKnownOfWords s → InstructionHas IsWord i
-    → LeavesKnown (machine_executed_seeing ring s i)
-seeing_words ring s i w h k = executed_words MayBeUnknown (λ v small. omega (arith, small)) ring s i w h k
-
 -- an instruction of code
-looking_words : (looks : List Look) (s : MachineBoard) (i : Instr) → All (λ look. (a : ℕ) → look a < 0x10000) looks → IsKnownOfWords s
-    → InstructionHas IsWord i → LeavesKnown (executed_looking looks s i)
+looking_words : (looks : List Look) (s : MachineBoard) (i : Instr) → All (λ look. (a : ℕ) → look a < 0x10000) looks → IsMachineOfWords s
+    → InstructionHas IsWord i → LeavesWords (executed_looking looks s i)
 looking_words looks s i w h k =
     let left : Inputs = record s.inputs { looks = other_looks looks } in
     let words : InputsAreWords left = record { readings = h.inputs.readings; looks = others_small looks w } in
     behind_words (look_effects looks) _
-    (seeing_words (Some (first_look looks)) (record s { inputs = left }) i (first_small looks w)
+    (executed_words (Some (first_look looks)) (record s { inputs = left }) i (first_small looks w)
     (record { registers = h.registers; fram = h.fram; ram = h.ram; inputs = words; outnum = h.outnum }) k)
 
-either_words : (b : Bool) (o p : MachineOutcome) → LeavesKnown o → LeavesKnown p → LeavesKnown (if b then o else p)
+either_words : (b : Bool) (o p : MachineOutcome) → LeavesWords o → LeavesWords p → LeavesWords (if b then o else p)
 either_words true o p h k = h
 either_words false o p h k = k
 
-code_words : (s : MachineBoard) (i : Instr) → IsKnownOfWords s → InstructionHas IsWord i → LeavesKnown (code_executed s i)
+code_words : (s : MachineBoard) (i : Instr) → IsMachineOfWords s → InstructionHas IsWord i → LeavesWords (code_executed s i)
 code_words s i h k =
-    either_words (looks_there i) _ _ (looking_words s.inputs.looks s i h.inputs.looks h k) (seeing_words None s i tt h k)
+    either_words (looks_there i) _ _ (looking_words s.inputs.looks s i h.inputs.looks h k) (executed_words None s i tt h k)
 
-uncovered_small : (b : Bool) (ram : ℕ → ℕ) (from upto : ℕ) → ((a : ℕ) → ram a ≤ unknown) → (a : ℕ) → (if b then forgotten from upto ram else ram) a ≤ unknown
-uncovered_small true ram from upto h a = either_is MayBeUnknown (nat_le from a && nat_lt a upto) unknown (ram a) (le_refl unknown) (h a)
-uncovered_small false ram from upto h a = h a
+pub machine_words_stay_words : MachineWordsStayWords
+machine_words_stay_words s o h (NoInstruction e k) = tt
+machine_words_stay_words s o h (Executes i k) =
+    let q = opened_words None s tt h in
+    executed_words None s i tt h (immediate_fetched machine_bus (machine_opened s) (λ a v e. some_on (is_word a) (machine_word (machine_opened s) a) v
+    (word_small (machine_opened s) a q) e) i (s.registers 0) k.fetched)
 
-uncovered_words : (i : Instr) (s : MachineBoard) (o : MachineOutcome) → LeavesKnown o → LeavesKnown (uncovering i s o)
+uncovered_known : (b : Bool) (ram : ℕ → Option ℕ) (from upto : ℕ) → ((a : ℕ) → IsKnownWord (ram a))
+    → (a : ℕ) → IsKnownWord ((if b then forgotten from upto ram else ram) a)
+uncovered_known true ram from upto h a = either_known (nat_le from a && nat_lt a upto) None (ram a) none_known (h a)
+uncovered_known false ram from upto h a = h a
+
+uncovered_words : (i : Instr) (s : MachineBoard) (o : MachineOutcome) → LeavesWords o → LeavesWords (uncovering i s o)
 uncovered_words i s (Goes es c t) h = record {
   registers = h.registers;
   fram = h.fram;
-  ram = uncovered_small (is_interruptible s.registers) t.ram (uncovered_from i (t.registers 1)) (s.registers 1) h.ram;
+  ram = uncovered_known (is_interruptible s.registers) t.ram (uncovered_from i (t.registers 1)) (s.registers 1) h.ram;
   inputs = h.inputs;
   outnum = h.outnum;
 }
 uncovered_words i s (Stops es price e) h = tt
 
-standing_words : (o : Option Instr) (s : MachineBoard) → ((i : Instr) → o ≡ Some i → All (λ w. w < 0x10000) (encoding i)) → IsKnownOfWords s
-    → LeavesKnown (standing o s)
+standing_words : (o : Option Instr) (s : MachineBoard) → ((i : Instr) → o ≡ Some i → All (λ w. w < 0x10000) (encoding i)) → IsMachineOfWords s
+    → LeavesWords (standing o s)
 standing_words None s e h = tt
 standing_words (Some i) s e h = uncovered_words i s (code_executed s i) (code_words s i h (immediate_encoded i (e i refl)))
 
-stopped_if_words : (b : Bool) (e : Stop) (o : MachineOutcome) → LeavesKnown o → LeavesKnown (if b then Stops [] 0 e else o)
+stopped_if_words : (b : Bool) (e : Stop) (o : MachineOutcome) → LeavesWords o → LeavesWords (if b then Stops [] 0 e else o)
 stopped_if_words true e o h = tt
 stopped_if_words false e o h = h
 
-undisturbed_words : (events : Bool) (s : MachineBoard) (o : MachineOutcome) → LeavesKnown o → LeavesKnown (undisturbed events s o)
+undisturbed_words : (events : Bool) (s : MachineBoard) (o : MachineOutcome) → LeavesWords o → LeavesWords (undisturbed events s o)
 undisturbed_words events s (Goes es c t) h = stopped_if_words (is_exposed events s t) (astray s) (Goes es c t) h
 undisturbed_words events s (Stops es price e) h = tt
 
@@ -732,7 +718,7 @@ pub machine_is_of_words : MachineIsOfWords
 machine_is_of_words b h = record {
   registers = λ n. index_small b.cpu n h.registers;
   fram = λ a. either_small ((a % 2 == 0) && is_fram a) (slice_index b.fram (place_of a)) 0 (index_small b.fram (place_of a) h.fram) (omega arith);
-  ram = λ a. either_small ((a % 2 == 0) && is_ram a) (slice_index b.ram (ram_place a)) 0 (index_small b.ram (ram_place a) h.ram) (omega arith);
+  ram = λ a. some_known _ (either_small ((a % 2 == 0) && is_ram a) (slice_index b.ram (ram_place a)) 0 (index_small b.ram (ram_place a) h.ram) (omega arith));
   inputs = record { readings = drop_small b.taken b.readings h.readings; looks = no_looks };
   outnum = h.outnum;
 }

@@ -17,8 +17,8 @@ use Rattle.fram_board.specs.Run.{Measure, moment_of, RunOutcome, ChargeRun, acce
 use Rattle.machine_effects.specs.World.{World, fram_after, accepted_after, world_after}
 use Rattle.machine_effects.specs.Inputs.{Look, look_effects}
 use Rattle.machine_effects.specs.Going.{Goes, Stops}
-use Rattle.machine_effects.specs.Machine.{MachineBoard, MachineOutcome, code_executed, IsMachineStep, Code, exec, unknown, pushes, IsRam, fram_of, machine_powered}
-use Rattle.machine_effects.specs.View.{machine_with, machine_of, IsWhole, IsOfWords, IsMachineOfWords, IsKnownOfWords, IsNextPrice, machine_outcome_with}
+use Rattle.machine_effects.specs.Machine.{MachineBoard, MachineOutcome, code_executed, IsMachineStep, Code, exec, pushes, IsRam, fram_of, machine_powered}
+use Rattle.machine_effects.specs.View.{machine_with, machine_of, IsWhole, IsOfWords, IsMachineOfWords, IsNextPrice, machine_outcome_with}
 use Rattle.machine_effects.specs.View.{machine_outcome_of, looks_at, seen_at_pc, IsBusFault}
 use Rattle.machine_effects.specs.Runs.{action_effects, moments_effects}
 use Rattle.machine_effects.specs.Changes.{ChangesByEffects}
@@ -59,7 +59,7 @@ SeenByWords = (b : BoardValue) (i : Instr) → IsWhole b → IsNextInstruction b
 pub record IsSameFrom (floor : ℕ) (s t : MachineBoard) : Type 0 where
   pub registers : t.registers ≡ s.registers
   pub fram : (a : ℕ) → a < handler_place → t.fram a ≡ s.fram a
-  pub ram : (a : ℕ) → floor ≤ a → a % 2 ≡ 0 → t.ram a < unknown → t.ram a ≡ s.ram a
+  pub ram : (a w : ℕ) → floor ≤ a → a % 2 ≡ 0 → t.ram a ≡ Some w → s.ram a ≡ Some w
   pub inputs : t.inputs ≡ s.inputs
   pub outnum : t.outnum ≡ s.outnum
 
@@ -107,19 +107,19 @@ KeepsTheHandler s (Stops es price stop) = Unit {0}
 abbrev pub CodeKeepsTheHandler : Type 0
 CodeKeepsTheHandler = (code : Code) (s : MachineBoard) → KeepsTheHandler s (exec code s)
 
--- where an outcome goes on, it leaves such a machine
-abbrev pub LeavesMachine : (MachineBoard → Type 0) → MachineOutcome → Type 0
-LeavesMachine P (Goes es c t) = P t
-LeavesMachine P (Stops es price stop) = Unit {0}
+-- where an outcome goes on, all are words
+abbrev pub LeavesWords : MachineOutcome → Type 0
+LeavesWords (Goes es c t) = IsMachineOfWords t
+LeavesWords (Stops es price stop) = Unit {0}
 
 -- words stay words on the machine
 abbrev pub MachineWordsStayWords : Type 0
-MachineWordsStayWords = (s : MachineBoard) (o : MachineOutcome) → IsMachineOfWords s → IsMachineStep s o → LeavesMachine IsMachineOfWords o
+MachineWordsStayWords = (s : MachineBoard) (o : MachineOutcome) → IsMachineOfWords s → IsMachineStep s o → LeavesWords o
 
--- and in code that stays, where its instructions are encoded in words, those that are known
+-- and in code that stays, where its instructions are encoded in words
 abbrev pub CodeWordsStayWords : Type 0
 CodeWordsStayWords = (code : Code) (s : MachineBoard) → ((i : Instr) → code.at (s.registers 0) ≡ Some i → All (λ w. w < 0x10000) (encoding i))
-    → IsKnownOfWords s → LeavesMachine IsKnownOfWords (exec code s)
+    → IsMachineOfWords s → LeavesWords (exec code s)
 
 -- words stay words on the board
 abbrev pub WordsStayWords : Type 0
@@ -154,7 +154,7 @@ abbrev pub FreshMachine : Type 0
 FreshMachine = (fram readings : List ℕ) (events : List (ℕ × ℕ)) → machine_of (fresh fram readings events) ≡ record {
   registers = registers_of (powered_up (vector_of fram) 0);
   fram = fram_of fram;
-  ram = λ a. 0;
+  ram = λ a. Some 0;
   inputs = record { readings = readings; looks = [] };
   outnum = 0;
 }

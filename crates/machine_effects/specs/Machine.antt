@@ -5,7 +5,7 @@
 -- below SP and of FRAM from the handler on, and writes of a byte in that RAM and of anything in that FRAM. Words of RAM that come to
 -- stand above SP again aren't known until the program writes them, and their reads are refused, too.
 use Rattle.std.specs.Prelude.{ℕ, ◌+◌, ◌-◌, ◌*◌, ◌%◌, ◌≡◌, ◌<◌, ◌≤◌, Bool, true, false, nat_le, nat_lt, ◌==◌, ◌&&◌, ◌||◌, not, if◌then◌else◌}
-use Rattle.std.specs.Prelude.{slice_index, List, [], ◌∷◌, ◌++◌, Result, Ok, Err, Option, Some, None}
+use Rattle.std.specs.Prelude.{slice_index, List, [], ◌∷◌, ◌++◌, Result, Ok, Err, Option, Some, None, is_some, unwrap_or}
 use Rattle.fram_board.specs.address_space.Limits.{ram_first, ram_end, stack_floor, stack_top, fram_first, event_vector, reset_vector}
 pub use Rattle.fram_board.specs.address_space.Limits.{IsFramWord as IsFram}
 use Rattle.event_places.specs.Places.{handler_place, is_ring}
@@ -39,7 +39,7 @@ use Rattle.machine_effects.specs.Going.{StepOutcome, Goes, Stops, step_behind, S
 -- memory and ports during one instruction, and what it did so far
 pub record MachineBus : Type 0 where
   pub fram : ℕ → ℕ  -- the word at each even address
-  pub ram : ℕ → ℕ  -- a word that isn't known is no word
+  pub ram : ℕ → Option ℕ  -- none where the word isn't known
   pub inputs : Inputs
   pub outnum : ℕ  -- the word last written to OUTNUM
   pub log : List Effect
@@ -50,9 +50,9 @@ pub record MachineBus : Type 0 where
 abbrev pub word_address : ℕ → ℕ
 word_address a = a - a % 2
 
--- the word of RAM or FRAM to which an address belongs
-abbrev pub word_in : (ℕ → ℕ) → (ℕ → ℕ) → ℕ → ℕ
-word_in fram ram a = if is_ram a then ram (word_address a) else fram (word_address a)
+-- the word of RAM or FRAM to which an address belongs; 0 where it isn't known
+abbrev pub word_in : (ℕ → ℕ) → (ℕ → Option ℕ) → ℕ → ℕ
+word_in fram ram a = if is_ram a then unwrap_or (ram (word_address a)) 0 else fram (word_address a)
 
 -- the same on the bus
 abbrev pub machine_word : MachineBus → ℕ → ℕ
@@ -67,13 +67,9 @@ abbrev pub first_reading : List ℕ → Result ℕ Refused
 first_reading [] = Err refused.NoReading
 first_reading (w ∷ ws) = Ok w
 
--- what stands in RAM for a word that isn't known: no word
-abbrev pub unknown : ℕ
-unknown = 0x10000
-
 -- the addresses of memory that a program may read: those of RAM from the floor on where the word is known, and of FRAM in front of the handler
 abbrev pub is_readable : MachineBus → ℕ → Bool
-is_readable s a = if is_ram a then nat_le s.floor (word_address a) && nat_lt (s.ram (word_address a)) unknown else nat_lt a handler_place
+is_readable s a = if is_ram a then nat_le s.floor (word_address a) && is_some (s.ram (word_address a)) else nat_lt a handler_place
 
 -- what is seen at an address of HEAD and the ring
 abbrev pub ring_read : Option Look → ℕ → Result ℕ Refused
@@ -105,7 +101,7 @@ machine_after_read s a Byte = s
 -- a word of memory is written; in FRAM that is a store
 abbrev pub machine_stored : MachineBus → ℕ → ℕ → MachineBus
 machine_stored s a v =
-    if is_ram a then record s { ram = put s.ram (word_address a) v }
+    if is_ram a then record s { ram = put s.ram (word_address a) (Some v) }
     else record s { fram = put s.fram (word_address a) v; log = s.log ++ Store (word_address a) v ∷ [] }
 
 -- a word written to a port
@@ -139,7 +135,7 @@ machine_bus = record {
 pub record MachineBoard : Type 0 where
   pub registers : Registers
   pub fram : ℕ → ℕ
-  pub ram : ℕ → ℕ  -- a word that isn't known is no word
+  pub ram : ℕ → Option ℕ  -- none where the word isn't known
   pub inputs : Inputs
   pub outnum : ℕ
 
@@ -237,8 +233,8 @@ pushes (instr.One (one.Call x)) = true
 pushes _ = false
 
 -- RAM of which the words from one address up to another aren't known
-abbrev pub forgotten : (from upto : ℕ) → (ℕ → ℕ) → ℕ → ℕ
-forgotten from upto ram a = if nat_le from a && nat_lt a upto then unknown else ram a
+abbrev pub forgotten : (from upto : ℕ) → (ℕ → Option ℕ) → ℕ → Option ℕ
+forgotten from upto ram a = if nat_le from a && nat_lt a upto then None else ram a
 
 -- from where on an instruction that moves SP down to here wrote none of the words that come to stand above SP
 abbrev pub uncovered_from : Instr → ℕ → ℕ
@@ -337,10 +333,14 @@ fram_of words a = if (a % 2 == 0) && is_fram a then slice_index words (place_of 
 abbrev pub ram_of : List ℕ → ℕ → ℕ
 ram_of words a = if (a % 2 == 0) && is_ram a then slice_index words (ram_place a) else 0
 
+-- RAM of which all words are known
+abbrev pub known : (ℕ → ℕ) → ℕ → Option ℕ
+known ram a = Some (ram a)
+
 -- a power-up: PC is the reset vector and SR is 0; FRAM and the inputs are as before
 abbrev pub machine_powered : MachineBoard → PowerState → MachineBoard
 machine_powered s p = record s {
   registers = registers_of (kept 0 (s.fram reset_vector) ∷ kept 1 p.sp ∷ 0 ∷ 0 ∷ p.work);
-  ram = ram_of p.ram;
+  ram = known (ram_of p.ram);
   outnum = p.outnum;
 }

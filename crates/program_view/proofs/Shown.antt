@@ -1,9 +1,10 @@
 -- An instruction does the same on a board and on the machine that the board shows, and the board goes on showing it.
 use Rattle.std.proofs.Common.{◌≡◌, ◌==◌, ◌&&◌, ◌||◌, ◌≤◌, ◌<◌, ◌+◌, ◌%◌, if◌then◌else◌, nat_le, nat_lt, leb-true, le-leb, lt-ltb, arith, ℕ, refl, sym, ◌∙◌, ap, ap₂, subst, Bool}
 use Rattle.std.proofs.Common.{true, false}
-use Rattle.std.proofs.Common.{List, [], ◌++◌, append-nil, ◌⊎◌, inl, inr, ⊎_elim, Some, Result, Ok, Err, eqb-true}
+use Rattle.std.proofs.Common.{List, [], ◌++◌, append-nil, ◌⊎◌, inl, inr, ⊎_elim, Option, Some, None, Result, Ok, Err, eqb-true}
 use Rattle.std.proofs.Math.Path.{fun_ext}
 use Rattle.std.proofs.lemmas.Bool.{and_parts, cases_lt}
+use Rattle.std.proofs.lemmas.Option.{same_Some}
 use Rattle.std.proofs.lemmas.Bool.Decides.{nat_tests}
 use Rattle.address_space.specs.Limits.{stack_floor, stack_top}
 use Rattle.event_places.specs.Places.{handler_place, is_ring}
@@ -19,7 +20,7 @@ use Rattle.machine_effects.specs.World.{fram_after}
 use Rattle.machine_effects.specs.Inputs.{Look, look_effects}
 use Rattle.machine_effects.specs.Going.{Goes, Stops}
 use Rattle.machine_effects.specs.Machine.{MachineBoard, MachineOutcome, code_executed, fram_of, ram_of, in_stack, keeps_stack, IsRam}
-use Rattle.machine_effects.specs.Machine.{unknown, pushes, forgotten, uncovered_from, uncovered, uncovering, program_executed}
+use Rattle.machine_effects.specs.Machine.{pushes, forgotten, uncovered_from, uncovered, uncovering, program_executed}
 use Rattle.machine_effects.specs.View.{machine_with, looks_at, outcome_of_answer, machine_outcome_with, IsWhole, IsFault, IsBusFault}
 use Rattle.machine_effects.specs.Laws.{IsSameFrom, AreSameFrom, HaveSameTop, KeepsTheHandler}
 use Rattle.machine_effects.specs.Changes.{ChangesByEffects}
@@ -78,9 +79,9 @@ stays_inside p q down e =
     (λ s. (leb-true stack_floor q s, leb-true q stack_top both.0)))
 
 -- a word of RAM that isn't forgotten
-known_by : (b : Bool) (w : ℕ) → (if b then unknown else w) < unknown → (b ≡ false) × (w < unknown)
-known_by true w h = absurd (omega (arith, h))
-known_by false w h = (refl, h)
+known_by : (b : Bool) (o : Option ℕ) (w : ℕ) → (if b then None else o) ≡ Some w → (b ≡ false) × (o ≡ Some w)
+known_by true o w e = absurd cc
+known_by false o w e = (refl, e)
 
 -- what isn't between two addresses is below the first or behind the second
 not_within : (from upto a : ℕ) → (nat_le from a && nat_lt a upto) ≡ false → (a < from) ⊎ (upto ≤ a)
@@ -135,7 +136,7 @@ module _ (b : BoardValue) (u : MachineBoard) (i : Instr) (more : List Look) (who
   floor = shown_from u
 
   same : IsSameFrom floor s u
-  same = record { registers = shows.registers; fram = fram_low; ram = shows.ram; inputs = same_inputs; outnum = shows.outnum }
+  same = record { registers = shows.registers; fram = fram_low; ram = λ a w l even e. ap (λ v. Some v) (shows.ram a w l even e); inputs = same_inputs; outnum = shows.outnum }
 
   low : floor ≤ s.registers 1
   low = subst (λ (n : ℕ). floor ≤ n) sp (from_by (is_interruptible u.registers) (u.registers 1))
@@ -208,7 +209,7 @@ module _ (b : BoardValue) (u : MachineBoard) (i : Instr) (more : List Look) (who
 
       -- the word that a push leaves at SP
       same_there : pushes i ≡ true → stack_floor ≤ next.registers 1 → next.registers 1 < stack_top
-          → next.ram (next.registers 1) ≡ ram_of after.ram (next.registers 1)
+          → next.ram (next.registers 1) ≡ Some (ram_of after.ram (next.registers 1))
       same_there p l h =
           let is_ram : IsRam (t.registers 1) = record {
             even = subst (λ (n : ℕ). n % 2 ≡ 0) moved sp_even;
@@ -217,12 +218,12 @@ module _ (b : BoardValue) (u : MachineBoard) (i : Instr) (more : List Look) (who
           } in
           let top : HaveSameTop (Goes es done.cycles t) (Goes es done.cycles next) =
           same_top (code_executed s i) (code_executed u i) es es done.cycles done.cycles t next on_board going.is (pushes_alike floor i s u p low same) in
-          ap next.ram moved ∙ top is_ram ∙ ap (ram_of after.ram) (sym moved)
+          ap next.ram moved ∙ top is_ram ∙ ap (λ b. Some (ram_of after.ram b)) (sym moved)
 
       -- the word that a push wrote, at SP, which it moved down
-      ram_pushed : KeepsItsStack u next → (a : ℕ) → next.registers 1 ≤ a → a < uncovered_from i (next.registers 1) → a < u.registers 1 → a % 2 ≡ 0
-          → next.ram a ≡ ram_of after.ram a
-      ram_pushed stack a above below down even =
+      ram_pushed : KeepsItsStack u next → (a w : ℕ) → next.registers 1 ≤ a → a < uncovered_from i (next.registers 1) → a < u.registers 1 → a % 2 ≡ 0
+          → next.ram a ≡ Some w → ram_of after.ram a ≡ w
+      ram_pushed stack a w above below down even e =
           let push = pushed_there i (next.registers 1) a above below in
           let sp = sp_even in let near = push.1 in
           let at : a ≡ next.registers 1 = omega (arith, sp, even, above, near) in
@@ -230,38 +231,39 @@ module _ (b : BoardValue) (u : MachineBoard) (i : Instr) (more : List Look) (who
           (and_parts (nat_le stack_floor (u.registers 1)) (nat_le (u.registers 1) stack_top) stack.in_stack).1 in
           let lower : next.registers 1 < u.registers 1 = omega (arith, at, down) in
           let stays = stays_inside (u.registers 1) (next.registers 1) lower stack.stack in
-          ap next.ram at ∙ same_there push.0 stays.0 (omega (arith, lower, inside)) ∙ ap (ram_of after.ram) (sym at)
+          same_Some (ram_of after.ram a) w (ap (λ b. Some (ram_of after.ram b)) at
+          ∙ sym (same_there push.0 stays.0 (omega (arith, lower, inside))) ∙ ap next.ram (sym at) ∙ e)
 
       -- RAM from SP up, wherever that moves
-      ram_moved : floor ≡ u.registers 1 → KeepsItsStack u next → (a : ℕ) → next.registers 1 ≤ a → a % 2 ≡ 0
-          → (a < uncovered_from i (next.registers 1)) ⊎ (u.registers 1 ≤ a) → next.ram a < unknown → next.ram a ≡ ram_of after.ram a
-      ram_moved is stack a above even (inr up) known = going.same.ram a (omega (arith, is, up)) even known
-      ram_moved is stack a above even (inl below) known =
-          ⊎_elim (λ down. ram_pushed stack a above below down even) (λ up. going.same.ram a (omega (arith, is, up)) even known)
-          (cases_lt a (u.registers 1))
+      ram_same : (a w : ℕ) → floor ≤ a → a % 2 ≡ 0 → next.ram a ≡ Some w → ram_of after.ram a ≡ w
+      ram_same a w l even e = same_Some (ram_of after.ram a) w (going.same.ram a w l even e)
 
-      ram_behind : KeepsRules u behind → (c : Bool) → is_interruptible u.registers ≡ c → (a : ℕ) → shown_from behind ≤ a → a % 2 ≡ 0
-          → (if c then forgotten (uncovered_from i (next.registers 1)) (u.registers 1) next.ram else next.ram) a < unknown
-          → (if c then forgotten (uncovered_from i (next.registers 1)) (u.registers 1) next.ram else next.ram) a ≡ ram_of after.ram a
-      ram_behind rules false closed a above even known =
+      ram_moved : floor ≡ u.registers 1 → KeepsItsStack u next → (a w : ℕ) → next.registers 1 ≤ a → a % 2 ≡ 0
+          → (a < uncovered_from i (next.registers 1)) ⊎ (u.registers 1 ≤ a) → next.ram a ≡ Some w → ram_of after.ram a ≡ w
+      ram_moved is stack a w above even (inr up) e = ram_same a w (omega (arith, is, up)) even e
+      ram_moved is stack a w above even (inl below) e =
+          ⊎_elim (λ down. ram_pushed stack a w above below down even e) (λ up. ram_same a w (omega (arith, is, up)) even e) (cases_lt a (u.registers 1))
+
+      ram_behind : KeepsRules u behind → (c : Bool) → is_interruptible u.registers ≡ c → (a w : ℕ) → shown_from behind ≤ a → a % 2 ≡ 0
+          → (if c then forgotten (uncovered_from i (next.registers 1)) (u.registers 1) next.ram else next.ram) a ≡ Some w → ram_of after.ram a ≡ w
+      ram_behind rules false closed a w above even e =
           let is : floor ≡ 0 = ap (λ (d : Bool). if d then u.registers 1 else 0) closed in
-          going.same.ram a (omega (arith, is)) even known
-      ram_behind rules true accepts a above even known =
+          ram_same a w (omega (arith, is)) even e
+      ram_behind rules true accepts a w above even e =
           let is : floor ≡ u.registers 1 = ap (λ (d : Bool). if d then u.registers 1 else 0) accepts in
           let stack = rules accepts in
           let end : shown_from behind ≡ next.registers 1 = ap (λ (d : Bool). if d then next.registers 1 else 0) stack.accepts in
           let from = uncovered_from i (next.registers 1) in
           let upto = u.registers 1 in
-          let is_known = known_by (nat_le from a && nat_lt a upto) (next.ram a) known in
+          let is_known = known_by (nat_le from a && nat_lt a upto) (next.ram a) w e in
           let kept : KeepsItsStack u next = record { accepts = stack.accepts; in_stack = stack.in_stack; stack = stack.stack } in
-          ap (λ (d : Bool). if d then unknown else next.ram a) is_known.0
-          ∙ ram_moved is kept a (omega (arith, end, above)) even (not_within from upto a is_known.0) is_known.1
+          ram_moved is kept a w (omega (arith, end, above)) even (not_within from upto a is_known.0) is_known.1
 
       shows_next : KeepsRules u behind → Shows after behind
       shows_next rules = record {
         registers = going.same.registers;
         fram = fun_ext fram_at;
-        ram = λ a above even known. ram_behind rules (is_interruptible u.registers) refl a above even known;
+        ram = λ a w above even e. ram_behind rules (is_interruptible u.registers) refl a w above even e;
         readings = ap (λ j. j.readings) going.same.inputs;
         outnum = going.same.outnum;
       }

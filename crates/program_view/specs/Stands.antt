@@ -10,7 +10,7 @@ use Rattle.fram_board.specs.Run.{Action, PowerUp, Execute, Moment, accepted_by}
 use Rattle.fram_board.specs.Effects.{Effect, store_at, effects_of}
 use Rattle.machine_effects.specs.World.{fram_after, EachStore}
 use Rattle.machine_effects.specs.Inputs.{look_effects}
-use Rattle.machine_effects.specs.Machine.{MachineBoard, fram_of, ram_of, unknown, code_executed}
+use Rattle.machine_effects.specs.Machine.{MachineBoard, fram_of, ram_of, code_executed}
 use Rattle.machine_effects.specs.View.{machine_with, looks_at, machine_outcome_with, IsWhole, IsOfWords}
 use Rattle.event_handler.specs.Handler.{Stage, SaveR4, SaveR5, TakeEvent}
 use Rattle.event_handler.specs.Boundaries.{IsInterrupted, IsInHandler, KeepsTheRest, cycles_left, instructions_left}
@@ -24,7 +24,7 @@ shown_from u = if is_interruptible u.registers then u.registers 1 else 0
 pub record Shows (b : BoardValue) (u : MachineBoard) : Type 0 where
   pub registers : u.registers ≡ registers_of b.cpu
   pub fram : u.fram ≡ steady (fram_of b.fram)
-  pub ram : (a : ℕ) → shown_from u ≤ a → a % 2 ≡ 0 → u.ram a < unknown → u.ram a ≡ ram_of b.ram a
+  pub ram : (a w : ℕ) → shown_from u ≤ a → a % 2 ≡ 0 → u.ram a ≡ Some w → ram_of b.ram a ≡ w
   pub readings : u.inputs.readings ≡ drop b.taken b.readings
   pub outnum : u.outnum ≡ b.outnum
 
