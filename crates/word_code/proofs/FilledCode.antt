@@ -59,8 +59,8 @@ mutual
       ap₂ (λ x y. x ++ y) (step_code_filled b bs os s)
       (ap (λ ws. steps_code bs ws (filled b p)) (waiting_filled b os s) ∙ steps_code_filled b bs (waiting_behind os s) p)
 
-pub code_filled : (b : ℕ → Program) (events : Bool) (p : Program) → code_of events (filled b p) ≡ code_of events p
-code_filled b events p = ap₂ (λ n ms. stack_set events n ++ ms) (filled_locals b p) (block_by b [] p (steps_code_filled b [] [] p))
+pub code_filled : (b : ℕ → Program) (p : Program) → code_of (filled b p) ≡ code_of p
+code_filled b p = ap₂ (λ n ms. stack_set n ++ ms) (filled_locals b p) (block_by b [] p (steps_code_filled b [] [] p))
 
 pub routine_filled : (b : ℕ → Program) (p : Program) → routine_code (filled b p) ≡ routine_code p
 routine_filled b p = block_by b [] p (steps_code_filled b [] [] p)

@@ -44,7 +44,7 @@ IsCarry b f = f.c ≡ b
 -- what straight code that writes nothing but R4 to R7 leaves as it was
 pub record Kept : Type 0 where
   pub sp : ℕ
-  pub ram : ℕ → ℕ
+  pub ram : ℕ → Option ℕ
   pub locals : List ℕ  -- the words of the locals in registers
   pub inputs : Inputs
   pub fram : ℕ → ℕ

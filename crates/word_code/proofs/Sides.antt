@@ -87,7 +87,8 @@ word_same six owns locals (waiting.Number n) s t b h f k l = number_cases (λ x.
 word_same six owns locals (waiting.Fram a) s t b h f k l = ap (λ (g : ℕ → ℕ). g a) f
 word_same six owns locals (waiting.Local n) s t b h f k l =
     let e = h.in_register in
-    in_register s.work t.ram n e ∙ ap (λ ws. local_word ws t.ram n) l ∙ sym (in_register t.work t.ram n e)
+    same_Some (s.work (work_number (local_register n))) (t.work (work_number (local_register n)))
+    (sym (in_register s.work t.ram n e) ∙ ap (λ ws. local_word ws t.ram n) l ∙ in_register t.work t.ram n e)
 word_same true owns locals waiting.R6 s t b h f k l = k
 word_same false owns locals waiting.R6 s t b h f k l = absurd (let q = b in (cc))
 word_same true owns locals waiting.R4 s t b h f k l = absurd (let q = b in (cc))

@@ -1114,9 +1114,9 @@ abbrev mutual
 abbrev pub block_code : List Bound → Program → List Form
 block_code bs p = steps_code bs [] p ++ flushed (waiting_after [] p)
 
--- the code of a program, by whether it takes events: the stack has its place, and then its steps
-abbrev pub code_of : Bool → Program → List Form
-code_of events p = stack_set events (locals_of p) ++ block_code [] p
+-- the code of a program: the stack has its place, and then its steps
+abbrev pub code_of : Program → List Form
+code_of p = stack_set (locals_of p) ++ block_code [] p
 
 -- the code of a function's body
 abbrev pub routine_code : Program → List Form
