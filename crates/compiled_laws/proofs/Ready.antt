@@ -8,7 +8,7 @@ use Rattle.source_meaning.proofs.Interface.{accepted_texts_run}
 use Rattle.war_analysis.specs.PlanValue.{TaskPlanValue}
 use Rattle.array_versions.specs.Program.{Program}
 use Rattle.array_versions.specs.TaskPrograms.{TaskPrograms}
-use Rattle.array_versions.specs.Form.{FitsTheStack, OfWords}
+use Rattle.array_versions.specs.Form.{IsWhole, OfWords}
 use Rattle.memory_map.specs.declared.runtime.Logging.{Logging}
 use Rattle.memory_map.specs.declared.runtime.Logging.TheVariants.{Redo, Undo}
 use Rattle.memory_map.specs.declared.runtime.Runtime.{Runtime}
@@ -45,12 +45,12 @@ module _ (text : List ℕ) (p : CheckedProgram) (allow : Allow) (plans : List Ta
   }
 
   -- the program of a task is whole, and of words
-  one_whole : (k : ℕ) → k < length p.tasks → FitsTheStack l.runtime.events (task_program p l k) × OfWords (task_program p l k)
+  one_whole : (k : ℕ) → k < length p.tasks → IsWhole (task_program p l k) × OfWords (task_program p l k)
   one_whole k below =
       let task = element p.tasks k below in
       let count = t.layout.tasks.count in
       let own = element l.tasks k (omega (arith, below, count)) in
-      let P : Program → Type 0 = λ q. FitsTheStack l.runtime.events q × OfWords q in
+      let P : Program → Type 0 = λ q. IsWhole q × OfWords q in
       subst P (ap (λ (q : TaskPrograms). q.own) (sym (program_at p.functions l p.tasks l.tasks k task.0 own.0 task.1 own.1)))
       (tasks_are_whole text p allow plans l t k task.0 own.0 task.1 own.1)
 

@@ -17,7 +17,7 @@ use Rattle.memory_map.specs.declared.words.RuntimeWord.TheVariants.{ListLength, 
 use Rattle.memory_map.specs.MemoryMap.{MemoryMap, word_place, with_events}
 use Rattle.runtime_effects.specs.Places.{listed}
 use Rattle.runtime_effects.specs.Needs.{CanCommit}
-use Rattle.runtime_code.specs.Addresses.{stack_origin}
+use Rattle.runtime_code.specs.Addresses.{stack_top}
 use Rattle.runtime_code.specs.Comes.{Enters}
 use Rattle.boot_runtime.specs.Entries.{task_entries}
 use Rattle.boot_runtime.specs.Listing.{entry_at, privates_in, start_cycles}
@@ -46,7 +46,7 @@ pub record FitsCommit (l : MemoryMap) (entries words emits : ℕ) (f : ℕ → �
 -- and words
 pub record BodyWithin (p : CheckedProgram) (l : MemoryMap) (cost entries words k : ℕ) (g : ℕ → ℕ) (inputs : Inputs) : Type 0 where
   pub most : ℕ
-  pub comes : (v : Core) → Enters (entry_at (task_entries l) k).code (stack_origin l.runtime.events) g inputs v
+  pub comes : (v : Core) → Enters (entry_at (task_entries l) k).code stack_top g inputs v
       → let b = behaviour (task_program p l k) (started g inputs) in ComesTo (placed_code p l) most v b.effects b.end
   pub within : with_events l.runtime.events 3 + 6
       + start_cycles l.runtime.events true l.versions.words (length (privates_in (task_entries l) k)) + most
@@ -77,7 +77,7 @@ by_undo p l logs r = subst (λ g. RunsBy g p l) logs r.own
 pub programs_are : (p : CheckedProgram) (l : MemoryMap) → CanRun p l → length (lowered l p) ≡ length p.tasks
 programs_are p l r = let a = programs_count l.tasks (lowered l p) r.fits.tasks in a ∙ r.count
 
-pub are_whole : (p : CheckedProgram) (l : MemoryMap) → CanRun p l → ProgramsAreWhole l.runtime.events (lowered l p)
+pub are_whole : (p : CheckedProgram) (l : MemoryMap) → CanRun p l → ProgramsAreWhole (lowered l p)
 are_whole p l r =
     let n = programs_are p l r in
     record { whole = λ k h. r.programs.whole k (omega (arith, h, n)); of_words = λ k h. r.programs.of_words k (omega (arith, h, n)) }

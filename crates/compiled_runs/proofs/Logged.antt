@@ -21,7 +21,7 @@ use Rattle.memory_map.specs.declared.runtime.Role.{Role}
 use Rattle.memory_map.specs.declared.words.RuntimeWord.TheVariants.{CurrentTask, ListLength, EmitCount, SentBase, Version}
 use Rattle.memory_map.specs.MemoryMap.{MemoryMap, word_place, with_events}
 use Rattle.runtime_effects.specs.Stages.{is_at_end}
-use Rattle.runtime_code.specs.Addresses.{stack_origin}
+use Rattle.runtime_code.specs.Addresses.{stack_top}
 use Rattle.runtime_code.specs.Comes.{IsAt, Enters}
 use Rattle.runtime_code.proofs.Interface.{nothing as no_steps, if_any_grows}
 use Rattle.boot_runtime.specs.Entries.{task_entries}
@@ -67,7 +67,7 @@ clearing_is_dearest events false versions privates = omega arith
 -- clearing and a commit
 pub record LoggedBodyWithin (p : CheckedProgram) (l : MemoryMap) (cost k : ℕ) (g : ℕ → ℕ) (inputs : Inputs) : Type 0 where
   pub most : ℕ
-  pub comes : (v : Core) → Enters (entry_at (task_entries l) k).code (stack_origin l.runtime.events) g inputs v
+  pub comes : (v : Core) → Enters (entry_at (task_entries l) k).code stack_top g inputs v
       → let b = behaviour (task_program p l k) (started g inputs) in ComesTo (placed_code p l) most v b.effects b.end
   pub within : with_events l.runtime.events 3 + 6 + recovery_cycles (list_of (summaries p) p.shared (task_body p k))
       + start_cycles l.runtime.events true l.versions.words (length (private_homes l k)) + most
@@ -99,7 +99,7 @@ module _ (p : CheckedProgram) (l : MemoryMap) (logs : l.runtime.logging ≡ Undo
   abbrev emits : ℕ → ℕ
   emits t = emits_of (summaries p) (task_body p t)
 
-  whole : ProgramsAreWhole l.runtime.events (lowered l p)
+  whole : ProgramsAreWhole (lowered l p)
   whole = are_whole p l r
 
   start_keeps : LoggingContract (program_places p l) (state_view p l) (private_homes l) start

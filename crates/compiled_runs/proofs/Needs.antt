@@ -66,7 +66,7 @@ module _ (p : CheckedProgram) (l : MemoryMap) (logs : l.runtime.logging ≡ Redo
       → BodyWithin p l (need_under Redo p l k) (entries k) (words k) k g inputs
   body k g inputs named are_words ready =
       let count = programs_are p l r in
-      let most = most_spent l.runtime.events (task_program p l k) in
+      let most = most_spent (task_program p l k) in
       let left = (program_parts p l).cost k - beside_path Redo p l k in
       let table = within.within k g inputs named are_words ready in
       ⊎_elim {C = BodyWithin p l (need_under Redo p l k) (entries k) (words k) k g inputs}
@@ -139,7 +139,7 @@ module _ (p : CheckedProgram) (l : MemoryMap) (logs : l.runtime.logging ≡ Undo
       → LoggedBodyWithin p l (need_under Undo p l k) k g inputs
   logged_body k g inputs named are_words ready =
       let count = programs_are p l r in
-      let most = most_spent l.runtime.events (task_program p l k) in
+      let most = most_spent (task_program p l k) in
       let left = (program_parts p l).cost k - beside_path Undo p l k in
       let table = within.within k g inputs named are_words ready in
       ⊎_elim {C = LoggedBodyWithin p l (need_under Undo p l k) k g inputs}

@@ -72,7 +72,7 @@ module _ (source : Source) where
   abbrev privates : ℕ → List CopyPair
   privates = privates_in tasks
 
-  whole : ProgramsAreWhole l.runtime.events (lowered l p)
+  whole : ProgramsAreWhole (lowered l p)
   whole = are_whole p l r
 
   -- a board, and the start of an attempt behind it

@@ -15,7 +15,7 @@ pub power_ups_raise_version : PowerUpsRaiseVersion
 power_ups_raise_version p l logs r b boots gate below t leads =
     let step = (compiled_program p l).step in
     let count = programs_count l.tasks (lowered l p) r.fits.tasks ∙ r.count in
-    let whole : ProgramsAreWhole l.runtime.events (lowered l p) = record {
+    let whole : ProgramsAreWhole (lowered l p) = record {
       whole = λ k h. r.programs.whole k (omega (arith, h, count));
       of_words = λ k h. r.programs.of_words k (omega (arith, h, count));
     } in

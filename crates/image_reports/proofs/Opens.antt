@@ -23,7 +23,7 @@ use Rattle.word_code.specs.Code.{repeated}
 
 -- the parts behind the boot
 abbrev rest_of_parts : MemoryMap → CheckedProgram → List CodePart
-rest_of_parts l p = commit_part l ∷ task_parts l.runtime.events l.tasks (lowered l p)
+rest_of_parts l p = commit_part l ∷ task_parts l.tasks (lowered l p)
 
 -- with GIE set the CPU accepts interrupts, whatever the flags
 flags_by : (p q : ℕ) (w : ℕ → ℕ) (c z n v : Bool) → is_interruptible (register_file p q true (record { c = c; z = z; n = n; v = v }) w) ≡ true

@@ -9,28 +9,27 @@ use Rattle.boot_runtime.specs.code_forms.Code.{KeptCode, rules_of, IsAtKept, Run
 use Rattle.boot_runtime.proofs.code_forms.Interface.{only_is_part, only_is_tidy, fronts_on_stack, leads_watched, stalls_watched}
 use Rattle.word_code.specs.array_versions.Behaviour.{behaviour, started, End, GoesOn, Jumps, Gives, Short, Strays, Broken}
 use Rattle.word_code.specs.array_versions.Program.{Program}
-use Rattle.word_code.specs.array_versions.Form.{FitsTheStack}
+use Rattle.word_code.specs.array_versions.Form.{IsWhole}
 use Rattle.word_code.specs.array_versions.TaskPrograms.{TaskPrograms, no_programs, program_at}
-use Rattle.word_code.specs.Code.{entry_stack, code_spent}
+use Rattle.word_code.specs.Code.{code_spent}
 use Rattle.word_code.specs.Laws.{IsEntry, ComesToWithin, KeepsWithin, HasJumped, RoutinesStand}
 use Rattle.word_code.proofs.Interface.{code_keeps_to_the_stack}
 use Rattle.boot_runtime.specs.memory_map.MemoryMap.{MemoryMap, TaskPlace}
-use Rattle.boot_runtime.specs.runtime_code.Addresses.{stack_origin}
+use Rattle.boot_runtime.specs.runtime_code.Addresses.{stack_top}
 use Rattle.linked_code.specs.Linked.{linked_code, CodeFits, ProgramsAreWhole, TaskFits}
 use Rattle.linked_code.specs.Watch.{keeps_stacks, stacked_step, is_in_task, task_only, StackedTo}
 use Rattle.linked_code.proofs.Called.{routine_even, routines_stand}
 use Rattle.linked_code.proofs.Linked.{linked_is_code, linked_stands}
-use Rattle.linked_code.proofs.Stretches.{origin_is_entry, task_fits}
+use Rattle.linked_code.proofs.Stretches.{task_fits}
 use Rattle.linked_code.proofs.Watched.{own_only, routine_only, task_may}
 
 -- where stacks begin is above the lowest place of a program's
-entry_above : {p : Program} (events : Bool) (w : FitsTheStack events p) → w.whole.bounds.floor ≤ entry_stack events
-entry_above true w = let fits = w.fits refl in let low = fits.lowest in let floor = w.whole.floor in omega (arith, low, floor)
-entry_above false w = let low = w.whole.lowest in let floor = w.whole.floor in omega (arith, low, floor)
+entry_above : {p : Program} (w : IsWhole p) → w.bounds.floor ≤ stack_top
+entry_above w = let low = w.lowest in let floor = w.floor in omega (arith, low, floor)
 
-module _ (l : MemoryMap) (programs : List TaskPrograms) (fits : CodeFits l programs) (whole : ProgramsAreWhole l.runtime.events programs) (k : ℕ)
+module _ (l : MemoryMap) (programs : List TaskPrograms) (fits : CodeFits l programs) (whole : ProgramsAreWhole programs) (k : ℕ)
     (named : k < length programs) (t : TaskPlace) (at : slice_get l.tasks k ≡ Some t) (low : ℕ)
-    (lowest : low ≤ (whole.whole k named).whole.bounds.floor) where
+    (lowest : low ≤ (whole.whole k named).bounds.floor) where
   abbrev code : Code
   code = linked_code l programs
 
@@ -50,27 +49,25 @@ module _ (l : MemoryMap) (programs : List TaskPrograms) (fits : CodeFits l progr
   routines =
       let stand = (linked_stands l programs fits).tasks k t own at there in
       routines_stand part.code t own (routine_even l fits.rules k t at)
-      (λ j r q a b. routine_only l.runtime.events code t own fit j r q a b (stand.routines j r q a b)) fit.calls
+      (λ j r q a b. routine_only code t own fit j r q a b (stand.routines j r q a b)) fit.calls
 
-  keeps : KeepsWithin part (program_at programs k) (whole.whole k named).whole
-  keeps = record { low = lowest; high = let is = origin_is_entry l.runtime.events in omega (arith, is) }
+  keeps : KeepsWithin part (program_at programs k) (whole.whole k named)
+  keeps = record { low = lowest; high = omega arith }
 
   -- it keeps SP in its stack
-  pub body_kept : (v : Core) → IsEntry l.runtime.events t.code.address v
+  pub body_kept : (v : Core) → IsEntry t.code.address v
       → let s = started v.fram v.inputs in let b = behaviour (program_at programs k) s in
       ComesToWithin part (code_spent (program_at programs k) s) v b.effects b.end
   body_kept v entry =
       let w = whole.whole k named in
       code_keeps_to_the_stack part t.code.address (program_at programs k) v (only_is_tidy (λ a. is_in_task a t) code (linked_is_code l programs fits).tidy)
-      (own_only l.runtime.events code t own fit ((linked_stands l programs fits).tasks k t own at there).own) routines w.whole keeps w.fits
+      (own_only code t own fit ((linked_stands l programs fits).tasks k t own at there).own) routines w keeps
       (whole.of_words k named) entry
 
-  module _ (lows : List ℕ) (is_low : slice_get lows k ≡ Some low) (v : Core) (entry : IsEntry l.runtime.events t.code.address v) where
+  module _ (lows : List ℕ) (is_low : slice_get lows k ≡ Some low) (v : Core) (entry : IsEntry t.code.address v) where
     on_stack : IsKept (rules_of part) v.sp
     on_stack =
-        let sp = entry.sp in let is = origin_is_entry l.runtime.events in
-        let under = entry_above l.runtime.events (whole.whole k named) in
-        (omega (arith, lowest, sp, under), omega (arith, sp, is))
+        let sp = entry.sp in let under = entry_above (whole.whole k named) in (omega (arith, lowest, sp, under), omega (arith, sp))
 
     may : (s : MachineBoard) → IsAtKept part s → IsKept (rules_of part) (s.registers 1) → keeps_stacks l lows s.registers ≡ true
     may = task_may l lows code k t low at is_low

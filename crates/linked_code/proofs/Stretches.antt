@@ -12,13 +12,13 @@ use Rattle.boot_runtime.specs.code_forms.Code.{Stands}
 use Rattle.word_code.specs.array_versions.Program.{Program}
 use Rattle.word_code.specs.array_versions.TaskPrograms.{TaskPrograms, no_programs, program_at}
 use Rattle.word_code.specs.array_versions.Behaviour.{behaviour, started}
-use Rattle.word_code.specs.Code.{entry_stack, code_of, code_spent}
+use Rattle.word_code.specs.Code.{code_of, code_spent}
 use Rattle.word_code.specs.Laws.{IsEntry, ComesTo, RoutinesStand}
 use Rattle.word_code.proofs.Interface.{code_does_as_program}
 use Rattle.boot_runtime.specs.runtime_effects.Places.{listed}
 use Rattle.boot_runtime.specs.runtime_effects.Stages.{is_at_end, start_effects, commit_effects}
 use Rattle.boot_runtime.specs.runtime_effects.Needs.{CanCommit}
-use Rattle.boot_runtime.specs.runtime_code.Addresses.{stack_origin}
+use Rattle.boot_runtime.specs.runtime_code.Addresses.{stack_top}
 use Rattle.boot_runtime.specs.runtime_code.Comes.{Comes, IsAt, Enters}
 use Rattle.boot_runtime.proofs.runtime_code.Interface.{with_events_even, comes_on, core_at, from_there, places_are_in_fram, opening_keeps_task}
 use Rattle.boot_runtime.specs.Entries.{entry_of, task_entries}
@@ -57,11 +57,6 @@ programs_count [] (p ∷ ps) f = absurd f
 programs_count (t ∷ ts) [] f = absurd f
 programs_count (t ∷ ts) (p ∷ ps) f = let e = programs_count ts ps f.1 in omega (arith, e)
 
--- the boot leaves SP where a task's code is entered
-pub origin_is_entry : (events : Bool) → stack_origin events ≡ entry_stack events
-origin_is_entry true = refl
-origin_is_entry false = refl
-
 -- what fits of a task by its number
 fits_at : (ts : List TaskPlace) (ps : List TaskPrograms) (k : ℕ) → ProgramsFit ts ps → k < length ps
     → TaskFits (get_or ts k no_task) (get_or ps k no_programs)
@@ -80,7 +75,7 @@ task_fits (u ∷ ts) (q ∷ ps) zero t p f a b = let d : u ≡ t = cc a in let e
     subst (λ x. TaskFits x p) d (subst (λ y. TaskFits u y) e f.0)
 task_fits (u ∷ ts) (q ∷ ps) (suc k) t p f a b = task_fits ts ps k t p f.1 a b
 
-module _ (l : MemoryMap) (programs : List TaskPrograms) (fits : CodeFits l programs) (whole : ProgramsAreWhole l.runtime.events programs) where
+module _ (l : MemoryMap) (programs : List TaskPrograms) (fits : CodeFits l programs) (whole : ProgramsAreWhole programs) where
   abbrev pub code : Code
   code = linked_code l programs
 
@@ -97,15 +92,15 @@ module _ (l : MemoryMap) (programs : List TaskPrograms) (fits : CodeFits l progr
   parts = linked_stands l programs fits
 
   -- the code of a task stands where the boot comes to it
-  pub task_stands : (k : ℕ) → k < length programs → Stands code (entry_at tasks k).code (code_of l.runtime.events (program k))
+  pub task_stands : (k : ℕ) → k < length programs → Stands code (entry_at tasks k).code (code_of (program k))
   task_stands k h =
       let t = get_or l.tasks k no_task in
       let count = programs_count l.tasks programs fits.tasks in
       let a = slice_get-get_or l.tasks k no_task (omega (arith, h, count)) in
       let b = slice_get-get_or programs k no_programs h in
-      let s : Stands code t.code.address (code_of l.runtime.events (program k)) = (parts.tasks k t (get_or programs k no_programs) a b).own in
+      let s : Stands code t.code.address (code_of (program k)) = (parts.tasks k t (get_or programs k no_programs) a b).own in
       let d : t.code.address ≡ (entry_at tasks k).code = ap (λ x. x.code) (sym (entry_is l.tasks k)) in
-      subst (λ q. Stands code q (code_of l.runtime.events (program k))) d s
+      subst (λ q. Stands code q (code_of (program k))) d s
 
   -- and that of each function that it calls where it calls it
   pub routines_there : (k : ℕ) → k < length programs → RoutinesStand code (program k)
@@ -119,11 +114,11 @@ module _ (l : MemoryMap) (programs : List TaskPrograms) (fits : CodeFits l progr
 
   -- where a task is entered on words, a program's code begins
   pub entry_there : (v : Core) (k : ℕ) (g : ℕ → ℕ) (inputs : Inputs)
-      → Enters (entry_at tasks k).code (stack_origin l.runtime.events) g inputs v → ((a : ℕ) → g a < 0x10000) → InputsAreWords inputs
-      → IsEntry l.runtime.events (entry_at tasks k).code v
+      → Enters (entry_at tasks k).code stack_top g inputs v → ((a : ℕ) → g a < 0x10000) → InputsAreWords inputs
+      → IsEntry (entry_at tasks k).code v
   entry_there v k g inputs h words ready = record {
     pc = h.pc;
-    sp = h.sp ∙ origin_is_entry l.runtime.events;
+    sp = h.sp;
     fram = subst (λ f. (a : ℕ) → f a < 0x10000) (sym h.fram) words;
     inputs = subst InputsAreWords (sym h.inputs) ready;
   }
@@ -135,12 +130,11 @@ module _ (l : MemoryMap) (programs : List TaskPrograms) (fits : CodeFits l progr
 
   -- where a task is entered, its code does as its word program
   pub body_there : (v : Core) (k : ℕ) (g : ℕ → ℕ) (inputs : Inputs)
-      → Enters (entry_at tasks k).code (stack_origin l.runtime.events) g inputs v → k < length programs → ((a : ℕ) → g a < 0x10000)
+      → Enters (entry_at tasks k).code stack_top g inputs v → k < length programs → ((a : ℕ) → g a < 0x10000)
       → InputsAreWords inputs → DoesBody v k g inputs
   body_there v k g inputs h named words ready =
-      let fit = whole.whole k named in
       let a : DoesBody v k v.fram v.inputs = code_does_as_program code (entry_at tasks k).code (program k) v is_linked.tidy
-      (task_stands k named) (routines_there k named) fit.whole fit.fits (whole.of_words k named) (entry_there v k g inputs h words ready) in
+      (task_stands k named) (routines_there k named) (whole.whole k named) (whole.of_words k named) (entry_there v k g inputs h words ready) in
       subst (λ q. DoesBody v k g q) h.inputs (subst (λ f. DoesBody v k f v.inputs) h.fram a)
 
   -- ---- under redo
@@ -204,7 +198,7 @@ module _ (l : MemoryMap) (programs : List TaskPrograms) (fits : CodeFits l progr
         let events = l.runtime.events in let clears = is_at_end l f in
         let es = start_effects l (privates_in tasks) f in
         Comes code es (start_steps events clears l.versions.words (length t.privates)) (start_cycles events clears l.versions.words (length t.privates)) v
-        (Enters t.code (stack_origin events) (fram_after es f) inputs)
+        (Enters t.code stack_top (fram_after es f) inputs)
 
     -- to the task that CUR names
     pub start_there : (v : Core) (f : ℕ → ℕ) (inputs : Inputs) → IsAt (attempt_start l) f inputs v → f (word_place l CurrentTask) < length programs

@@ -15,7 +15,7 @@ use Rattle.word_code.specs.Laws.{HasJumped}
 use Rattle.boot_runtime.specs.memory_map.declared.place.Region.{Region}
 use Rattle.boot_runtime.specs.memory_map.MemoryMap.{MemoryMap, TaskPlace}
 use Rattle.boot_runtime.specs.memory_map.Places.{end_of, code_regions}
-use Rattle.boot_runtime.specs.runtime_code.Addresses.{stack_origin}
+use Rattle.boot_runtime.specs.runtime_code.Addresses.{stack_top}
 use Rattle.linked_code.specs.Linked.{linked_code}
 
 -- an address is in a region
@@ -38,7 +38,7 @@ is_on_some top pc sp (t ∷ ts) (low ∷ lows) = (is_in_task pc t && (nat_le low
 
 -- where PC is in the code of tasks SP stands in the stack of one of them, by the lowest place of each
 abbrev pub keeps_stacks : MemoryMap → List ℕ → Registers → Bool
-keeps_stacks l lows r = not (is_in_some (r 0) l.tasks) || is_on_some (stack_origin l.runtime.events) (r 0) (r 1) l.tasks lows
+keeps_stacks l lows r = not (is_in_some (r 0) l.tasks) || is_on_some stack_top (r 0) (r 1) l.tasks lows
 
 -- a step of the code of a compiled source that goes astray where it isn't so
 abbrev pub stacked_step : MemoryMap → List TaskPrograms → List ℕ → MachineBoard → MachineOutcome
@@ -50,7 +50,7 @@ runtime_only l code = only_at (λ a. not (is_in_some a l.tasks)) code
 
 -- the part that is of a task, which keeps SP from a place on
 abbrev pub task_only : MemoryMap → TaskPlace → (low : ℕ) → Code → KeptCode
-task_only l t low code = record { code = only_at (λ a. is_in_task a t) code; low = low; high = stack_origin l.runtime.events }
+task_only l t low code = record { code = only_at (λ a. is_in_task a t) code; low = low; high = stack_top }
 
 -- under watch it makes these effects within so many cycles, and comes to a jump
 pub record StackedRuns (l : MemoryMap) (programs : List TaskPrograms) (lows : List ℕ) (most : ℕ) (u : Core) (es : List Effect) (P : Core → Type 0)

@@ -143,7 +143,7 @@ struct Priced {
 fn price_task(accepted: &Accepted, layout: &Layout, most: u64, number: usize) -> Priced
     requires laid_out { IsPlannedText accepted.now.text.items (program_of accepted.now.checked.source) accepted.now.allow layout.now }
     requires task { number < length (program_of accepted.now.checked.source).tasks }
-    requires most { most ≡ capped (most_spent layout.now.runtime.events (task_program (program_of accepted.now.checked.source) layout.now number)) }
+    requires most { most ≡ capped (most_spent (task_program (program_of accepted.now.checked.source) layout.now number)) }
     ensures parts { parts_in result.parts ≡ need_parts layout.now.runtime.logging (program_of accepted.now.checked.source) layout.now number }
     ensures bound { result.bound ≡ (program_parts (program_of accepted.now.checked.source) layout.now).cost number }
     ensures words { (task : CheckedTask) → slice_get (program_of accepted.now.checked.source).tasks number ≡ Some task
@@ -189,7 +189,7 @@ fn task_need<'a>(
     requires laid_out { IsPlannedText accepted.now.text.items (program_of accepted.now.checked.source) accepted.now.allow layout.now }
     requires redo { layout.now.runtime.logging ≡ Redo }
     requires task { number < length (program_of accepted.now.checked.source).tasks }
-    requires most { most ≡ capped (most_spent layout.now.runtime.events (task_program (program_of accepted.now.checked.source) layout.now number)) }
+    requires most { most ≡ capped (most_spent (task_program (program_of accepted.now.checked.source) layout.now number)) }
     requires undo { undo ≡ undo_need (program_of accepted.now.checked.source) (logged_map layout.now) number }
     ensures { (task : CheckedTask) → slice_get (program_of accepted.now.checked.source).tasks number ≡ Some task
         → row_of result ≡ need_row accepted.now.text.items (program_of accepted.now.checked.source) layout.now number ways.items task }
@@ -220,10 +220,10 @@ fn way_of(
     requires laid_out { IsPlannedText accepted.now.text.items (program_of accepted.now.checked.source) accepted.now.allow layout.now }
     requires task { number < length (program_of accepted.now.checked.source).tasks }
     requires programs { programs_of programs.now ≡ made_programs (program_of accepted.now.checked.source) layout.now number }
-    ensures way { IfOk result (λ w. IsDearestWay w layout.now.runtime.events (task_calls (program_of accepted.now.checked.source) layout.now number)
+    ensures way { IfOk result (λ w. IsDearestWay w (task_calls (program_of accepted.now.checked.source) layout.now number)
         (task_program (program_of accepted.now.checked.source) layout.now number)) }
     ensures cycles { IfOk result (λ w. w.cycles
-        ≡ capped (most_spent layout.now.runtime.events (task_program (program_of accepted.now.checked.source) layout.now number))) }
+        ≡ capped (most_spent (task_program (program_of accepted.now.checked.source) layout.now number))) }
 {
     let routines = layout.tasks()[number].routines();
     let calls = call_costs(alloc, routines, &programs.routines)?;

@@ -18,9 +18,8 @@ tasks_keep_to_their_ways l programs fits whole v k g inputs enters named words r
     let code = linked_code l programs in
     let program : Program = program_at programs k in
     let Does : (ℕ → ℕ) → Inputs → Type 0 = λ f given.
-    let b = behaviour program (started f given) in ComesTo code (most_spent l.runtime.events program) v b.effects b.end in
-    let fit = whole.whole k named in
+    let b = behaviour program (started f given) in ComesTo code (most_spent program) v b.effects b.end in
     let made : Does v.fram v.inputs = code_keeps_to_its_ways code (entry_at (task_entries l) k).code program v (linked_is_code l programs fits).tidy
-    (task_stands l programs fits whole k named) (routines_there l programs fits whole k named) fit.whole fit.fits (whole.of_words k named)
+    (task_stands l programs fits whole k named) (routines_there l programs fits whole k named) (whole.whole k named) (whole.of_words k named)
     (entry_there l programs fits whole v k g inputs enters words ready) in
     subst (λ given. Does g given) enters.inputs (subst (λ f. Does f v.inputs) enters.fram made)
