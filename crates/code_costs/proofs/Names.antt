@@ -17,11 +17,10 @@ pub use Rattle.word_code.proofs.Interface.{ready_on}
 pub use Rattle.word_code.proofs.Interface.{ready_with, ready_popped, turn_ready, Known, known_first, known_second, KnownStep, KnownTest, KnownProgram}
 pub use Rattle.word_code.proofs.Interface.{one_pushed}
 pub use Rattle.word_code.proofs.Interface.{zero_pushed, step_follows, begun, Owns, bounds_of, at_base, uncalled, uncalled_owns, HasReturned}
-pub use Rattle.word_code.proofs.Interface.{keeps_anywhere}
 pub use Rattle.word_code.proofs.Interface.{popped, callee, light_reaches, framed_reaches, give_part, call_room, call_ready}
 pub use Rattle.word_code.specs.array_versions.fram_board.Effects.{Effect}
-pub use Rattle.word_code.specs.code_forms.Forms.{Core, Form, Jump, Skip, Branch, form_bytes, instruction_of, R4, IsKept}
-pub use Rattle.word_code.specs.code_forms.Code.{Stands, forms_bytes, IsTidy, rules_of, anywhere, RunsWithin as Runs, StarvesWithin as Starves}
+pub use Rattle.word_code.specs.code_forms.Forms.{IsInStack, Core, Form, Jump, Skip, Branch, form_bytes, instruction_of, R4, IsKept}
+pub use Rattle.word_code.specs.code_forms.Code.{Stands, forms_bytes, IsTidy, rules_of, RunsWithin as Runs, StarvesWithin as Starves}
 pub use Rattle.word_code.specs.code_forms.Placed.{placed, instructions}
 pub use Rattle.word_code.specs.array_versions.Program.{Step, Test, Program, number, truth, choose, repeat, jump, holds, compares, both, either, fails}
 pub use Rattle.word_code.specs.array_versions.Program.{nothing, step, call, give, unary, binary, long}
@@ -49,8 +48,7 @@ pub use Rattle.word_code.specs.Code.{decision, holds_code, compares_code, truth_
 pub use Rattle.word_code.specs.Code.{routine_code, light_call, framed_call, give_code}
 pub use Rattle.word_code.specs.Code.{stack_base, stack_set, waiting_behind, waiting_after, step_code, test_code, steps_code, block_code, code_of}
 pub use Rattle.word_code.specs.array_versions.machine_effects.address_space.Limits.{stack_top}
-pub use Rattle.code_forms.specs.Forms.{IsInStack}
-pub use Rattle.word_code.specs.Laws.{IsEntry, HasJumped, ComesToWithin as ComesTo, KeepsWithin, StepRoutinesStand, RoutinesStand}
+pub use Rattle.word_code.specs.Laws.{IsEntry, HasJumped, ComesToWithin as ComesTo, StepRoutinesStand, RoutinesStand}
 pub use Rattle.word_code.specs.array_versions.machine_effects.Machine.{Code}
 pub use Rattle.code_paths.specs.Paths.{forward_most}
 pub use Rattle.code_paths.proofs.Interface.{runs_so, starves_so, stands_alone, tidy_alone}

@@ -23,8 +23,8 @@ use Rattle.code_costs.proofs.Names.{unary, binary, long, unary_cycles, long_cycl
 use Rattle.code_costs.proofs.Names.{Multiply}
 use Rattle.code_costs.proofs.Names.{Divide, Remainder, Plain, LongOperation, any_most}
 use Rattle.word_code.specs.array_versions.declared.operations.LongOperation.TheVariants as with_longs
-use Rattle.code_costs.proofs.Names.{anywhere, rules_of, IsKept, KeepsWithin, keeps_anywhere}
-use Rattle.code_costs.proofs.Names.{begun, EachLocal, IsEntry, Owns, bounds_of, at_base, uncalled, uncalled_owns, IsFormed}
+use Rattle.code_costs.proofs.Names.{rules_of, IsKept}
+use Rattle.code_costs.proofs.Names.{begun, EachLocal, IsEntry, IsInStack, stack_top, Owns, bounds_of, at_base, uncalled, uncalled_owns, IsFormed}
 use Rattle.code_costs.proofs.Names.{RoutinesStand, StepRoutinesStand, Code, length, with_stack, with_top, dearer_stall, Gives, call, give, called}
 use Rattle.code_costs.proofs.Names.{called_behind}
 use Rattle.code_costs.proofs.Names.{popped, callee, light_reaches, framed_reaches, give_part, call_room, call_ready, routine_code, light_call, framed_call}
@@ -513,23 +513,24 @@ module _ (z : Setting) (p : Program) (whole : IsWhole p) (of_words : OfWords p) 
 
 -- the code keeps to its dearest way, behind what sets its stack where a local stands in RAM
 pub code_keeps_to_its_ways : CodeKeepsToItsWays
-code_keeps_to_its_ways code at p u tidy h routines whole o entry =
-    let keeps = keeps_anywhere code p whole in
+code_keeps_to_its_ways kept at p u tidy h routines whole keeps o entry =
     let b = at_base p whole in
-    let z = uncalled (anywhere code) tidy u p whole keeps b in
+    let z = uncalled kept tidy u p whole keeps b in
     let locals = locals_of p in
     let top = stack_base locals in
     let front = stack_set locals in
     let mid = at + forms_bytes front in
     let sp = entry.sp in let roomy = b.roomy.fits in
     let inside : IsInStack top = record { low = omega arith; high = omega arith } in
-    let stays : IsKept (rules_of (anywhere code)) top = (omega arith, omega arith) in
-    let sets : Stands code at front = stands_front code at front (block_code [] p) h in
+    let stays : IsKept (rules_of kept) top =
+    (let deep = b.deep in let floor = whole.floor in let low = keeps.low in let within = b.within in let high = keeps.high in
+    (omega arith, omega arith)) in
+    let sets : Stands kept.code at front = stands_front kept.code at front (block_code [] p) h in
     let y = alone z at front sets in
-    let set : Runs (anywhere code) [] (forward_most front 2) u (HasStack mid top u) =
+    let set : Runs kept [] (forward_most front 2) u (HasStack mid top u) =
     runs_there z at front sets entry.pc
     (subst (λ n. Runs y.kept [] 2 u (HasStack (n + forms_bytes front) top u)) entry.pc
     (stack_part y locals u inside stays sp (subst (λ n. Stands y.code n front) (sym entry.pc) (stand z at front sets)))) (λ t j. j) in
-    steps_keep z p whole o (uncalled_owns (anywhere code) tidy u p whole keeps b) refl (whole.formed, routines)
+    steps_keep z p whole o (uncalled_owns kept tidy u p whole keeps b) refl (whole.formed, routines)
     (λ a from out. (let up : stack_top ≤ a = out from in omega (arith, sp, up))) at mid (forward_most front 2)
-    (stands_back code at front (block_code [] p) h) entry set
+    (stands_back kept.code at front (block_code [] p) h) entry set

@@ -1,14 +1,17 @@
 -- An accepted source with its layout is ready to run.
-use Rattle.std.proofs.Common.{◌≡◌, ℕ, ◌<◌, refl, sym, ap, ◌∙◌, subst, arith, List, length}
+use Rattle.std.proofs.Common.{◌≡◌, ℕ, ◌<◌, refl, sym, ap, ◌∙◌, ◌≤◌, subst, arith, List, Some, length, slice_get}
+use Rattle.std.proofs.lemmas.Option.{same_Some}
 use Rattle.cost_bound.specs.declared.allowance.Allow.{Allow}
+use Rattle.cost_bound.specs.Allowance.{CheckedTask}
+use Rattle.cost_bound.specs.Frames.{stack_of}
+use Rattle.cost_bound.specs.Summaries.{summaries}
 use Rattle.war_analysis.proofs.Interface.{element}
 use Rattle.source_values.specs.Runs.{CheckedProgram}
 use Rattle.source_values.specs.Running.{IsRunnable}
 use Rattle.source_meaning.proofs.Interface.{accepted_texts_run}
 use Rattle.war_analysis.specs.PlanValue.{TaskPlanValue}
-use Rattle.array_versions.specs.Program.{Program}
 use Rattle.array_versions.specs.TaskPrograms.{TaskPrograms}
-use Rattle.array_versions.specs.Form.{IsWhole, OfWords}
+use Rattle.array_versions.specs.Form.{OfWords}
 use Rattle.memory_map.specs.declared.runtime.Logging.{Logging}
 use Rattle.memory_map.specs.declared.runtime.Logging.TheVariants.{Redo, Undo}
 use Rattle.memory_map.specs.declared.runtime.Runtime.{Runtime}
@@ -17,14 +20,15 @@ use Rattle.stands_for.proofs.Interface.{each_weaker}
 use Rattle.lower.proofs.Interface.{program_at}
 use Rattle.layout_facts.specs.Facts.{HasLayout}
 use Rattle.layout_facts.proofs.Interface.{places_are_apart, tasks_have_room, privates_are_theirs, privates_are_logged, tasks_match}
-use Rattle.whole_programs.specs.Laws.{IsLaidOutText}
-use Rattle.whole_programs.proofs.Interface.{tasks_are_whole, privates_are_few, calls_are_theirs}
+use Rattle.whole_programs.specs.Laws.{IsLaidOutText, KeepsToWords}
+use Rattle.whole_programs.proofs.Interface.{tasks_are_whole, tasks_keep_their_stacks, privates_are_few, calls_are_theirs}
 use Rattle.war_analysis.proofs.Interface.{each_returns}
 use Rattle.task_attempts.proofs.Interface.{compiled_laws, stores_below_code, tasks_leave, tasks_list_few}
 use Rattle.compiled_model.specs.Parts.{task_program}
 use Rattle.privatise.specs.Layouts.{IsLayoutFor}
 use Rattle.linked_code.specs.Rooms.{PrivatesAreCounted}
 use Rattle.compiled_bounds.proofs.Interface.{tasks_keep_to_the_bound, logged_tasks_keep_to_the_bound, table_covers_needs}
+use Rattle.compiled_runs.specs.Program.{stack_low}
 use Rattle.compiled_runs.specs.Laws.{RunsBy, CanRun}
 use Rattle.compiled_runs.proofs.Interface.{sources_have_room}
 use Rattle.compiled_model.specs.Needs.{StoresBelow}
@@ -44,15 +48,32 @@ module _ (text : List ℕ) (p : CheckedProgram) (allow : Allow) (plans : List Ta
     returning = (let c = t.accepted.checks.checks in each_returns p c.named.placed c.paths.returns);
   }
 
-  -- the program of a task is whole, and of words
-  one_whole : (k : ℕ) → k < length p.tasks → IsWhole (task_program p l k) × OfWords (task_program p l k)
-  one_whole k below =
+  -- the program of a task is of words, and keeps to the words of the task's stack
+  record IsReadyTask (k : ℕ) : Type 0 where
+    task : CheckedTask
+    at : slice_get p.tasks k ≡ Some task
+    keeps : KeepsToWords (stack_of (summaries p) task.body) (task_program p l k)
+    words : OfWords (task_program p l k)
+
+  one_task : (k : ℕ) → k < length p.tasks → IsReadyTask k
+  one_task k below =
       let task = element p.tasks k below in
       let count = t.layout.tasks.count in
       let own = element l.tasks k (omega (arith, below, count)) in
-      let P : Program → Type 0 = λ q. IsWhole q × OfWords q in
-      subst P (ap (λ (q : TaskPrograms). q.own) (sym (program_at p.functions l p.tasks l.tasks k task.0 own.0 task.1 own.1)))
-      (tasks_are_whole text p allow plans l t k task.0 own.0 task.1 own.1)
+      let is = ap (λ (q : TaskPrograms). q.own) (sym (program_at p.functions l p.tasks l.tasks k task.0 own.0 task.1 own.1)) in
+      record {
+        task = task.0;
+        at = task.1;
+        keeps = subst (KeepsToWords (stack_of (summaries p) task.0.body)) is
+            (tasks_keep_their_stacks text p allow plans l t k task.0 own.0 task.1 own.1);
+        words = subst OfWords is (tasks_are_whole text p allow plans l t k task.0 own.0 task.1 own.1).1;
+      }
+
+  stack_there : (k : ℕ) (below : k < length p.tasks) (task : CheckedTask) → slice_get p.tasks k ≡ Some task
+      → stack_low (summaries p) task ≤ (one_task k below).keeps.whole.bounds.floor
+  stack_there k below task at =
+      let one = one_task k below in
+      subst (λ x. stack_low (summaries p) x ≤ one.keeps.whole.bounds.floor) (same_Some one.task task (sym one.at ∙ at)) one.keeps.floor
 
   few : PrivatesAreCounted p l
   few = privates_are_few text p allow plans l t
@@ -83,7 +104,8 @@ module _ (text : List ℕ) (p : CheckedProgram) (allow : Allow) (plans : List Ta
     count = t.layout.tasks.count;
     apart = places_are_apart p allow plans l laid;
     room = tasks_have_room p allow plans l laid;
-    programs = record { whole = λ k below. (one_whole k below).0; of_words = λ k below. (one_whole k below).1 };
+    programs = record { whole = λ k below. (one_task k below).keeps.fits; of_words = λ k below. (one_task k below).words };
+    stacks = stack_there;
     leave = tasks_leave text p allow plans l t run;
     own = own l.runtime.logging refl;
   }

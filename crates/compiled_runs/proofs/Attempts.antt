@@ -5,28 +5,28 @@ use Rattle.fram_board.specs.Effects.{Effect}
 use Rattle.machine_effects.specs.World.{fram_after}
 use Rattle.machine_effects.specs.Inputs.{Inputs}
 use Rattle.machine_effects.specs.Going.{Leads, Stalls}
-use Rattle.machine_effects.specs.Machine.{Code, exec}
+use Rattle.machine_effects.specs.Machine.{MachineBoard, MachineOutcome}
 use Rattle.machine_effects.proofs.Interface.{join, join_stall, fram_after-append}
 use Rattle.code_forms.specs.Forms.{Core, board_of}
-use Rattle.code_forms.specs.Code.{Runs, Starves}
 use Rattle.source_values.specs.Runs.{CheckedProgram}
 use Rattle.array_versions.specs.Behaviour.{WordState, Behaviour, End, GoesOn, Jumps, Gives, Short as Starving, Strays, Broken, behaviour, started}
 use Rattle.array_versions.specs.Laws.{EndsByEffects}
 use Rattle.array_versions.proofs.Interface.{behaves_by_effects}
-use Rattle.word_code.specs.Laws.{HasJumped, ComesTo}
+use Rattle.word_code.specs.Laws.{HasJumped}
 use Rattle.memory_map.specs.declared.words.RuntimeWord.TheVariants.{CurrentTask}
 use Rattle.memory_map.specs.MemoryMap.{MemoryMap, word_place}
 use Rattle.runtime_code.specs.Addresses.{stack_top}
-use Rattle.runtime_code.specs.Comes.{Comes, IsAt, Enters}
-use Rattle.runtime_code.proofs.Interface.{comes_on}
+use Rattle.runtime_code.specs.Comes.{IsAt, Enters}
 use Rattle.boot_runtime.specs.Entries.{task_entries}
 use Rattle.boot_runtime.specs.Listing.{entry_at}
 use Rattle.crash_rules.specs.Model.{ProgramEffects, program_effects}
 use Rattle.crash_rules.specs.Runs.{Makes}
 use Rattle.compiled_model.specs.Parts.{has_jumped, task_program}
 use Rattle.compiled_model.specs.Needs.{LeavesFor}
+use Rattle.lower.specs.Lowered.{lowered}
 use Rattle.linked_code.specs.Linked.{attempt_start}
-use Rattle.compiled_runs.specs.Program.{placed_code, compiled_program}
+use Rattle.linked_code.specs.Watch.{StackedComes, StackedRuns, StackedStarves, StackedTo}
+use Rattle.compiled_runs.specs.Program.{stack_lows, compiled_program}
 
 -- a machine from which the start of an attempt is come to, with what is done in front of it
 pub record Arrival (p : CheckedProgram) (l : MemoryMap) : Type 0 where
@@ -34,11 +34,15 @@ pub record Arrival (p : CheckedProgram) (l : MemoryMap) : Type 0 where
   pub front : List Effect
   pub steps : ℕ
   pub cycles : ℕ
-  pub comes : Comes (placed_code p l) front steps cycles core (IsAt (attempt_start l) (fram_after front core.fram) core.inputs)
+  pub comes : StackedComes l (lowered l p) (stack_lows p l) front steps cycles core (IsAt (attempt_start l) (fram_after front core.fram) core.inputs)
 
 module _ (p : CheckedProgram) (l : MemoryMap) (start commit : (ℕ → ℕ) → List Effect) (at : Arrival p l) where
-  abbrev code : Code
-  code = placed_code p l
+  abbrev step : MachineBoard → MachineOutcome
+  step = (compiled_program p l).step
+
+  -- what the code comes to under watch
+  abbrev Reaches : List Effect → (steps cycles : ℕ) → Core → (Core → Type 0) → Type 0
+  Reaches = StackedComes l (lowered l p) (stack_lows p l)
 
   abbrev inputs : Inputs
   inputs = at.core.inputs
@@ -74,14 +78,14 @@ module _ (p : CheckedProgram) (l : MemoryMap) (start commit : (ℕ → ℕ) → 
   pub record Stretches (cost : ℕ) : Type 0 where
     pub start_steps : ℕ
     pub start_cycles : ℕ
-    pub starts : (v : Core) → IsAt (attempt_start l) here inputs v → Comes code es start_steps start_cycles v EntersTask
+    pub starts : (v : Core) → IsAt (attempt_start l) here inputs v → Reaches es start_steps start_cycles v EntersTask
     pub most : ℕ
-    pub body : (v : Core) → EntersTask v → ComesTo code most v done.effects done.end
+    pub body : (v : Core) → EntersTask v → StackedTo l (lowered l p) (stack_lows p l) most v done.effects done.end
     pub leaves : LeavesFor l.commit.address done.end
     pub commit_steps : ℕ
     pub commit_cycles : ℕ
     pub commits : has_jumped done.end ≡ true → (v : Core) → IsAt l.commit.address behind v.inputs v
-        → Comes code (commit behind) commit_steps commit_cycles v (IsAt (attempt_start l) (fram_after (commit behind) behind) v.inputs)
+        → Reaches (commit behind) commit_steps commit_cycles v (IsAt (attempt_start l) (fram_after (commit behind) behind) v.inputs)
     pub within : at.cycles + start_cycles + most ≤ cost
     pub all_within : has_jumped done.end ≡ true → at.cycles + start_cycles + most + commit_cycles ≤ cost
 
@@ -96,14 +100,23 @@ module _ (p : CheckedProgram) (l : MemoryMap) (start commit : (ℕ → ℕ) → 
     abbrev to_cycles : ℕ
     to_cycles = at.cycles + k.start_cycles
 
-    there : Comes code (at.front ++ es) to_steps to_cycles at.core EntersTask
-    there = comes_on at.comes k.starts
+    there : Reaches (at.front ++ es) to_steps to_cycles at.core EntersTask
+    there =
+        let from = at.comes.end in
+        let a = k.starts from at.comes.holds in
+        record {
+          end = a.end;
+          leads = join step at.steps k.start_steps at.front es at.cycles k.start_cycles (board_of at.core) (board_of from) (board_of a.end) at.comes.leads
+              a.leads;
+          holds = a.holds;
+        }
 
     one_list : (at.front ++ es) ++ done.effects ≡ before
     one_list = append_assoc at.front es done.effects
 
     jumps_on : (to : ℕ) (w : WordState) → done.end ≡ Jumps to w → to ≡ l.commit.address
-        → Runs code done.effects k.most there.end (HasJumped to w) → Makes (compiled_program p l) (λ i. 0) cost (script_by (Jumps to w)) (board_of at.core)
+        → StackedRuns l (lowered l p) (stack_lows p l) k.most there.end done.effects (HasJumped to w)
+        → Makes (compiled_program p l) (λ i. 0) cost (script_by (Jumps to w)) (board_of at.core)
     jumps_on to w e t q =
         let jumped : has_jumped done.end ≡ true = ap has_jumped e in
         let by = subst (EndsByEffects (started entered inputs) done.effects) e (behaves_by_effects (task_program p l named) (started entered inputs)) in
@@ -111,11 +124,11 @@ module _ (p : CheckedProgram) (l : MemoryMap) (start commit : (ℕ → ℕ) → 
         let v = q.end in
         let arrived : IsAt l.commit.address behind v.inputs v = record { pc = q.holds.pc ∙ t; fram = q.holds.fram ∙ same; inputs = refl } in
         let h = k.commits jumped v arrived in
-        let one = join (exec code) to_steps q.steps (at.front ++ es) done.effects to_cycles q.cycles (board_of at.core) (board_of there.end) (board_of v)
+        let one = join step to_steps q.steps (at.front ++ es) done.effects to_cycles q.cycles (board_of at.core) (board_of there.end) (board_of v)
         there.leads q.leads in
-        let all = join (exec code) (to_steps + q.steps) k.commit_steps ((at.front ++ es) ++ done.effects) (commit behind)
+        let all = join step (to_steps + q.steps) k.commit_steps ((at.front ++ es) ++ done.effects) (commit behind)
         (to_cycles + q.cycles) k.commit_cycles (board_of at.core) (board_of v) (board_of h.end) one h.leads in
-        let Leading : List Effect → Type 0 = λ fs. Leads (exec code) (to_steps + q.steps + k.commit_steps) (fs ++ commit behind)
+        let Leading : List Effect → Type 0 = λ fs. Leads step (to_steps + q.steps + k.commit_steps) (fs ++ commit behind)
         (to_cycles + q.cycles + k.commit_cycles) (board_of at.core) (board_of h.end) in
         let most = k.all_within jumped in let body_most = q.within in
         record {
@@ -130,12 +143,13 @@ module _ (p : CheckedProgram) (l : MemoryMap) (start commit : (ℕ → ℕ) → 
           lacks = λ z. absurd (cc (z));
         }
 
-    lacks_on : Starves code done.effects k.most there.end → Makes (compiled_program p l) (λ i. 0) cost (script_by Starving) (board_of at.core)
+    lacks_on : StackedStarves l (lowered l p) (stack_lows p l) k.most there.end done.effects
+        → Makes (compiled_program p l) (λ i. 0) cost (script_by Starving) (board_of at.core)
     lacks_on q =
-        let all = join_stall (exec code) to_steps q.steps (at.front ++ es) done.effects to_cycles q.cycles (board_of at.core) (board_of there.end)
+        let all = join_stall step to_steps q.steps (at.front ++ es) done.effects to_cycles q.cycles (board_of at.core) (board_of there.end)
         q.price stop.NoReading there.leads q.stalls in
         let most = k.within in let body_most = q.within in
-        let Stalling : List Effect → Type 0 = λ fs. Stalls (exec code) (to_steps + q.steps) fs (to_cycles + q.cycles) (board_of at.core) q.price
+        let Stalling : List Effect → Type 0 = λ fs. Stalls step (to_steps + q.steps) fs (to_cycles + q.cycles) (board_of at.core) q.price
         stop.NoReading in
         record {
           steps = to_steps + q.steps;
@@ -148,7 +162,7 @@ module _ (p : CheckedProgram) (l : MemoryMap) (start commit : (ℕ → ℕ) → 
           };
         }
 
-    by_end : (e : End) → done.end ≡ e → LeavesFor l.commit.address e → ComesTo code k.most there.end done.effects e
+    by_end : (e : End) → done.end ≡ e → LeavesFor l.commit.address e → StackedTo l (lowered l p) (stack_lows p l) k.most there.end done.effects e
         → Makes (compiled_program p l) (λ i. 0) cost (script_by e) (board_of at.core)
     by_end (Jumps to w) e t q = jumps_on to w e t q
     by_end Starving e t q = lacks_on q

@@ -3,7 +3,6 @@ use Rattle.std.proofs.Common.{◌≡◌, ◌<◌, ◌≤◌, ℕ, true, ⊎_elim
 use Rattle.std.proofs.lemmas.List.Elements.{All-nil}
 use Rattle.machine_effects.specs.World.{World, fram_after}
 use Rattle.machine_effects.specs.Inputs.{Look, Inputs, InputsAreWords, no_inputs}
-use Rattle.machine_effects.proofs.Interface.{code_changes_by_effects}
 use Rattle.cost_bound.specs.Summaries.{summaries}
 use Rattle.cost_bound.specs.Allowance.{list_of}
 use Rattle.cost_bound.specs.Counts.{emits_of}
@@ -20,10 +19,11 @@ use Rattle.compiled_model.specs.Parts.{task_program, redo_model, compiled_model}
 use Rattle.compiled_model.specs.Needs.{whole_cycles}
 use Rattle.compiled_model.proofs.Interface.{either_logging, is_redo}
 use Rattle.linked_code.proofs.Interface.{body_there}
-use Rattle.compiled_runs.specs.Program.{placed_code, compiled_program}
+use Rattle.linked_code.specs.Watch.{keeps_stacks}
+use Rattle.compiled_runs.specs.Program.{placed_code, stack_lows, compiled_program}
 use Rattle.compiled_runs.specs.Laws.{CanRun, CodeKeepsTheLaws}
-use Rattle.compiled_runs.proofs.Steps.{code_takes}
-use Rattle.compiled_runs.proofs.Costs.{FitsCommit, BodyWithin, Costs, by_redo, programs_are, are_whole, decided_behind, fits_commit}
+use Rattle.compiled_runs.proofs.Steps.{watched_takes, watched_changes}
+use Rattle.compiled_runs.proofs.Costs.{FitsCommit, BodyWithin, Costs, by_redo, programs_are, are_whole, has_stack, decided_behind, fits_commit}
 use Rattle.compiled_runs.proofs.Program.{code_makes}
 use Rattle.compiled_runs.proofs.Logged.{under_undo}
 
@@ -38,10 +38,12 @@ module _ (p : CheckedProgram) (l : MemoryMap) (logs : l.runtime.logging ≡ Redo
       → BodyWithin p l (m.task_cost k) (list k) (list k) k g inputs
   body k g inputs named words ready =
       let count = programs_are p l r in
+      let there : k < length (lowered l p) = omega (arith, named, count) in
       let whole : whole_cycles p l k g inputs ≤ m.task_cost k = (by_redo p l logs r).costs.within k g inputs named words ready in
       record {
         most = code_spent (task_program p l k) (started g inputs);
-        comes = λ v enters. body_there l (lowered l p) r.fits (are_whole p l r) v k g inputs enters (omega (arith, named, count)) words ready;
+        comes = λ v enters. body_there l (lowered l p) r.fits (are_whole p l r) (stack_lows p l) k there (has_stack p l r k there) v g inputs enters words
+            ready;
         within = omega (arith, whole);
       }
 
@@ -75,8 +77,8 @@ under_redo p l logs r laws =
     let own = subst L (is_redo p l logs) laws in
     let makes = code_makes p l logs r own (bound_costs p l logs r own) in
     subst P (sym (is_redo p l logs)) (record {
-      changes = λ s. code_changes_by_effects (placed_code p l) s;
-      takes_cycles = λ s. code_takes (placed_code p l) s;
+      changes = λ s. watched_changes (keeps_stacks l (stack_lows p l)) (placed_code p l) s;
+      takes_cycles = λ s. watched_takes (keeps_stacks l (stack_lows p l)) (placed_code p l) s;
       makes_boot = makes.boot;
       makes_attempt = makes.attempt;
       makes_decided = λ s next x b k e d. makes.decided s next x b k e d (fits_commit p l r own s next x d);

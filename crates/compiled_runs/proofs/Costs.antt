@@ -1,5 +1,7 @@
 -- What tasks cost, as the code's laws take it: for each any number that has its cycles, so that the same proof has the bound and the need.
 use Rattle.std.proofs.Common.{◌≡◌, ◌<◌, ◌≤◌, ◌+◌, ℕ, true, List, [], ◌∷◌, length, sym, ap, ◌∙◌, subst, arith}
+use Rattle.std.specs.Option.{option_map}
+use Rattle.std.proofs.lemmas.Option.{slice_get-map}
 use Rattle.fram_board.specs.Effects.{Effect, Store}
 use Rattle.machine_effects.specs.World.{World, put, fram_after, world_after, world_after_one}
 use Rattle.machine_effects.specs.Inputs.{Inputs, InputsAreWords}
@@ -7,11 +9,11 @@ use Rattle.machine_effects.proofs.Interface.{fram_after-append}
 use Rattle.code_forms.specs.Forms.{Core}
 use Rattle.crash_rules.proofs.Interface.{world_fram}
 use Rattle.cost_bound.specs.Summaries.{summaries}
-use Rattle.cost_bound.specs.Allowance.{list_of}
+use Rattle.cost_bound.specs.Allowance.{CheckedTask, list_of}
 use Rattle.cost_bound.specs.Counts.{emits_of}
+use Rattle.war_analysis.proofs.Interface.{element}
 use Rattle.source_values.specs.Runs.{CheckedProgram, State, task_body}
 use Rattle.array_versions.specs.Behaviour.{behaviour, started}
-use Rattle.word_code.specs.Laws.{ComesTo}
 use Rattle.memory_map.specs.declared.runtime.Logging.TheVariants.{Redo, Undo}
 use Rattle.memory_map.specs.declared.words.RuntimeWord.TheVariants.{ListLength, EmitCount, SentBase}
 use Rattle.memory_map.specs.MemoryMap.{MemoryMap, word_place, with_events}
@@ -30,8 +32,9 @@ use Rattle.compiled_model.specs.Places.{program_places}
 use Rattle.compiled_model.specs.Parts.{task_program, redo_model}
 use Rattle.compiled_model.specs.Needs.{boot_cycles}
 use Rattle.linked_code.specs.Linked.{ProgramsAreWhole}
+use Rattle.linked_code.specs.Watch.{HasStack, StackedTo}
 use Rattle.linked_code.proofs.Interface.{programs_count}
-use Rattle.compiled_runs.specs.Program.{placed_code}
+use Rattle.compiled_runs.specs.Program.{stack_low, stack_lows}
 use Rattle.compiled_runs.specs.Laws.{RunsByRedo, RunsByUndo, RunsBy, CanRun}
 
 -- a list and a buffer within so much, with which the commit of FRAM can be made
@@ -47,7 +50,7 @@ pub record FitsCommit (l : MemoryMap) (entries words emits : ℕ) (f : ℕ → �
 pub record BodyWithin (p : CheckedProgram) (l : MemoryMap) (cost entries words k : ℕ) (g : ℕ → ℕ) (inputs : Inputs) : Type 0 where
   pub most : ℕ
   pub comes : (v : Core) → Enters (entry_at (task_entries l) k).code stack_top g inputs v
-      → let b = behaviour (task_program p l k) (started g inputs) in ComesTo (placed_code p l) most v b.effects b.end
+      → let b = behaviour (task_program p l k) (started g inputs) in StackedTo l (lowered l p) (stack_lows p l) most v b.effects b.end
   pub within : with_events l.runtime.events 3 + 6
       + start_cycles l.runtime.events true l.versions.words (length (privates_in (task_entries l) k)) + most
       + commit_cycles l.runtime.events entries words (emits_of (summaries p) (task_body p k)) ≤ cost
@@ -77,10 +80,29 @@ by_undo p l logs r = subst (λ g. RunsBy g p l) logs r.own
 pub programs_are : (p : CheckedProgram) (l : MemoryMap) → CanRun p l → length (lowered l p) ≡ length p.tasks
 programs_are p l r = let a = programs_count l.tasks (lowered l p) r.fits.tasks in a ∙ r.count
 
-pub are_whole : (p : CheckedProgram) (l : MemoryMap) → CanRun p l → ProgramsAreWhole (lowered l p)
-are_whole p l r =
-    let n = programs_are p l r in
-    record { whole = λ k h. r.programs.whole k (omega (arith, h, n)); of_words = λ k h. r.programs.of_words k (omega (arith, h, n)) }
+-- so each program is a task's
+pub of_task : (p : CheckedProgram) (l : MemoryMap) → CanRun p l → (k : ℕ) → k < length (lowered l p) → k < length p.tasks
+of_task p l r k h = let n = programs_are p l r in omega (arith, h, n)
+
+abbrev pub are_whole : (p : CheckedProgram) (l : MemoryMap) → CanRun p l → ProgramsAreWhole (lowered l p)
+are_whole p l r = record { whole = λ k h. r.programs.whole k (of_task p l r k h); of_words = λ k h. r.programs.of_words k (of_task p l r k h) }
+
+-- and each has its stack
+pub has_stack : (p : CheckedProgram) (l : MemoryMap) (r : CanRun p l) (k : ℕ) (named : k < length (lowered l p))
+    → HasStack l (lowered l p) (are_whole p l r) (stack_lows p l) k named
+has_stack p l r k named =
+    let below = of_task p l r k named in
+    let count = r.count in
+    let low : CheckedTask → ℕ = stack_low (summaries p) in
+    let task = element p.tasks k below in
+    let place = element l.tasks k (omega (arith, below, count)) in
+    record {
+      place = place.0;
+      at = place.1;
+      low = low task.0;
+      is_low = slice_get-map low p.tasks k ∙ ap (option_map low) task.1;
+      lowest = r.stacks k below task.0 task.1;
+    }
 
 -- ---- what an attempt decides
 

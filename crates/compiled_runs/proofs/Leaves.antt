@@ -15,6 +15,8 @@ use Rattle.crash_rules.specs.Runs.{ProgramLaws}
 use Rattle.crash_rules.specs.Laws.{PowersUpBehind, ScriptsStore}
 use Rattle.crash_rules.proofs.Interface.{stops_short, stores_only}
 use Rattle.stands_for.proofs.Interface.{each_weaker, commit_stores_there}
+use Rattle.linked_code.specs.Linked.{CodeFits}
+use Rattle.linked_code.specs.Watch.{keeps_stacks}
 use Rattle.linked_code.proofs.Interface.{linked_is_code}
 use Rattle.compiled_model.specs.Places.{program_places}
 use Rattle.compiled_model.specs.Parts.{compiled_model}
@@ -22,10 +24,11 @@ use Rattle.compiled_model.specs.Needs.{AttemptsStore, StoresBelow, AttemptsStore
 use Rattle.undo_states.proofs.Interface.{recovery_stores, undo_commit_stores}
 use Rattle.compiled_model.specs.View.{state_view}
 use Rattle.compiled_model.proofs.Interface.{either_logging, is_redo, is_logged}
-use Rattle.compiled_runs.specs.Program.{source_code, compiled_program}
+use Rattle.compiled_runs.specs.Program.{source_code, stack_lows, compiled_program}
 use Rattle.compiled_runs.specs.Laws.{CodeIsPlaced, RunsLeaveTheCode}
 use Rattle.compiled_runs.proofs.Bound.{code_keeps_the_laws}
 
+-- the code stands in FRAM, and goes astray where SP leaves its stack
 pub code_is_placed : CodeIsPlaced
 code_is_placed p l f =
     let k = linked_is_code l (lowered l p) f in
@@ -38,7 +41,7 @@ code_is_placed p l f =
       even = even;
       low = omega arith;
       high = omega (arith, end, last);
-      may = λ r. true;
+      may = keeps_stacks l (stack_lows p l);
       steps = refl;
       powers = λ s q w h e named. record {
         core = core_of (machine_powered s q);
@@ -47,6 +50,11 @@ code_is_placed p l f =
         named = named;
       };
     }
+
+-- so its registers may be as they are where SP keeps to the stacks
+pub placed_keeps_stacks : (p : CheckedProgram) (l : MemoryMap) (f : CodeFits l (lowered l p)) → (code_is_placed p l f).may ≡ keeps_stacks l (stack_lows p l)
+unfolding code_is_placed
+placed_keeps_stacks p l f = refl
 
 -- all that a run does stores in front of the code, or at a word that counts events
 pub scripts_store_below : (p : CheckedProgram) (l : MemoryMap) → AreApart l → AttemptsStoreBelow p l l.boot.address

@@ -4,17 +4,15 @@ use Rattle.std.proofs.lemmas.List.Elements.{All-nil}
 use Rattle.fram_board.specs.Effects.{Effect}
 use Rattle.machine_effects.specs.World.{World, fram_after, world_after}
 use Rattle.machine_effects.specs.Inputs.{Look, Inputs, InputsAreWords, no_inputs}
-use Rattle.machine_effects.specs.Machine.{Code, MachineBoard}
-use Rattle.machine_effects.proofs.Interface.{code_changes_by_effects, fram_after-append}
+use Rattle.machine_effects.specs.Machine.{MachineBoard}
+use Rattle.machine_effects.proofs.Interface.{stay, fram_after-append}
 use Rattle.code_forms.specs.Forms.{Core, board_of}
-use Rattle.code_forms.specs.Code.{anywhere}
 use Rattle.cost_bound.specs.Summaries.{summaries}
 use Rattle.cost_bound.specs.Allowance.{list_of}
 use Rattle.cost_bound.specs.Counts.{emits_of}
 use Rattle.source_values.specs.Runs.{CheckedProgram, State, task_body}
 use Rattle.array_versions.specs.Behaviour.{Behaviour, behaviour, started}
 use Rattle.word_code.specs.Code.{code_spent}
-use Rattle.word_code.specs.Laws.{ComesTo}
 use Rattle.memory_map.specs.declared.runtime.Logging.{Logging}
 use Rattle.memory_map.specs.declared.runtime.Logging.TheVariants.{Undo}
 use Rattle.memory_map.specs.declared.runtime.Role.{Role}
@@ -22,8 +20,8 @@ use Rattle.memory_map.specs.declared.words.RuntimeWord.TheVariants.{CurrentTask,
 use Rattle.memory_map.specs.MemoryMap.{MemoryMap, word_place, with_events}
 use Rattle.runtime_effects.specs.Stages.{is_at_end}
 use Rattle.runtime_code.specs.Addresses.{stack_top}
-use Rattle.runtime_code.specs.Comes.{IsAt, Enters}
-use Rattle.runtime_code.proofs.Interface.{nothing as no_steps, if_any_grows}
+use Rattle.runtime_code.specs.Comes.{Comes, IsAt, Enters}
+use Rattle.runtime_code.proofs.Interface.{if_any_grows}
 use Rattle.boot_runtime.specs.Entries.{task_entries}
 use Rattle.boot_runtime.specs.Listing.{entry_at}
 use Rattle.boot_runtime.specs.Laws.{NamesHandler}
@@ -45,11 +43,12 @@ use Rattle.compiled_model.specs.Parts.{has_jumped, task_program, private_homes, 
 use Rattle.compiled_model.specs.Needs.{LeavesFor, boot_cycles, logged_cycles}
 use Rattle.compiled_model.proofs.Interface.{is_logged, under_map}
 use Rattle.linked_code.specs.Linked.{ProgramsAreWhole, attempt_start}
-use Rattle.linked_code.proofs.Interface.{body_there, to_recovered, logged_start_there, logged_commit_there, to_logged_commit}
-use Rattle.compiled_runs.specs.Program.{placed_code, IsBooting, IsStarting, compiled_program}
+use Rattle.linked_code.specs.Watch.{keeps_stacks, StackedComes, StackedTo}
+use Rattle.linked_code.proofs.Interface.{body_there, around, under_watch, to_recovered, logged_start_there, logged_commit_there, to_logged_commit}
+use Rattle.compiled_runs.specs.Program.{placed_code, stack_lows, IsBooting, IsStarting, compiled_program}
 use Rattle.compiled_runs.specs.Laws.{CanRun}
-use Rattle.compiled_runs.proofs.Steps.{code_takes}
-use Rattle.compiled_runs.proofs.Costs.{by_undo, programs_are, are_whole, decided_behind}
+use Rattle.compiled_runs.proofs.Steps.{watched_takes, watched_changes}
+use Rattle.compiled_runs.proofs.Costs.{by_undo, programs_are, are_whole, has_stack, decided_behind}
 use Rattle.compiled_runs.proofs.Attempts.{Arrival, Stretches, attempt_made}
 
 -- more entries take more to be put back, and a start takes the most where it clears
@@ -68,7 +67,7 @@ clearing_is_dearest events false versions privates = omega arith
 pub record LoggedBodyWithin (p : CheckedProgram) (l : MemoryMap) (cost k : ℕ) (g : ℕ → ℕ) (inputs : Inputs) : Type 0 where
   pub most : ℕ
   pub comes : (v : Core) → Enters (entry_at (task_entries l) k).code stack_top g inputs v
-      → let b = behaviour (task_program p l k) (started g inputs) in ComesTo (placed_code p l) most v b.effects b.end
+      → let b = behaviour (task_program p l k) (started g inputs) in StackedTo l (lowered l p) (stack_lows p l) most v b.effects b.end
   pub within : with_events l.runtime.events 3 + 6 + recovery_cycles (list_of (summaries p) p.shared (task_body p k))
       + start_cycles l.runtime.events true l.versions.words (length (private_homes l k)) + most
       + commit_cycles l.runtime.events (emits_of (summaries p) (task_body p k)) ≤ cost
@@ -87,9 +86,6 @@ module _ (p : CheckedProgram) (l : MemoryMap) (logs : l.runtime.logging ≡ Undo
   abbrev c : Program
   c = compiled_program p l
 
-  abbrev code : Code
-  code = placed_code p l
-
   abbrev start : (ℕ → ℕ) → List Effect
   start = undo_start l (private_homes l)
 
@@ -101,6 +97,11 @@ module _ (p : CheckedProgram) (l : MemoryMap) (logs : l.runtime.logging ≡ Undo
 
   whole : ProgramsAreWhole (lowered l p)
   whole = are_whole p l r
+
+  -- what boot and commit do by themselves the code of the source does under watch
+  so : {es : List Effect} {n cycles : ℕ} {u : Core} {P : Core → Type 0} → Comes (around l (lowered l p) r.fits whole) es n cycles u P
+      → StackedComes l (lowered l p) (stack_lows p l) es n cycles u P
+  so a = under_watch l (lowered l p) r.fits whole (stack_lows p l) a
 
   start_keeps : LoggingContract (program_places p l) (state_view p l) (private_homes l) start
   start_keeps = logging_starts State (program_places p l) (state_view p l) (private_homes l) r.apart r.room (by_undo p l logs r).privates
@@ -238,14 +239,14 @@ module _ (p : CheckedProgram) (l : MemoryMap) (logs : l.runtime.logging ≡ Undo
     stretches = record {
       start_steps = start_steps l.runtime.events clears l.versions.words (length (private_homes l k));
       start_cycles = start_time;
-      starts = λ v h. logged_start_there l (lowered l p) r.fits whole logs v here u.inputs h program_named
-          (settled.undecided.words (word_place l Version)) settled.none;
+      starts = λ v h. so (logged_start_there l (lowered l p) r.fits whole logs v here u.inputs h program_named
+          (settled.undecided.words (word_place l Version)) settled.none);
       most = paid.most;
       body = λ v h. paid.comes v h;
       leaves = leaves;
       commit_steps = commit_steps l.runtime.events (f (word_place l EmitCount));
       commit_cycles = commit_time;
-      commits = λ ends v h. logged_commit_there l (lowered l p) r.fits whole logs v f v.inputs h (closes ends).0;
+      commits = λ ends v h. so (logged_commit_there l (lowered l p) r.fits whole logs v f v.inputs h (closes ends).0);
       within = let front = few_here in let body = paid.within in let most = start_most in omega (arith, front, body, most);
       all_within = all_paid;
     }
@@ -266,7 +267,7 @@ module _ (p : CheckedProgram) (l : MemoryMap) (logs : l.runtime.logging ≡ Undo
       let x : World = record { fram = u.fram; accepted = accepted } in
       let back = recovery l u.fram in
       let n = u.fram (word_place l ListLength) in
-      let comes = to_recovered l (lowered l p) r.fits whole logs u at handler (laws.undecided_gate s x und) (can_recover s x und) in
+      let comes = so (to_recovered l (lowered l p) r.fits whole logs u at handler (laws.undecided_gate s x und) (can_recover s x und)) in
       let keeps = laws.recovers s x und in
       let within = und.within in
       let grows = recovery_grows n (list s.task) within in
@@ -307,7 +308,13 @@ module _ (p : CheckedProgram) (l : MemoryMap) (logs : l.runtime.logging ≡ Undo
       made (record {
         state = s;
         accepted = accepted;
-        arrival = record { core = u; front = []; steps = 0; cycles = 0; comes = no_steps (anywhere code) u (IsAt (attempt_start l) u.fram u.inputs) there };
+        arrival = record {
+          core = u;
+          front = [];
+          steps = 0;
+          cycles = 0;
+          comes = record { end = u; leads = stay c.step (board_of u); holds = there };
+        };
         words = words;
         settled = settled;
         few = omega arith;
@@ -332,7 +339,7 @@ module _ (p : CheckedProgram) (l : MemoryMap) (logs : l.runtime.logging ≡ Undo
       → Makes c m.delay most (program_effects (m.commit u.fram u.inputs) true) (board_of u)
   commit_made s next accepted u at handler d most within =
       let x : World = record { fram = u.fram; accepted = accepted } in
-      let a = to_logged_commit l (lowered l p) r.fits whole logs u at handler d.closes.sends.gate (can_close s next x d) in
+      let a = so (to_logged_commit l (lowered l p) r.fits whole logs u at handler d.closes.sends.gate (can_close s next x d)) in
       let n = u.fram (word_place l EmitCount) in
       record {
         steps = with_events l.runtime.events 2 + 3 + commit_steps l.runtime.events n;
@@ -402,10 +409,12 @@ module _ (p : CheckedProgram) (l : MemoryMap) (logs : l.runtime.logging ≡ Undo
       → LoggedBodyWithin p l ((logged_model p l).task_cost k) k g inputs
   bound_body k g inputs named are_words ready =
       let count = programs_are p l r in
+      let there : k < length (lowered l p) = omega (arith, named, count) in
       let whole : logged_cycles p l k g inputs ≤ (logged_model p l).task_cost k = (by_undo p l logs r).costs.within k g inputs named are_words ready in
       record {
         most = code_spent (task_program p l k) (started g inputs);
-        comes = λ v enters. body_there l (lowered l p) r.fits (are_whole p l r) v k g inputs enters (omega (arith, named, count)) are_words ready;
+        comes = λ v enters. body_there l (lowered l p) r.fits (are_whole p l r) (stack_lows p l) k there (has_stack p l r k there) v g inputs enters are_words
+            ready;
         within = omega (arith, whole);
       }
 
@@ -430,8 +439,8 @@ under_undo p l logs r laws =
     let P : Model State → Type 0 = λ m. ProgramLaws m (compiled_program p l) in
     let makes = logged_code_makes p l logs r (subst L (is_logged p l logs) laws) (bound_costs p l logs r) in
     subst P (sym (is_logged p l logs)) (record {
-      changes = λ s. code_changes_by_effects (placed_code p l) s;
-      takes_cycles = λ s. code_takes (placed_code p l) s;
+      changes = λ s. watched_changes (keeps_stacks l (stack_lows p l)) (placed_code p l) s;
+      takes_cycles = λ s. watched_takes (keeps_stacks l (stack_lows p l)) (placed_code p l) s;
       makes_boot = makes.boot;
       makes_attempt = makes.attempt;
       makes_decided = makes.decided;

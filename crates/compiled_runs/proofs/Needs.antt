@@ -4,7 +4,6 @@ use Rattle.std.proofs.lemmas.Bool.{cases_lt}
 use Rattle.machine_effects.specs.World.{World, fram_after}
 use Rattle.machine_effects.specs.Inputs.{Inputs, InputsAreWords}
 use Rattle.machine_effects.specs.Machine.{MachineBoard}
-use Rattle.machine_effects.proofs.Interface.{code_changes_by_effects}
 use Rattle.cost_bound.specs.Summaries.{summaries}
 use Rattle.cost_bound.specs.Counts.{emits_of}
 use Rattle.source_values.specs.Runs.{CheckedProgram, State, task_body}
@@ -26,10 +25,11 @@ use Rattle.task_needs.specs.Needs.{own_entries, own_words, beside_path, need_und
 use Rattle.task_needs.specs.Lists.{ListsWithin, TasksListFew, NeedsAreWithin, with_needs}
 use Rattle.task_needs.specs.Laws.{full_cycles}
 use Rattle.task_needs.proofs.Interface.{tasks_keep_to_their_ways, attempts_are_counted, own_commits_are_counted, own_cost, pending_commits_are_counted}
-use Rattle.compiled_runs.specs.Program.{placed_code, compiled_program}
+use Rattle.linked_code.specs.Watch.{keeps_stacks}
+use Rattle.compiled_runs.specs.Program.{placed_code, stack_lows, compiled_program}
 use Rattle.compiled_runs.specs.Laws.{CanRun, CodeKeepsToNeeds}
-use Rattle.compiled_runs.proofs.Steps.{code_takes}
-use Rattle.compiled_runs.proofs.Costs.{FitsCommit, BodyWithin, Costs, programs_are, are_whole, decided_behind, fits_commit}
+use Rattle.compiled_runs.proofs.Steps.{watched_takes, watched_changes}
+use Rattle.compiled_runs.proofs.Costs.{FitsCommit, BodyWithin, Costs, programs_are, are_whole, has_stack, decided_behind, fits_commit}
 use Rattle.compiled_runs.proofs.NeedsModel.{lists_there}
 use Rattle.compiled_runs.proofs.Program.{code_makes}
 use Rattle.compiled_runs.proofs.Logged.{LoggedBodyWithin, LoggedCosts, logged_code_makes}
@@ -66,19 +66,22 @@ module _ (p : CheckedProgram) (l : MemoryMap) (logs : l.runtime.logging ≡ Redo
       → BodyWithin p l (need_under Redo p l k) (entries k) (words k) k g inputs
   body k g inputs named are_words ready =
       let count = programs_are p l r in
+      let there : k < length (lowered l p) = omega (arith, named, count) in
       let most = most_spent (task_program p l k) in
       let left = (program_parts p l).cost k - beside_path Redo p l k in
       let table = within.within k g inputs named are_words ready in
       ⊎_elim {C = BodyWithin p l (need_under Redo p l k) (entries k) (words k) k g inputs}
       (λ less. record {
         most = code_spent (task_program p l k) (started g inputs);
-        comes = λ v enters. body_there l (lowered l p) r.fits (are_whole p l r) v k g inputs enters (omega (arith, named, count)) are_words ready;
+        comes = λ v enters. body_there l (lowered l p) r.fits (are_whole p l r) (stack_lows p l) k there (has_stack p l r k there) v g inputs enters are_words
+            ready;
         within = attempts_are_counted Redo p l k (code_spent (task_program p l k) (started g inputs)) (omega (arith, less, table));
       })
       (λ enough. record {
         most = most;
         comes = λ v enters.
-            tasks_keep_to_their_ways l (lowered l p) r.fits (are_whole p l r) v k g inputs enters (omega (arith, named, count)) are_words ready;
+            tasks_keep_to_their_ways l (lowered l p) r.fits (are_whole p l r) (stack_lows p l) k there (has_stack p l r k there) v g inputs enters are_words
+            ready;
         within = attempts_are_counted Redo p l k most (omega (arith, enough));
       })
       (cases_lt left most)
@@ -117,8 +120,8 @@ module _ (p : CheckedProgram) (l : MemoryMap) (logs : l.runtime.logging ≡ Redo
   code_needs =
       let makes = code_makes p l logs r laws need_costs in
       record {
-        changes = λ s. code_changes_by_effects (placed_code p l) s;
-        takes_cycles = λ s. code_takes (placed_code p l) s;
+        changes = λ s. watched_changes (keeps_stacks l (stack_lows p l)) (placed_code p l) s;
+        takes_cycles = λ s. watched_takes (keeps_stacks l (stack_lows p l)) (placed_code p l) s;
         makes_boot = λ s x b k e ready und. so s _ b und.is_open.is_task (makes.boot s x b k e ready und);
         makes_attempt = λ s x b k e ready und. so s _ b und.is_open.is_task (makes.attempt s x b k e ready und);
         makes_decided = λ s next x b k e d.
@@ -139,19 +142,22 @@ module _ (p : CheckedProgram) (l : MemoryMap) (logs : l.runtime.logging ≡ Undo
       → LoggedBodyWithin p l (need_under Undo p l k) k g inputs
   logged_body k g inputs named are_words ready =
       let count = programs_are p l r in
+      let there : k < length (lowered l p) = omega (arith, named, count) in
       let most = most_spent (task_program p l k) in
       let left = (program_parts p l).cost k - beside_path Undo p l k in
       let table = within.within k g inputs named are_words ready in
       ⊎_elim {C = LoggedBodyWithin p l (need_under Undo p l k) k g inputs}
       (λ less. record {
         most = code_spent (task_program p l k) (started g inputs);
-        comes = λ v enters. body_there l (lowered l p) r.fits (are_whole p l r) v k g inputs enters (omega (arith, named, count)) are_words ready;
+        comes = λ v enters. body_there l (lowered l p) r.fits (are_whole p l r) (stack_lows p l) k there (has_stack p l r k there) v g inputs enters are_words
+            ready;
         within = attempts_are_counted Undo p l k (code_spent (task_program p l k) (started g inputs)) (omega (arith, less, table));
       })
       (λ enough. record {
         most = most;
         comes = λ v enters.
-            tasks_keep_to_their_ways l (lowered l p) r.fits (are_whole p l r) v k g inputs enters (omega (arith, named, count)) are_words ready;
+            tasks_keep_to_their_ways l (lowered l p) r.fits (are_whole p l r) (stack_lows p l) k there (has_stack p l r k there) v g inputs enters are_words
+            ready;
         within = attempts_are_counted Undo p l k most (omega (arith, enough));
       })
       (cases_lt left most)
@@ -173,8 +179,8 @@ module _ (p : CheckedProgram) (l : MemoryMap) (logs : l.runtime.logging ≡ Undo
   logged_needs =
       let makes = logged_code_makes p l logs r laws logged_costs in
       record {
-        changes = λ s. code_changes_by_effects (placed_code p l) s;
-        takes_cycles = λ s. code_takes (placed_code p l) s;
+        changes = λ s. watched_changes (keeps_stacks l (stack_lows p l)) (placed_code p l) s;
+        takes_cycles = λ s. watched_takes (keeps_stacks l (stack_lows p l)) (placed_code p l) s;
         makes_boot = λ s x b k e ready und. logged_so s _ b und.behind.is_open.is_task (makes.boot s x b k e ready und);
         makes_attempt = λ s x b k e ready settled. logged_so s _ b settled.undecided.behind.is_open.is_task (makes.attempt s x b k e ready settled);
         makes_decided = λ s next x b k e d. logged_so s _ b d.decided.closes.sends.is_task (makes.decided s next x b k e d.decided);

@@ -3,9 +3,9 @@ use Rattle.std.proofs.Common.{◌≡◌, ◌<◌, ◌≤◌, ◌+◌, ℕ, Bool,
 use Rattle.fram_board.specs.Effects.{Effect}
 use Rattle.machine_effects.specs.World.{World, fram_after, world_after}
 use Rattle.machine_effects.specs.Inputs.{InputsAreWords}
-use Rattle.machine_effects.specs.Machine.{Code, MachineBoard}
+use Rattle.machine_effects.specs.Machine.{MachineBoard}
+use Rattle.machine_effects.proofs.Interface.{stay}
 use Rattle.code_forms.specs.Forms.{Core, board_of}
-use Rattle.code_forms.specs.Code.{anywhere}
 use Rattle.crash_rules.proofs.Interface.{world_fram}
 use Rattle.source_values.specs.Runs.{CheckedProgram, State}
 use Rattle.array_versions.specs.Behaviour.{Behaviour, behaviour, started}
@@ -14,7 +14,6 @@ use Rattle.memory_map.specs.MemoryMap.{MemoryMap, word_place, with_events}
 use Rattle.runtime_effects.specs.Places.{CopyPair, listed}
 use Rattle.runtime_effects.specs.Stages.{is_at_end, start_effects, commit_effects}
 use Rattle.runtime_code.specs.Comes.{Comes, IsAt}
-use Rattle.runtime_code.proofs.Interface.{nothing as no_steps}
 use Rattle.boot_runtime.specs.Entries.{task_entries}
 use Rattle.boot_runtime.specs.Listing.{TaskEntry, privates_in, start_steps, start_cycles}
 use Rattle.boot_runtime.specs.Laws.{NamesHandler}
@@ -35,9 +34,10 @@ use Rattle.compiled_model.specs.Parts.{has_jumped, task_program, redo_model, sta
 use Rattle.compiled_model.proofs.Interface.{under_map}
 use Rattle.compiled_model.specs.Needs.{boot_cycles, LeavesFor}
 use Rattle.linked_code.specs.Linked.{ProgramsAreWhole, attempt_start}
+use Rattle.linked_code.specs.Watch.{StackedComes}
 use Rattle.commit_runtime.proofs.Interface.{commit_grows}
-use Rattle.linked_code.proofs.Interface.{to_start, start_there, commit_there, to_commit}
-use Rattle.compiled_runs.specs.Program.{placed_code, IsBooting, IsStarting, compiled_program}
+use Rattle.linked_code.proofs.Interface.{around, under_watch, to_start, start_there, commit_there, to_commit}
+use Rattle.compiled_runs.specs.Program.{stack_lows, IsBooting, IsStarting, compiled_program}
 use Rattle.compiled_runs.specs.Laws.{CanRun}
 use Rattle.cost_bound.specs.Summaries.{summaries}
 use Rattle.cost_bound.specs.Counts.{emits_of}
@@ -63,9 +63,6 @@ module _ (source : Source) where
   abbrev c : Program
   c = compiled_program p l
 
-  abbrev code : Code
-  code = placed_code p l
-
   abbrev tasks : List TaskEntry
   tasks = task_entries l
 
@@ -75,6 +72,11 @@ module _ (source : Source) where
   whole : ProgramsAreWhole (lowered l p)
   whole = are_whole p l r
 
+  -- what boot and commit do by themselves the code of the source does under watch
+  so : {es : List Effect} {n cycles : ℕ} {u : Core} {P : Core → Type 0} → Comes (around l (lowered l p) r.fits whole) es n cycles u P
+      → StackedComes l (lowered l p) (stack_lows p l) es n cycles u P
+  so a = under_watch l (lowered l p) r.fits whole (stack_lows p l) a
+
   -- a board, and the start of an attempt behind it
   record ReachesStart (b : MachineBoard) : Type 0 where
     pub core : Core
@@ -82,7 +84,7 @@ module _ (source : Source) where
     pub steps : ℕ
     pub cycles : ℕ
     pub within : cycles ≤ with_events l.runtime.events 3 + 6
-    pub comes : Comes code [] steps cycles core (IsAt (attempt_start l) core.fram core.inputs)
+    pub comes : StackedComes l (lowered l p) (stack_lows p l) [] steps cycles core (IsAt (attempt_start l) core.fram core.inputs)
 
   from_boot : (b : MachineBoard) → IsBooting l b → b.fram (word_place l Gate) ≡ 0 → ReachesStart b
   from_boot b k z =
@@ -93,7 +95,7 @@ module _ (source : Source) where
         steps = with_events l.runtime.events 2 + 2;
         cycles = with_events l.runtime.events 3 + 6;
         within = omega arith;
-        comes = to_start l (lowered l p) r.fits whole logs k.core k.pc k.named zero;
+        comes = so (to_start l (lowered l p) r.fits whole logs k.core k.pc k.named zero);
       }
 
   from_start : (b : MachineBoard) → IsStarting l b → ReachesStart b
@@ -106,8 +108,7 @@ module _ (source : Source) where
         steps = 0;
         cycles = 0;
         within = omega arith;
-        comes = no_steps (anywhere code) u (IsAt (attempt_start l) u.fram u.inputs)
-            here;
+        comes = record { end = u; leads = stay c.step (board_of u); holds = here };
       }
 
   abbrev cost : ℕ → ℕ
@@ -129,8 +130,8 @@ module _ (source : Source) where
   commit_from_boot to accepted u e named d most within =
       let x : World = record { fram = u.fram; accepted = accepted } in
       let q = d.pending in
-      let a = to_commit l (lowered l p) r.fits whole logs u e named q.gate (pending_can_commit (program_places p l) x r.apart q)
-      (q.words (word_place l SentBase)) in
+      let a = so (to_commit l (lowered l p) r.fits whole logs u e named q.gate (pending_can_commit (program_places p l) x r.apart q)
+      (q.words (word_place l SentBase))) in
       let n = u.fram (word_place l ListLength) in let ws = length (listed l u.fram) in let k = u.fram (word_place l EmitCount) in
       record {
         steps = with_events l.runtime.events 2 + 3 + commit_steps l.runtime.events n ws k;
@@ -187,7 +188,7 @@ module _ (source : Source) where
     steps : ℕ
     cycles : ℕ
     few : cycles ≤ with_events l.runtime.events 3 + 6
-    comes : Comes code [] steps cycles core (IsAt (attempt_start l) core.fram core.inputs)
+    comes : StackedComes l (lowered l p) (stack_lows p l) [] steps cycles core (IsAt (attempt_start l) core.fram core.inputs)
 
   module _ (at : Attempting) where
     open at use {state as s, accepted, core as u, words, undecided as und, steps, cycles, few, comes}
@@ -285,14 +286,14 @@ module _ (source : Source) where
     stretches = record {
       start_steps = start_steps l.runtime.events clears l.versions.words (length (privates k));
       start_cycles = start_time;
-      starts = λ v h. start_there l (lowered l p) r.fits whole logs v u.fram u.inputs h program_named (und.is_open.words (word_place l Version));
+      starts = λ v h. so (start_there l (lowered l p) r.fits whole logs v u.fram u.inputs h program_named (und.is_open.words (word_place l Version)));
       most = paid.most;
       body = λ v h. paid.comes v h;
       leaves = leaves;
       commit_steps = commit_steps l.runtime.events listed_entries listed_words to_send;
       commit_cycles = commit_time;
       commits = λ ends v h. let fits : FitsAt k f = fits_there ends in
-          commit_there l (lowered l p) r.fits whole logs v f v.inputs h fits.can fits.base;
+          so (commit_there l (lowered l p) r.fits whole logs v f v.inputs h fits.can fits.base);
       within = let most = paid.within in let start_most = at_most in omega (arith, few, most, start_most);
       all_within = all_paid;
     }

@@ -7,24 +7,21 @@ use Rattle.memory_map.specs.declared.words.RuntimeWord.TheVariants.{Gate, Versio
 use Rattle.memory_map.specs.MemoryMap.{word_place, with_events}
 use Rattle.lower.specs.Lowered.{lowered}
 use Rattle.linked_code.specs.Linked.{ProgramsAreWhole}
-use Rattle.linked_code.proofs.Interface.{programs_count, to_raised}
-use Rattle.compiled_runs.specs.Program.{compiled_program}
+use Rattle.linked_code.proofs.Interface.{under_watch, to_raised}
+use Rattle.compiled_runs.specs.Program.{stack_lows, compiled_program}
 use Rattle.compiled_runs.specs.Laws.{PowerUpsRaiseVersion}
+use Rattle.compiled_runs.proofs.Costs.{are_whole}
 
 pub power_ups_raise_version : PowerUpsRaiseVersion
 power_ups_raise_version p l logs r b boots gate below t leads =
     let step = (compiled_program p l).step in
-    let count = programs_count l.tasks (lowered l p) r.fits.tasks ∙ r.count in
-    let whole : ProgramsAreWhole (lowered l p) = record {
-      whole = λ k h. r.programs.whole k (omega (arith, h, count));
-      of_words = λ k h. r.programs.of_words k (omega (arith, h, count));
-    } in
+    let whole : ProgramsAreWhole (lowered l p) = are_whole p l r in
     let u = boots.core in
     let a = word_place l Version in
     let zero : u.fram (word_place l Gate) ≡ 0 = ap (λ s. s.fram (word_place l Gate)) (sym boots.is) ∙ gate in
     let version : u.fram a ≡ b.fram a = ap (λ s. s.fram a) (sym boots.is) in
     let low : u.fram a < 0xFFFF = omega (arith, version, below) in
-    let raised = to_raised l (lowered l p) r.fits whole logs u boots.pc boots.named zero low in
+    let raised = under_watch l (lowered l p) r.fits whole (stack_lows p l) (to_raised l (lowered l p) r.fits whole logs u boots.pc boots.named zero low) in
     let steps = with_events l.runtime.events 2 + 5 in
     let all : steps ≡ steps + 0 = omega arith in
     let made : (going step steps (board_of u)).status ≡ At (board_of raised.end) =

@@ -1,11 +1,11 @@
--- An instruction takes a cycle at least.
+-- An instruction takes a cycle at least, and changes FRAM and the inputs as its effects say, under watch too.
 use Rattle.msp_isa.specs.declared.registers.Reg.TheVariants as reg
 use Rattle.msp_isa.specs.declared.operands.Operand.TheVariants as operand
 use Rattle.msp_isa.specs.declared.operands.Src.TheVariants as src
 use Rattle.msp_isa.specs.declared.operands.Dst.TheVariants as dst
 use Rattle.msp_isa.specs.declared.instructions.Instr.TheVariants as instr
 use Rattle.msp_step.specs.declared.machine.Stop.TheVariants as stop
-use Rattle.std.proofs.Common.{◌<◌, ◌==◌, ℕ, Bool, true, false, if◌then◌else◌, Option, Some, None, List, [], arith}
+use Rattle.std.proofs.Common.{◌<◌, ◌==◌, ℕ, Bool, true, false, if◌then◌else◌, Option, Some, None, List, [], refl, arith}
 use Rattle.msp_isa.specs.declared.operands.Operand.{Operand}
 use Rattle.msp_isa.specs.declared.operands.Src.{Src}
 use Rattle.msp_isa.specs.declared.operands.Dst.{Dst}
@@ -17,11 +17,14 @@ use Rattle.msp_step.specs.Access.{Access, Completed, Faulted}
 use Rattle.msp_step.specs.Effect.{Written}
 use Rattle.msp_step.specs.Step.{effect, off_bit}
 use Rattle.fram_board.specs.Effects.{Effect}
+use Rattle.machine_effects.specs.Changes.{ChangesByEffects}
 use Rattle.machine_effects.specs.Going.{Goes, Stops, step_behind}
 use Rattle.machine_effects.specs.Inputs.{Look, first_look, other_looks, look_effects}
-use Rattle.machine_effects.specs.Machine.{Code, MachineBus, MachineBoard, MachineOutcome, machine_bus, machine_opened_seeing, machine_outcome, standing}
+use Rattle.machine_effects.specs.Machine.{Code, MachineBus, MachineBoard, MachineOutcome, machine_bus, machine_opened_seeing, machine_outcome, uncovering, code_executed, standing}
 use Rattle.machine_effects.specs.Machine.{step_with, looks_there, machine_executed_seeing, executed_looking}
 use Rattle.machine_effects.specs.Machine.{astray, is_exposed, undisturbed, exec}
+use Rattle.machine_effects.proofs.Interface.{takes_nothing, code_changes_by_effects}
+use Rattle.code_forms.specs.Watch.{watched}
 use Rattle.crash_rules.specs.Runs.{TakesCycles}
 
 -- each column for an operand has a cycle at least
@@ -95,8 +98,14 @@ looking_takes : (looks : List Look) (s : MachineBoard) (i : Instr) → TakesCycl
 looking_takes looks s i =
     behind_takes (look_effects looks) _ (executed_takes (Some (first_look looks)) (record s { inputs = record s.inputs { looks = other_looks looks } }) i)
 
+uncovering_takes : (i : Instr) (s : MachineBoard) (o : MachineOutcome) → TakesCycles o → TakesCycles (uncovering i s o)
+uncovering_takes i s (Goes es c t) h = h
+uncovering_takes i s (Stops es price e) h = h
+
 standing_takes : (i : Option Instr) (s : MachineBoard) → TakesCycles (standing i s)
-standing_takes (Some i) s = either_takes (looks_there i) _ _ (looking_takes s.inputs.looks s i) (executed_takes None s i)
+standing_takes (Some i) s =
+    uncovering_takes i s (code_executed s i)
+    (either_takes (looks_there i) _ _ (looking_takes s.inputs.looks s i) (executed_takes None s i))
 standing_takes None s = λ q. absurd (cc (q))
 
 undisturbed_takes : (events : Bool) (s : MachineBoard) (o : MachineOutcome) → TakesCycles o → TakesCycles (undisturbed events s o)
@@ -109,3 +118,19 @@ code_takes code s =
     let i = code.at (s.registers 0) in
     undisturbed_takes code.events s (step_with i s)
     (either_takes (off_bit s.registers == 1) (Stops [] 0 stop.Off) (standing i s) (λ q. absurd (cc (q))) (standing_takes i s))
+
+-- so does one under watch
+pub watched_takes : (may : Registers → Bool) (code : Code) (s : MachineBoard) → TakesCycles (watched may (exec code) s)
+watched_takes may code s = either_takes (may s.registers) (exec code s) (Stops [] 0 (astray s)) (code_takes code s) (λ q. absurd (cc (q)))
+
+-- ---- what it changes
+
+either_changes : (b : Bool) (s : MachineBoard) (x y : MachineOutcome) → ChangesByEffects s x → ChangesByEffects s y
+    → ChangesByEffects s (if b then x else y)
+either_changes true s x y h k = h
+either_changes false s x y h k = k
+
+-- under watch too an instruction changes FRAM and the inputs as its effects say
+pub watched_changes : (may : Registers → Bool) (code : Code) (s : MachineBoard) → ChangesByEffects s (watched may (exec code) s)
+watched_changes may code s =
+    either_changes (may s.registers) s (exec code s) (Stops [] 0 (astray s)) (code_changes_by_effects code s) (refl, (s.inputs, takes_nothing s.inputs))

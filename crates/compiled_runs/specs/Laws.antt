@@ -1,10 +1,11 @@
 -- What the code of a compiled source owes the crash theorem, and the board's runs.
-use Rattle.std.specs.Prelude.{◌≡◌, ◌<◌, ◌+◌, ℕ, List, Some, length, slice_get}
+use Rattle.std.specs.Prelude.{◌≡◌, ◌<◌, ◌≤◌, ◌+◌, ℕ, List, Some, length, slice_get}
 use Rattle.machine_effects.specs.World.{World}
 use Rattle.machine_effects.specs.Going.{At, going}
 use Rattle.machine_effects.specs.Machine.{MachineBoard}
 use Rattle.code_forms.specs.Placed.{words_of}
 use Rattle.cost_bound.specs.declared.allowance.Allow.{Allow}
+use Rattle.cost_bound.specs.Summaries.{summaries}
 use Rattle.cost_bound.specs.Allowance.{CheckedTask, IsAllowed}
 use Rattle.war_analysis.specs.PlanValue.{TaskPlanValue}
 use Rattle.source_values.specs.Runs.{CheckedProgram, State}
@@ -30,7 +31,7 @@ use Rattle.undo_states.specs.States.{AreLogged}
 use Rattle.compiled_model.specs.Parts.{private_homes, compiled_model}
 use Rattle.compiled_model.specs.Needs.{CostsAreWithin, LoggedCostsAreWithin, TasksLeave, ProgramsAreWhole, AttemptsStoreBelow}
 use Rattle.task_needs.specs.Lists.{TasksListFew, NeedsAreWithin, with_needs}
-use Rattle.compiled_runs.specs.Program.{source_code, IsBooting, compiled_program}
+use Rattle.compiled_runs.specs.Program.{source_code, stack_low, IsBooting, compiled_program}
 
 -- what a runtime asks for: private scalars as its starts take them, and that each task is within its part of the bound
 pub record RunsByRedo (p : CheckedProgram) (l : MemoryMap) : Type 0 where
@@ -52,6 +53,9 @@ pub record CanRun (p : CheckedProgram) (l : MemoryMap) : Type 0 where
   pub apart : AreApart l
   pub room : HaveRoom (program_places p l)
   pub programs : ProgramsAreWhole p l
+  -- no program goes below the stack of its task, nor does what it calls
+  pub stacks : (t : ℕ) (below : t < length p.tasks) (task : CheckedTask) → slice_get p.tasks t ≡ Some task
+      → stack_low (summaries p) task ≤ (programs.whole t below).bounds.floor
   pub leave : TasksLeave p l
   pub own : RunsBy l.runtime.logging p l
 

@@ -21,7 +21,6 @@ pub fn code_keeps_to_needs()
 {}
 
 /// The code stands in FRAM, and a power-up comes to the boot where the reset vector says so.
-#[tactic(auto, using(crate::proofs::Leaves::code_is_placed))]
 pub fn code_is_placed()
     ensures { CodeIsPlaced }
 {}

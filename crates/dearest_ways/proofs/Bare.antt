@@ -16,7 +16,7 @@ use Rattle.dearest_ways.specs.declared.calls.CallCost.{CallCost}
 use Rattle.dearest_ways.specs.declared.program.DearestWay.{DearestWay}
 use Rattle.dearest_ways.specs.Ways.{step_choices, test_choices, program_choices, straight_cost, ended, step_ways, test_forks, ways_further, block_ways}
 use Rattle.dearest_ways.specs.Ways.{bare, body_cycles, dearest_way, IsDearestWay}
-use Rattle.dearest_ways.proofs.Coded.{waiting_filled, after_filled, test_code_filled, block_filled}
+use Rattle.word_code.proofs.Interface.{waiting_filled, after_filled, test_code_filled, block_filled}
 
 -- ---- how many choices there are
 

@@ -1,4 +1,3 @@
-mod Coded
 mod Bare
 mod Filling
 mod Costs

@@ -9,7 +9,7 @@ use Rattle.image_reports.proofs.Names.{KeepsCapacities, compiled_program, source
 use Rattle.image_reports.proofs.Names.{KeepsCode}
 use Rattle.image_reports.specs.ImageLaw.{IsLawful}
 use Rattle.image_reports.proofs.Names.{HoldsAt, ImagesAreTold, ImagesKeepCapacities, ImagesBelong}
-use Rattle.image_reports.specs.Laws.{ImagesKeepToNeeds}
+use Rattle.image_reports.specs.Laws.{ImagesKeepTheirStacks, ImagesKeepToNeeds}
 use Rattle.image_reports.proofs.Names.{◌≡◌, ◌≤◌, ◌⊎◌, ◌∙◌, ◌++◌, true, refl, sym, ap, inl, inr, fram_of, Gate, Bool, Option, Some, None, MapValue}
 use Rattle.image_reports.proofs.Names.{RunOutcome, Run, if◌then◌else◌, ImagesAnswerInOrder, IsLawfulRun}
 use Rattle.std.specs.Prelude.{map}
@@ -72,6 +72,7 @@ held_at p l image readings b ms h k =
       takes_few = k.takes_few;
       offers_few = k.offers_few;
       capacities = subst Capacities k.fram k.capacities;
+      stack = k.stack;
       versions = k.versions;
       versions_in_place = k.versions_in_place;
       code = subst Code k.fram k.code;
@@ -234,6 +235,12 @@ images_keep_capacities logging text p allow image ok c trace t r run ms rest e =
     let few = traces_are_few trace t in
     ((images_keep_the_laws text p allow image ok c (charges_of trace.charges) few.0 trace.readings trace.events (trace_inputs trace t) r run).fronts ms
     rest e).capacities
+
+pub images_keep_their_stacks : ImagesKeepTheirStacks
+images_keep_their_stacks logging text p allow image ok c trace t r run ms rest e =
+    let few = traces_are_few trace t in
+    ((images_keep_the_laws text p allow image ok c (charges_of trace.charges) few.0 trace.readings trace.events (trace_inputs trace t) r run).fronts ms
+    rest e).stack
 
 pub images_keep_to_needs : ImagesKeepToNeeds
 images_keep_to_needs logging text p allow image ok c trace t r run =

@@ -4,6 +4,7 @@ mod HandlerWords
 mod InFront
 mod Accounted
 mod Cuts
+mod Stacks
 mod Opens
 mod Answered
 pub mod Told

@@ -65,8 +65,11 @@ use Rattle.image_reports.proofs.HandlerWords.{stage_holds}
 use Rattle.image_reports.proofs.Accounted.{moments_account}
 use Rattle.image_reports.proofs.Cuts.{CutAtPower, Uncut, Cut, cut_at_power, none_serves, own_part, ring_stays}
 use Rattle.image_reports.proofs.Cuts.{encoding_has_words, prepared_bounds, handler_is_closed, two_less}
+use Rattle.image_reports.proofs.Stacks.{may_stand, goes_by_code, steps_made, stack_is_kept, below_end}
 use Rattle.image_reports.proofs.Opens.{opens as machine_opens}
-use Rattle.image_reports.specs.ImageLaw.{StaysOpen, RingsHold, AnswersHold}
+use Rattle.linked_code.specs.Watch.{keeps_stacks}
+use Rattle.compiled_runs.specs.Program.{stack_lows}
+use Rattle.image_reports.specs.ImageLaw.{StackIsKept, StaysOpen, RingsHold, AnswersHold}
 use Rattle.image_reports.proofs.Names.{append-nil, laid_out, MapValue, Marks}
 use Rattle.std.specs.Prelude.{map}
 use Rattle.crash_rules.specs.History.{Done}
@@ -150,6 +153,7 @@ pub record Front (p : CheckedProgram) (l : MemoryMap) (image : ImageValue) (x : 
       → VersionsBelow l (outside_of b).fram
   pub code : KeepsCode p l image h.world.fram
   pub capacities : KeepsCapacities l h.world.fram
+  pub stack : StackIsKept p l b
   pub sound : l.runtime.logging ≡ Redo → IsSound (program_places p l) h.world
   pub kept : (a : ℕ) → l.boot.address ≤ a → (IsEventWord l a → ⊥) → (outside_of b).fram a ≡ x.fram a
   pub fetches : StepsOn p l image b
@@ -175,6 +179,7 @@ holds_from p l image x origin readings b ms h redo k = record {
   sent = k.sent;
   versions = k.versions redo;
   belongs = record { code = k.code; capacities = k.capacities; sound = k.sound redo };
+  stack = k.stack;
   kept = k.kept;
   fetches = k.fetches;
   events = k.events;
@@ -337,7 +342,11 @@ module _ (onward : Onward) where
   module _ (t : BoardValue) (h : History) (at : IsReached t h) (st : Standing t) where
     -- the machine stands at the code
     stands : StandsOn (placed_code p l) st.u
-    stands = stands_on (placed_code p l) st.u st.goes
+    stands = stands_on (placed_code p l) st.u (goes_by_code (keeps_stacks l (stack_lows p l)) (placed_code p l) st.u st.goes)
+
+    -- with SP in the stack of the task in whose code it is
+    on_stack : keeps_stacks l (stack_lows p l) st.u.registers ≡ true
+    on_stack = may_stand (keeps_stacks l (stack_lows p l)) (placed_code p l) st.u st.goes
 
     -- where the board shows it, its instruction is the board's
     module _ (shows : Shows t st.u) where
@@ -426,6 +435,20 @@ module _ (onward : Onward) where
 
     room : l.runtime.events ≡ true → HasRoom t
     room events = room_by events st.stands
+
+    -- the handler is no code of a task
+    kept_by : StandsAs t st.u → StackIsKept p l t
+    kept_by (AtCode shows) k task place is_task is_place inside =
+        stack_is_kept p l new.fits.rules (registers_of t.cpu) k task place is_task is_place inside
+        (subst (λ g. keeps_stacks l (stack_lows p l) g ≡ true) shows.registers on_stack)
+    kept_by (stance.InHandler from stage shows interrupted handles) k task place is_task is_place inside =
+        let high = handler_is_high from t stage handles in
+        let low = below_end p l new.fits.rules (registers_of t.cpu) k task place is_task is_place inside in
+        let end = ready.code.apart.high in
+        absurd (omega (arith, high, low, end))
+
+    kept_stack : StackIsKept p l t
+    kept_stack = kept_by st.stands
 
   -- at each front
   keeps_versions : (ms rest : List Moment) → r.moments ≡ ms ++ rest → KeepsVersions p l (known_from l x ms).world.fram
@@ -524,6 +547,7 @@ module _ (onward : Onward) where
               h.completed lawful.stands.state h.start lawful.stands.starts gate);
           code = subst Code same keeps_code;
           capacities = subst Capacities same keeps_capacities;
+          stack = kept_stack t h at (standing ms rest e);
           sound = λ redo. phase_sound p l redo ready.model readings origin lawful.stands.state h lawful.stands.phase;
           kept = kept;
           fetches = fetches t h at (standing ms rest e);
@@ -629,7 +653,8 @@ module _ (onward : Onward) where
         let more = two_less (program_steps steps) (omega (arith, many)) in
         open_by (last_board (powered t power) steps) last.u last.stands
         (machine_opens p l new.fits events more.0 begun last.u (is_powered on t h at.ready power powers looks see)
-        (ap (λ n. (going program.step n begun).status) (sym more.1) ∙ made))
+        (steps_made (keeps_stacks l (stack_lows p l)) (placed_code p l) (suc (suc more.0)) begun last.u
+        (ap (λ n. (going program.step n begun).status) (sym more.1) ∙ made)))
 
     opened_from : (t : BoardValue) (h : History) → IsReached t h → (boot : Moment) → boot.action ≡ PowerUp → IsMomentFrom t boot
         → (steps : List Moment) → AreInstructionMoments steps → AreMoments boot.after steps → 4 ≤ program_steps steps → Opened (last_board boot.after steps)

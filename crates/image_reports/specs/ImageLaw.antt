@@ -1,8 +1,8 @@
 -- What holds of each run of the image of an accepted source, on the board itself, cut wherever power fails, whatever events arise: the
--- effects since the last boot or done, what the board stands for, the words accepted, the counts, the code that is fetched, what became of
--- the events, how it ends, and its report. Where the source takes events a handler runs between any two instructions of the code: it is the
+-- effects since the last boot or done, what the board stands for, the words accepted, the counts, the stack, the code that is fetched, what
+-- became of the events, how it ends, and its report. Where the source takes events a handler runs between any two instructions of the code: it is the
 -- image's, and what holds of the code is said of what happens outside it.
-use Rattle.std.specs.Prelude.{◌≡◌, ◌≢◌, ℕ, ◌+◌, ◌*◌, ◌^◌, ◌%◌, ◌<◌, ◌≤◌, Bool, true, false, if◌then◌else◌, List, [], ◌∷◌, ◌++◌, length, map, Some}
+use Rattle.std.specs.Prelude.{◌≡◌, ◌≢◌, ℕ, ◌+◌, ◌*◌, ◌^◌, ◌%◌, ◌<◌, ◌≤◌, Bool, true, false, if◌then◌else◌, List, [], ◌∷◌, ◌++◌, length, map, Some, slice_get}
 use Rattle.address_space.specs.Limits.{stack_floor, stack_top}
 use Rattle.event_places.specs.Places.{handler_place, head_place}
 use Rattle.msp_isa.specs.declared.instructions.Instr.{Instr}
@@ -31,6 +31,8 @@ use Rattle.event_orders.specs.Answers.{AnswersInOrder}
 use Rattle.event_orders.specs.Waiting.{words_behind, TakesInOrder}
 use Rattle.code_forms.specs.Placed.{Holds}
 use Rattle.cost_bound.specs.declared.allowance.Allow.{Allow}
+use Rattle.cost_bound.specs.Allowance.{CheckedTask}
+use Rattle.cost_bound.specs.Summaries.{summaries}
 use Rattle.source_values.specs.Runs.{CheckedProgram, State, first_state}
 use Rattle.source_meaning.specs.Acceptance.{IsAcceptedText}
 use Rattle.source_runs.specs.Traces.{AreInputs}
@@ -39,7 +41,7 @@ use Rattle.source_maps.specs.Maps.{map_of}
 use Rattle.memory_map.specs.declared.runtime.Logging.{Logging}
 use Rattle.memory_map.specs.declared.runtime.Logging.TheVariants.{Redo, Undo}
 use Rattle.memory_map.specs.declared.words.RuntimeWord.TheVariants.{Gate, Version}
-use Rattle.memory_map.specs.MemoryMap.{MemoryMap, word_place}
+use Rattle.memory_map.specs.MemoryMap.{MemoryMap, TaskPlace, word_place}
 use Rattle.crash_rules.specs.Model.{Marks, CommitContract}
 use Rattle.crash_rules.specs.History.{History, first_history}
 use Rattle.crash_rules.specs.Laws.{Resting, StandsFor, FollowsScript, AcceptedWords}
@@ -50,6 +52,9 @@ use Rattle.compiled_model.specs.Parts.{compiled_model, start_of as start_due}
 use Rattle.stands_for.specs.Program.{answer_word}
 use Rattle.compiled_bounds.specs.Capacities.{KeepsCapacities}
 use Rattle.model_runs.specs.Runs.{IsShort, all_amounts}
+use Rattle.runtime_code.specs.Addresses.{stack_top}
+use Rattle.linked_code.specs.Watch.{is_in_task}
+use Rattle.compiled_runs.specs.Program.{stack_low}
 use Rattle.task_needs.specs.Needs.{need_of}
 use Rattle.charge_limits.specs.Laws.{readings_from, words_offered, words_from}
 use Rattle.image_laws.specs.Words.{code_words}
@@ -148,6 +153,17 @@ AnswersHold l m b r =
 abbrev pub HasRoom : BoardValue → Type 0
 HasRoom b = is_interruptible (registers_of b.cpu) ≡ true → (stack_floor ≤ registers_of b.cpu 1) × (registers_of b.cpu 1 ≤ stack_top)
 
+-- SP is in the stack of a task: it has as many words as the source's stack counts for the task and all that it calls (`stack_of`), but for the 16 that are
+-- left to handlers, and goes down from where the stacks of code begin: 2400, or 2210 where the source takes events
+pub record IsOnStack (p : CheckedProgram) (l : MemoryMap) (task : CheckedTask) (sp : ℕ) : Type 0 where
+  pub from : stack_low (summaries p) task ≤ sp
+  pub to : sp ≤ stack_top
+
+-- wherever the board stands in the code of a task, or in that of a function for the task, SP is in the task's stack
+abbrev pub StackIsKept : CheckedProgram → MemoryMap → BoardValue → Type 0
+StackIsKept p l b = (k : ℕ) (task : CheckedTask) (place : TaskPlace) → slice_get p.tasks k ≡ Some task → slice_get l.tasks k ≡ Some place
+    → is_in_task (registers_of b.cpu 0) place ≡ true → IsOnStack p l task (registers_of b.cpu 1)
+
 -- What holds at each boundary between two steps: `b` is the board behind these moments, and `h` what is known of the run so far.
 pub record HoldsAt (p : CheckedProgram) (l : MemoryMap) (image : ImageValue) (readings : List ℕ) (b : BoardValue) (ms : List Moment)
     (h : History) : Type 0 where
@@ -169,6 +185,8 @@ pub record HoldsAt (p : CheckedProgram) (l : MemoryMap) (image : ImageValue) (re
   pub offers_few : length (words_offered h.effects) ≤ words_from p l (Resting (first_state p)) h.completed stands.state
   -- CLN and EN are within the map's capacities, and version words at most VER
   pub capacities : KeepsCapacities l (outside_of b).fram
+  -- SP stays in the stack of the task in whose code the board stands
+  pub stack : StackIsKept p l b
   -- as a task's first own instruction runs, whose start is made and which has done nothing yet, each version word is below VER. (With
   -- exactly the start's effects the code comes to the task's own: `start_is_made` of `boot_runtime`.) So where the runtime works in copies
   pub versions : l.runtime.logging ≡ Redo → h.effects ≡ start_due l h.start.fram → VersionsBelow l (outside_of b).fram

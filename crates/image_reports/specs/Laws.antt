@@ -22,6 +22,7 @@ use Rattle.compiled_bounds.specs.Capacities.{KeepsCapacities}
 use Rattle.source_maps.specs.Maps.{map_of}
 use Rattle.task_needs.specs.Needs.{need_of}
 use Rattle.image_laws.specs.Compiled.{IsCompiledFor}
+use Rattle.image_reports.specs.ImageLaw.{StackIsKept}
 
 -- on any trace of words, the report of the one run of its fresh board is told by the source
 abbrev pub ImagesAreTold : Type 0
@@ -52,6 +53,14 @@ ImagesKeepCapacities = (logging : Logging) (text : List ℕ) (p : CheckedProgram
     → Run (charges_of trace.charges) (fresh image.words trace.readings trace.events) r
     → (ms rest : List Moment) → r.moments ≡ ms ++ rest
     → KeepsCapacities c.layout (outside_of (last_board (fresh image.words trace.readings trace.events) ms)).fram
+
+-- and SP stays in the stack of the task in whose code the board stands
+abbrev pub ImagesKeepTheirStacks : Type 0
+ImagesKeepTheirStacks = (logging : Logging) (text : List ℕ) (p : CheckedProgram) (allow : Allow) (image : ImageValue) → IsAcceptedText text p allow
+    → (c : IsCompiledFor logging text p allow image) → (trace : TraceValue) → IsTraceOfWords trace → (r : RunOutcome)
+    → Run (charges_of trace.charges) (fresh image.words trace.readings trace.events) r
+    → (ms rest : List Moment) → r.moments ≡ ms ++ rest
+    → StackIsKept p c.layout (last_board (fresh image.words trace.readings trace.events) ms)
 
 -- and each charge that is spent is less than what the tasks need, under the image's runtime, whose transitions were completed in it, and the one that was to
 -- come, beside what events take

@@ -46,8 +46,8 @@ use Rattle.model_runs.specs.Runs.{IsShort, all_amounts}
 use Rattle.task_needs.specs.Needs.{need_of}
 use Rattle.charge_limits.specs.Laws.{readings_from, words_offered, words_from}
 use Rattle.image_laws.specs.Compiled.{IsCompiled}
-use Rattle.image_reports.specs.ImageLaw.{runtime_marks, world_with, VersionsBelow, KeepsCode, StepsOn, EventsHold, HasRoom, RaisesVersion, StaysOpen}
-use Rattle.image_reports.specs.ImageLaw.{RingsHold, AnswersHold}
+use Rattle.image_reports.specs.ImageLaw.{runtime_marks, world_with, VersionsBelow, KeepsCode, StepsOn, EventsHold, HasRoom, RaisesVersion, StackIsKept}
+use Rattle.image_reports.specs.ImageLaw.{StaysOpen, RingsHold, AnswersHold}
 
 -- a world from which a run of an image may go on: the code, the vectors and the handler are the image's, the runtime's counts keep to their
 -- capacities, and it is sound
@@ -104,6 +104,7 @@ pub record HoldsFrom (p : CheckedProgram) (l : MemoryMap) (image : ImageValue) (
   pub sent : (to : State) → origin ≡ Pending to → h.completed ≡ [] → IsBetween x.accepted to.emitted h.world.accepted
   pub versions : h.effects ≡ start_due l h.start.fram → VersionsBelow l (outside_of b).fram
   pub belongs : BelongsTo p l image h.world
+  pub stack : StackIsKept p l b
   -- no store fell on the code, nor on a word behind it, but for the words that count events
   pub kept : (a : ℕ) → l.boot.address ≤ a → (IsEventWord l a → ⊥) → (outside_of b).fram a ≡ x.fram a
   pub fetches : StepsOn p l image b

@@ -1,6 +1,7 @@
-//! The headline, and the capacities of a run. The functions do nothing: their contracts are the laws.
+//! The headline, and the capacities and the stacks of a run. The functions do nothing: their contracts are the laws.
 
 ghost use Rattle.image_reports.specs.Laws.{ImagesAreMapped, ImagesAreTold, ImagesKeepCapacities, ImagesKeepToNeeds, ImagesAnswerInOrder};
+ghost use Rattle.image_reports.specs.Laws.{ImagesKeepTheirStacks};
 ghost use Rattle.crash_rules.specs.Runs.{Program};
 ghost use Rattle.image_reports.specs.CompiledLaws.{CompiledRunsAreTold, ModelsAreOfSources};
 
@@ -44,6 +45,12 @@ pub fn images_are_mapped()
 /// At each board of such a run the commit list and the emit buffer are within their capacities, and no version word is above VER.
 pub fn images_keep_capacities()
     ensures { ImagesKeepCapacities }
+{}
+
+/// At each board of such a run that stands in the code of a task, or in that of a function for it, SP is in the task's stack: no lower than the words that the
+/// source's stack counts for it, 16 of which are left to handlers, and no higher than where it begins.
+pub fn images_keep_their_stacks()
+    ensures { ImagesKeepTheirStacks }
 {}
 
 /// Each charge of such a run that is spent is less than what the tasks need whose transitions were completed in it, and the one that was to come, by the

@@ -1,5 +1,5 @@
 -- The stretches of linked code under undo: from the boot through the recovery to the start of an attempt, and to the commit; from the start to a task's
--- code; the commit.
+-- code; the commit. They are in the part of the code that is of no task.
 use Rattle.std.proofs.Common.{◌≡◌, ◌<◌, ◌≤◌, ◌+◌, ◌*◌, ℕ, zero, suc, List, [], ◌∷◌, length, map, refl, sym, subst, arith}
 use Rattle.std.specs.Prelude.{All}
 use Rattle.boot_runtime.specs.fram_board.Effects.{Effect}
@@ -28,7 +28,7 @@ use Rattle.undo_runtime.specs.Laws.{IsUndoBoot}
 use Rattle.undo_runtime.proofs.Interface.{undo_commit_is_found, recovery_is_made, undo_start_is_made, undo_commit_is_made}
 use Rattle.linked_code.specs.Linked.{boot_code, bytes_of_boot, start_by, attempt_start, commit_code, bytes_of_commit, StartsFit}
 use Rattle.linked_code.specs.Linked.{CodeFits, ProgramsAreWhole}
-use Rattle.linked_code.proofs.Stretches.{programs_count, code, parts, is_linked}
+use Rattle.linked_code.proofs.Stretches.{programs_count, around, around_is_tidy, boot_around, commit_around}
 use Rattle.linked_code.proofs.Reached.{list_stands, tasks_are_reached}
 
 -- a task's code is where either runtime comes to it
@@ -50,15 +50,15 @@ module _ (l : MemoryMap) (programs : List TaskPrograms) (fits : CodeFits l progr
   start_at = start_by Undo l
 
   -- this is where attempts start by the map
-  at_start : (es : List Effect) (n c : ℕ) (u : Core) (f : ℕ → ℕ) (inputs : Inputs) → Comes (code l programs fits whole) es n c u (IsAt start_at f inputs)
-      → Comes (code l programs fits whole) es n c u (IsAt (attempt_start l) f inputs)
-  at_start es n c u f inputs k = subst (λ g. Comes (code l programs fits whole) es n c u (IsAt (start_by g l) f inputs)) (sym logs) k
+  at_start : (es : List Effect) (n c : ℕ) (u : Core) (f : ℕ → ℕ) (inputs : Inputs) → Comes (around l programs fits whole) es n c u (IsAt start_at f inputs)
+      → Comes (around l programs fits whole) es n c u (IsAt (attempt_start l) f inputs)
+  at_start es n c u f inputs k = subst (λ g. Comes (around l programs fits whole) es n c u (IsAt (start_by g l) f inputs)) (sym logs) k
 
-  boot_stands : Stands (code l programs fits whole) l.boot.address (boot_code Undo l)
-  boot_stands = subst (λ g. Stands (code l programs fits whole) l.boot.address (boot_code g l)) logs (parts l programs fits whole).boot
+  boot_stands : Stands (around l programs fits whole) l.boot.address (boot_code Undo l)
+  boot_stands = subst (λ g. Stands (around l programs fits whole) l.boot.address (boot_code g l)) logs (boot_around l programs fits whole)
 
-  commit_stands : Stands (code l programs fits whole) l.commit.address (commit_code Undo l)
-  commit_stands = subst (λ g. Stands (code l programs fits whole) l.commit.address (commit_code g l)) logs (parts l programs fits whole).commit
+  commit_stands : Stands (around l programs fits whole) l.commit.address (commit_code Undo l)
+  commit_stands = subst (λ g. Stands (around l programs fits whole) l.commit.address (commit_code g l)) logs (commit_around l programs fits whole)
 
   boot_fits : bytes_of_boot Undo l ≤ 2 * l.boot.words
   boot_fits = subst (λ g. bytes_of_boot g l ≤ 2 * l.boot.words) logs fits.boot
@@ -69,11 +69,11 @@ module _ (l : MemoryMap) (programs : List TaskPrograms) (fits : CodeFits l progr
   lists_fit : All (FitsList l) l.tasks
   lists_fit = subst (λ g. StartsFit g l) logs fits.starts
 
-  is_boot : IsUndoBoot (code l programs fits whole) l l.commit.address tasks l.boot.address
+  is_boot : IsUndoBoot (around l programs fits whole) l l.commit.address tasks l.boot.address
   is_boot =
       let f = boot_fits in let c = (apart_of l fits.rules).commit in let d = (apart_of l fits.rules).code in let k = (apart_of l fits.rules).high in
       record {
-        tidy = (is_linked l programs fits whole).tidy;
+        tidy = around_is_tidy l programs fits whole;
         events = refl;
         places = places_are_in_fram l fits.rules;
         task = opening_keeps_task l fits.rules;
@@ -90,14 +90,14 @@ module _ (l : MemoryMap) (programs : List TaskPrograms) (fits : CodeFits l progr
       → let events = l.runtime.events in
       let n = u.fram (word_place l ListLength) in
       let es = recovery l u.fram in
-      Comes (code l programs fits whole) es (with_events events 2 + 2 + recovery_steps n) (with_events events 3 + 6 + recovery_cycles n) u
+      Comes (around l programs fits whole) es (with_events events 2 + 2 + recovery_steps n) (with_events events 3 + 6 + recovery_cycles n) u
       (IsAt (attempt_start l) (fram_after es u.fram) u.inputs)
   to_recovered u e named z can =
       let events = l.runtime.events in
       let n = u.fram (word_place l ListLength) in
       let es = recovery l u.fram in
       at_start es (with_events events 2 + 2 + recovery_steps n) (with_events events 3 + 6 + recovery_cycles n) u (fram_after es u.fram) u.inputs
-      (recovery_is_made (code l programs fits whole) l l.commit.address tasks l.boot.address u is_boot e named (omega (arith, z)) (λ q. omega (arith, z, q))
+      (recovery_is_made (around l programs fits whole) l l.commit.address tasks l.boot.address u is_boot e named (omega (arith, z)) (λ q. omega (arith, z, q))
       can)
 
   -- from the start of an attempt, where nothing is listed, to the code of the task that CUR names
@@ -107,7 +107,7 @@ module _ (l : MemoryMap) (programs : List TaskPrograms) (fits : CodeFits l progr
       let t = task_at tasks k in
       let events = l.runtime.events in let clears = is_at_end l f in
       let es = undo_start l (privates_in tasks) f in
-      Comes (code l programs fits whole) es (start_steps events clears l.versions.words (length t.privates))
+      Comes (around l programs fits whole) es (start_steps events clears l.versions.words (length t.privates))
       (start_cycles events clears l.versions.words (length t.privates)) v
       (Enters (entry_at (task_entries l) k).code stack_top (fram_after es f) inputs)
 
@@ -120,11 +120,11 @@ module _ (l : MemoryMap) (programs : List TaskPrograms) (fits : CodeFits l progr
       let t = task_at tasks k in
       let events = l.runtime.events in let clears = is_at_end l f in
       let es = undo_start l (privates_in tasks) f in
-      let P : ℕ → Type 0 = λ address. Comes (code l programs fits whole) es (start_steps events clears l.versions.words (length t.privates))
+      let P : ℕ → Type 0 = λ address. Comes (around l programs fits whole) es (start_steps events clears l.versions.words (length t.privates))
       (start_cycles events clears l.versions.words (length t.privates)) v (Enters address stack_top (fram_after es f) inputs) in
       subst P (same_code l.tasks k)
       (from_there v (subst (λ g. IsAt (start_by g l) f inputs v) logs h)
-      (undo_start_is_made (code l programs fits whole) l l.commit.address tasks l.boot.address (core_at start_at f inputs v) is_boot refl
+      (undo_start_is_made (around l programs fits whole) l l.commit.address tasks l.boot.address (core_at start_at f inputs v) is_boot refl
       (omega (arith, named, count, e)) word none))
 
   -- the commit on FRAM
@@ -133,7 +133,7 @@ module _ (l : MemoryMap) (programs : List TaskPrograms) (fits : CodeFits l progr
       let es = undo_commit l f in
       let k = f (word_place l EmitCount) in
       let events = l.runtime.events in
-      Comes (code l programs fits whole) es (commit_steps events k) (commit_cycles events k) v (IsAt (attempt_start l) (fram_after es f) inputs)
+      Comes (around l programs fits whole) es (commit_steps events k) (commit_cycles events k) v (IsAt (attempt_start l) (fram_after es f) inputs)
 
   -- where the commit is entered and can be made, its code makes it
   pub logged_commit_there : (v : Core) (f : ℕ → ℕ) (inputs : Inputs) → IsAt l.commit.address f inputs v → CanClose l f → DoesCommit v f inputs
@@ -144,16 +144,16 @@ module _ (l : MemoryMap) (programs : List TaskPrograms) (fits : CodeFits l progr
       let es = undo_commit l f in
       let o = f (word_place l EmitCount) in
       at_start es (commit_steps l.runtime.events o) (commit_cycles l.runtime.events o) v (fram_after es f) inputs
-      (from_there v h (undo_commit_is_made (code l programs fits whole) l l.commit.address start_at (core_at l.commit.address f inputs v)
-      (is_linked l programs fits whole).tidy is_boot.places (omega (arith, c, d, k)) (omega (arith, even, enabling)) commit_stands refl can))
+      (from_there v h (undo_commit_is_made (around l programs fits whole) l l.commit.address start_at (core_at l.commit.address f inputs v)
+      (around_is_tidy l programs fits whole) is_boot.places (omega (arith, c, d, k)) (omega (arith, even, enabling)) commit_stands refl can))
 
   -- from the boot to the commit, where GATE is 1, and through it
   pub to_logged_commit : (u : Core) → u.pc ≡ l.boot.address → NamesHandler l u.fram → u.fram (word_place l Gate) ≡ 1 → CanClose l u.fram
       → let es = undo_commit l u.fram in
       let k = u.fram (word_place l EmitCount) in
       let events = l.runtime.events in
-      Comes (code l programs fits whole) es (with_events events 2 + 3 + commit_steps events k) (with_events events 3 + 9 + commit_cycles events k) u
+      Comes (around l programs fits whole) es (with_events events 2 + 3 + commit_steps events k) (with_events events 3 + 9 + commit_cycles events k) u
       (IsAt (attempt_start l) (fram_after es u.fram) u.inputs)
   to_logged_commit u e named one can =
-      comes_on (undo_commit_is_found (code l programs fits whole) l l.commit.address tasks l.boot.address u is_boot e named one)
+      comes_on (undo_commit_is_found (around l programs fits whole) l l.commit.address tasks l.boot.address u is_boot e named one)
       (λ v h. logged_commit_there v u.fram u.inputs h can)

@@ -1,20 +1,16 @@
--- The stretches of linked code: the body of a task, whichever the runtime is; and under redo from the boot to the start of an attempt and to the commit,
--- from there to a task, and the commit.
-use Rattle.std.proofs.Common.{◌≡◌, ◌<◌, ◌≤◌, ◌+◌, ◌*◌, ℕ, zero, suc, Bool, true, false, List, [], ◌∷◌, length, map, get_or, refl, sym, ap, ◌∙◌, subst, arith}
+-- The stretches of linked code: where a task is entered; and under redo from the boot to the start of an attempt and to the commit, from there to a task,
+-- and the commit, all in the part of the code that is of no task, which does the same under watch.
+use Rattle.std.proofs.Common.{◌≡◌, ◌<◌, ◌≤◌, ◌+◌, ◌*◌, ℕ, zero, suc, Bool, true, false, not, List, [], ◌∷◌, length, map, refl, sym, ap, ◌∙◌, subst, arith}
 use Rattle.std.proofs.Common.{Some, slice_get}
-use Rattle.std.proofs.lemmas.Option.{slice_get-get_or}
 use Rattle.boot_runtime.specs.fram_board.Effects.{Effect, Store}
 use Rattle.boot_runtime.specs.machine_effects.World.{put, fram_after}
 use Rattle.boot_runtime.specs.machine_effects.Inputs.{Inputs, InputsAreWords}
 use Rattle.boot_runtime.specs.machine_effects.Machine.{Code}
-use Rattle.boot_runtime.specs.code_forms.Forms.{Core}
-use Rattle.boot_runtime.specs.code_forms.Code.{Stands}
-use Rattle.word_code.specs.array_versions.Program.{Program}
-use Rattle.word_code.specs.array_versions.TaskPrograms.{TaskPrograms, no_programs, program_at}
-use Rattle.word_code.specs.array_versions.Behaviour.{behaviour, started}
-use Rattle.word_code.specs.Code.{code_of, code_spent}
-use Rattle.word_code.specs.Laws.{IsEntry, ComesTo, RoutinesStand}
-use Rattle.word_code.proofs.Interface.{code_does_as_program}
+use Rattle.boot_runtime.specs.code_forms.Forms.{Core, board_of}
+use Rattle.boot_runtime.specs.code_forms.Code.{Stands, IsTidy, anywhere}
+use Rattle.boot_runtime.proofs.code_forms.Interface.{only_is_part, only_is_tidy, fronts_may, leads_watched}
+use Rattle.word_code.specs.array_versions.TaskPrograms.{TaskPrograms}
+use Rattle.word_code.specs.Laws.{IsEntry}
 use Rattle.boot_runtime.specs.runtime_effects.Places.{listed}
 use Rattle.boot_runtime.specs.runtime_effects.Stages.{is_at_end, start_effects, commit_effects}
 use Rattle.boot_runtime.specs.runtime_effects.Needs.{CanCommit}
@@ -29,22 +25,21 @@ use Rattle.commit_runtime.specs.Listing.{commit_steps, commit_cycles}
 use Rattle.commit_runtime.proofs.Interface.{commit_is_made}
 use Rattle.linked_code.specs.Linked.{boot_code, bytes_of_boot, start_by, attempt_start, commit_code, bytes_of_commit}
 use Rattle.linked_code.specs.Linked.{linked_code, TaskFits, ProgramsFit, CodeFits, ProgramsAreWhole}
-use Rattle.linked_code.specs.Laws.{IsLinkedCode, PartsStand}
-use Rattle.linked_code.proofs.Called.{routine_even, routines_stand}
+use Rattle.linked_code.specs.Linked.{boot_part, commit_part}
+use Rattle.linked_code.specs.Laws.{IsLinkedCode, PartStands, PartsStand}
+use Rattle.linked_code.specs.Watch.{is_in_some, keeps_stacks, runtime_only, StackedComes}
 use Rattle.linked_code.proofs.Linked.{linked_is_code, linked_stands}
+use Rattle.linked_code.proofs.Watched.{boot_only, commit_only, runtime_may}
 use Rattle.boot_runtime.specs.memory_map.declared.runtime.Logging.TheVariants.{Redo}
 use Rattle.boot_runtime.specs.memory_map.declared.words.RuntimeWord.TheVariants.{CurrentTask, Gate, ListLength, EmitCount, SentBase, Version}
 use Rattle.boot_runtime.specs.memory_map.MemoryMap.{MemoryMap, TaskPlace, word_place, with_events}
 use Rattle.boot_runtime.proofs.memory_map.Interface.{apart_of, even_of}
 
--- a task's layout where there is none
-abbrev no_task : TaskPlace
-no_task = record { privates = []; code = record { address = 0; words = 0 }; first = 0; routines = [] }
-
-entry_is : (ts : List TaskPlace) (k : ℕ) → entry_at (map entry_of ts) k ≡ entry_of (get_or ts k no_task)
-entry_is [] k = refl
-entry_is (t ∷ ts) zero = refl
-entry_is (t ∷ ts) (suc k) = entry_is ts k
+-- where a task is entered its code stands
+entered_at : (ts : List TaskPlace) (k : ℕ) (t : TaskPlace) → slice_get ts k ≡ Some t → (entry_at (map entry_of ts) k).code ≡ t.code.address
+entered_at [] k t a = absurd (cc (a))
+entered_at (u ∷ ts) zero t a = let d : u ≡ t = cc a in ap (λ x. x.code.address) d
+entered_at (u ∷ ts) (suc k) t a = entered_at ts k t a
 
 entries_count : (ts : List TaskPlace) → length (map entry_of ts) ≡ length ts
 entries_count [] = refl
@@ -57,16 +52,7 @@ programs_count [] (p ∷ ps) f = absurd f
 programs_count (t ∷ ts) [] f = absurd f
 programs_count (t ∷ ts) (p ∷ ps) f = let e = programs_count ts ps f.1 in omega (arith, e)
 
--- what fits of a task by its number
-fits_at : (ts : List TaskPlace) (ps : List TaskPrograms) (k : ℕ) → ProgramsFit ts ps → k < length ps
-    → TaskFits (get_or ts k no_task) (get_or ps k no_programs)
-fits_at [] [] k f l = absurd (omega arith)
-fits_at [] (p ∷ ps) k f l = absurd f
-fits_at (t ∷ ts) [] k f l = absurd f
-fits_at (t ∷ ts) (p ∷ ps) zero f l = f.0
-fits_at (t ∷ ts) (p ∷ ps) (suc k) f l = fits_at ts ps k f.1 (omega arith)
-
--- the same where its place and its program are known
+-- what fits of a task where its place and its program are known
 pub task_fits : (ts : List TaskPlace) (ps : List TaskPrograms) (k : ℕ) (t : TaskPlace) (p : TaskPrograms) → ProgramsFit ts ps → slice_get ts k ≡ Some t
     → slice_get ps k ≡ Some p → TaskFits t p
 task_fits [] ps k t p f a b = absurd (cc (a))
@@ -82,60 +68,46 @@ module _ (l : MemoryMap) (programs : List TaskPrograms) (fits : CodeFits l progr
   abbrev pub tasks : List TaskEntry
   tasks = task_entries l
 
-  abbrev pub program : ℕ → Program
-  program k = program_at programs k
-
   pub is_linked : IsLinkedCode l programs
   is_linked = linked_is_code l programs fits
 
   pub parts : PartsStand l programs code
   parts = linked_stands l programs fits
 
-  -- the code of a task stands where the boot comes to it
-  pub task_stands : (k : ℕ) → k < length programs → Stands code (entry_at tasks k).code (code_of (program k))
-  task_stands k h =
-      let t = get_or l.tasks k no_task in
-      let count = programs_count l.tasks programs fits.tasks in
-      let a = slice_get-get_or l.tasks k no_task (omega (arith, h, count)) in
-      let b = slice_get-get_or programs k no_programs h in
-      let s : Stands code t.code.address (code_of (program k)) = (parts.tasks k t (get_or programs k no_programs) a b).own in
-      let d : t.code.address ≡ (entry_at tasks k).code = ap (λ x. x.code) (sym (entry_is l.tasks k)) in
-      subst (λ q. Stands code q (code_of (program k))) d s
-
-  -- and that of each function that it calls where it calls it
-  pub routines_there : (k : ℕ) → k < length programs → RoutinesStand code (program k)
-  routines_there k h =
-      let t = get_or l.tasks k no_task in
-      let p = get_or programs k no_programs in
-      let count = programs_count l.tasks programs fits.tasks in
-      let a = slice_get-get_or l.tasks k no_task (omega (arith, h, count)) in
-      let b = slice_get-get_or programs k no_programs h in
-      routines_stand code t p (routine_even l fits.rules k t a) (parts.tasks k t p a b).routines (fits_at l.tasks programs k fits.tasks h).calls
-
-  -- where a task is entered on words, a program's code begins
-  pub entry_there : (v : Core) (k : ℕ) (g : ℕ → ℕ) (inputs : Inputs)
+  -- where a task is entered on words, its program's code begins
+  pub entry_there : (v : Core) (k : ℕ) (t : TaskPlace) → slice_get l.tasks k ≡ Some t → (g : ℕ → ℕ) (inputs : Inputs)
       → Enters (entry_at tasks k).code stack_top g inputs v → ((a : ℕ) → g a < 0x10000) → InputsAreWords inputs
-      → IsEntry (entry_at tasks k).code v
-  entry_there v k g inputs h words ready = record {
-    pc = h.pc;
+      → IsEntry t.code.address v
+  entry_there v k t at g inputs h words ready = record {
+    pc = h.pc ∙ entered_at l.tasks k t at;
     sp = h.sp;
     fram = subst (λ f. (a : ℕ) → f a < 0x10000) (sym h.fram) words;
     inputs = subst InputsAreWords (sym h.inputs) ready;
   }
 
-  -- what a task's body does on FRAM and inputs
-  abbrev pub DoesBody : Core → ℕ → (ℕ → ℕ) → Inputs → Type 0
-  DoesBody v k g inputs =
-      let b = behaviour (program k) (started g inputs) in ComesTo code (code_spent (program k) (started g inputs)) v b.effects b.end
+  -- boot and commit by themselves
+  abbrev pub around : Code
+  around = runtime_only l code
 
-  -- where a task is entered, its code does as its word program
-  pub body_there : (v : Core) (k : ℕ) (g : ℕ → ℕ) (inputs : Inputs)
-      → Enters (entry_at tasks k).code stack_top g inputs v → k < length programs → ((a : ℕ) → g a < 0x10000)
-      → InputsAreWords inputs → DoesBody v k g inputs
-  body_there v k g inputs h named words ready =
-      let a : DoesBody v k v.fram v.inputs = code_does_as_program code (entry_at tasks k).code (program k) v is_linked.tidy
-      (task_stands k named) (routines_there k named) (whole.whole k named) (whole.of_words k named) (entry_there v k g inputs h words ready) in
-      subst (λ q. DoesBody v k g q) h.inputs (subst (λ f. DoesBody v k f v.inputs) h.fram a)
+  pub around_is_tidy : IsTidy around
+  around_is_tidy = only_is_tidy (λ a. not (is_in_some a l.tasks)) code is_linked.tidy
+
+  pub boot_around : PartStands around (boot_part l)
+  boot_around = boot_only l programs fits code parts.boot
+
+  pub commit_around : PartStands around (commit_part l)
+  commit_around = commit_only l programs fits code parts.commit
+
+  -- what they do by themselves they do under watch
+  pub under_watch : (lows : List ℕ) {es : List Effect} {n c : ℕ} {u : Core} {P : Core → Type 0} → Comes around es n c u P
+      → StackedComes l programs lows es n c u P
+  under_watch lows {es} {n} {c} {u} a = record {
+    end = a.end;
+    leads =
+        leads_watched (keeps_stacks l lows) code (anywhere around) (only_is_part (λ x. not (is_in_some x l.tasks)) code) n c es (board_of u) (board_of a.end)
+        (fronts_may (keeps_stacks l lows) (anywhere around) u n a.forms (runtime_may l programs fits code lows (anywhere around) refl)) a.leads;
+    holds = a.holds;
+  }
 
   -- ---- under redo
 
@@ -144,15 +116,15 @@ module _ (l : MemoryMap) (programs : List TaskPrograms) (fits : CodeFits l progr
     start_at = start_by Redo l
 
     -- this is where attempts start by the map
-    at_start : (es : List Effect) (n c : ℕ) (u : Core) (f : ℕ → ℕ) (inputs : Inputs) → Comes code es n c u (IsAt start_at f inputs)
-        → Comes code es n c u (IsAt (attempt_start l) f inputs)
-    at_start es n c u f inputs k = subst (λ g. Comes code es n c u (IsAt (start_by g l) f inputs)) (sym logs) k
+    at_start : (es : List Effect) (n c : ℕ) (u : Core) (f : ℕ → ℕ) (inputs : Inputs) → Comes around es n c u (IsAt start_at f inputs)
+        → Comes around es n c u (IsAt (attempt_start l) f inputs)
+    at_start es n c u f inputs k = subst (λ g. Comes around es n c u (IsAt (start_by g l) f inputs)) (sym logs) k
 
-    boot_stands : Stands code l.boot.address (boot_code Redo l)
-    boot_stands = subst (λ g. Stands code l.boot.address (boot_code g l)) logs parts.boot
+    boot_stands : Stands around l.boot.address (boot_code Redo l)
+    boot_stands = subst (λ g. Stands around l.boot.address (boot_code g l)) logs boot_around
 
-    commit_stands : Stands code l.commit.address (commit_code Redo l)
-    commit_stands = subst (λ g. Stands code l.commit.address (commit_code g l)) logs parts.commit
+    commit_stands : Stands around l.commit.address (commit_code Redo l)
+    commit_stands = subst (λ g. Stands around l.commit.address (commit_code g l)) logs commit_around
 
     boot_fits : bytes_of_boot Redo l ≤ 2 * l.boot.words
     boot_fits = subst (λ g. bytes_of_boot g l ≤ 2 * l.boot.words) logs fits.boot
@@ -160,11 +132,11 @@ module _ (l : MemoryMap) (programs : List TaskPrograms) (fits : CodeFits l progr
     commit_fits : bytes_of_commit Redo l.runtime.events ≤ 2 * l.commit.words
     commit_fits = subst (λ g. bytes_of_commit g l.runtime.events ≤ 2 * l.commit.words) logs fits.commit
 
-    is_boot : IsBoot code l l.commit.address tasks l.boot.address
+    is_boot : IsBoot around l l.commit.address tasks l.boot.address
     is_boot =
         let f = boot_fits in let c = (apart_of l fits.rules).commit in let d = (apart_of l fits.rules).code in let k = (apart_of l fits.rules).high in
         record {
-          tidy = is_linked.tidy;
+          tidy = around_is_tidy;
           events = refl;
           places = places_are_in_fram l fits.rules;
           task = opening_keeps_task l fits.rules;
@@ -177,19 +149,19 @@ module _ (l : MemoryMap) (programs : List TaskPrograms) (fits : CodeFits l progr
 
     -- from the boot to the start of an attempt
     pub to_start : (u : Core) → u.pc ≡ l.boot.address → NamesHandler l u.fram → u.fram (word_place l Gate) ≡ 0
-        → let events = l.runtime.events in Comes code [] (with_events events 2 + 2) (with_events events 3 + 6) u (IsAt (attempt_start l) u.fram u.inputs)
+        → let events = l.runtime.events in Comes around [] (with_events events 2 + 2) (with_events events 3 + 6) u (IsAt (attempt_start l) u.fram u.inputs)
     to_start u e named z =
         at_start [] (with_events l.runtime.events 2 + 2) (with_events l.runtime.events 3 + 6) u u.fram u.inputs
-        (attempt_is_found code l l.commit.address tasks l.boot.address u is_boot e named (omega (arith, z)) (λ q. omega (arith, z, q)))
+        (attempt_is_found around l l.commit.address tasks l.boot.address u is_boot e named (omega (arith, z)) (λ q. omega (arith, z, q)))
 
     -- from the boot to the store to VER, where it isn't at its end
     pub to_raised : (u : Core) → u.pc ≡ l.boot.address → NamesHandler l u.fram → u.fram (word_place l Gate) ≡ 0 → u.fram (word_place l Version) < 0xFFFF
         → let raised = u.fram (word_place l Version) + 1 in
         let events = l.runtime.events in
-        Comes code (Store (word_place l Version) raised ∷ []) (with_events events 2 + 5) (with_events events 3 + 16) u
+        Comes around (Store (word_place l Version) raised ∷ []) (with_events events 2 + 5) (with_events events 3 + 16) u
         (IsAt (start_at + 36) (put u.fram (word_place l Version) raised) u.inputs)
     to_raised u e named z below =
-        version_is_raised code l l.commit.address tasks l.boot.address u is_boot e named (omega (arith, z)) (λ q. omega (arith, z, q)) below
+        version_is_raised around l l.commit.address tasks l.boot.address u is_boot e named (omega (arith, z)) (λ q. omega (arith, z, q)) below
 
     -- from the start of an attempt on FRAM and inputs to the code of a task
     abbrev pub FromStart : Core → (ℕ → ℕ) → Inputs → Type 0
@@ -197,7 +169,7 @@ module _ (l : MemoryMap) (programs : List TaskPrograms) (fits : CodeFits l progr
         let t = entry_at tasks (f (word_place l CurrentTask)) in
         let events = l.runtime.events in let clears = is_at_end l f in
         let es = start_effects l (privates_in tasks) f in
-        Comes code es (start_steps events clears l.versions.words (length t.privates)) (start_cycles events clears l.versions.words (length t.privates)) v
+        Comes around es (start_steps events clears l.versions.words (length t.privates)) (start_cycles events clears l.versions.words (length t.privates)) v
         (Enters t.code stack_top (fram_after es f) inputs)
 
     -- to the task that CUR names
@@ -207,7 +179,7 @@ module _ (l : MemoryMap) (programs : List TaskPrograms) (fits : CodeFits l progr
         let count = programs_count l.tasks programs fits.tasks in
         let e = entries_count l.tasks in
         from_there v (subst (λ g. IsAt (start_by g l) f inputs v) logs h)
-        (start_is_made code l l.commit.address tasks l.boot.address (core_at start_at f inputs v) is_boot refl (omega (arith, named, count, e)) word)
+        (start_is_made around l l.commit.address tasks l.boot.address (core_at start_at f inputs v) is_boot refl (omega (arith, named, count, e)) word)
 
     -- the commit on FRAM
     abbrev pub DoesCommit : Core → (ℕ → ℕ) → Inputs → Type 0
@@ -215,7 +187,7 @@ module _ (l : MemoryMap) (programs : List TaskPrograms) (fits : CodeFits l progr
         let es = commit_effects l f in
         let n = f (word_place l ListLength) in let ws = length (listed l f) in let k = f (word_place l EmitCount) in
         let events = l.runtime.events in
-        Comes code es (commit_steps events n ws k) (commit_cycles events n ws k) v
+        Comes around es (commit_steps events n ws k) (commit_cycles events n ws k) v
         (IsAt (attempt_start l) (fram_after es f) inputs)
 
     -- where the commit is entered and can be made, its code makes it
@@ -228,7 +200,7 @@ module _ (l : MemoryMap) (programs : List TaskPrograms) (fits : CodeFits l progr
         let n = f (word_place l ListLength) in let ws = length (listed l f) in let o = f (word_place l EmitCount) in
         let es = commit_effects l f in
         at_start es (commit_steps l.runtime.events n ws o) (commit_cycles l.runtime.events n ws o) v (fram_after es f) inputs
-        (from_there v h (commit_is_made code l l.commit.address start_at (core_at l.commit.address f inputs v) is_linked.tidy is_boot.places
+        (from_there v h (commit_is_made around l l.commit.address start_at (core_at l.commit.address f inputs v) around_is_tidy is_boot.places
         (omega (arith, c, d, k)) (omega (arith, even, enabling)) commit_stands refl can word))
 
     -- from the boot to the commit, where GATE is 1
@@ -237,8 +209,8 @@ module _ (l : MemoryMap) (programs : List TaskPrograms) (fits : CodeFits l progr
         → let es = commit_effects l u.fram in
         let n = u.fram (word_place l ListLength) in let ws = length (listed l u.fram) in let k = u.fram (word_place l EmitCount) in
         let events = l.runtime.events in
-        Comes code es (with_events events 2 + 3 + commit_steps events n ws k) (with_events events 3 + 9 + commit_cycles events n ws k) u
+        Comes around es (with_events events 2 + 3 + commit_steps events n ws k) (with_events events 3 + 9 + commit_cycles events n ws k) u
         (IsAt (attempt_start l) (fram_after es u.fram) u.inputs)
     to_commit u e named one can word =
-        comes_on (pending_commit_is_found code l l.commit.address tasks l.boot.address u is_boot e named one)
+        comes_on (pending_commit_is_found around l l.commit.address tasks l.boot.address u is_boot e named one)
         (λ v h. commit_there v u.fram u.inputs h can word)

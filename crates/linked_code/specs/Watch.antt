@@ -1,5 +1,5 @@
 -- Where SP stands while the code of a compiled source runs: within the stack of a task in whose code the machine stands.
-use Rattle.std.specs.Prelude.{ℕ, ◌+◌, ◌≤◌, Bool, false, not, nat_le, nat_lt, ◌&&◌, ◌||◌, List, [], ◌∷◌}
+use Rattle.std.specs.Prelude.{◌≡◌, ℕ, ◌+◌, ◌<◌, ◌≤◌, Bool, false, not, nat_le, nat_lt, ◌&&◌, ◌||◌, List, [], ◌∷◌, Some, length, slice_get}
 use Rattle.std.specs.List.{list_any}
 use Rattle.boot_runtime.specs.msp_step.Registers.{Registers}
 use Rattle.boot_runtime.specs.msp_step.declared.machine.Stop.TheVariants as stop
@@ -7,16 +7,19 @@ use Rattle.boot_runtime.specs.fram_board.Effects.{Effect}
 use Rattle.boot_runtime.specs.machine_effects.Going.{Leads, Stalls}
 use Rattle.boot_runtime.specs.machine_effects.Machine.{Code, MachineBoard, MachineOutcome, exec}
 use Rattle.boot_runtime.specs.code_forms.Forms.{Core, board_of}
-use Rattle.boot_runtime.specs.code_forms.Code.{KeptCode}
+use Rattle.boot_runtime.specs.code_forms.Code.{KeptCode, Stands, IsTidy}
 use Rattle.boot_runtime.specs.code_forms.Watch.{watched, only_at}
+use Rattle.word_code.specs.array_versions.Program.{Program}
+use Rattle.word_code.specs.array_versions.Form.{IsWhole}
 use Rattle.word_code.specs.array_versions.TaskPrograms.{TaskPrograms}
 use Rattle.word_code.specs.array_versions.Behaviour.{End, GoesOn, Jumps, Gives, Short, Strays, Broken}
-use Rattle.word_code.specs.Laws.{HasJumped}
+use Rattle.word_code.specs.Code.{code_of}
+use Rattle.word_code.specs.Laws.{IsEntry, KeepsWithin, HasJumped, RoutinesStand}
 use Rattle.boot_runtime.specs.memory_map.declared.place.Region.{Region}
 use Rattle.boot_runtime.specs.memory_map.MemoryMap.{MemoryMap, TaskPlace}
 use Rattle.boot_runtime.specs.memory_map.Places.{end_of, code_regions}
 use Rattle.boot_runtime.specs.runtime_code.Addresses.{stack_top}
-use Rattle.linked_code.specs.Linked.{linked_code}
+use Rattle.linked_code.specs.Linked.{linked_code, ProgramsAreWhole}
 
 -- an address is in a region
 abbrev pub is_in_region : ℕ → Region → Bool
@@ -51,6 +54,30 @@ runtime_only l code = only_at (λ a. not (is_in_some a l.tasks)) code
 -- the part that is of a task, which keeps SP from a place on
 abbrev pub task_only : MemoryMap → TaskPlace → (low : ℕ) → Code → KeptCode
 task_only l t low code = record { code = only_at (λ a. is_in_task a t) code; low = low; high = stack_top }
+
+-- where the code of a task stands, and the lowest place of SP in its stack: its program and what it calls need no lower one
+pub record HasStack (l : MemoryMap) (programs : List TaskPrograms) (whole : ProgramsAreWhole programs) (lows : List ℕ) (k : ℕ)
+    (named : k < length programs) : Type 0 where
+  pub place : TaskPlace
+  pub at : slice_get l.tasks k ≡ Some place
+  pub low : ℕ
+  pub is_low : slice_get lows k ≡ Some low
+  pub lowest : low ≤ (whole.whole k named).bounds.floor
+
+-- what a law of code asks of the code of a program that keeps SP in its stack, and of the machine at its entry
+pub record BodyStands (kept : KeptCode) (at : ℕ) (p : Program) (whole : IsWhole p) (v : Core) : Type 0 where
+  pub tidy : IsTidy kept.code
+  pub stands : Stands kept.code at (code_of p)
+  pub routines : RoutinesStand kept.code p
+  pub keeps : KeepsWithin kept p whole
+  pub entry : IsEntry at v
+
+-- under watch it makes exactly these effects in so many steps and cycles, and comes to a state with P
+pub record StackedComes (l : MemoryMap) (programs : List TaskPrograms) (lows : List ℕ) (es : List Effect) (steps cycles : ℕ) (u : Core) (P : Core → Type 0)
+    : Type 0 where
+  pub end : Core
+  pub leads : Leads (stacked_step l programs lows) steps es cycles (board_of u) (board_of end)
+  pub holds : P end
 
 -- under watch it makes these effects within so many cycles, and comes to a jump
 pub record StackedRuns (l : MemoryMap) (programs : List TaskPrograms) (lows : List ℕ) (most : ℕ) (u : Core) (es : List Effect) (P : Core → Type 0)

@@ -25,99 +25,131 @@ if_marked marked stack marks k at s l ss ls =
     if marked then routine_at stack k at s l ∷ routines_from stack marks (k + 1) (at + 2 * routine_room s) ss ls
     else routines_from stack marks (k + 1) at ss ls
 
-module _ (stack : ℕ) (marks : ℕ → Bool) (address : ℕ) (fs : List FunctionSummary) (ls : List FunctionLocals) where
+-- what functions are placed by: the stack's words, which of them are marked, where the code of the first begins, and what is known of each
+pub record MarkedFunctions : Type 0 where
+  pub stack : ℕ
+  pub marks : ℕ → Bool
+  pub address : ℕ
+  pub summaries : List FunctionSummary
+  pub locals : List FunctionLocals
+
+abbrev pub marked_by : List Bool → (stack address : ℕ) (summaries : List FunctionSummary) (locals : List FunctionLocals) → MarkedFunctions
+marked_by marks stack address summaries locals =
+    record { stack = stack; marks = λ k. slice_index_or marks k false; address = address; summaries = summaries; locals = locals }
+
+module _ (m : MarkedFunctions) where
   abbrev words_from : ℕ → ℕ
-  words_from k = all_called_from marks routine_room k (known_of (drop k fs))
+  words_from k = all_called_from m.marks routine_room k (known_of (drop k m.summaries))
+
+  abbrev pub all_words : ℕ
+  all_words = all_called_from m.marks routine_room 0 (known_of m.summaries)
+
+  abbrev behind : ℕ → ℕ → List RoutinePlace
+  behind k at = routines_from m.stack m.marks k at (known_of (drop k m.summaries)) (drop k m.locals)
+
+  abbrev all_routines : List RoutinePlace
+  all_routines = routines_from m.stack m.marks 0 m.address (known_of m.summaries) m.locals
 
   -- those of the first functions, and the address for the next
   pub record Placed (k at : ℕ) (routines : List RoutinePlace) : Type 0 where
-    pub are : routines ++ routines_from stack marks k at (known_of (drop k fs)) (drop k ls) ≡ routines_from stack marks 0 address (known_of fs) ls
-    pub room : at + 2 * words_from k ≡ address + 2 * all_called_from marks routine_room 0 (known_of fs)
-    pub low : address ≤ at
+    pub are : routines ++ behind k at ≡ all_routines
+    pub room : at + 2 * words_from k ≡ m.address + 2 * all_words
+    pub low : m.address ≤ at
 
-  pub none_placed : Placed 0 address []
+  pub none_placed : Placed 0 m.address []
   none_placed = record { are = refl; room = refl; low = omega arith }
 
-  abbrev function : ℕ → FunctionSummary → FunctionSummary
-  function k d = get_or fs k d
+  -- those before a function, which is there
+  pub record Turn : Type 0 where
+    pub k : ℕ
+    pub at : ℕ
+    pub routines : List RoutinePlace
+    pub placed : Placed k at routines
+    pub within : k < length m.summaries
 
-  module _ (k at : ℕ) (d : FunctionSummary) (routines : List RoutinePlace) (h : Placed k at routines) (lf : k < length fs) where
-    functions_left : drop k fs ≡ function k d ∷ drop (k + 1) fs
-    functions_left = drop-cons fs k d lf ∙ ap (λ n. function k d ∷ drop n fs) (sym (add-one k))
-
-    words_left : words_from k ≡ (if marks k then routine_room (summary_of (function k d)) else 0) + words_from (k + 1)
-    words_left = ap (λ xs. all_called_from marks routine_room k (known_of xs)) functions_left
-
-    words_marked : marks k ≡ true → words_from k ≡ routine_room (summary_of (function k d)) + words_from (k + 1)
-    words_marked e = words_left ∙ ap (λ b. (if b then routine_room (summary_of (function k d)) else 0) + words_from (k + 1)) e
-
-    -- there is room for one that is marked
-    pub marked_small : marks k ≡ true → all_called_from marks routine_room 0 (known_of fs) ≤ 22000
-        → routine_room (summary_of (function k d)) ≤ 22000
-    marked_small e small = let w = words_marked e in let r = h.room in let low = h.low in omega (arith, w, r, small, low)
-
-    pub marked_fits : marks k ≡ true → address + 2 * all_called_from marks routine_room 0 (known_of fs) ≤ program_end
-        → at + 2 * routine_room (summary_of (function k d)) < 65536
-    marked_fits e room = let w = words_marked e in let r = h.room in omega (arith, w, r, room)
-
-  module _ (k at : ℕ) (d : FunctionSummary) (e : FunctionLocals) (routines : List RoutinePlace) (h : Placed k at routines) (lf : k < length fs)
-      (ll : k < length ls) where
-    abbrev its : FunctionLocals
-    its = get_or ls k e
-
-    locals_left : drop k ls ≡ its ∷ drop (k + 1) ls
-    locals_left = drop-cons ls k e ll ∙ ap (λ n. its ∷ drop n ls) (sym (add-one k))
-
-    left : routines_from stack marks k at (known_of (drop k fs)) (drop k ls)
-        ≡ if_marked (marks k) stack marks k at (summary_of (function k d)) its (known_of (drop (k + 1) fs)) (drop (k + 1) ls)
-    left = ap (λ xs. routines_from stack marks k at (known_of xs) (drop k ls)) (functions_left k at d routines h lf)
-        ∙ ap (λ ys. routines_from stack marks k at (known_of (function k d ∷ drop (k + 1) fs)) ys) locals_left
-
-    -- the functions that are left, by whether the first of them is marked
-    abbrev by_mark : Bool → List RoutinePlace
-    by_mark b = if_marked b stack marks k at (summary_of (function k d)) its (known_of (drop (k + 1) fs)) (drop (k + 1) ls)
-
-    abbrev behind : ℕ → List RoutinePlace
-    behind n = routines_from stack marks (k + 1) n (known_of (drop (k + 1) fs)) (drop (k + 1) ls)
-
-    abbrev words_by_mark : Bool → ℕ
-    words_by_mark b = (if b then routine_room (summary_of (function k d)) else 0) + words_from (k + 1)
-
-    -- one that isn't marked
-    pub passed_over : marks k ≡ false → Placed (k + 1) at routines
-    passed_over e = record {
-      are = ap (λ rs. routines ++ rs) (sym (left ∙ ap by_mark e))
-          ∙ h.are;
-      room = (let w : words_from k ≡ 0 + words_from (k + 1) = words_left k at d routines h lf ∙ ap words_by_mark e in
-          let r = h.room in omega (arith, w, r));
-      low = h.low;
-    }
-
-    -- and it is placed
-    pub one_placed : (more : List RoutinePlace) (later : ℕ) → marks k ≡ true → later ≡ at + 2 * routine_room (summary_of (function k d))
-        → more ≡ routines ++ routine_at stack k at (summary_of (function k d)) its ∷ [] → Placed (k + 1) later more
-    one_placed more later e at_end is = record {
-      are = ap (λ rs. rs ++ behind later) is
-          ∙ append_assoc routines (routine_at stack k at (summary_of (function k d)) its ∷ []) (behind later)
-          ∙ ap (λ n. routines ++ routine_at stack k at (summary_of (function k d)) its ∷ behind n) at_end
-          ∙ ap (λ rs. routines ++ rs) (sym (left ∙ ap by_mark e))
-          ∙ h.are;
-      room = (let w = words_marked k at d routines h lf e in let r = h.room in omega (arith, w, r, at_end));
-      low = (let from = h.low in omega (arith, from, at_end));
-    }
-
-    -- whichever it is
-    pub next_placed : (b : Bool) → marks k ≡ b → (more : List RoutinePlace) (later : ℕ)
-        → later ≡ (if b then at + 2 * routine_room (summary_of (function k d)) else at)
-        → more ≡ (if b then routines ++ routine_at stack k at (summary_of (function k d)) its ∷ [] else routines) → Placed (k + 1) later more
-    next_placed true e more later at_end is = one_placed more later e at_end is
-    next_placed false e more later at_end is =
-        subst (λ n. Placed (k + 1) n more) (sym at_end) (subst (λ rs. Placed (k + 1) at rs) (sym is) (passed_over e))
-
-  pub all_placed : (k at : ℕ) (routines : List RoutinePlace) → drop k fs ≡ [] → Placed k at routines
-      → routines ≡ routines_from stack marks 0 address (known_of fs) ls
+  pub all_placed : (k at : ℕ) (routines : List RoutinePlace) → drop k m.summaries ≡ [] → Placed k at routines → routines ≡ all_routines
   all_placed k at routines past h =
-      sym (append-nil routines) ∙ ap (λ xs. routines ++ routines_from stack marks k at (known_of xs) (drop k ls)) (sym past) ∙ h.are
+      sym (append-nil routines) ∙ ap (λ xs. routines ++ routines_from m.stack m.marks k at (known_of xs) (drop k m.locals)) (sym past) ∙ h.are
+
+module _ (m : MarkedFunctions) (t : Turn m) (d : FunctionSummary) where
+  abbrev function : FunctionSummary
+  function = get_or m.summaries t.k d
+
+  abbrev pub its_words : ℕ
+  its_words = routine_room (summary_of function)
+
+  functions_left : drop t.k m.summaries ≡ function ∷ drop (t.k + 1) m.summaries
+  functions_left = drop-cons m.summaries t.k d t.within ∙ ap (λ n. function ∷ drop n m.summaries) (sym (add-one t.k))
+
+  words_left : words_from m t.k ≡ (if m.marks t.k then its_words else 0) + words_from m (t.k + 1)
+  words_left = ap (λ xs. all_called_from m.marks routine_room t.k (known_of xs)) functions_left
+
+  words_marked : m.marks t.k ≡ true → words_from m t.k ≡ its_words + words_from m (t.k + 1)
+  words_marked e = words_left ∙ ap (λ b. (if b then its_words else 0) + words_from m (t.k + 1)) e
+
+  -- there is room for one that is marked
+  pub marked_small : m.marks t.k ≡ true → all_words m ≤ 22000 → its_words ≤ 22000
+  marked_small e small =
+      let w = words_marked e in
+      let r = t.placed.room in
+      let low = t.placed.low in
+      omega (arith, w, r, small, low)
+
+  pub marked_fits : m.marks t.k ≡ true → m.address + 2 * all_words m ≤ program_end → t.at + 2 * its_words < 65536
+  marked_fits e room = let w = words_marked e in let r = t.placed.room in omega (arith, w, r, room)
+
+module _ (m : MarkedFunctions) (t : Turn m) (d : FunctionSummary) (e : FunctionLocals) (ll : t.k < length m.locals) where
+  abbrev its_summary : Summary
+  its_summary = summary_of (function m t d)
+
+  abbrev its_locals : FunctionLocals
+  its_locals = get_or m.locals t.k e
+
+  abbrev its_place : RoutinePlace
+  its_place = routine_at m.stack t.k t.at its_summary its_locals
+
+  locals_left : drop t.k m.locals ≡ its_locals ∷ drop (t.k + 1) m.locals
+  locals_left = drop-cons m.locals t.k e ll ∙ ap (λ n. its_locals ∷ drop n m.locals) (sym (add-one t.k))
+
+  -- the functions that are left, by whether the first of them is marked
+  abbrev by_mark : Bool → List RoutinePlace
+  by_mark b = if_marked b m.stack m.marks t.k t.at its_summary its_locals (known_of (drop (t.k + 1) m.summaries)) (drop (t.k + 1) m.locals)
+
+  left : behind m t.k t.at ≡ by_mark (m.marks t.k)
+  left = ap (λ xs. routines_from m.stack m.marks t.k t.at (known_of xs) (drop t.k m.locals)) (functions_left m t d)
+      ∙ ap (λ ys. routines_from m.stack m.marks t.k t.at (known_of (function m t d ∷ drop (t.k + 1) m.summaries)) ys) locals_left
+
+  abbrev words_by_mark : Bool → ℕ
+  words_by_mark b = (if b then its_words m t d else 0) + words_from m (t.k + 1)
+
+  -- one that isn't marked
+  passed_over : m.marks t.k ≡ false → Placed m (t.k + 1) t.at t.routines
+  passed_over unmarked = record {
+    are = ap (λ rs. t.routines ++ rs) (sym (left ∙ ap by_mark unmarked)) ∙ t.placed.are;
+    room = (let w : words_from m t.k ≡ 0 + words_from m (t.k + 1) = words_left m t d ∙ ap words_by_mark unmarked in
+        let r = t.placed.room in omega (arith, w, r));
+    low = t.placed.low;
+  }
+
+  -- and it is placed
+  one_placed : (more : List RoutinePlace) (later : ℕ) → m.marks t.k ≡ true → later ≡ t.at + 2 * its_words m t d → more ≡ t.routines ++ its_place ∷ []
+      → Placed m (t.k + 1) later more
+  one_placed more later marked at_end is = record {
+    are = ap (λ rs. rs ++ behind m (t.k + 1) later) is
+        ∙ append_assoc t.routines (its_place ∷ []) (behind m (t.k + 1) later)
+        ∙ ap (λ n. t.routines ++ its_place ∷ behind m (t.k + 1) n) at_end
+        ∙ ap (λ rs. t.routines ++ rs) (sym (left ∙ ap by_mark marked))
+        ∙ t.placed.are;
+    room = (let w = words_marked m t d marked in let r = t.placed.room in omega (arith, w, r, at_end));
+    low = (let from = t.placed.low in omega (arith, from, at_end));
+  }
+
+  -- whichever it is
+  pub next_placed : (b : Bool) → m.marks t.k ≡ b → (more : List RoutinePlace) (later : ℕ) → later ≡ (if b then t.at + 2 * its_words m t d else t.at)
+      → more ≡ (if b then t.routines ++ its_place ∷ [] else t.routines) → Placed m (t.k + 1) later more
+  next_placed true marked more later at_end is = one_placed more later marked at_end is
+  next_placed false unmarked more later at_end is =
+      subst (λ n. Placed m (t.k + 1) n more) (sym at_end) (subst (λ rs. Placed m (t.k + 1) t.at rs) (sym is) (passed_over unmarked))
 
 -- by the same marks
 marks_same : (stack : ℕ) (marks more : ℕ → Bool) (k at : ℕ) (ss : List Summary) (ls : List FunctionLocals) → k + length ss ≤ 256
@@ -177,7 +209,13 @@ routines_in_order stack marks k at (s ∷ ss) (l ∷ ls) e even =
 
 -- ---- as 64 bits keep the functions
 
-module _ (stack : ℕ) (low : stack ≤ 1000) (marks more : ℕ → Bool) where
+-- marks of functions, and others that are the same
+record SameMarks : Type 0 where
+  marks : ℕ → Bool
+  others : ℕ → Bool
+  same : (j : ℕ) → j < 256 → marks j ≡ others j
+
+module _ (stack : ℕ) (low : stack ≤ 1000) (m : SameMarks) where
   room_same : (s t : Summary) → IsSame s t → routine_room s ≤ 22000 → routine_room s ≡ routine_room t
   room_same s t h small = let e = h.words in omega (arith, e, small)
 
@@ -192,35 +230,36 @@ module _ (stack : ℕ) (low : stack ≤ 1000) (marks more : ℕ → Bool) where
     first = ap (λ n. if is_light l then l.base else 8 + n) (above_same s t h) j;
   }
 
-  from_same : (k at : ℕ) (ss ts : List Summary) (ls : List FunctionLocals) → k + length ss ≤ 256 → ((j : ℕ) → j < 256 → marks j ≡ more j)
-      → all_called_from marks routine_room k ss ≤ 22000 → AreSame ss ts → routines_from stack marks k at ss ls ≡ routines_from stack more k at ts ls
-  from_same k at [] [] ls few are small h = refl
-  from_same k at [] (t ∷ ts) ls few are small h = absurd (let c = h.count in omega (arith, c))
-  from_same k at (s ∷ ss) [] ls few are small h = absurd (let c = h.count in omega (arith, c))
-  from_same k at (s ∷ ss) (t ∷ ts) [] few are small h = refl
-  from_same k at (s ∷ ss) (t ∷ ts) (l ∷ ls) few are small h =
-      by (λ later low_words. from_same (k + 1) later ss ts ls (omega (arith, few)) are low_words (rest_same s t ss ts h)) (marks k) small
-      ∙ ap (λ b. if_marked b stack more k at t l ts ls) (are k (omega (arith, few)))
+  from_same : (k at : ℕ) (ss ts : List Summary) (ls : List FunctionLocals) → k + length ss ≤ 256
+      → all_called_from m.marks routine_room k ss ≤ 22000 → AreSame ss ts → routines_from stack m.marks k at ss ls ≡ routines_from stack m.others k at ts ls
+  from_same k at [] [] ls few small h = refl
+  from_same k at [] (t ∷ ts) ls few small h = absurd (let c = h.count in omega (arith, c))
+  from_same k at (s ∷ ss) [] ls few small h = absurd (let c = h.count in omega (arith, c))
+  from_same k at (s ∷ ss) (t ∷ ts) [] few small h = refl
+  from_same k at (s ∷ ss) (t ∷ ts) (l ∷ ls) few small h =
+      by (λ later low_words. from_same (k + 1) later ss ts ls (omega (arith, few)) low_words (rest_same s t ss ts h)) (m.marks k) small
+      ∙ ap (λ b. if_marked b stack m.others k at t l ts ls) (m.same k (omega (arith, few)))
     where
-      by : ((later : ℕ) → all_called_from marks routine_room (k + 1) ss ≤ 22000
-          → routines_from stack marks (k + 1) later ss ls ≡ routines_from stack more (k + 1) later ts ls) → (b : Bool)
-          → (if b then routine_room s else 0) + all_called_from marks routine_room (k + 1) ss ≤ 22000
-          → if_marked b stack marks k at s l ss ls ≡ if_marked b stack more k at t l ts ls
+      by : ((later : ℕ) → all_called_from m.marks routine_room (k + 1) ss ≤ 22000
+          → routines_from stack m.marks (k + 1) later ss ls ≡ routines_from stack m.others (k + 1) later ts ls) → (b : Bool)
+          → (if b then routine_room s else 0) + all_called_from m.marks routine_room (k + 1) ss ≤ 22000
+          → if_marked b stack m.marks k at s l ss ls ≡ if_marked b stack m.others k at t l ts ls
       by behind true low_words =
           let here = first_same s t ss ts h in
           let words = room_same s t here (omega (arith, low_words)) in
           let rest = behind (at + 2 * routine_room s) (omega (arith, low_words)) in
-          ap (λ r. r ∷ routines_from stack marks (k + 1) (at + 2 * routine_room s) ss ls) (place_same k at s t l here (omega (arith, low_words)))
+          ap (λ r. r ∷ routines_from stack m.marks (k + 1) (at + 2 * routine_room s) ss ls) (place_same k at s t l here (omega (arith, low_words)))
           ∙ ap (λ rs. routine_at stack k at t l ∷ rs) rest
-          ∙ ap (λ n. routine_at stack k at t l ∷ routines_from stack more (k + 1) (at + 2 * n) ts ls) words
+          ∙ ap (λ n. routine_at stack k at t l ∷ routines_from stack m.others (k + 1) (at + 2 * n) ts ls) words
       by behind false low_words = behind at (omega (arith, low_words))
 
 pub task_same : (as' bs : List Summary) (ls : List FunctionLocals) (b : CheckedBlock) (at : ℕ) → length as' ≤ 64 → AreSame as' bs
     → stack_of as' b ≤ 1000 → routine_words as' b ≤ 22000
     → task_routines (record { summaries = as'; locals = ls }) b at ≡ task_routines (record { summaries = bs; locals = ls }) b at
 task_same as' bs ls b at few same low small =
-    from_same (stack_of as' b) low (λ k. reaches_of as' k b) (λ k. reaches_of bs k b) 0 at as' bs ls (omega (arith, few))
-    (λ j l. reaches_same as' bs few same j l b) small same
+    from_same (stack_of as' b) low
+    (record { marks = λ k. reaches_of as' k b; others = λ k. reaches_of bs k b; same = λ j l. reaches_same as' bs few same j l b })
+    0 at as' bs ls (omega (arith, few)) small same
     ∙ ap (λ n. routines_from n (λ k. reaches_of bs k b) 0 at bs ls) stacks
   where
     stacks : stack_of as' b ≡ stack_of bs b

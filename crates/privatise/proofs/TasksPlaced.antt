@@ -83,30 +83,56 @@ all_privates places numbers i privates l h = subst (λ ns. ArePrivates places ns
 
 -- ---- tasks
 
--- the layouts of the first tasks, and the address for the next
-pub record TasksBelow (known : KnownFunctions) (shared : List SharedDeclaration) (places : List VariablePlace)
-    (tasks : List (TaskDeclaration VariableName TaskName FunctionName)) (plans : List TaskPlanValue)
-    (address : ℕ) (i at : ℕ) (layouts : List TaskPlace) : Type 0 where
-  pub count : length layouts ≡ i
-  pub each : (k : ℕ) (t : TaskPlace) → slice_get layouts k ≡ Some t → (task : CheckedTask) (plan : TaskPlanValue) → slice_get (map task_of tasks) k
-      ≡ Some task → slice_get plans k ≡ Some plan → IsTaskLayout known shared task.body plan t
-  pub privates : All (λ t. All (HasItsPlace places) t.privates) layouts
-  pub code : AreInOrder address (flat_map code_regions layouts) at
-  pub room : at + 2 * total (body_words known.summaries shared) (map task_of (drop i tasks))
-      ≡ address + 2 * total (body_words known.summaries shared) (map task_of tasks)
-  pub even : at % 2 ≡ 0
+-- what tasks are placed by: what is known of the functions, the shared variables with their places, the plan of each task, and where the code begins
+pub record TasksToPlace : Type 0 where
+  pub known : KnownFunctions
+  pub shared : List SharedDeclaration
+  pub places : List VariablePlace
+  pub tasks : List (TaskDeclaration VariableName TaskName FunctionName)
+  pub plans : List TaskPlanValue
+  pub address : ℕ
 
-pub no_tasks : (known : KnownFunctions) (shared : List SharedDeclaration) (places : List VariablePlace)
-    (tasks : List (TaskDeclaration VariableName TaskName FunctionName)) (plans : List TaskPlanValue) (address : ℕ) → address % 2 ≡ 0
-    → TasksBelow known shared places tasks plans address 0 address []
-no_tasks known shared places tasks plans address even = record {
-  count = refl;
-  each = λ k t e. let no : None ≡ Some t = e in cc;
-  privates = All-nil (λ t. All (HasItsPlace places) t.privates);
-  code = omega arith;
-  room = refl;
-  even = even;
-}
+abbrev pub to_place : (functions : Functions) (shared : List SharedDeclaration) (places : List VariablePlace)
+    (tasks : List (TaskDeclaration VariableName TaskName FunctionName)) (plans : List TaskPlanValue) (address : ℕ) → TasksToPlace
+to_place functions shared places tasks plans address =
+    record { known = functions_in functions; shared = shared; places = places; tasks = tasks; plans = plans; address = address }
+
+module _ (s : TasksToPlace) where
+  abbrev words : CheckedBlock → ℕ
+  words = body_words s.known.summaries s.shared
+
+  abbrev pub all_words : ℕ
+  all_words = total words (map task_of s.tasks)
+
+  -- the layouts of the first tasks, and the address for the next
+  pub record TasksBelow (i at : ℕ) (layouts : List TaskPlace) : Type 0 where
+    pub count : length layouts ≡ i
+    pub each : (k : ℕ) (t : TaskPlace) → slice_get layouts k ≡ Some t → (task : CheckedTask) (plan : TaskPlanValue)
+        → slice_get (map task_of s.tasks) k ≡ Some task → slice_get s.plans k ≡ Some plan → IsTaskLayout s.known s.shared task.body plan t
+    pub privates : All (λ t. All (HasItsPlace s.places) t.privates) layouts
+    pub code : AreInOrder s.address (flat_map code_regions layouts) at
+    pub room : at + 2 * total words (map task_of (drop i s.tasks)) ≡ s.address + 2 * all_words
+    pub even : at % 2 ≡ 0
+
+  pub no_tasks : s.address % 2 ≡ 0 → TasksBelow 0 s.address []
+  no_tasks even = record {
+    count = refl;
+    each = λ k t e. let no : None ≡ Some t = e in cc;
+    privates = All-nil (λ t. All (HasItsPlace s.places) t.privates);
+    code = omega arith;
+    room = refl;
+    even = even;
+  }
+
+  -- those before a task, which is there
+  pub record Turn : Type 0 where
+    pub i : ℕ
+    pub at : ℕ
+    pub layouts : List TaskPlace
+    pub below : TasksBelow i at layouts
+    pub task : TaskDeclaration VariableName TaskName FunctionName
+    pub within : i < length s.tasks
+    pub is : task ≡ get_or s.tasks i task
 
 get_or_mapped : (tasks : List (TaskDeclaration VariableName TaskName FunctionName)) (i : ℕ) (task : TaskDeclaration VariableName TaskName FunctionName)
     → task_of (get_or tasks i task) ≡ get_or (map task_of tasks) i (task_of task)
@@ -114,105 +140,104 @@ get_or_mapped [] i task = refl
 get_or_mapped (t ∷ tasks) zero task = refl
 get_or_mapped (t ∷ tasks) (suc i) task = get_or_mapped tasks i task
 
-module _ (known : KnownFunctions) (shared : List SharedDeclaration) (places : List VariablePlace)
-    (tasks : List (TaskDeclaration VariableName TaskName FunctionName)) (plans : List TaskPlanValue) (address i at : ℕ)
-    (task : TaskDeclaration VariableName TaskName FunctionName) (l : i < length tasks) (is : task ≡ get_or tasks i task) where
-  abbrev body : CheckedBlock → ℕ
-  body = body_words known.summaries shared
+part_fits : (at part rest all : ℕ) → at + 2 * (part + rest) ≡ all → all ≤ program_end → at + 2 * part < 65536
+part_fits at part rest all e room = omega (arith, e, room)
 
-  pub small_task : total body (map task_of tasks) ≤ 22000 → body (task_of task).body ≤ 22000
-  small_task small = let part = total_part body tasks i task l is in omega (arith, part, small)
+part_within : (at part rest all : ℕ) → at + 2 * (part + rest) ≡ all → all ≤ program_end → at + 2 * part ≤ program_end
+part_within at part rest all e room = omega (arith, e, room)
+
+behind_part : (at later part rest all : ℕ) → later ≡ at + 2 * part → at + 2 * (part + rest) ≡ all → later + 2 * rest ≡ all
+behind_part at later part rest all behind e = omega (arith, behind, e)
+
+module _ (s : TasksToPlace) (turn : Turn s) where
+  abbrev its_task : CheckedTask
+  its_task = task_of turn.task
+
+  abbrev pub its_words : ℕ
+  its_words = words s its_task.body
+
+  pub small_task : all_words s ≤ 22000 → its_words ≤ 22000
+  small_task small = let part = total_part (words s) s.tasks turn.i turn.task turn.within turn.is in omega (arith, part, small)
 
   -- a task's stack is among those of all
-  pub low_stack : All (λ t. stack_of known.summaries t.body ≤ 1000) (map task_of tasks) → stack_of known.summaries (task_of task).body ≤ 1000
+  pub low_stack : All (λ t. stack_of s.known.summaries t.body ≤ 1000) (map task_of s.tasks) → stack_of s.known.summaries its_task.body ≤ 1000
   low_stack all =
-      subst (λ t. stack_of known.summaries t.body ≤ 1000) (sym (get_or_map_at)) (all i (task_of task) (let n = length-map tasks task_of in omega (arith, n, l)))
-    where
-      get_or_map_at : task_of task ≡ get_or (map task_of tasks) i (task_of task)
-      get_or_map_at = ap task_of is ∙ get_or_mapped tasks i task
+      let within : turn.i < length (map task_of s.tasks) = let n = length-map s.tasks task_of in let l = turn.within in omega (arith, n, l) in
+      subst (λ t. stack_of s.known.summaries t.body ≤ 1000) (sym (ap task_of turn.is ∙ get_or_mapped s.tasks turn.i turn.task))
+      (all turn.i its_task within)
 
-  fits : (at part rest all : ℕ) → at + 2 * (part + rest) ≡ all → all ≤ program_end → at + 2 * part < 65536
-  fits at part rest all h k = omega (arith, h, k)
+  step : total (words s) (map task_of (drop turn.i s.tasks)) ≡ its_words + total (words s) (map task_of (drop (turn.i + 1) s.tasks))
+  step = total_step (words s) s.tasks turn.i turn.task turn.within turn.is
 
-  step : total body (map task_of (drop i tasks)) ≡ body (task_of task).body + total body
-      (map task_of (drop (i + 1) tasks))
-  step = total_step body tasks i task l is
+  abbrev words_left : ℕ
+  words_left = total (words s) (map task_of (drop (turn.i + 1) s.tasks))
 
-  pub task_fits : (layouts : List TaskPlace) (words : ℕ) → address + 2 * total body (map task_of tasks) ≤ program_end → words
-      ≡ body (task_of task).body → TasksBelow known shared places tasks plans address i at layouts → at + 2 * words < 65536
-  task_fits layouts words room e h =
-      let f : at + 2 * body (task_of task).body < 65536 =
-      fits at (body (task_of task).body) _ _ (ap (λ s. at + 2 * s) (sym step) ∙ h.room) room in
-      subst (λ w. at + 2 * w < 65536) (sym e) f
+  room_left : turn.at + 2 * (its_words + words_left) ≡ s.address + 2 * all_words s
+  room_left = ap (λ n. turn.at + 2 * n) (sym step) ∙ turn.below.room
 
-  pub room_task : (layouts : List TaskPlace) → address + 2 * total body (map task_of tasks) ≤ program_end
-      → TasksBelow known shared places tasks plans address i at layouts → at + 2 * body (task_of task).body ≤ program_end
-  room_task layouts room h = roomy at (body (task_of task).body) _ _ (ap (λ s. at + 2 * s) (sym step) ∙ h.room) room
-    where
-      roomy : (at part rest all : ℕ) → at + 2 * (part + rest) ≡ all → all ≤ program_end → at + 2 * part ≤ program_end
-      roomy at part rest all h k = omega (arith, h, k)
+  pub task_fits : (n : ℕ) → s.address + 2 * all_words s ≤ program_end → n ≡ its_words → turn.at + 2 * n < 65536
+  task_fits n room e = subst (λ w. turn.at + 2 * w < 65536) (sym e) (part_fits turn.at its_words words_left (s.address + 2 * all_words s) room_left room)
 
-  on : (at later part rest all : ℕ) → later ≡ at + 2 * part → at + 2 * (part + rest) ≡ all → later + 2 * rest ≡ all
-  on at later part rest all e h = omega (arith, e, h)
+  pub room_task : s.address + 2 * all_words s ≤ program_end → turn.at + 2 * its_words ≤ program_end
+  room_task room = part_within turn.at its_words words_left (s.address + 2 * all_words s) room_left room
 
-  pub one_task : (plan : TaskPlanValue) (t : TaskPlace) (later : ℕ) (xs ys : List TaskPlace) → slice_get plans i ≡ Some plan
-      → length known.locals ≡ length known.summaries → IsPlacedTask known shared places (task_of task) plan at t
-      → later ≡ at + 2 * body (task_of task).body → ys ≡ xs ++ t ∷ [] → TasksBelow known shared places tasks plans address i at xs
-      → TasksBelow known shared places tasks plans address (i + 1) later ys
-  one_task plan t later xs ys planned same placed behind e h = subst (λ zs. TasksBelow known shared places tasks plans address (i + 1) later zs) (sym e)
+  -- a task at its place, behind those before it
+  pub one_task : (plan : TaskPlanValue) (t : TaskPlace) (later : ℕ) (more : List TaskPlace) → slice_get s.plans turn.i ≡ Some plan
+      → length s.known.locals ≡ length s.known.summaries → IsPlacedTask s.known s.shared s.places its_task plan turn.at t
+      → later ≡ turn.at + 2 * its_words → more ≡ turn.layouts ++ t ∷ [] → TasksBelow s (turn.i + 1) later more
+  one_task plan t later more planned same placed behind e = subst (λ zs. TasksBelow s (turn.i + 1) later zs) (sym e)
       (record {
-        count = length_push xs t ∙ ap (λ k. k + 1) h.count;
-        each = each_push (λ k x. (task : CheckedTask) (plan : TaskPlanValue) → slice_get (map task_of tasks) k ≡ Some task → slice_get plans k ≡ Some plan
-            → IsTaskLayout known shared task.body plan x) xs t h.each here;
-        privates = All-push (λ t. All (HasItsPlace places) t.privates) xs t h.privates placed.privates;
-        code = subst (λ rs. AreInOrder address rs later) (sym (flat_map-append code_regions xs (t ∷ [])))
-            (in_order_append address (flat_map code_regions xs) at (flat_map code_regions (t ∷ [])) later h.code
-            (subst (λ rs. AreInOrder at rs later) (sym (append-nil (code_regions t))) in_order));
-        room = on at later (body (task_of task).body) _ _ behind (ap (λ s. at + 2 * s) (sym step) ∙ h.room);
-        even = even_behind at (body (task_of task).body) later h.even behind;
+        count = length_push turn.layouts t ∙ ap (λ k. k + 1) turn.below.count;
+        each = each_push (λ k x. (task : CheckedTask) (plan : TaskPlanValue) → slice_get (map task_of s.tasks) k ≡ Some task → slice_get s.plans k ≡ Some plan
+            → IsTaskLayout s.known s.shared task.body plan x) turn.layouts t turn.below.each here;
+        privates = All-push (λ t. All (HasItsPlace s.places) t.privates) turn.layouts t turn.below.privates placed.privates;
+        code = subst (λ rs. AreInOrder s.address rs later) (sym (flat_map-append code_regions turn.layouts (t ∷ [])))
+            (in_order_append s.address (flat_map code_regions turn.layouts) turn.at (flat_map code_regions (t ∷ [])) later turn.below.code
+            (subst (λ rs. AreInOrder turn.at rs later) (sym (append-nil (code_regions t))) in_order));
+        room = behind_part turn.at later its_words words_left (s.address + 2 * all_words s) behind room_left;
+        even = even_behind turn.at its_words later turn.below.even behind;
       })
     where
-      in_order : AreInOrder at (code_regions t) later
+      in_order : AreInOrder turn.at (code_regions t) later
       in_order =
-          let words = placed.layout.words in
+          let own = placed.layout.words in
           let at_t = placed.address in
-          let even = h.even in
-          let start : end_of t.code ≡ at + 2 * own_words known.summaries shared (task_of task).body = omega (arith, words, at_t) in
-          let end : end_of t.code + 2 * routine_words known.summaries (task_of task).body ≡ later = omega (arith, start, behind) in
+          let even = turn.below.even in
+          let start : end_of t.code ≡ turn.at + 2 * own_words s.known.summaries s.shared its_task.body = omega (arith, own, at_t) in
+          let end : end_of t.code + 2 * routine_words s.known.summaries its_task.body ≡ later = omega (arith, start, behind) in
           let even_start : end_of t.code % 2 ≡ 0 = omega (arith, start, even) in (
             record { from = omega (arith, at_t); even = omega (arith, at_t, even) },
             subst (λ rs. AreInOrder (end_of t.code) (map (λ r. r.code) rs) later) (sym placed.layout.routines)
-                (subst (λ n. AreInOrder (end_of t.code) (map (λ r. r.code) (task_routines known (task_of task).body (end_of t.code))) n) end
-                (task_in_order known.summaries known.locals (task_of task).body (end_of t.code) same even_start)),
+                (subst (λ n. AreInOrder (end_of t.code) (map (λ r. r.code) (task_routines s.known its_task.body (end_of t.code))) n) end
+                (task_in_order s.known.summaries s.known.locals its_task.body (end_of t.code) same even_start)),
           )
 
-      there : slice_get (map task_of tasks) i ≡ Some (task_of task)
-      there = slice_get-map task_of tasks i ∙ ap (option_map task_of) (slice_get_read tasks (length tasks) i task refl l is)
+      there : slice_get (map task_of s.tasks) turn.i ≡ Some its_task
+      there = slice_get-map task_of s.tasks turn.i ∙ ap (option_map task_of) (slice_get_read s.tasks (length s.tasks) turn.i turn.task refl turn.within turn.is)
 
-      here : (k : CheckedTask) (q : TaskPlanValue) → slice_get (map task_of tasks) (length xs) ≡ Some k → slice_get plans (length xs) ≡ Some q
-          → IsTaskLayout known shared k.body q t
+      here : (k : CheckedTask) (q : TaskPlanValue) → slice_get (map task_of s.tasks) (length turn.layouts) ≡ Some k
+          → slice_get s.plans (length turn.layouts) ≡ Some q → IsTaskLayout s.known s.shared k.body q t
       here k q f g =
-          let same : task_of task ≡ k = same_Some (task_of task) k (sym there ∙ ap (λ n. slice_get (map task_of tasks) n) (sym h.count) ∙ f) in
-          let planned_so : plan ≡ q = same_Some plan q (sym planned ∙ ap (λ n. slice_get plans n) (sym h.count) ∙ g) in
-          subst (λ x. IsTaskLayout known shared x.body q t) same (subst (λ x. IsTaskLayout known shared (task_of task).body x t) planned_so placed.layout)
+          let count = turn.below.count in
+          let same : its_task ≡ k = same_Some its_task k (sym there ∙ ap (λ n. slice_get (map task_of s.tasks) n) (sym count) ∙ f) in
+          let planned_so : plan ≡ q = same_Some plan q (sym planned ∙ ap (λ n. slice_get s.plans n) (sym count) ∙ g) in
+          subst (λ x. IsTaskLayout s.known s.shared x.body q t) same
+          (subst (λ x. IsTaskLayout s.known s.shared its_task.body x t) planned_so placed.layout)
 
 over : (at rest all : ℕ) → rest ≡ 0 → at + 2 * rest ≡ all → at ≤ all
 over at rest all e h = omega (arith, e, h)
 
-pub all_tasks : (known : KnownFunctions) (shared : List SharedDeclaration) (places : List VariablePlace)
-    (tasks : List (TaskDeclaration VariableName TaskName FunctionName)) (plans : List TaskPlanValue)
-    (address : ℕ) (i at : ℕ) (layouts : List TaskPlace) → i ≡ length tasks
-    → TasksBelow known shared places tasks plans address i at layouts → ArePlacedTasks known shared places (map task_of tasks) plans address layouts
-all_tasks known shared places tasks plans address i at layouts e h = record {
-  count = h.count ∙ e ∙ sym (length-map tasks task_of);
+pub all_tasks : (s : TasksToPlace) (i at : ℕ) (layouts : List TaskPlace) → i ≡ length s.tasks → TasksBelow s i at layouts
+    → ArePlacedTasks s.known s.shared s.places (map task_of s.tasks) s.plans s.address layouts
+all_tasks s i at layouts e h = record {
+  count = h.count ∙ e ∙ sym (length-map s.tasks task_of);
   each = λ k task plan t f g p. h.each k t p task plan f g;
   privates = h.privates;
-  code = in_order_higher address (flat_map code_regions layouts) at _ (over at _ _ none_left h.room) h.code;
+  code = in_order_higher s.address (flat_map code_regions layouts) at _ (over at _ _ none_left h.room) h.code;
 }
   where
-    none_left : total (body_words known.summaries shared) (map task_of (drop i tasks)) ≡ 0
-    none_left = subst (λ k. total (body_words known.summaries shared) (map task_of (drop k tasks)) ≡ 0) (sym e)
-        (ap (λ ds. total (body_words known.summaries shared) (map task_of ds)) (drop-length tasks))
+    none_left : total (words s) (map task_of (drop i s.tasks)) ≡ 0
+    none_left = subst (λ k. total (words s) (map task_of (drop k s.tasks)) ≡ 0) (sym e) (ap (λ ds. total (words s) (map task_of ds)) (drop-length s.tasks))
 
 -- as many functions have locals as have summaries
 pub known_count : (fs : Functions) → length fs.locals.now ≡ length fs.summaries.now

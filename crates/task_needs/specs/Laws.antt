@@ -9,7 +9,6 @@ use Rattle.cost_bound.specs.Counts.{emits_of}
 use Rattle.source_values.specs.Runs.{CheckedProgram, task_body}
 use Rattle.array_versions.specs.TaskPrograms.{TaskPrograms, program_at}
 use Rattle.array_versions.specs.Behaviour.{behaviour, started}
-use Rattle.word_code.specs.Laws.{ComesTo}
 use Rattle.code_costs.specs.Dearest.{most_spent}
 use Rattle.memory_map.specs.declared.runtime.Logging.{Logging}
 use Rattle.memory_map.specs.declared.runtime.Logging.TheVariants.{Redo, Undo}
@@ -23,18 +22,18 @@ use Rattle.undo_runtime.specs.Listing.{recovery_cycles, start_cycles as logged_s
 use Rattle.crash_rules.specs.Model.{bound}
 use Rattle.compiled_model.specs.Parts.{private_homes, compiled_model}
 use Rattle.compiled_model.specs.Needs.{boot_cycles}
-use Rattle.linked_code.specs.Linked.{linked_code, CodeFits, ProgramsAreWhole}
+use Rattle.linked_code.specs.Linked.{CodeFits, ProgramsAreWhole}
+use Rattle.linked_code.specs.Watch.{HasStack, StackedTo}
 use Rattle.task_needs.specs.Needs.{own_entries, own_words, path_need, need_under}
 use Rattle.task_needs.specs.Lists.{with_needs}
 
--- where a task of linked code is entered, its code does as its word program within the cycles of its dearest way
+-- where a task of linked code is entered, its code does as its word program within the cycles of its dearest way, and keeps SP in its stack
 abbrev pub TasksKeepToTheirWays : Type 0
-TasksKeepToTheirWays = (l : MemoryMap) (programs : List TaskPrograms) → CodeFits l programs → ProgramsAreWhole programs
-    → (v : Core) (k : ℕ) (g : ℕ → ℕ) (inputs : Inputs)
-    → Enters (entry_at (task_entries l) k).code stack_top g inputs v → k < length programs → HoldsWords g
-    → InputsAreWords inputs
+TasksKeepToTheirWays = (l : MemoryMap) (programs : List TaskPrograms) → CodeFits l programs → (whole : ProgramsAreWhole programs)
+    → (lows : List ℕ) (k : ℕ) (named : k < length programs) → HasStack l programs whole lows k named → (v : Core) (g : ℕ → ℕ) (inputs : Inputs)
+    → Enters (entry_at (task_entries l) k).code stack_top g inputs v → HoldsWords g → InputsAreWords inputs
     → let b = behaviour (program_at programs k) (started g inputs) in
-    ComesTo (linked_code l programs) (most_spent (program_at programs k)) v b.effects b.end
+    StackedTo l programs lows (most_spent (program_at programs k)) v b.effects b.end
 
 -- an attempt from a power-up on that spends so much on its code, under a runtime: a boot, under undo with the entries put back that an attempt of the task left
 -- which was cut, as many as its list may have; a start that clears the version words, and copies or lists the task's private scalars; and a commit of all that

@@ -2,7 +2,7 @@
 
 ghost use Rattle.task_needs.specs.Laws.{AttemptsAreCounted, OwnCommitsAreCounted, PendingCommitsAreCounted, TasksKeepToTheirWays};
 
-/// Where a task is entered, its code does as its word program within the cycles of its dearest way.
+/// Where a task is entered, its code does as its word program within the cycles of its dearest way, and keeps SP in its stack.
 pub fn tasks_keep_to_their_ways()
     ensures { TasksKeepToTheirWays }
 {}

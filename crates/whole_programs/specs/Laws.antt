@@ -1,6 +1,5 @@
 -- What holds of the word programs of accepted sources.
-use Rattle.std.specs.Prelude.{◌≡◌, ◌≤◌, ℕ, ◌-◌, ◌*◌, Bool, if◌then◌else◌, List, All, Some, slice_get}
-use Rattle.address_space.specs.Limits.{stack_top}
+use Rattle.std.specs.Prelude.{◌≡◌, ◌≤◌, ℕ, ◌-◌, ◌*◌, List, All, Some, slice_get}
 use Rattle.task_ast.specs.Paths.{CheckedProgram, CheckedTask}
 use Rattle.cost_bound.specs.declared.allowance.Allow.{Allow}
 use Rattle.cost_bound.specs.Frames.{stack_of}
@@ -16,6 +15,7 @@ use Rattle.privatise.specs.Layouts.{IsLayoutFor}
 use Rattle.array_versions.specs.Program.{Program}
 use Rattle.array_versions.specs.Form.{IsWhole, LocalsBelow, OfWords}
 use Rattle.linked_code.specs.Linked.{CallsAmong}
+use Rattle.linked_code.specs.runtime_code.Addresses.{stack_top}
 use Rattle.lower.specs.Lowered.{lowered_task, lowered}
 
 -- an accepted text, with a plan and a layout of its source for some runtime

@@ -8,14 +8,14 @@ use Rattle.array_versions.specs.Program.{step_filled, test_filled, filled}
 use Rattle.array_versions.proofs.Interface.{filled_locals}
 
 -- what waits behind it
-waiting_filled : (b : ℕ → Program) (os : List Waiting) (s : Step) → waiting_behind os (step_filled b s) ≡ waiting_behind os s
+pub waiting_filled : (b : ℕ → Program) (os : List Waiting) (s : Step) → waiting_behind os (step_filled b s) ≡ waiting_behind os s
 waiting_filled b os (truth t) = refl
 waiting_filled b os (choose t p q) = refl
 waiting_filled b os (repeat n from below p) = refl
 waiting_filled b os (call entry frame first count body) = refl
 waiting_filled b os _ = refl
 
-after_filled : (b : ℕ → Program) (os : List Waiting) (p : Program) → waiting_after os (filled b p) ≡ waiting_after os p
+pub after_filled : (b : ℕ → Program) (os : List Waiting) (p : Program) → waiting_after os (filled b p) ≡ waiting_after os p
 after_filled b os nothing = refl
 after_filled b os (step s p) = ap (λ ws. waiting_after ws (filled b p)) (waiting_filled b os s) ∙ after_filled b (waiting_behind os s) p
 
@@ -38,7 +38,7 @@ mutual
   step_code_filled b bs os (call entry frame first count body) = refl
   step_code_filled b bs os _ = refl
 
-  test_code_filled : (b : ℕ → Program) (bs : List Bound) (t : Test) (when : Bool) (d : ℕ) → test_code bs (test_filled b t) when d ≡ test_code bs t when d
+  pub test_code_filled : (b : ℕ → Program) (bs : List Bound) (t : Test) (when : Bool) (d : ℕ) → test_code bs (test_filled b t) when d ≡ test_code bs t when d
   test_code_filled b bs (holds p) when d = ap₂ (λ ms os. ms ++ holds_code os when d) (steps_code_filled b bs [] p) (after_filled b [] p)
   test_code_filled b bs (compares c p) when d = ap₂ (λ ms os. ms ++ compares_code os c when d) (steps_code_filled b bs [] p) (after_filled b [] p)
   test_code_filled b bs (both t u) when d =
@@ -59,8 +59,11 @@ mutual
       ap₂ (λ x y. x ++ y) (step_code_filled b bs os s)
       (ap (λ ws. steps_code bs ws (filled b p)) (waiting_filled b os s) ∙ steps_code_filled b bs (waiting_behind os s) p)
 
+pub block_filled : (b : ℕ → Program) (bs : List Bound) (p : Program) → block_code bs (filled b p) ≡ block_code bs p
+block_filled b bs p = block_by b bs p (steps_code_filled b bs [] p)
+
 pub code_filled : (b : ℕ → Program) (p : Program) → code_of (filled b p) ≡ code_of p
-code_filled b p = ap₂ (λ n ms. stack_set n ++ ms) (filled_locals b p) (block_by b [] p (steps_code_filled b [] [] p))
+code_filled b p = ap₂ (λ n ms. stack_set n ++ ms) (filled_locals b p) (block_filled b [] p)
 
 pub routine_filled : (b : ℕ → Program) (p : Program) → routine_code (filled b p) ≡ routine_code p
-routine_filled b p = block_by b [] p (steps_code_filled b [] [] p)
+routine_filled b p = block_filled b [] p

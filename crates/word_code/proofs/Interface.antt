@@ -37,5 +37,5 @@ pub use Rattle.word_code.proofs.Calls.{Popped, popped, callee, light_reaches, gi
 pub use Rattle.word_code.proofs.Frames.{framed_reaches}
 -- A product by a number that waits.
 pub use Rattle.word_code.proofs.Results.{StepDoes, product_part}
--- The code of a program doesn't look at the bodies of what it calls.
-pub use Rattle.word_code.proofs.FilledCode.{code_filled, routine_filled}
+-- The code of a program, of its parts and what waits behind it doesn't look at the bodies of what it calls.
+pub use Rattle.word_code.proofs.FilledCode.{waiting_filled, after_filled, test_code_filled, block_filled, code_filled, routine_filled}
