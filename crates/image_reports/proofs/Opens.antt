@@ -2,10 +2,11 @@
 use Rattle.image_reports.proofs.Names.{◌≡◌, ◌+◌, ℕ, zero, suc, Bool, true, false, refl, sym, ap, ◌∙◌, subst, arith, List, [], ◌∷◌, ◌++◌}
 use Rattle.image_reports.proofs.Names.{CheckedProgram}
 use Rattle.image_reports.proofs.Names.{MemoryMap, MachineBoard, Code, Goes, Stops, At, continued, going, exec, placed_code}
-use Rattle.std.specs.Prelude.{◌-◌, ◌/◌}
+use Rattle.std.specs.Prelude.{◌-◌, ◌/◌, if◌then◌else◌}
 use Rattle.address_space.specs.Limits.{stack_top}
 use Rattle.msp_step.specs.Step.{is_interruptible}
 use Rattle.machine_effects.specs.alp_words.declared.Flags.{Flags}
+use Rattle.machine_effects.specs.Machine.{forgotten}
 use Rattle.code_forms.specs.Forms.{Form, SetStack, EnableInterrupts, Core, board_of, register_file}
 use Rattle.code_forms.specs.Code.{Stands, anywhere}
 use Rattle.code_forms.specs.Placed.{instructions, placed}

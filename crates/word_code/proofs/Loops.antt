@@ -1,6 +1,6 @@
 -- Loops: a turn, and behind it the local decides whether there is another.
 use Rattle.word_code.proofs.Names.{◌≡◌, ℕ, zero, suc, ◌+◌, ◌-◌, ◌*◌, ◌%◌, ◌<◌, ◌≤◌, ◌==◌, not, Bool, true, false, nat_lt, if◌then◌else◌, List, [], ◌∷◌, ◌++◌}
-use Rattle.word_code.proofs.Names.{Some, refl, sym, ap, ◌∙◌, subst, arith, eq-eqb, ne_eqb, nat_tests, not-not, put, put_same, WorkRegister, R4, work_number}
+use Rattle.word_code.proofs.Names.{Some, unwrap_or, ram_word, refl, sym, ap, ◌∙◌, subst, arith, eq-eqb, ne_eqb, nat_tests, not-not, put, put_same, WorkRegister, R4, work_number}
 use Rattle.word_code.proofs.Names.{Core, Register, Constant, Ram, ToRegister, ToRam, Form, Move, Calculate, instruction_of, form_bytes, Stands, forms_bytes}
 use Rattle.word_code.proofs.Names.{forms_run, Runs, stands_front, stands_back, end_of, stands_at, form_at, first_forms, forms_bytes-append, WordState, End}
 use Rattle.word_code.proofs.Names.{GoesOn, Behaviour, with_local, assigned, turns, spent_on, turns_spent, local_register, local_address, number_source}

@@ -1,7 +1,7 @@
 -- The two sides of an operation: the left one in R4, and the right one in R5, or read where it waits.
 use Rattle.word_code.specs.Code.{is_turned, compare_sides, compare_source}
 use Rattle.word_code.proofs.Names.{source_effects, Comparison, Core, Form, R5, Register, Runs, Source, SourceNeeds, Stands, Waiting, WordState}
-use Rattle.word_code.proofs.Names.{WorkRegister, any_held, CodeRules, rules_of}
+use Rattle.word_code.proofs.Names.{WorkRegister, any_held, CodeRules, rules_of, same_Some, local_register}
 use Rattle.word_code.proofs.Names.{below_top, cleared, drop, five_from, flushed, forms_bytes, four_from, get_or, kept, rest_source, rests, right_source}
 use Rattle.word_code.proofs.Names.{right_to_rest, sides, source_cycles, source_from, source_operand, source_read, source_value, stays, to_memory, to_register}
 use Rattle.word_code.proofs.Names.{to_rest, top_of, two_to_registers, update_sides, waiting_source, with_stack, work_number, ◌≡◌, ℕ, ◌+◌, ◌≤◌, Bool, true}

@@ -1,6 +1,6 @@
 -- Operations in place: on a word of FRAM, and on a local.
 use Rattle.word_code.proofs.Names.{◌≡◌, ℕ, ◌+◌, ◌<◌, Bool, true, false, nat_lt, if◌then◌else◌, List, [], ◌∷◌, ◌++◌, Option, Some, refl, sym, ap, ap₂, ◌∙◌}
-use Rattle.word_code.proofs.Names.{subst}
+use Rattle.word_code.proofs.Names.{subst, unwrap_or}
 use Rattle.word_code.proofs.Names.{arith, Word, operated, cycles_of, Store, put, Goes, R4, R5, Core, Register, Ram, source_bytes, source_value, source_read}
 use Rattle.word_code.proofs.Names.{ToRegister, ToRam, Move, Calculate, Update, Form, flags_after, instruction_of, form_bytes, Stands, forms_bytes, forms_run}
 use Rattle.word_code.proofs.Names.{Runs, stands_at, end_of, PlainOperation, plain_word, WordState, goes_on, with_stack, stored, assigned, with_local, is_place}
