@@ -8,7 +8,6 @@ ghost use Rattle.cost_bound.specs.Machine.{known_of};
 ghost use Rattle.cost_bound.specs.Summaries.{summaries};
 ghost use Rattle.cost_bound.specs.Allowance.{list_of, scalars_of, task_bound, task_words};
 ghost use Rattle.source_meaning.specs.Acceptance.{IsAcceptedText};
-ghost use Rattle.source_meaning.specs.Plain.{IsPlain};
 ghost use Rattle.war_analysis.specs.Plans.{IsPlan};
 ghost use Rattle.memory_map.specs.declared.runtime.Logging.TheVariants.{Redo, Undo};
 ghost use Rattle.memory_map.specs.MemoryMap.{MemoryMap, logged_map};
@@ -365,10 +364,9 @@ fn tasks_need<'a>(
     Ok(needs)
 }
 
-// The layout of an accepted source that is compiled.
+// The layout of an accepted source.
 fn layout_of(alloc: Global, accepted: &Accepted, plan: &Plan) -> Result<Layout, AllocError>
     requires accepted { IsAcceptedText accepted.now.text.items (program_of accepted.now.checked.source) accepted.now.allow }
-    requires plain { IsPlain (program_of accepted.now.checked.source) }
     requires plan { IsPlan (program_of accepted.now.checked.source) plan.now }
     ensures { IfOk result (λ l. IsLayout (program_of accepted.now.checked.source) accepted.now.allow plan.now l) }
 {
@@ -382,7 +380,6 @@ fn needs_in_place(
     plan: &Plan,
 ) -> Result<Vec<UndoNeed>, AllocError>
     requires accepted { IsAcceptedText accepted.now.text.items (program_of accepted.now.checked.source) accepted.now.allow }
-    requires plain { IsPlain (program_of accepted.now.checked.source) }
     requires plan { IsPlan (program_of accepted.now.checked.source) plan.now }
     ensures { IfOk result (λ needs. (l : MemoryMap) → IsLayout (program_of accepted.now.checked.source) accepted.now.allow plan.now l
         → AreUndoNeeds (program_of accepted.now.checked.source) (logged_map l) needs.items) }
@@ -394,10 +391,9 @@ fn needs_in_place(
     undo_needs(alloc, accepted, &layout, programs.as_slice())
 }
 
-/// What each task of an accepted source that is compiled needs, in order of declaration; or no memory is left.
+/// What each task of an accepted source needs, in order of declaration; or no memory is left.
 pub fn needs_of<'a>(alloc: Global, accepted: &'a Accepted) -> Result<Vec<TaskNeed<'a>>, AllocError>
     requires accepted { IsAcceptedText accepted.now.text.items (program_of accepted.now.checked.source) accepted.now.allow }
-    requires plain { IsPlain (program_of accepted.now.checked.source) }
     ensures { IfOk result (λ needs. AreNeedsOf accepted.now.text.items (program_of accepted.now.checked.source) accepted.now.allow
         (map row_of needs.items)) }
 {
