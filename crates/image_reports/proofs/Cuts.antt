@@ -130,10 +130,10 @@ encoding_has_words i = grind arith
 pub prepared_bounds : (u : MachineBoard) → is_prepared u ≡ true → (0x1C20 ≤ u.registers 1) × (u.registers 1 ≤ 0x2400)
 prepared_bounds u e =
     let inside = (and_parts (u.fram 0xFFF0 == handler_place) (in_stack (u.registers 1)) e).1 in
-    let both = and_parts (nat_le 0x1C20 (u.registers 1)) (nat_le (u.registers 1) 0x2210) inside in
+    let both = and_parts (nat_le 0x1C20 (u.registers 1)) (nat_le (u.registers 1) 0x2400) inside in
     let low = leb-true 0x1C20 (u.registers 1) both.0 in
-    let high = leb-true (u.registers 1) 0x2210 both.1 in
-    (low, omega (arith, high))
+    let high = leb-true (u.registers 1) 0x2400 both.1 in
+    (low, high)
 
 -- in the handler the CPU accepts none
 pub handler_is_closed : (from t : BoardValue) (at : Stage) → IsInHandler from at t → is_interruptible (registers_of t.cpu) ≡ true → ⊥

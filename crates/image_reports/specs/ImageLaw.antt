@@ -154,7 +154,7 @@ abbrev pub HasRoom : BoardValue → Type 0
 HasRoom b = is_interruptible (registers_of b.cpu) ≡ true → (stack_floor ≤ registers_of b.cpu 1) × (registers_of b.cpu 1 ≤ stack_top)
 
 -- SP is in the stack of a task: it has as many words as the source's stack counts for the task and all that it calls (`stack_of`), but for the 16 that are
--- left to handlers, and goes down from where the stacks of code begin: 2400, or 2210 where the source takes events
+-- left to handlers, and goes down from where the stacks of code begin, 2400
 pub record IsOnStack (p : CheckedProgram) (l : MemoryMap) (task : CheckedTask) (sp : ℕ) : Type 0 where
   pub from : stack_low (summaries p) task ≤ sp
   pub to : sp ≤ stack_top
