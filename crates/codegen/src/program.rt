@@ -280,11 +280,7 @@ pub fn emit_block(
 /// that is whole, with the bodies of what it calls: each of its ways ends in a jump, takes no word from an empty stack and reads no local before it is
 /// assigned, and RAM from 1C20 to 23FF has room for its locals, its stack and what it calls. Locals from the ninth on stand in RAM, down from 23FE; SP
 /// is 2400 where the code is entered, and is first set below them.
-pub fn emit(
-    alloc: Global,
-    program: &WordProgram,
-    code: &mut Vec<Form>,
-) -> Result<(), AllocError>
+pub fn emit(alloc: Global, program: &WordProgram, code: &mut Vec<Form>) -> Result<(), AllocError>
     requires room { words_of (program_of program.now) ≤ 0x7FFF }
     requires locals { LocalsBelow 1016 (program_of program.now) }
     ensures code { OnOk result (code.new.items ≡ code.old.items ++ code_of (program_of program.now)) }

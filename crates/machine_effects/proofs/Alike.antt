@@ -400,7 +400,7 @@ module _ (readings : List ℕ) (looks : List Look) (begun : EventLine) where
 
   -- the word of a byte that is written stands in front of the handler
   readable_low : (t : MachineBus) (a : ℕ) → is_readable t a ≡ true → is_ram a ≡ false → a < handler_place
-  readable_low t a h e = ltb-true a handler_place 
+  readable_low t a h e = ltb-true a handler_place
       (ap (λ b. cond b (nat_le t.floor (word_address a) && is_some (t.ram (word_address a))) (nat_lt a handler_place)) (sym e) ∙ h)
 
   byte_stored : (s : BusState) (t : MachineBus) (a v : ℕ) → is_memory a ≡ true → (is_ram a ≡ false → a < handler_place) → SameBus readings looks begun s t

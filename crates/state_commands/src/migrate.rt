@@ -25,9 +25,7 @@ use plain_commands::answers::{
     read_file, refused_plainly,
 };
 use plain_commands::outside::{Shelf, Sink};
-use plain_commands::texts::{
-    Accepted, Image, State, image_of, print_state, source_of, state_of,
-};
+use plain_commands::texts::{Accepted, Image, State, image_of, print_state, source_of, state_of};
 use std::alloc::Global;
 
 /// The names of the files of `migrate SRC IMAGE STATE NEWSRC NEWIMAGE NEWSTATE`.
