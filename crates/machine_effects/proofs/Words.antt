@@ -71,6 +71,10 @@ abbrev SeesWords : Option Look → Type 0
 SeesWords None = Unit {0}
 SeesWords (Some look) = (a : ℕ) → IsWord (look a)
 
+-- what is known of a word of RAM is a word
+abbrev IsKnownWord : Option ℕ → Type 0
+IsKnownWord o = (w : ℕ) → o ≡ Some w → IsWord w
+
 -- what the machine's bus holds are words
 record OfWords (t : MachineBus) : Type 0 where
   pub fram : (a : ℕ) → IsWord (t.fram a)
@@ -85,10 +89,6 @@ either_small false x y h k = k
 
 put_small : (f : ℕ → ℕ) (a v : ℕ) → IsWord v → ((x : ℕ) → IsWord (f x)) → (x : ℕ) → IsWord (put f a v x)
 put_small f a v h k x = either_small (x == a) v (f x) h (k x)
-
--- what is known of a word of RAM is a word
-abbrev IsKnownWord : Option ℕ → Type 0
-IsKnownWord o = (w : ℕ) → o ≡ Some w → IsWord w
 
 either_known : (b : Bool) (x y : Option ℕ) → IsKnownWord x → IsKnownWord y → IsKnownWord (if b then x else y)
 either_known true x y h k = h
