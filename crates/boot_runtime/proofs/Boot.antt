@@ -40,7 +40,7 @@ pub enables : (code : Code) → IsTidy code → (events : Bool) (p : ℕ) (f : �
     → Comes code [] (with_events events 2) (with_events events 3) u (IsAt (gate_address events p) f l)
 enables code tidy true p f l u taken named h at =
     from_there u at (ends (straight code tidy interrupts_set (core_at p f l u) (tt, (tt, tt)) h
-    ((refl, λ e. refl, (omega arith, omega arith)), ((taken, record { vector = named refl; low = omega arith; high = omega arith }), tt)) refl)
+    ((refl, λ e. record { low = omega arith; high = omega arith }, (omega arith, omega arith)), ((taken, record { vector = named refl; low = omega arith; high = omega arith }), tt)) refl)
     (record { pc = omega arith; fram = refl; inputs = refl }))
 enables code tidy false p f l u taken named h at =
     let e : p ≡ p + 0 = omega arith in nothing (anywhere code) u (IsAt (p + 0) f l) (subst (λ n. IsAt n f l u) e at)
