@@ -523,7 +523,7 @@ code_keeps_to_its_ways kept at p u tidy h routines whole keeps o entry =
     let sp = entry.sp in let roomy = b.roomy.fits in
     let inside : IsInStack top = record { low = omega arith; high = omega arith } in
     let stays : IsKept (rules_of kept) top =
-    (let deep = b.deep in let floor = whole.floor in let low = keeps.low in let within = b.within in let high = keeps.high in
+    (let deep = b.deep in let floor = whole.floor in let low = keeps.low in let high = keeps.high in
     (omega arith, omega arith)) in
     let sets : Stands kept.code at front = stands_front kept.code at front (block_code [] p) h in
     let y = alone z at front sets in
