@@ -104,7 +104,7 @@ module _ (text : List ℕ) (p : CheckedProgram) (allow : Allow) (plans : List Ta
     count = t.layout.tasks.count;
     apart = places_are_apart p allow plans l laid;
     room = tasks_have_room p allow plans l laid;
-    programs = record { whole = λ k below. (one_task k below).keeps.fits; of_words = λ k below. (one_task k below).words };
+    programs = record { whole = λ k below. (one_task k below).keeps.whole; of_words = λ k below. (one_task k below).words };
     stacks = stack_there;
     leave = tasks_leave text p allow plans l t run;
     own = own l.runtime.logging refl;
